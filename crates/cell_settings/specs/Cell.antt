@@ -1,4 +1,5 @@
 -- The settings that a text gives.
+-- lathe_calls, lathe_top and three more crates take words from here.
 use Rattle.std.specs.Prelude.{ℕ, ◌^◌, Bool, true, List, [], ◌∷◌, Result, slice_index, slice_set, bit_or}
 use Rattle.std.specs.Str.Lines.{lines}
 use Rattle.nc_number.specs.declared.path.Path.{Path}

@@ -1,4 +1,5 @@
 -- What a line of settings says. A line that is none of these is not allowed.
+-- For this crate alone.
 use Rattle.std.specs.Prelude.{ℕ, ◌≤◌, true, false, List, [], ◌∷◌, Option, Some, None, codes, if◌then◌else◌}
 use Rattle.std.specs.Str.{bytes_eq}
 use Rattle.cell_settings.specs.declared.preset.Preset.{Preset}
@@ -97,6 +98,7 @@ abbrev pub offset_or : Option Preset → Option Entry → Option Entry
 offset_or (Some preset) other = Some (says.Offset preset)
 offset_or None other = other
 
+-- what a line of a position, of an offset or of any other name says
 unfoldable pub named_point_of : List ℕ → List (List ℕ) → Option Entry
 named_point_of name values =
     if bytes_eq name (codes "place") then place_of values

@@ -1,4 +1,5 @@
 -- The offsets that the paths begin with.
+-- edit_texts takes `IsPreset` and path_state `IsPreset`.
 use Rattle.std.specs.Prelude.{ℕ, Bool, true, false, not, ◌&&◌, ◌==◌, ◌≤◌, List, [], ◌∷◌, ◌++◌, filter}
 use Rattle.cell_settings.specs.declared.preset.Preset.{Preset}
 use Rattle.cell_settings.specs.declared.preset.PresetKind.{PresetKind}
@@ -32,11 +33,13 @@ least_number Work = 0
 least_number Geometry = 1
 least_number Wear = 1
 
+-- and the greatest number of a kind
 abbrev pub greatest_number : PresetKind → ℕ
 greatest_number Work = 6
 greatest_number Geometry = TOOL_OFFSETS
 greatest_number Wear = TOOL_OFFSETS
 
+-- the offset's number is one of its kind, and its point may be a position
 pub record IsPreset (preset : Preset) : Type 0 where
   pub least : least_number preset.kind ≤ preset.number
   pub greatest : preset.number ≤ greatest_number preset.kind

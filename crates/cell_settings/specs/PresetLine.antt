@@ -1,4 +1,5 @@
 -- The offset that the name and the values of a line set.
+-- edit_texts takes `preset_of`.
 use Rattle.std.specs.Prelude.{ℕ, ◌-◌, List, [], ◌∷◌, Option, Some, None, codes, if◌then◌else◌}
 use Rattle.std.specs.Str.{bytes_eq}
 use Rattle.nc_number.specs.Options.{◌>>=◌}

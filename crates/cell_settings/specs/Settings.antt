@@ -1,4 +1,5 @@
 -- What the type of the settings keeps.
+-- For this crate alone.
 use Rattle.std.specs.Prelude.{◌≡◌, ℕ, ◌≤◌}
 use Rattle.std.specs.Int.{bit_at}
 

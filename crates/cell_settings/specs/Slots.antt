@@ -1,4 +1,5 @@
 -- The offset that a setting speaks of.
+-- edit_texts takes `preset_slot` and path_state `preset_slot`.
 use Rattle.std.specs.Prelude.{ℕ}
 use Rattle.offset_store.specs.declared.slot.Slot.{Slot}
 use Rattle.offset_store.specs.declared.slot.Slot.TheVariants as slot

@@ -1,9 +1,11 @@
 -- The settings as contracts see them.
+-- nc_restart takes `view`, nc_verify `view`, run_table `view` and wait_verify `view`.
 use Rattle.std.specs.Prelude.{ℕ}
 use Rattle.cell_settings.specs.declared.reading.SettingFault.{SettingFault}
 use Rattle.cell_settings.specs.declared.settings.Settings.{Settings}
 use Rattle.cell_settings.specs.Cell.{Cell}
 
+-- the settings without where they lie in memory
 abbrev pub view : Settings → Cell
 view s = record {
   wait_low = s.wait_low;

@@ -1,4 +1,5 @@
 //! A line of the settings, read.
+//! For this crate alone.
 use crate::preset::Preset;
 use code_tables::System;
 use nc_number::{Path, Point};
@@ -8,14 +9,24 @@ use nc_number::{Path, Point};
 pub(crate) enum Entry {
     /// An empty line, or a comment.
     Nothing,
+    /// The first and the last waiting code.
     Wait { low: u16, high: u16 },
+    /// How many variables from #100 on are shared.
     Shared100(u32),
+    /// How many variables from #500 on are shared.
     Shared500(u32),
+    /// Whether the P of a wait names the paths by bits.
     Paths { bits: bool },
+    /// The system of the tapes' G codes.
     Codes { system: System },
+    /// A path, and a switch that is set, 1 to 9.
     Skip { path: Path, switch: u8 },
+    /// Where the turret of a path stands at the start.
     Place { path: Path, to: Point },
+    /// The reference position of a path.
     Home { path: Path, to: Point },
+    /// An offset that a path begins with.
     Offset(Preset),
+    /// How many records the journal may have.
     Records(u32),
 }

@@ -1,4 +1,5 @@
 //! What the fields of a line of the settings say, by its first word.
+//! For this crate alone.
 ghost use Rattle.std.specs.Prelude.{◌≡◌, IfOk, IfSome};
 ghost use Rattle.field_lines.specs.Field.{texts};
 ghost use Rattle.field_lines.specs.Line.{line_says};

@@ -1,4 +1,5 @@
 //! Which offset of a path a setting speaks of.
+//! edit_texts and path_state use it.
 ghost use Rattle.std.specs.Prelude.{◌≡◌};
 ghost use Rattle.cell_settings.specs.Preset.{IsPreset};
 ghost use Rattle.cell_settings.specs.Slots.{preset_slot};

@@ -1,4 +1,5 @@
 //! Offsets that a path begins with.
+//! edit_texts, motion_vectors and path_state use it.
 ghost use Rattle.std.specs.Prelude.{◌≡◌, List, [], All, OnOk};
 ghost use Rattle.cell_settings.specs.Preset.{with_preset, without_place, is_same_place, IsPreset};
 
@@ -20,9 +21,13 @@ pub enum PresetKind {
 /// An offset that a path begins with.
 #[derive(Clone, Copy, Debug, PartialEq, Eq)]
 pub struct Preset {
+    /// The path that has it.
     pub path: Path,
+    /// A work offset, or the geometry or the wear of a tool.
     pub kind: PresetKind,
+    /// Its number among those of its kind.
     pub number: u8,
+    /// The offset, in 0.001 mm.
     pub to: Point,
 }
 

@@ -1,4 +1,5 @@
 //! The lines of the settings that give offsets.
+//! edit_texts uses it.
 ghost use Rattle.std.specs.Prelude.{◌≡◌, ◌≢◌, ◌≤◌, IfSome};
 ghost use Rattle.field_lines.specs.Field.{texts};
 ghost use Rattle.cell_settings.specs.Preset.{IsPreset};

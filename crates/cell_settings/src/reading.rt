@@ -1,4 +1,5 @@
 //! From a text to the settings of the cell.
+//! machine_vectors, motion_vectors and three more crates use it.
 ghost use Rattle.std.specs.Prelude.{◌≡◌, ◌<◌, ◌^◌, length};
 ghost use Rattle.nc_number.specs.Answers.{GivesBy};
 ghost use Rattle.nc_number.specs.Causes.{cause_number};
@@ -16,6 +17,7 @@ use thiserror::Error;
 #[derive(Clone, Copy, Debug, PartialEq, Eq, Error)]
 #[error("line {line} of the settings is not allowed")]
 pub struct SettingFault {
+    /// The first line that is not allowed, from 1.
     pub line: u32,
 }
 

@@ -25,6 +25,7 @@ use Rattle.clap_reading.specs.Grammar.{IsRead, program_app}
 
 -- the names that a row's words were given, one by one
 
+-- A word that was given is added to the names so far.
 pub one_name_more : (rows : List Row) (before : List Text) (id text : Text) (ids : List Text) → first_of id rows ≡ Some text
     → option_map (λ rest. (before ++ text ∷ []) ++ rest) (names_in rows ids) ≡ option_map (λ rest. before ++ rest) (names_in rows (id ∷ ids))
 one_name_more rows before id text ids e = rw e (go (names_in rows ids))
@@ -33,35 +34,42 @@ one_name_more rows before id text ids e = rw e (go (names_in rows ids))
     go None = refl
     go (Some rest) = ap Some (append_assoc before (text ∷ []) rest)
 
+-- If a word was not given, there are no names.
 pub one_name_lacks : (rows : List Row) (before : List Text) (id : Text) (ids : List Text) → first_of id rows ≡ None
     → option_map (λ rest. before ++ rest) (names_in rows (id ∷ ids)) ≡ None
 one_name_lacks rows before id ids e = rw e refl
 
 -- the command of a row, and of its name
 
+-- The names and texts that were found give the command of the row.
 pub from_names : (rows : List Row) (row : Listing) (names : List Text) (texts : OptionTextsView) (r : Result Command WordsFault)
     → names_in rows row.words ≡ Some names → texts_at row rows ≡ texts → Answers (command_of row.task names texts) r → Answers (command_from rows row) r
 from_names rows row names texts r e l a = rw e (subst (λ t. Answers (command_of row.task names t) r) (sym l) a)
 
+-- The command of a row is that of its name.
 pub in_row : (rows : List Row) (name : Text) (row : Listing) (r : Result Command WordsFault) → row_of name ≡ Some row → Answers (command_from rows row) r
     → Answers (command_in name rows) r
 unfolding command_in
 in_row rows name row r e a = rw e a
 
+-- A name without a row has no command.
 pub in_no_row : (rows : List Row) (name : Text) → row_of name ≡ None → command_in name rows ≡ None
 unfolding command_in
 in_no_row rows name e = rw e refl
 
 -- the command of a line
 
+-- The program's command is simple for clap, and no argument has a rule on another.
 program_is_free : is_simple_and_free program_app ≡ true
 unfolding program_app listings
 program_is_free = refl
 
+-- It is simple, as clap's contracts ask.
 program_is_simple : is_simple program_app ≡ true
 unfolding program_app listings
 program_is_simple = refl
 
+-- If `clap` takes the line, its command is that of the subcommand that was met.
 pub line_taken : (line : List Text) (program : Parser) (found : ArgMatches) (r : Result Command WordsFault) → IsRead program_app program
     → (is_simple_and_free (app_of program) ≡ true → fault_of (app_of program) line ≡ []) → HasMatchesOf (app_of program) line found
     → Answers (command_met (subcommand_rows_of found)) r → Answers (line_command line) r
@@ -73,18 +81,22 @@ line_taken line program found r read free matches a =
     = subst (λ app. subcommand_rows_of found ≡ subcommand_of app line) read.same (matches (subst (λ app. is_simple app ≡ true) (sym read.same) program_is_simple)).1 in
     rw (none, ← met) a
 
+-- A kind that is among some shows that there are some.
 among_some : (kind : ErrorKind) (kinds : Kinds) → IsAmong kind kinds → is_empty kinds ≡ false
 among_some kind [] among = absurd among
 among_some kind (k ∷ kinds) among = grind arith
 
+-- A fault answers that there is no command.
 answers_none : (fault : WordsFault) → Answers {T = Command} None (Err fault)
 answers_none Usage = refl
 answers_none NoMemory = tt
 
+-- If `clap` refuses the line, it has no command.
 no_command : (line : List Text) → is_empty (fault_of program_app line) ≡ false → line_command line ≡ None
 unfolding line_command
 no_command line some = rw some refl
 
+-- If `clap` ends with an error, the line has no command, or memory ran out.
 pub line_refused : (line : List Text) (program : Parser) (error : Error) (fault : WordsFault) → IsRead program_app program
     → (is_simple_and_free (app_of program) ≡ true → HasKind (fault_of (app_of program) line) error) → fault ≡ fault_by (kind_of error)
     → Answers (line_command line) (Err fault)
@@ -102,16 +114,19 @@ line_refused line program error fault read free by =
 
 -- the command of the words
 
+-- The words are texts in UTF-8, by their type.
 pub words_are_texts : {Z : Type 0} → (words : List (String Z)) → All IsUtf8 (map string_bytes words)
 words_are_texts [] k d less = absurd (omega arith)
 words_are_texts (word ∷ words) zero d less = IsUtf8-string_bytes word
 words_are_texts (word ∷ words) (suc k) d less = words_are_texts words k d (omega arith)
 
+-- A command that is answered is the listed one.
 pub answer_ok : (value listed : Option Command) (r : Result Command WordsFault) → value ≡ listed → Answers value r → IfOk r (λ command. listed ≡ Some command)
 answer_ok value listed (Ok command) e a = sym e ∙ a
 answer_ok value listed (Err Usage) e a = tt
 answer_ok value listed (Err NoMemory) e a = tt
 
+-- `Usage` is answered only if no command is listed.
 pub answer_usage : (value listed : Option Command) (r : Result Command WordsFault) → value ≡ listed → Answers value r → IsErrOf r Usage → listed ≡ None
 answer_usage value listed (Ok command) e a f = cc
 answer_usage value listed (Err Usage) e a f = sym e ∙ a

@@ -1,4 +1,6 @@
--- A parse of the words behind a subcommand reads just what the listed commands read.
+-- A parse of the words after a subcommand reads just what the listed commands read, word by word. A
+-- parse is at rest between two words, or waits for the text of an option. A use is an argument with
+-- the text that it was given. clap keeps the last use until the next word, and settles it then.
 use Rattle.std.proofs.Common.{◌≡◌, ◌+◌, ◌<◌, Bool, true, false, List, [], ◌∷◌, ◌++◌, map, length, min, Option, Some, None, refl, sym, ap, ap₂, ◌∙◌, arith, length-append, codes, inl, inr}
 use Rattle.std.specs.Str.{bytes_eq}
 use Rattle.std.proofs.lemmas.Bool.Decides.{eqb_tells}
@@ -15,30 +17,36 @@ use Rattle.clap_reading.proofs.Uses.{Used, is_known, row_of_use, value_in}
 use Rattle.clap_reading.proofs.Walks.{AllTexts, Arguments, closing, end_of, fails_later, fails_now, option_fails, option_once, rest_fault, step_end_is, step_fault_is, stuck_fails}
 use Rattle.clap_reading.proofs.WordKinds.{WordKind, dashes, kind_of_word, listed, long, name, short}
 
+-- What the listed commands read of the rest: after `--` each word is a name.
 abbrev pub read : Bool → List Text → List Text → Option Given
 read true options rest = Some (record { names = rest; marked = [] })
 read false options rest = given options rest
 
+-- The last check of a subcommand: whether each word that must be given was.
 abbrev pub check_of : Text → List Rule → List Row → Kinds
 check_of id c rows = check_fault (leaf id c) rows false
 
+-- From this walk on, the parse of the rest comes to what the listed commands read.
 abbrev pub ReadsFrom : Text → List Rule → List Text → List Text → Walk → List Text → List Text → List Used → Option Given → Type 0
 ReadsFrom id c ids options w rest names marked g = Outcome ids options (check_of id c) (rest_fault id c w rest) (finished c (end_of c w rest)) names marked g
 
+-- It does from each walk at rest.
 abbrev pub AtRest : Text → List Rule → List Text → List Text → List Text → Type 0
 AtRest id c ids options rest = (done : List Used) (last : Option Used) (names : List Text) (marked : List Used) (trailing : Bool) → Settles c done last
     → Story ids options (all_uses done last) names marked
     → ReadsFrom id c ids options (at_rest done last (length names + 1) trailing) rest names marked (read trailing options rest)
 
+-- It does from each walk that waits for the text of an option.
 abbrev pub AtOption : Text → List Rule → List Text → List Text → List Text → Type 0
 AtOption id c ids options rest = (opt : Text) (uses : List Used) (names : List Text) (marked : List Used) → Story ids options uses names marked → is_known options opt ≡ true
     → ReadsFrom id c ids options (at_option opt uses (length names + 1)) rest names marked (text_then options rest opt)
 
+-- An outcome is the same of equal faults and rows.
 outcome_as : (ids options : List Text) (check : List Row → Kinds) (fault other : Kinds) (rows more : List Row) (names : List Text) (marked : List Used) (g : Option Given)
     → fault ≡ other → rows ≡ more → Outcome ids options check other more names marked g → Outcome ids options check fault rows names marked g
 outcome_as ids options check fault other rows more names marked g e f outcome = rw (e, f) outcome
 
--- a word that the parse takes
+-- A word that the parse takes: the outcome is that of the walk after it.
 goes_on : (id : Text) (c : List Rule) (ids options : List Text) (w after : Walk) (word : Text) (rest names : List Text) (marked : List Used) (g : Option Given)
     → turn_fault (leaf id c) [] w word ≡ [] → walked c [] w word ≡ after → ReadsFrom id c ids options after rest names marked g
     → ReadsFrom id c ids options w (word ∷ rest) names marked g
@@ -46,11 +54,12 @@ goes_on id c ids options w after word rest names marked g none same outcome =
     outcome_as ids options (check_of id c) (rest_fault id c w (word ∷ rest)) (rest_fault id c after rest) (finished c (end_of c w (word ∷ rest))) (finished c (end_of c after rest)) names marked g
     (step_fault_is id c w after word rest none same) (ap (finished c) (step_end_is c w after word rest same)) outcome
 
+-- An outcome is the same of an equal reading.
 as_given : (id : Text) (c : List Rule) (ids options : List Text) (w : Walk) (rest names : List Text) (marked : List Used) (g h : Option Given) → g ≡ h
     → ReadsFrom id c ids options w rest names marked h → ReadsFrom id c ids options w rest names marked g
 as_given id c ids options w rest names marked g h e outcome = rw e outcome
 
--- the end of the words
+-- At the end of the words the last checks decide.
 at_end : (id : Text) (c : List Rule) (ids options : List Text) → Arguments c ids options
     → (done : List Used) (last : Option Used) (names : List Text) (marked : List Used) (trailing : Bool) → Settles c done last
     → Story ids options (all_uses done last) names marked
@@ -64,7 +73,7 @@ at_end id c ids options arguments done last names marked trailing settles story 
     ∙ ap (check_of id c) rows in
     rw (append-nil names, append-nil marked) (checked (all_uses done last) story fault rows)
 
--- a name
+-- One word more, which is a name.
 name_step : (id : Text) (c : List Rule) (ids options : List Text) → Arguments c ids options → (word : Text) (rest : List Text) → AtRest id c ids options rest
     → (done : List Used) (last : Option Used) (names : List Text) (marked : List Used) (trailing : Bool) → Settles c done last
     → Story ids options (all_uses done last) names marked → GoesToPositional trailing word
@@ -100,7 +109,7 @@ name_step id c ids options arguments word rest later done last names marked trai
         (record { rule = at.rule; found = at.found; same = at.same; once = at.once; fresh = fresh })
         (one_name ids options (all_uses done last) names marked next.0 word story next.1 less other)))
 
--- an option with its text attached
+-- One word more, which is an option with its text attached.
 attached_step : (id : Text) (c : List Rule) (ids options : List Text) → Arguments c ids options → (opt : Text) → is_known options opt ≡ true
     → (word text : Text) (rest : List Text) → AtRest id c ids options rest
     → bytes_eq word (codes "--") ≡ false → long_of word ≡ Some (opt, Some text)
@@ -137,7 +146,7 @@ attached_step id c ids options arguments opt is word text rest later no_dashes r
         option_again ids options (check_of id c) (rest_fault id c w (word ∷ rest)) (finished c (end_of c w (word ∷ rest))) names marked opt text earlier (given options rest)
         (fails_now id c w word rest fails) some
 
--- an option alone
+-- One word more, which is an option that waits for its text.
 alone_step : (id : Text) (c : List Rule) (ids options : List Text) → Arguments c ids options → (opt : Text) → is_known options opt ≡ true
     → (word : Text) (rest : List Text) → AtOption id c ids options rest
     → bytes_eq word (codes "--") ≡ false → long_of word ≡ Some (opt, None)
@@ -149,6 +158,7 @@ alone_step id c ids options arguments opt is word rest later no_dashes read_as d
     (option_walk c opt done last (length names + 1) word no_dashes read_as (arguments.option_long opt is) (all_uses done last) (settled_at_rest c done last settles))
     (later opt (all_uses done last) names marked story is)
 
+-- One word more, which is an option of either kind.
 option_step : (id : Text) (c : List Rule) (ids options : List Text) → Arguments c ids options → (opt : Text) → is_known options opt ≡ true
     → (word : Text) (rest : List Text) → AtRest id c ids options rest → AtOption id c ids options rest
     → bytes_eq word (codes "--") ≡ false → (text : Option Text) → long_of word ≡ Some (opt, text)
@@ -159,7 +169,7 @@ option_step id c ids options arguments opt is word rest later waiting no_dashes 
 option_step id c ids options arguments opt is word rest later waiting no_dashes (Some text) read_as done last names marked settles story =
     attached_step id c ids options arguments opt is word text rest later no_dashes read_as done last names marked settles story
 
--- any word where nothing is waited for
+-- Any word, if nothing is waited for.
 rest_step : (id : Text) (c : List Rule) (ids options : List Text) → Arguments c ids options
     → (word : Text) (rest : List Text) → AtRest id c ids options rest → AtOption id c ids options rest → WordKind options word
     → (done : List Used) (last : Option Used) (names : List Text) (marked : List Used) → Settles c done last → Story ids options (all_uses done last) names marked
@@ -190,10 +200,12 @@ rest_step id c ids options arguments word rest later waiting (short flags first 
 
 -- where the text of an option is waited for
 
+-- An option that waits for its text can't be settled.
 waiting_stuck : (c : List Rule) (ids options : List Text) → Arguments c ids options → (opt : Text) → is_known options opt ≡ true → (uses : List Used)
     → is_empty (settle_fault c false (held_waiting opt uses)) ≡ false
 waiting_stuck c ids options arguments opt is uses = rw (arguments.option_id opt is) ((option_once opt).needs (map row_of_use uses))
 
+-- The text that an option waits for.
 option_takes : (id : Text) (c : List Rule) (ids options : List Text) → Arguments c ids options → (opt : Text) → is_known options opt ≡ true
     → (word : Text) (rest : List Text) → AllTexts rest → AtRest id c ids options rest → GoesToPositional false word
     → (uses : List Used) (names : List Text) (marked : List Used) → Story ids options uses names marked
@@ -221,6 +233,7 @@ option_takes id c ids options arguments opt is word rest texts later goes uses n
         (stuck_fails id c ids options arguments (held_at uses (Some (opt, word))) refl stuck rest texts idle (length names + 1) false (inl refl)))
         some
 
+-- Any word, if an option waits for its text.
 option_stays : (id : Text) (c : List Rule) (ids options : List Text) → Arguments c ids options → (opt : Text) → is_known options opt ≡ true
     → (word : Text) (rest : List Text) → AllTexts rest → AtRest id c ids options rest → WordKind options word
     → (uses : List Used) (names : List Text) (marked : List Used) → Story ids options uses names marked
@@ -253,9 +266,11 @@ option_stays id c ids options arguments opt is word rest texts later (short flag
 
 -- all the words
 
+-- The parse of these words comes to what is listed, from both kinds of walk.
 abbrev pub ReadsAll : Text → List Rule → List Text → List Text → List Text → Type 0
 ReadsAll id c ids options rest = AtRest id c ids options rest × AtOption id c ids options rest
 
+-- That holds of all words that are texts.
 pub reads_all : (id : Text) (c : List Rule) (ids options : List Text) → Arguments c ids options
     → (rest : List Text) → AllTexts rest → ReadsAll id c ids options rest
 unfolding walk_fault

@@ -1,4 +1,6 @@
--- The arguments of each subcommand, and how its reading ends.
+-- The arguments of each subcommand, and how its reading ends. Three kinds: those of a pair (left
+-- right settings), of one word, and of no word. A use is an argument with the text that it was
+-- given.
 use Rattle.std.proofs.Common.{◌≡◌, ℕ, ◌+◌, ◌<◌, inl, inr, Bool, true, false, ◌&&◌, ◌||◌, not, cond, List, [], ◌∷◌, map, length, Option, Some, None, is_some, refl, sym, ap, subst, ◌∙◌, arith, codes}
 use Rattle.std.proofs.Math.Bool.{or-true}
 use Rattle.std.specs.Prelude.{nat_eq}
@@ -25,9 +27,11 @@ use Rattle.clap_reading.proofs.Stories.{Ending, Story, checked, faulty, value_of
 use Rattle.clap_reading.proofs.Uses.{Used, first_of-uses, is_given-uses, is_known, row_of_use, same_text, unknown_differs, value_in}
 use Rattle.clap_reading.proofs.Walks.{Arguments, RuleAt}
 
+-- The rule of the word at this position, as clap fills it in.
 abbrev pub name_at : ℕ → Text → Rule
 name_at position id = with_index position (filled (name_rule id))
 
+-- Such a word takes one text, once.
 name_once : (position : ℕ) (id : Text) → IsOnce (name_at position id)
 name_once position id = record {
   takes = λ text rows. refl;
@@ -40,10 +44,11 @@ name_once position id = record {
   closed = refl;
 }
 
+-- The rule is that of this position.
 abbrev at_position : ℕ → Rule → Bool
 at_position position a = option_map_or (λ k. nat_eq k position) a.index false
 
--- what holds of every rule holds of the one that is found
+-- If no rule takes several texts, the one that is found does not.
 once_found : (test : Rule → Bool) (c : List Rule) (a : Rule) → list_all (λ a. not (takes_several a)) c ≡ true → find test c ≡ Some a → takes_several a ≡ false
 once_found test [] a all found = cc
 once_found test (b ∷ c) a all found =
@@ -56,21 +61,25 @@ once_found test (b ∷ c) a all found =
     is_false true e = cc
     is_false false e = refl
 
--- no rule has a default
+-- None of these rules has a default.
 abbrev pub NoDefaults : List Rule → Type 0
 NoDefaults [] = Unit {0}
 NoDefaults (a ∷ c) = (a.defaults ≡ []) × NoDefaults c
 
+-- A rule without a default adds no row.
 default_stays : (rows : List Row) (a : Rule) → a.defaults ≡ [] → with_default rows a ≡ rows
 default_stays rows a none = rw none (elim (has_row a.id rows) as (λ b. cond b rows rows ≡ rows) [ true ↦ refl | false ↦ refl ])
 
+-- Rules without defaults add no rows.
 defaults_stay : (c : List Rule) → NoDefaults c → (rows : List Row) → fold with_default rows c ≡ rows
 defaults_stay [] none rows = refl
 defaults_stay (a ∷ c) none rows = ap (λ more. fold with_default more c) (default_stays rows a none.0) ∙ defaults_stay c none.1 rows
 
+-- A rule without a default has no fault of it.
 default_passes : (rows : List Row) (a : Rule) → a.defaults ≡ [] → default_fault rows a ≡ []
 default_passes rows a none = rw (none, or-true) refl
 
+-- Rules without defaults have no fault of them.
 defaults_pass : (c : List Rule) → NoDefaults c → (rows : List Row) → defaults_fault rows c ≡ []
 unfolding defaults_fault
 defaults_pass [] none rows = refl
@@ -79,10 +88,11 @@ defaults_pass (a ∷ c) none rows =
 
 -- The rules of the options
 
--- the options of a subcommand, behind its words
+-- The rules of the options of a subcommand.
 abbrev pub option_rules : List Text → List Rule
 option_rules options = map option_at options
 
+-- A known option is found by its name.
 by_long : (options : List Text) (id : Text) → is_known options id ≡ true → arg_by_long (option_rules options) id ≡ Some (option_at id)
 by_long [] id is = cc
 by_long (own ∷ options) id is = here (by_long options id) (bytes_eq own id) refl is
@@ -92,6 +102,7 @@ by_long (own ∷ options) id is = here (by_long options id) (bytes_eq own id) re
     here again true same _ = rw same (ap (λ x. Some (option_at x)) (same_text own id same))
     here again false other later = rw other (again later)
 
+-- Another name finds none.
 by_no_long : (options : List Text) (id : Text) → is_known options id ≡ false → arg_by_long (option_rules options) id ≡ None
 by_no_long [] id other = refl
 by_no_long (own ∷ options) id other = here (by_no_long options id) (bytes_eq own id) refl other
@@ -101,6 +112,7 @@ by_no_long (own ∷ options) id other = here (by_no_long options id) (bytes_eq o
     here again true same never = cc
     here again false other later = rw other (again later)
 
+-- A known option is found by its identifier, which is its name.
 by_id : (options : List Text) (id : Text) → is_known options id ≡ true → arg_by_id (option_rules options) id ≡ Some (option_at id)
 by_id [] id is = cc
 by_id (own ∷ options) id is = here (by_id options id) (bytes_eq own id) refl is
@@ -110,73 +122,86 @@ by_id (own ∷ options) id is = here (by_id options id) (bytes_eq own id) refl i
     here again true same _ = rw same (ap (λ x. Some (option_at x)) (same_text own id same))
     here again false other later = rw other (again later)
 
+-- No option is found by a position.
 by_index : (options : List Text) (position : ℕ) → arg_by_index (option_rules options) position ≡ None
 by_index [] position = refl
 by_index (own ∷ options) position = by_index options position
 
+-- No option is found by one letter.
 by_short : (options : List Text) (x : ℕ) → arg_by_short (option_rules options) x ≡ None
 by_short [] x = refl
 by_short (own ∷ options) x = by_short options x
 
+-- No option takes several texts.
 single : (options : List Text) → list_all (λ a. not (takes_several a)) (option_rules options) ≡ true
 single [] = refl
 single (own ∷ options) = single options
 
+-- No option has a default.
 no_defaults : (options : List Text) → NoDefaults (option_rules options)
 no_defaults [] = tt
 no_defaults (own ∷ options) = (refl, no_defaults options)
 
--- none of them has to be there
+-- No option must be given.
 none_required : (options : List Text) (rows : List Row) → list_any (λ a. a.required && not (is_given a.id rows)) (option_rules options) ≡ false
 none_required [] rows = refl
 none_required (own ∷ options) rows = none_required options rows
 
 -- The rules of the words
 
+-- The words of a pair: left, right and settings.
 abbrev pub pair_ids : List Text
 pair_ids = pair_words
 
+-- The rules of a command of a pair, with these options.
 abbrev pub pair_rules : List Text → List Rule
 pair_rules options = name_at 1 (codes "left") ∷ name_at 2 (codes "right") ∷ name_at 3 (codes "settings") ∷ option_rules options
 
--- no option has the name of one of the words
+-- No option has the name of one of these words.
 pub record ArePairNames (options : List Text) : Type 0 where
   pub left : is_known options (codes "left") ≡ false
   pub right : is_known options (codes "right") ≡ false
   pub settings : is_known options (codes "settings") ≡ false
 
+-- The one word of a command.
 abbrev pub one_id : Text → List Text
 one_id id = id ∷ []
 
+-- The rules of a command of one word, with these options.
 abbrev pub one_rules : Text → List Text → List Rule
 one_rules id options = name_at 1 id ∷ option_rules options
 
--- what a word is called that is none of the options
+-- The word's name is none of the options'.
 pub record IsWordName (options : List Text) (id : Text) : Type 0 where
   pub own : bytes_eq id id ≡ true
   pub free : is_known options id ≡ false
 
+-- What holds of one name holds of an equal one.
 as_id : (P : Text → Type 0) (a b : Text) → Some a ≡ Some b → P a → P b
 as_id P a b e p = let same : a ≡ b = cc in subst P same p
 
+-- The next word of a pair has no option's name.
 pair_named : (options : List Text) → ArePairNames options → (names : List Text) (id : Text) → slice_get pair_ids (length names) ≡ Some id → is_known options id ≡ false
 pair_named options free [] id e = as_id (λ id. is_known options id ≡ false) (codes "left") id e free.left
 pair_named options free (a ∷ []) id e = as_id (λ id. is_known options id ≡ false) (codes "right") id e free.right
 pair_named options free (a ∷ b ∷ []) id e = as_id (λ id. is_known options id ≡ false) (codes "settings") id e free.settings
 pair_named options free (a ∷ b ∷ c ∷ names) id e = cc
 
+-- The next word of a pair was not given before.
 pair_fresh : (names : List Text) (id : Text) → slice_get pair_ids (length names) ≡ Some id → value_in id (zip pair_ids names) ≡ None
 pair_fresh [] id e = refl
 pair_fresh (a ∷ []) id e = as_id (λ id. value_in id (zip pair_ids (a ∷ [])) ≡ None) (codes "right") id e refl
 pair_fresh (a ∷ b ∷ []) id e = as_id (λ id. value_in id (zip pair_ids (a ∷ b ∷ [])) ≡ None) (codes "settings") id e refl
 pair_fresh (a ∷ b ∷ c ∷ names) id e = cc
 
+-- The next word of a pair has its rule at its position.
 pair_at : (options names : List Text) (id : Text) → slice_get pair_ids (length names) ≡ Some id → RuleAt (pair_rules options) id (length names + 1)
 pair_at options [] id e = as_id (λ id. RuleAt (pair_rules options) id 1) (codes "left") id e (record { rule = name_at 1 (codes "left"); at = refl; same = refl; once = name_once 1 (codes "left"); found = refl })
 pair_at options (a ∷ []) id e = as_id (λ id. RuleAt (pair_rules options) id 2) (codes "right") id e (record { rule = name_at 2 (codes "right"); at = refl; same = refl; once = name_once 2 (codes "right"); found = refl })
 pair_at options (a ∷ b ∷ []) id e = as_id (λ id. RuleAt (pair_rules options) id 3) (codes "settings") id e (record { rule = name_at 3 (codes "settings"); at = refl; same = refl; once = name_once 3 (codes "settings"); found = refl })
 pair_at options (a ∷ b ∷ c ∷ names) id e = cc
 
+-- The arguments of a command of a pair are as the walk needs them.
 pub pair_arguments : (options : List Text) → ArePairNames options → Arguments (pair_rules options) pair_ids options
 pair_arguments options free = record {
   at = pair_at options;
@@ -197,6 +222,7 @@ pair_arguments options free = record {
   no_default_fault = defaults_pass (pair_rules options) (refl, (refl, (refl, no_defaults options)));
 }
 
+-- So are those of a command without words.
 pub alone_arguments : (options : List Text) → Arguments (option_rules options) [] options
 alone_arguments options = record {
   at = λ names id e. cc;
@@ -213,14 +239,17 @@ alone_arguments options = record {
   no_default_fault = defaults_pass (option_rules options) (no_defaults options);
 }
 
+-- The one word has its rule at position 1.
 one_at : (options : List Text) (id : Text) → IsWordName options id → (names : List Text) (x : Text) → slice_get (one_id id) (length names) ≡ Some x → RuleAt (one_rules id options) x (length names + 1)
 one_at options id is [] x e = as_id (λ x. RuleAt (one_rules id options) x 1) id x e (record { rule = name_at 1 id; at = refl; same = refl; once = name_once 1 id; found = rw is.own refl })
 one_at options id is (a ∷ names) x e = cc
 
+-- It has no option's name.
 one_named : (options : List Text) (id : Text) → IsWordName options id → (names : List Text) (x : Text) → slice_get (one_id id) (length names) ≡ Some x → is_known options x ≡ false
 one_named options id is [] x e = as_id (λ x. is_known options x ≡ false) id x e is.free
 one_named options id is (a ∷ names) x e = cc
 
+-- The arguments of a command of one word are as the walk needs them.
 pub one_arguments : (options : List Text) (id : Text) → IsWordName options id → Arguments (one_rules id options) (one_id id) options
 one_arguments options id is = record {
   at = one_at options id is;
@@ -243,30 +272,36 @@ one_arguments options id is = record {
 
 -- How each subcommand ends: the last checks and the rows against the listed command
 
+-- The listed command of these names and options.
 abbrev pub listed_by : Listing → List Text → List Used → Option Command
 listed_by row names marked = command_given row (record { names = names; marked = marked })
 
+-- Each ending of the subcommand's parse gives the listed command.
 abbrev pub Ends : Listing → List Rule → Type 0
 Ends row c = (fault : Kinds) (rows : List Row) (names : List Text) (marked : List Used)
     → Ending row.words row.options (check_of row.name c) fault rows names marked
     → cond (is_empty fault) (command_in row.name rows) None ≡ listed_by row names marked
 
+-- Too many names give no listed command.
 longer : (row : Listing) (names : List Text) (marked : List Used) → length row.words < length names → None ≡ listed_by row names marked
 longer row names marked more =
     elim (eqb_tells (length names) (length row.words)) [ inl same ↦ absurd (omega (arith, same.1, more)) | inr other ↦ rw other.0 refl ]
 
+-- A fault gives no command.
 fails : (fault : Kinds) (command answer : Option Command) → is_empty fault ≡ false → None ≡ answer → cond (is_empty fault) command None ≡ answer
 fails fault command answer e f = rw e f
 
+-- A word was given exactly if a name stands for it.
 given_name : (ids options : List Text) (uses : List Used) (names : List Text) (marked : List Used) (id : Text) → Story ids options uses names marked → is_known options id ≡ false
     → is_given id (map row_of_use uses) ≡ is_some (value_in id (zip ids names))
 given_name ids options uses names marked id story other = is_given-uses id uses ∙ ap is_some (value_of_name ids options uses names marked id story other)
 
+-- Its text is that name.
 first_name : (ids options : List Text) (uses : List Used) (names : List Text) (marked : List Used) (id : Text) → Story ids options uses names marked → is_known options id ≡ false
     → first_of id (map row_of_use uses) ≡ value_in id (zip ids names)
 first_name ids options uses names marked id story other = first_of-uses id uses ∙ value_of_name ids options uses names marked id story other
 
--- the text of an option, as the rows have it and as the words do
+-- The text of an option is the same by the rows of clap and by the listed reading.
 text_same : (row : Listing) (uses : List Used) (names : List Text) (marked : List Used) (id : Text) → Story row.words row.options uses names marked
     → text_at row id (map row_of_use uses) ≡ text_for row id marked
 text_same row uses names marked id story = here (is_known row.options id) refl
@@ -275,11 +310,13 @@ text_same row uses names marked id story = here (is_known row.options id) refl
     here true is = first_of-uses id uses ∙ value_of_option row.words row.options uses names marked id story is
     here false other = refl
 
+-- Four texts that agree one by one are the same four.
 four : (a b c d e f g h : Option Text) → a ≡ e → b ≡ f → c ≡ g → d ≡ h
     → ◌≡◌ {A = OptionTextsView} (record { blocks = a; turret1 = b; turret2 = c; outside = d })
     (record { blocks = e; turret1 = f; turret2 = g; outside = h })
 four a b c d e f g h x y z w = rw (x, y, z, w) refl
 
+-- The texts of all options are the same.
 texts_same : (row : Listing) (uses : List Used) (names : List Text) (marked : List Used) → Story row.words row.options uses names marked
     → texts_at row (map row_of_use uses) ≡ texts_for row marked
 texts_same row uses names marked story =
@@ -287,7 +324,7 @@ texts_same row uses names marked story =
     (text_same row uses names marked (codes "turret1") story) (text_same row uses names marked (codes "turret2") story)
     (text_same row uses names marked (codes "outside") story)
 
--- the command of a row whose words and options were read
+-- A row whose words and options were read gives the listed command.
 reads_as : (row : Listing) (uses : List Used) (names : List Text) (marked : List Used) → Story row.words row.options uses names marked
     → ((given : List Row) → command_in row.name given ≡ command_from given row) → names_in (map row_of_use uses) row.words ≡ Some names
     → nat_eq (length names) (length row.words) ≡ true → command_in row.name (map row_of_use uses) ≡ listed_by row names marked
@@ -296,14 +333,16 @@ reads_as row uses names marked story is all many =
     is (map row_of_use uses)
     ∙ (rw all refl ∙ (ap (command_of row.task names) (texts_same row uses names marked story) ∙ sym listed))
 
+-- The command over the rows of the uses is that over clap's rows.
 checked_as : (id : Text) (c : List Rule) (fault : Kinds) (rows uses_rows : List Row) (answer : Option Command) → fault ≡ check_of id c uses_rows → rows ≡ uses_rows
     → cond (is_empty (check_of id c uses_rows)) (command_in id uses_rows) None ≡ answer → cond (is_empty fault) (command_in id rows) None ≡ answer
 checked_as id c fault rows uses_rows answer e f end = rw (e, f) end
 
--- a command of a pair
+-- The row of a command of a pair.
 abbrev pub pair_row : Text → List Text → Journal → Task → Listing
 pair_row name options kept what = listing name pair_words options kept what
 
+-- Each parse of such a command ends with the listed command.
 pub pair_ends : (name : Text) (options : List Text) (kept : Journal) (what : Task) → ArePairNames options
     → ((given : List Row) → command_in name given ≡ command_from given (pair_row name options kept what)) → Ends (pair_row name options kept what) (pair_rules options)
 pair_ends name options kept what free is fault rows [] marked (faulty bad many) = fails fault _ _ bad refl
@@ -346,10 +385,11 @@ pair_ends name options kept what free is fault rows (a ∷ b ∷ d ∷ []) marke
     ) (reads_as row uses names marked story is all refl))
 pair_ends name options kept what free is fault rows (a ∷ b ∷ d ∷ e ∷ names) marked (checked uses story f g) = absurd (omega (arith, story.few_names))
 
--- a command without words
+-- The row of a command without words.
 abbrev pub alone_row : Text → List Text → Journal → Task → Listing
 alone_row name options kept what = listing name [] options kept what
 
+-- Each parse of such a command ends with the listed command.
 pub alone_ends : (name : Text) (options : List Text) (kept : Journal) (what : Task)
     → ((given : List Row) → command_in name given ≡ command_from given (alone_row name options kept what)) → Ends (alone_row name options kept what) (option_rules options)
 alone_ends name options kept what is fault rows [] marked (faulty bad (inl many)) = absurd (omega (arith, many))
@@ -362,10 +402,11 @@ alone_ends name options kept what is fault rows [] marked (checked uses story f 
     (rw (none_required options (map row_of_use uses)) (reads_as row uses [] marked story is refl refl))
 alone_ends name options kept what is fault rows (a ∷ names) marked (checked uses story f g) = absurd (omega (arith, story.few_names))
 
--- a command of one word, which is called so
+-- The row of a command of one word with this name.
 abbrev pub one_row : Text → Text → List Text → Journal → Task → Listing
 one_row name id options kept what = listing name (one_id id) options kept what
 
+-- Each parse of such a command ends with the listed command.
 pub one_ends : (name id : Text) (options : List Text) (kept : Journal) (what : Task) → IsWordName options id
     → ((given : List Row) → command_in name given ≡ command_from given (one_row name id options kept what)) → Ends (one_row name id options kept what) (one_rules id options)
 one_ends name id options kept what word is fault rows [] marked (faulty bad many) = fails fault _ _ bad refl

@@ -1,4 +1,6 @@
--- The first word, and with it all of them.
+-- The first word, and with it all of them: `clap` reads the listed command in any words. A further
+-- command of the program has its line in `built_program` and `all_known`, and one more part in
+-- `meets_none`.
 use Rattle.std.proofs.Common.{◌≡◌, suc, Bool, true, false, cond, List, [], ◌∷◌, ◌++◌, Option, Some, None, is_some, refl, sym, ap, ap₂, ◌∙◌, arith, append_assoc, codes}
 use Rattle.std.specs.Prelude.{option_and_then}
 use Rattle.std.specs.List.{All, find, fold}
@@ -26,8 +28,7 @@ use Rattle.clap_reading.proofs.Subcommands.{ArePairNames, Ends, IsWordName, alon
 use Rattle.clap_reading.proofs.Walks.{AllTexts, Arguments, end_of, rest_fault}
 use Rattle.clap_reading.proofs.WordKinds.{WordKind, dashes, kind_of_word, listed, long, name, short}
 
--- the program's command, built
-
+-- The program's command without its subcommands, built.
 abbrev top_shape : Shape
 top_shape = record (new_shape (codes "twin_lathe")) {
   is_leaf = false;
@@ -37,6 +38,7 @@ top_shape = record (new_shape (codes "twin_lathe")) {
   is_built = true;
 }
 
+-- The program's command, built: one line for each row.
 abbrev built_program : App
 built_program = record {
   top = top_shape;
@@ -48,30 +50,36 @@ built_program = record {
       ∷ leaf (codes "expand") (one_rules (codes "tape") []) ∷ [];
 }
 
+-- The names that the first word may be.
 abbrev names_top : Names
 names_top = names_of built_program
 
+-- The walk before the first word.
 abbrev start : Walk
 start = walk_from nothing_held
 
+-- The command after a walk, if it has no fault to its end.
 abbrev answer : Kinds → Walk → Option Command
 answer fault w =
     cond (is_empty (or_else fault (or_else (entered_fault built_program w.stopped) (or_else (settle_fault [] false w.held)
     (or_else (defaults_fault (settled [] w.held).rows []) (check_fault top_shape (finished [] w.held) (is_some (entered built_program w.stopped))))))))
     (option_and_then (λ met. command_in met.0 met.1) (entered built_program w.stopped)) None
 
+-- `clap` reads this command in the words.
 clap_command_is : (words : List Text) → clap_command words ≡ answer (walk_fault top_shape names_top start words) (fold (walked [] names_top) start words)
 unfolding line_command program_app listings
 clap_command_is words = refl
 
 -- a known first word: the rest goes to the subcommand
 
+-- After a subcommand the rest of the words is its own.
 stays_stopped : (id : Text) (before rest : List Text) → fold (walked [] names_top) (record start { stopped = Some (id, before) }) rest ≡ record start { stopped = Some (id, before ++ rest) }
 unfolding walked
 stays_stopped id before [] = ap (λ words. record start { stopped = Some (id, words) }) (sym (append-nil before))
 stays_stopped id before (word ∷ rest) =
     stays_stopped id (before ++ word ∷ []) rest ∙ ap (λ words. record start { stopped = Some (id, words) }) (append_assoc before (word ∷ []) rest)
 
+-- They have no fault before it reads them.
 known_fault : (id : Text) (rest : List Text) → walked [] names_top start id ≡ record start { stopped = Some (id, []) } → turn_fault top_shape names_top start id ≡ []
     → walk_fault top_shape names_top start (id ∷ rest) ≡ []
 unfolding walk_fault
@@ -80,11 +88,12 @@ known_fault id rest first none =
     ∙ ap (λ w. walk_fault top_shape names_top w rest) first
     ∙ stopped_fault top_shape names_top start (id, []) rest
 
--- a subcommand's answer
+-- What a subcommand answers to its words.
 abbrev answer_of : Text → List Rule → List Text → Option Command
 answer_of id c rest =
     cond (is_empty (rest_fault id c (at_rest [] None 1 false) rest)) (command_in id (finished c (end_of c (at_rest [] None 1 false) rest))) None
 
+-- A known first word: the rest goes to its subcommand.
 known : (id : Text) (c : List Rule) (rest : List Text) → walked [] names_top start id ≡ record start { stopped = Some (id, []) } → turn_fault top_shape names_top start id ≡ []
     → find (λ s. answers_to id (label_of s)) built_program.subs ≡ Some (leaf id c)
     → clap_command (id ∷ rest) ≡ answer_of id c rest
@@ -96,12 +105,14 @@ known id c rest first none found =
 
 -- how a subcommand ends, from the outcome of its words
 
+-- The outcome of a subcommand's words gives the listed command.
 from_outcome : (row : Listing) (c : List Rule) → Ends row c → (fault : Kinds) (rows : List Row) (g : Option Given)
     → Outcome row.words row.options (check_of row.name c) fault rows [] [] g
     → cond (is_empty fault) (command_in row.name rows) None ≡ option_and_then (command_given row) g
 from_outcome row c ends fault rows None outcome = rw outcome refl
 from_outcome row c ends fault rows (Some g) outcome = ends fault rows g.names g.marked outcome
 
+-- A subcommand answers the listed command.
 subcommand_is : (row : Listing) (c : List Rule) → Ends row c → Arguments c row.words row.options → (rest : List Text) → AllTexts rest
     → answer_of row.name c rest ≡ command_behind rest row
 subcommand_is row c ends arguments rest texts =
@@ -110,18 +121,21 @@ subcommand_is row c ends arguments rest texts =
 
 -- an unknown first word
 
+-- Texts that pass the test are the same.
 same_text : (a b : Text) → bytes_eq a b ≡ true → a ≡ b
 same_text a b e = (bytes_eq-Decides a b).0 e
 
--- the word is the name of no row
+-- The word is the name of none of these rows.
 abbrev IsUnknown : Text → List Listing → Type 0
 IsUnknown word [] = Unit {0}
 IsUnknown word (row ∷ rows) = (bytes_eq row.name word ≡ false) × IsUnknown word rows
 
+-- An unknown word meets no subcommand.
 meets_none : (word : Text) → IsUnknown word listings → subcommand_met names_top idle word ≡ None
 unfolding listings
 meets_none word u = rw (u.0, u.1.0, u.1.1.0, u.1.1.1.0, u.1.1.1.1.0, u.1.1.1.1.1.0, u.1.1.1.1.1.1.0, u.1.1.1.1.1.1.1.0, u.1.1.1.1.1.1.1.1.0, u.1.1.1.1.1.1.1.1.1.0, u.1.1.1.1.1.1.1.1.1.1.0, u.1.1.1.1.1.1.1.1.1.1.1.0, u.1.1.1.1.1.1.1.1.1.1.1.1.0) refl
 
+-- An unknown first word is a fault, unless it is `--`.
 unknown_turn_fails : (word : Text) → subcommand_met names_top idle word ≡ None → WordKind [] word → bytes_eq word (codes "--") ≡ false
     → is_empty (turn_fault top_shape names_top start word) ≡ false
 unknown_turn_fails word none (dashes e) no_dashes = absurd (let bad : true ≡ false = sym e ∙ no_dashes in cc)
@@ -133,6 +147,7 @@ unknown_turn_fails word none (short flags first e no_long flags_are char some a 
     (step_fault top_shape 1 (word_met [] names_top false idle 1 word nothing_held).0 (word_met [] names_top false idle 1 word nothing_held).1)
     (rw (none, e, no_long, flags_are) (bundle_fails [] nothing_held flags first char refl some (λ x. refl)))
 
+-- A fault gives no command.
 refuses : (fault : Kinds) (w : Walk) → is_empty fault ≡ false → answer fault w ≡ None
 refuses fault w some =
     let all : is_empty (or_else fault (or_else (entered_fault built_program w.stopped) (or_else (settle_fault [] false w.held)
@@ -141,6 +156,7 @@ refuses fault w some =
     (or_else (defaults_fault (settled [] w.held).rows []) (check_fault top_shape (finished [] w.held) (is_some (entered built_program w.stopped)))))) some in
     rw all refl
 
+-- If the first word is a fault, there is no command.
 first_refused : (word : Text) (rest : List Text) → is_empty (turn_fault top_shape names_top start word) ≡ false → clap_command (word ∷ rest) ≡ None
 unfolding walk_fault
 first_refused word rest some =
@@ -150,15 +166,18 @@ first_refused word rest some =
 
 -- `--` before a subcommand
 
+-- After `--` as the first word the walk goes on.
 dashes_walks : (word : Text) → subcommand_met names_top idle word ≡ None → bytes_eq word (codes "--") ≡ true → walked [] names_top start word ≡ going nothing_held idle 1 true
 unfolding walked
 dashes_walks word none e = rw (none, e) refl
 
+-- `--` alone gives no command.
 dashes_alone : (word : Text) → turn_fault top_shape names_top start word ≡ [] → walked [] names_top start word ≡ going nothing_held idle 1 true
     → answer (walk_fault top_shape names_top start (word ∷ [])) (fold (walked [] names_top) start (word ∷ [])) ≡ None
 unfolding walk_fault defaults_fault
 dashes_alone word turn walks = ap₂ answer (ap (λ now. or_else now []) turn) walks
 
+-- `--` with words after it is a fault.
 dashes_then : (word other : Text) (more : List Text) → turn_fault top_shape names_top start word ≡ [] → walked [] names_top start word ≡ going nothing_held idle 1 true
     → is_empty (walk_fault top_shape names_top start (word ∷ other ∷ more)) ≡ false
 unfolding walk_fault
@@ -166,6 +185,7 @@ dashes_then word other more turn walks =
     ap is_empty (ap₂ (λ now next. or_else now (walk_fault top_shape names_top next (other ∷ more))) turn walks)
     ∙ first_some (turn_fault top_shape names_top (going nothing_held idle 1 true) other) (walk_fault top_shape names_top (walked [] names_top (going nothing_held idle 1 true) other) more) refl
 
+-- So `--` as the first word gives no command.
 dashes_first : (word : Text) (rest : List Text) → subcommand_met names_top idle word ≡ None → bytes_eq word (codes "--") ≡ true → clap_command (word ∷ rest) ≡ None
 dashes_first word rest none e =
     let turn : turn_fault top_shape names_top start word ≡ [] = rw (none, e) refl in
@@ -178,10 +198,12 @@ dashes_first word rest none e =
     go (other ∷ more) turn walks =
         refuses (walk_fault top_shape names_top start (word ∷ other ∷ more)) (fold (walked [] names_top) start (word ∷ other ∷ more)) (dashes_then word other more turn walks)
 
+-- No words give no command.
 nothing : clap_command [] ≡ None
 unfolding walk_fault defaults_fault
 nothing = clap_command_is [] ∙ refl
 
+-- An unknown first word gives no command.
 unknown : (word : Text) (rest : List Text) → IsUtf8 word → IsUnknown word listings → clap_command (word ∷ rest) ≡ None
 unknown word rest utf8 u = go (bytes_eq word (codes "--")) refl
   where
@@ -191,40 +213,44 @@ unknown word rest utf8 u = go (bytes_eq word (codes "--")) refl
 
 -- each subcommand
 
--- a first word that is a row's name
+-- With this row's name as the first word `clap` reads the listed command.
 abbrev IsKnown : Listing → Type 0
 IsKnown row = (rest : List Text) → AllTexts rest → clap_command (row.name ∷ rest) ≡ command_behind rest row
 
+-- The same of each of these rows.
 abbrev AreKnown : List Listing → Type 0
 AreKnown [] = Unit {0}
 AreKnown (row ∷ rows) = IsKnown row × AreKnown rows
 
--- the first word is the name of this subcommand
+-- The first word is the name of this subcommand.
 pub record IsMet (called : Text) (c : List Rule) : Type 0 where
   pub first : walked [] names_top start called ≡ record start { stopped = Some (called, []) }
   pub none : turn_fault top_shape names_top start called ≡ []
   pub found : find (λ s. answers_to called (label_of s)) built_program.subs ≡ Some (leaf called c)
 
--- its row is the one of its name
+-- Its row is the one of its name.
 abbrev IsRowOf : Text → Listing → Type 0
 IsRowOf called row = (given : List Row) → command_in called given ≡ command_from given row
 
+-- A row of a pair is known.
 pair_is : (called : Text) (options : List Text) (kept : Journal) (what : Task) → ArePairNames options → IsMet called (pair_rules options)
     → IsRowOf called (pair_row called options kept what) → IsKnown (pair_row called options kept what)
 pair_is called options kept what free met is rest texts = known called (pair_rules options) rest met.first met.none met.found
     ∙ subcommand_is (pair_row called options kept what) (pair_rules options) (pair_ends called options kept what free is) (pair_arguments options free) rest texts
 
+-- A row without words is known.
 alone_is : (called : Text) (options : List Text) (kept : Journal) (what : Task) → IsMet called (option_rules options)
     → IsRowOf called (alone_row called options kept what) → IsKnown (alone_row called options kept what)
 alone_is called options kept what met is rest texts = known called (option_rules options) rest met.first met.none met.found
     ∙ subcommand_is (alone_row called options kept what) (option_rules options) (alone_ends called options kept what is) (alone_arguments options) rest texts
 
+-- A row of one word is known.
 one_is : (called id : Text) (options : List Text) (kept : Journal) (what : Task) → IsWordName options id → IsMet called (one_rules id options)
     → IsRowOf called (one_row called id options kept what) → IsKnown (one_row called id options kept what)
 one_is called id options kept what word met is rest texts = known called (one_rules id options) rest met.first met.none met.found
     ∙ subcommand_is (one_row called id options kept what) (one_rules id options) (one_ends called id options kept what word is) (one_arguments options id word) rest texts
 
--- The rows. A further one is a line here.
+-- All rows are known. A further one is a line here.
 all_known : AreKnown listings
 unfolding listings command_in walked
 all_known = (
@@ -270,6 +296,7 @@ all_known = (
 
 -- all the words: the first one names the first row of that name, or none
 
+-- The first word names the first row of that name, or none.
 by_row : (rows : List Listing) → AreKnown rows → (word : Text) (rest : List Text) → AllTexts rest → (IsUnknown word rows → clap_command (word ∷ rest) ≡ None)
     → clap_command (word ∷ rest) ≡ option_and_then (command_behind rest) (row_in rows word)
 by_row [] known word rest texts none = none tt
@@ -281,11 +308,13 @@ by_row (row ∷ rows) known word rest texts none =
     ] in
     here (bytes_eq row.name word) refl
 
+-- `clap` reads the listed command in any words that are texts.
 pub listed_is : (words : List Text) → AllTexts words → clap_command words ≡ listed_command words
 unfolding listed_command
 listed_is [] texts = nothing
 listed_is (word ∷ rest) texts = by_row listings all_known word rest texts.1 (unknown word rest texts.0)
 
+-- Words of which each is a text are texts.
 pub all_texts : (words : List Text) → All IsUtf8 words → AllTexts words
 all_texts [] all = tt
 all_texts (word ∷ rest) all = (all 0 word (omega arith), all_texts rest (λ k d less. all (suc k) d (omega arith)))

@@ -1,5 +1,6 @@
--- All the words behind a subcommand, as `clap` walks over them and as the listed commands read
--- them.
+-- All the words after a subcommand, as `clap` walks over them and as the listed commands read them.
+-- A use is an argument with the text that it was given. clap keeps the last use until the next
+-- word, and settles it then.
 use Rattle.std.proofs.Common.{◌≡◌, ℕ, ◌+◌, ◌≤◌, Bool, true, false, List, [], ◌∷◌, length, Option, Some, None, refl, ap, ◌∙◌, codes, inl, inr}
 use Rattle.std.proofs.Math.Bool.{and-false}
 use Rattle.std.specs.Prelude.{◌⊎◌}
@@ -17,16 +18,20 @@ use Rattle.clap_reading.proofs.WordKinds.{WordKind, dashes, kind_of_word, listed
 
 -- what is left of a parse, from a walk on
 
+-- What the parse holds after the rest of the words.
 abbrev pub end_of : List Rule → Walk → List Text → Held
 end_of c w rest = (fold (walked c []) w rest).held
 
+-- The faults at the end: of settling, of defaults, and of words that are lacking.
 abbrev pub closing : Text → List Rule → Held → Kinds
 closing id c end = or_else (settle_fault c false end)
     (or_else (defaults_fault (settled c end).rows c) (check_fault (leaf id c) (finished c end) false))
 
+-- The faults of the rest of the words, and of the end.
 abbrev pub rest_fault : Text → List Rule → Walk → List Text → Kinds
 rest_fault id c w rest = or_else (walk_fault (leaf id c) [] w rest) (closing id c (end_of c w rest))
 
+-- After a word without a fault the faults are those of the rest.
 pub step_fault_is : (id : Text) (c : List Rule) (w after : Walk) (word : Text) (rest : List Text) → turn_fault (leaf id c) [] w word ≡ [] → walked c [] w word ≡ after
     → rest_fault id c w (word ∷ rest) ≡ rest_fault id c after rest
 unfolding walk_fault
@@ -34,9 +39,11 @@ step_fault_is id c w after word rest none same =
     ap (λ now. or_else (or_else now (walk_fault (leaf id c) [] (walked c [] w word) rest)) (closing id c (end_of c (walked c [] w word) rest))) none
     ∙ ap (λ next. rest_fault id c next rest) same
 
+-- What is held at the end is what the walk after the word comes to.
 pub step_end_is : (c : List Rule) (w after : Walk) (word : Text) (rest : List Text) → walked c [] w word ≡ after → end_of c w (word ∷ rest) ≡ end_of c after rest
 step_end_is c w after word rest same = ap (λ x. (fold (walked c []) x rest).held) same
 
+-- A word with a fault makes the whole fail.
 pub fails_now : (id : Text) (c : List Rule) (w : Walk) (word : Text) (rest : List Text) → is_empty (turn_fault (leaf id c) [] w word) ≡ false
     → is_empty (rest_fault id c w (word ∷ rest)) ≡ false
 unfolding walk_fault
@@ -44,12 +51,14 @@ fails_now id c w word rest now =
     first_some (or_else (turn_fault (leaf id c) [] w word) (walk_fault (leaf id c) [] (walked c [] w word) rest)) (closing id c (end_of c w (word ∷ rest)))
     (first_some (turn_fault (leaf id c) [] w word) (walk_fault (leaf id c) [] (walked c [] w word) rest) now)
 
+-- So does a fault in the words after it.
 pub fails_later : (id : Text) (c : List Rule) (w after : Walk) (word : Text) (rest : List Text) → turn_fault (leaf id c) [] w word ≡ [] → walked c [] w word ≡ after
     → is_empty (rest_fault id c after rest) ≡ false → is_empty (rest_fault id c w (word ∷ rest)) ≡ false
 fails_later id c w after word rest none same later = ap is_empty (step_fault_is id c w after word rest none same) ∙ later
 
 -- what the walk needs of the arguments: the names by position, each once, and the limit
 
+-- The word of this name has its rule at this position, and takes one text, once.
 pub record RuleAt (c : List Rule) (id : Text) (position : ℕ) : Type 0 where
   pub rule : Rule
   pub at : arg_by_index c position ≡ Some rule
@@ -57,20 +66,35 @@ pub record RuleAt (c : List Rule) (id : Text) (position : ℕ) : Type 0 where
   pub once : IsOnce rule
   pub found : arg_by_id c id ≡ Some rule
 
+-- What the walk needs of a subcommand's arguments: its words by position, each once, and its
+-- options.
 pub record Arguments (c : List Rule) (ids options : List Text) : Type 0 where
+  -- The next word has its rule at the next position.
   pub at : (names : List Text) (id : Text) → slice_get ids (length names) ≡ Some id → RuleAt c id (length names + 1)
+  -- After the last word no position takes one.
   pub full : (names : List Text) → length names ≡ length ids → arg_by_index c (length names + 1) ≡ None
+  -- The next word was not given before.
   pub fresh : (names : List Text) (id : Text) → slice_get ids (length names) ≡ Some id → value_in id (zip ids names) ≡ None
+  -- No word has an option's name.
   pub named : (names : List Text) (id : Text) → slice_get ids (length names) ≡ Some id → is_known options id ≡ false
+  -- An option is found by its name.
   pub option_long : (id : Text) → is_known options id ≡ true → arg_by_long c id ≡ Some (option_at id)
+  -- And by its identifier.
   pub option_id : (id : Text) → is_known options id ≡ true → arg_by_id c id ≡ Some (option_at id)
+  -- Another name finds none.
   pub no_long : (id : Text) → is_known options id ≡ false → arg_by_long c id ≡ None
+  -- There are no short options.
   pub no_short : (x : ℕ) → arg_by_short c x ≡ None
+  -- No position takes several texts.
   pub once_at : (position : ℕ) (a : Rule) → arg_by_index c position ≡ Some a → takes_several a ≡ false
+  -- There are three words at most.
   pub few : length ids ≤ 3
+  -- No argument has a default.
   pub no_default : (rows : List Row) → fold with_default rows c ≡ rows
+  -- So there is no fault of defaults.
   pub no_default_fault : (rows : List Row) → defaults_fault rows c ≡ []
 
+-- An option takes one text, once.
 pub option_once : (id : Text) → IsOnce (option_at id)
 option_once id = record {
   takes = λ text rows. refl;
@@ -85,13 +109,16 @@ option_once id = record {
 
 -- A walk that holds a use which does not settle fails, whatever words come
 
+-- Each of these words is a text in UTF-8.
 abbrev pub AllTexts : List Text → Type 0
 AllTexts [] = Unit {0}
 AllTexts (word ∷ rest) = IsUtf8 word × AllTexts rest
 
+-- The walk waits for nothing, or `--` was met.
 abbrev pub GoesOn : Waiting → Bool → Type 0
 GoesOn waiting trailing = (waiting ≡ idle) ⊎ (trailing ≡ true)
 
+-- If what is held can't be settled, a name is a fault.
 value_fails : (id : Text) (c : List Rule) (held : Held) (position : ℕ) → is_empty (settle_fault c false held) ≡ false
     → ((position : ℕ) (a : Rule) → arg_by_index c position ≡ Some a → takes_several a ≡ false)
     → is_empty (option_map_or (λ a. positional_fault c false a held) (arg_by_index c position) (stray_fault (leaf id c))) ≡ false
@@ -101,16 +128,19 @@ value_fails id c held position stuck once = go (arg_by_index c position) refl
     go None e = refl
     go (Some a) e = rw (once position a e, and-false) stuck
 
+-- So is each word after `--`.
 trailing_fails : (id : Text) (c : List Rule) (held : Held) (waiting : Waiting) (position : ℕ) (word : Text) → is_empty (settle_fault c false held) ≡ false
     → ((position : ℕ) (a : Rule) → arg_by_index c position ≡ Some a → takes_several a ≡ false)
     → is_empty (turn_fault (leaf id c) [] (going held waiting position true) word) ≡ false
 trailing_fails id c held waiting position word stuck once = value_fails id c held position stuck once
 
+-- So is a word that may be a name.
 name_fails : (id : Text) (c : List Rule) (held : Held) (position : ℕ) (word : Text) → IsNameWord word → is_empty (settle_fault c false held) ≡ false
     → ((position : ℕ) (a : Rule) → arg_by_index c position ≡ Some a → takes_several a ≡ false)
     → is_empty (turn_fault (leaf id c) [] (going held idle position false) word) ≡ false
 name_fails id c held position word goes stuck once = rw (goes.no_dashes, goes.no_long, goes.no_short) (value_fails id c held position stuck once)
 
+-- So is an option.
 pub option_fails : (id : Text) (c : List Rule) (opt : Text) (held : Held) (waiting : Waiting) (position : ℕ) (word : Text) (text : Option Text) → bytes_eq word (codes "--") ≡ false
     → long_of word ≡ Some (opt, text) → arg_by_long c opt ≡ Some (option_at opt) → is_empty (settle_fault c false held) ≡ false
     → is_empty (turn_fault (leaf id c) [] (going held waiting position false) word) ≡ false
@@ -123,6 +153,7 @@ option_fails id c opt held waiting position word text no_dashes read found stuck
     by_text None = stuck
     by_text (Some t) = first_some (settle_fault c false held) (use_fault false (option_at opt) (t ∷ []) (settled c held).rows) stuck
 
+-- If what is held can't be settled, the parse fails, whatever words come.
 pub stuck_fails : (id : Text) (c : List Rule) (ids options : List Text) → Arguments c ids options → (held : Held) → held.skip ≡ 0
     → is_empty (settle_fault c false held) ≡ false → (rest : List Text) → AllTexts rest → (waiting : Waiting) (position : ℕ) (trailing : Bool) → GoesOn waiting trailing
     → is_empty (rest_fault id c (going held waiting position trailing) rest) ≡ false

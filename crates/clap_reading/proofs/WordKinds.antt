@@ -1,4 +1,5 @@
--- What a word behind a subcommand is, as `clap` reads it and as the listed commands do.
+-- What a word after a subcommand is, as `clap` reads it and as the listed commands do. 45 is the
+-- dash, 61 the equals sign.
 use Rattle.std.proofs.Common.{◌≡◌, ℕ, suc, ◌+◌, ◌<◌, Bool, true, false, cond, List, [], ◌∷◌, drop, length, Option, Some, None, refl, sym, ap, subst, ◌∙◌, arith, codes, inl, inr}
 use Rattle.std.specs.Prelude.{nat_eq}
 use Rattle.std.specs.List.{after_first, before_first, list_any, position_or_len, slice_get}
@@ -14,6 +15,7 @@ use Rattle.command_words.proofs.GivenWords.{before-cons, before-equals, begins_n
 use Rattle.clap_reading.proofs.Steps.{IsNameWord}
 use Rattle.clap_reading.proofs.Uses.{flipped, is_known, same_bytes, same_text}
 
+-- The kinds of a word, with what both readers make of it.
 pub data WordKind (options : List Text) (word : Text) : Type 0 where
   -- `--`
   dashes : bytes_eq word (codes "--") ≡ true → WordKind options word
@@ -29,14 +31,17 @@ pub data WordKind (options : List Text) (word : Text) : Type 0 where
   short : (flags : Text) (first : ℕ) → bytes_eq word (codes "--") ≡ false → long_of word ≡ None → short_of word ≡ Some flags
       → slice_get (chars flags) 0 ≡ Some first → 0 < length flags → option_of options word ≡ None → is_option word ≡ true → WordKind options word
 
+-- The byte is `=`.
 abbrev is_equals : ℕ → Bool
 is_equals b = nat_eq b 61
 
+-- What comes after the first `=`, if the first byte is none.
 after-cons : (x : ℕ) (xs : Text) → is_equals x ≡ false → after_first is_equals (x ∷ xs) ≡ after_first is_equals xs
 after-cons x xs e =
     let more : position_or_len is_equals (x ∷ xs) + 1 ≡ suc (position_or_len is_equals xs + 1) = rw e (omega arith) in
     ap (λ n. drop n (x ∷ xs)) more
 
+-- A word with one dash is no long option.
 no_long_option : (b : ℕ) (rest id : Text) → nat_eq b 45 ≡ false → bytes_eq (option_name (45 ∷ b ∷ rest)) (long_word id) ≡ false
 no_long_option b rest id other = rw (before-cons 45 (b ∷ rest) refl) (go (is_equals b) refl)
   where
@@ -44,14 +49,16 @@ no_long_option b rest id other = rw (before-cons 45 (b ∷ rest) refl) (go (is_e
     go true e = rw (before-equals b rest e) refl
     go false e = rw (before-cons b rest e, other) refl
 
+-- The name of a long option is what comes before the `=`.
 long_name-option_name : (rest : Text) → option_name (45 ∷ 45 ∷ rest) ≡ 45 ∷ 45 ∷ before_first is_equals rest
 long_name-option_name rest = before-cons 45 (45 ∷ rest) refl ∙ ap (λ name. 45 ∷ name) (before-cons 45 rest refl)
 
+-- Its attached text is what comes after it.
 long_text : (rest : Text) → option_text (45 ∷ 45 ∷ rest) ≡ (name_and_value rest).1
 long_text rest =
     ap (λ text. cond (list_any is_equals rest) (Some text) None) (after-cons 45 (45 ∷ rest) refl ∙ after-cons 45 rest refl)
 
--- a first character behind the `-`
+-- A word of a dash and more has a first character after the dash.
 first_char : (b : ℕ) (rest : Text) → IsUtf8 (45 ∷ b ∷ rest) → (first : ℕ) × (slice_get (chars (b ∷ rest)) 0 ≡ Some first)
 unfolding chars encode_utf8
 first_char b rest utf8 = go (chars (b ∷ rest)) refl
@@ -64,22 +71,25 @@ first_char b rest utf8 = go (chars (b ∷ rest)) refl
         absurd (omega arith)
     go (first ∷ cs) e = (first, refl)
 
+-- A word without a dash at its front may be a name.
 plain_at : (options : List Text) (b : ℕ) (rest : Text) → nat_eq b 45 ≡ false → WordKind options (b ∷ rest)
 plain_at options b rest other =
     name (record { no_dashes = rw other refl; no_long = rw other refl; no_short = rw other refl })
     (none_of options (b ∷ rest) (λ id. begins_no_option b rest id other)) (rw other refl)
 
+-- A word of one dash and more has short options.
 short_at : (options : List Text) (b : ℕ) (rest : Text) → IsUtf8 (45 ∷ b ∷ rest) → nat_eq b 45 ≡ false → WordKind options (45 ∷ b ∷ rest)
 short_at options b rest utf8 other =
     let char = first_char b rest utf8 in
     short (b ∷ rest) char.0 (rw other refl) (rw other refl) (rw other refl) char.1 (omega arith)
     (none_of options (45 ∷ b ∷ rest) (λ id. no_long_option b rest id other)) (two rest 45 b)
 
--- a word with a long option's name is one of the options or none
+-- A word with a long option's name is one of the options, or none.
 data ByName (options : List Text) (word called : Text) : Type 0 where
   known : option_of options word ≡ Some called → is_known options called ≡ true → ByName options word called
   unknown : option_of options word ≡ None → is_known options called ≡ false → ByName options word called
 
+-- Each such word is of one of these kinds.
 by_name : (options : List Text) (word called : Text) → option_name word ≡ long_word called → ByName options word called
 by_name [] word called e = unknown refl refl
 by_name (own ∷ options) word called e = here (bytes_eq own called) refl (by_name options word called e)
@@ -98,6 +108,7 @@ by_name (own ∷ options) word called e = here (bytes_eq own called) refl (by_na
         known (rw (first_is true back) (ap Some same)) (rw f refl)
     here false f rest = later f rest
 
+-- A word of two dashes and more is of some kind.
 long_at : (options : List Text) (x : ℕ) (rest : Text) → WordKind options (45 ∷ 45 ∷ x ∷ rest)
 long_at options x rest = go (by_name options (45 ∷ 45 ∷ x ∷ rest) (before_first is_equals (x ∷ rest)) (long_name-option_name (x ∷ rest)))
   where
@@ -109,10 +120,12 @@ long_at options x rest = go (by_name options (45 ∷ 45 ∷ x ∷ rest) (before_
     go (unknown none other) =
         long (before_first is_equals (x ∷ rest)) (name_and_value (x ∷ rest)).1 refl refl other none (two (x ∷ rest) 45 45)
 
+-- So is each word of two dashes.
 dashes_at : (options : List Text) (rest : Text) → WordKind options (45 ∷ 45 ∷ rest)
 dashes_at options [] = dashes refl
 dashes_at options (x ∷ rest) = long_at options x rest
 
+-- So is each word of a dash and more.
 behind_dash : (options : List Text) (c : ℕ) (rest : Text) → IsUtf8 (45 ∷ c ∷ rest) → WordKind options (45 ∷ c ∷ rest)
 behind_dash options c rest utf8 =
     elim (eqb_tells c 45) [
@@ -120,6 +133,7 @@ behind_dash options c rest utf8 =
       | inr other ↦ short_at options c rest utf8 other.0
     ]
 
+-- Each word that is a text is of some kind.
 pub kind_of_word : (options : List Text) (word : Text) → IsUtf8 word → WordKind options word
 kind_of_word options [] utf8 = name (record { no_dashes = refl; no_long = refl; no_short = refl }) (none_of options [] (λ id. refl)) refl
 kind_of_word options (b ∷ []) utf8 =

@@ -1,3 +1,6 @@
+-- The command that the words give, as the `clap` command reads them. A Row of clap is what the
+-- parse found for one argument; a Listing is a row of the list of commands (command_words). For
+-- this crate alone.
 use Rattle.std.specs.Prelude.{List, [], ◌∷◌, Option, Some, None, codes, if◌then◌else◌, option_and_then, option_map}
 use Rattle.clap.specs.Walk.{is_empty}
 use Rattle.clap.specs.Words.{Row, fault_of, first_of, subcommand_of}
@@ -10,19 +13,17 @@ use Rattle.command_words.specs.declared.command.Command.{Command}
 use Rattle.command_words.specs.declared.fault.WordsFault.{WordsFault}
 use Rattle.command_words.specs.declared.fault.WordsFault.TheVariants.{NoMemory, Usage}
 
--- The command that the words give, as the `clap` command reads them: over the same list of
--- commands.
-
--- what the words of a command were given, each by its name
+-- What the words of a command were given, each by its name; none if one was not given.
 abbrev pub names_in : List Row → List Text → Option (List Text)
 names_in given [] = Some []
 names_in given (id ∷ ids) =
     option_and_then (λ first. option_map (λ rest. first ∷ rest) (names_in given ids)) (first_of id given)
 
--- the text of an option, where the command takes it and it was given
+-- The text of an option, if the command takes it and it was given.
 abbrev pub text_at : Listing → Text → List Row → Option Text
 text_at row id given = if takes_option row id then first_of id given else None
 
+-- The texts of all options.
 abbrev pub texts_at : Listing → List Row → OptionTextsView
 texts_at row given = record {
   blocks = text_at row (codes "blocks") given;
@@ -31,29 +32,33 @@ texts_at row given = record {
   outside = text_at row (codes "outside") given;
 }
 
+-- The command of a listed row and of what was given.
 abbrev pub command_from : List Row → Listing → Option Command
 command_from given row =
     option_and_then (λ names. command_of row.task names (texts_at row given)) (names_in given row.words)
 
--- the command of the subcommand that was met and of what it was given
+-- The command of the subcommand of this name and of what it was given.
 unfoldable pub command_in : Text → List Row → Option Command
 command_in name given = option_and_then (command_from given) (row_of name)
 
+-- The command of the subcommand that the parse met, if it met one.
 abbrev pub command_met : Option (Text × List Row) → Option Command
 command_met = option_and_then (λ met. command_in met.0 met.1)
 
--- the command of a line: where `clap` takes it, that of the subcommand and its arguments
+-- The command of a line: if `clap` takes the line, that of its subcommand and its arguments.
 unfoldable pub line_command : List Text → Option Command
 line_command line = if is_empty (fault_of program_app line) then command_met (subcommand_of program_app line) else None
 
--- the words with the program's name before them
+-- The words with the program's name before them.
 abbrev pub line_of : List Text → List Text
 line_of words = codes "twin_lathe" ∷ words
 
+-- The command that `clap` reads in the words.
 abbrev pub clap_command : List Text → Option Command
 clap_command words = line_command (line_of words)
 
--- why there is no command where `clap` ends with an error of this kind
+-- Why there is no command if `clap` ends with an error of this kind: out of memory, or the words
+-- are none.
 abbrev pub fault_by : ErrorKind → WordsFault
 fault_by kind.OutOfMemory = NoMemory
 fault_by _ = Usage

@@ -1,3 +1,5 @@
+-- The `clap` command of the program, made from the list of commands. A Rule is what clap knows of
+-- one argument. For this crate alone.
 use Rattle.std.specs.Prelude.{◌≡◌, true, false, Some, codes, fold}
 use Rattle.clap.specs.Simple.{new_shape}
 use Rattle.clap.specs.Words.{App, Rule, Text, app_of, new_app, new_rule, with_rule, with_subcommand}
@@ -5,30 +7,31 @@ use Rattle.clap.specs.declared.builder.command.Command.{Command}
 use Rattle.clap.specs.declared.builder.command.Command.TheViews.{out-Command}
 use Rattle.command_words.specs.Table.{Listing, listings}
 
--- The `clap` command of the program, folded over its list of commands.
-
--- a word that must be there
+-- A word that must be given.
 abbrev pub name_rule : Text → Rule
 name_rule id = record (new_rule id) { required = true }
 
--- an option with a text, which is called by its name
+-- An option with a text, which is called by its name, as `--blocks 14`.
 abbrev pub option_rule : Text → Rule
 option_rule id = record (new_rule id) { long = Some id }
 
+-- The command with this word besides.
 abbrev pub with_name_rule : App → Text → App
 with_name_rule app id = with_rule app (name_rule id)
 
+-- The command of a row with its words.
 abbrev pub with_names : Listing → App
 with_names row = fold with_name_rule (new_app row.name) row.words
 
+-- The command with this option besides.
 abbrev pub with_option_rule : App → Text → App
 with_option_rule app id = with_rule app (option_rule id)
 
--- the subcommand of a row: its words, and behind them its options
+-- The subcommand of a row: its words, and then its options.
 abbrev pub app_of_row : Listing → App
 app_of_row row = fold with_option_rule (with_names row) row.options
 
--- a command that wants a subcommand, and offers neither help nor a version
+-- A command without its rows: it requires a subcommand, and offers neither help nor a version.
 abbrev pub bare_app : App
 bare_app = record (new_app (codes "twin_lathe")) {
   top = record (new_shape (codes "twin_lathe")) {
@@ -38,13 +41,15 @@ bare_app = record (new_app (codes "twin_lathe")) {
   };
 }
 
+-- The command with the subcommand of this row besides.
 abbrev pub with_row : App → Listing → App
 with_row app row = with_subcommand app (app_of_row row).top
 
+-- The command of the program, with a subcommand for each listed row.
 unfoldable pub program_app : App
 program_app = fold with_row bare_app listings
 
--- what a parse reads of the command, where none of its arguments is global
+-- What a parse reads of the command is this, and none of its arguments is global.
 pub record IsRead (app : App) (command : Command) : Type 0 where
   pub same : app_of command ≡ app
   pub local : (out-Command command).has_globals ≡ false

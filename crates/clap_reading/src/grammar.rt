@@ -1,4 +1,5 @@
-//! The grammar of the command line, as clap takes it.
+//! The grammar of the command line, built for `clap` from the rows of command_words. What is read
+//! by it: `reading`.
 ghost use Rattle.std.specs.Prelude.{◌≡◌, IfOk, false};
 ghost use Rattle.clap.specs.Words.{rule_of};
 ghost use Rattle.clap_reading.specs.Grammar.{IsRead, app_of_row, bare_app, name_rule, option_rule, program_app, with_names};
@@ -8,8 +9,8 @@ use clap::{Arg, Command};
 use command_words::{Row, rows};
 use std::alloc::{AllocError, Global};
 
-/// The program's command: a subcommand for each row is wanted, and neither help nor a version is
-/// offered.
+/// The program's command: it requires a subcommand, one for each row, and offers neither help nor a
+/// version. The only error is out of memory.
 pub fn program<'a>(alloc: Global) -> Result<Command<'a>, AllocError>
     ensures { IfOk result (IsRead program_app) }
 {
@@ -21,7 +22,7 @@ pub fn program<'a>(alloc: Global) -> Result<Command<'a>, AllocError>
     Ok(program)
 }
 
-/// The command before its rows: it wants a subcommand and offers no help.
+/// The command before its rows are added: it requires a subcommand and offers no help.
 fn bare<'a>(alloc: Global) -> Command<'a>
     ensures { IsRead bare_app result }
 {
@@ -31,7 +32,7 @@ fn bare<'a>(alloc: Global) -> Command<'a>
         .subcommand_required(true)
 }
 
-/// The subcommand of a row.
+/// The subcommand of a row, with its words and options. The only error is out of memory.
 fn subcommand<'a>(alloc: Global, row: &Row) -> Result<Command<'a>, AllocError>
     ensures { IfOk result (IsRead (app_of_row (row_seen row.now))) }
 {
@@ -42,7 +43,7 @@ fn subcommand<'a>(alloc: Global, row: &Row) -> Result<Command<'a>, AllocError>
     Ok(command)
 }
 
-/// A command that wants the words of a row.
+/// A command that requires the words of a row. The only error is out of memory.
 fn named<'a>(alloc: Global, row: &Row) -> Result<Command<'a>, AllocError>
     ensures { IfOk result (IsRead (with_names (row_seen row.now))) }
 {
@@ -53,7 +54,7 @@ fn named<'a>(alloc: Global, row: &Row) -> Result<Command<'a>, AllocError>
     Ok(command)
 }
 
-/// A word that must be there.
+/// A word that must be given.
 fn wanted<'a>(alloc: Global, id: &'a str) -> Arg<'a>
     ensures rule { rule_of result ≡ name_rule id.entry.now }
     ensures local { result.global ≡ false }

@@ -1,4 +1,5 @@
-//! The program's words, read by `clap`.
+//! The program's words, read by `clap`: from the words to the command. What a command does is not
+//! known here. lathe_top, twin_lathe and word_vectors call `read_words`.
 ghost use Rattle.std.specs.Prelude.{◌≡◌, IfOk, IsErrOf, map, option_map, string_bytes};
 ghost use Rattle.clap.specs.Words.{first_of, found_of, rows_of};
 ghost use Rattle.clap.specs.Simple.{subcommand_rows_of};
@@ -16,8 +17,8 @@ use std::alloc::{AllocError, Global};
 
 /// The command that the words give. They do not hold the program's own name.
 ///
-/// `Usage` comes exactly where the grammar of the command line has no command for the words, and
-/// `NoMemory` only for want of memory.
+/// Errors: `Usage` exactly if the grammar of the command line has no command for the words;
+/// `NoMemory` only if memory ran out.
 pub fn read_words(alloc: Global, words: &[String]) -> Result<Command, WordsFault>
     ensures command { IfOk result (λ command. listed_command (map string_bytes words.now) ≡ Some command) }
     ensures usage { IsErrOf result WordsFault.Usage → listed_command (map string_bytes words.now) ≡ None }
@@ -27,7 +28,7 @@ pub fn read_words(alloc: Global, words: &[String]) -> Result<Command, WordsFault
     command_of_line(alloc, line.as_slice())
 }
 
-/// The words with the program's name before them.
+/// The words with the program's name before them. The only error is out of memory.
 fn line_of<'a>(alloc: Global, words: &'a [String]) -> Result<Vec<&'a str>, AllocError>
     ensures { IfOk result (λ line. map (λ s. s.now) line.items ≡ line_of (map string_bytes words.now)) }
 {
@@ -39,7 +40,8 @@ fn line_of<'a>(alloc: Global, words: &'a [String]) -> Result<Vec<&'a str>, Alloc
     Ok(line)
 }
 
-/// The command of a line, which begins with the program's name.
+/// The command of a line, which begins with the program's name. Errors: `Usage` if it has none, or
+/// out of memory.
 fn command_of_line(alloc: Global, line: &[&str]) -> Result<Command, WordsFault>
     ensures { Answers (line_command (map (λ s. s.now) line.now)) result }
 {
@@ -59,7 +61,8 @@ fn fault_by(kind: ErrorKind) -> WordsFault
     }
 }
 
-/// The command of the subcommand that was met.
+/// The command of the subcommand that the parse met. Errors: `Usage` if it met none or it is none,
+/// or out of memory.
 fn command_met(alloc: Global, found: &ArgMatches<'_>) -> Result<Command, WordsFault>
     ensures { Answers (command_met (subcommand_rows_of found.now)) result }
 {
@@ -69,7 +72,7 @@ fn command_met(alloc: Global, found: &ArgMatches<'_>) -> Result<Command, WordsFa
     }
 }
 
-/// The command of a subcommand's name and of what it was given.
+/// The command of a subcommand's name and of what it was given. Errors as before.
 fn command_in(alloc: Global, name: &str, given: &ArgMatches<'_>) -> Result<Command, WordsFault>
     ensures { Answers (command_in name.now (rows_of (found_of given.now))) result }
 {
@@ -79,7 +82,7 @@ fn command_in(alloc: Global, name: &str, given: &ArgMatches<'_>) -> Result<Comma
     }
 }
 
-/// The command of a row and of what its subcommand was given.
+/// The command of a row and of what its subcommand was given. Errors as before.
 fn command_from(alloc: Global, row: &Row, given: &ArgMatches<'_>) -> Result<Command, WordsFault>
     ensures { Answers (command_from (rows_of (found_of given.now)) (row_seen row.now)) result }
 {
@@ -89,7 +92,7 @@ fn command_from(alloc: Global, row: &Row, given: &ArgMatches<'_>) -> Result<Comm
     }
 }
 
-/// What the words of these names were given, if each was given.
+/// What the words of these names were given, if each was given. The only error is out of memory.
 fn names_in<'a>(
     alloc: Global,
     ids: &[&str],

@@ -1,7 +1,9 @@
 -- What is found in a list passes the test.
+-- block_forms, block_words and move_list take it.
 use Rattle.std.proofs.Common.{◌≡◌, Bool, true, false, List, [], ◌∷◌, Some, refl}
 use Rattle.std.specs.List.{find}
 
+-- the item that a search finds passes its test
 pub found_passes : {X : Type 0} (p : X → Bool) (xs : List X) (x : X) → find p xs ≡ Some x → p x ≡ true
 found_passes p [] x found = absurd (cc)
 found_passes {X} p (y ∷ ys) x found = go (p y) refl (found_passes p ys x)

@@ -1,3 +1,5 @@
+-- Of several rows of one group the last one counts. block_words and open_forms take `last_of_push`.
+-- `last_of_group` (src/row.rt) and `group_last` (src/table.rt) rest on it.
 use Rattle.std.proofs.Common.{◌≡◌, ◌≢◌, ℕ, ◌+◌, ◌<◌, Bool, true, false, cond, ◌==◌, List, [], ◌∷◌, ◌++◌, length, get_or, take, Option, Some, None, unwrap_or, IsNone, IfSome, All, Contains, filter, ◌↔◌, append-nil, refl, sym, ◌∙◌, ap, arith}
 use Rattle.std.specs.Option.{option_map}
 use Rattle.std.proofs.lemmas.Bool.{true≢false, eq-eqb}
@@ -13,7 +15,7 @@ pub last_of_push : {X : Type 0} (xs : List X) (x : X) → last_of (xs ++ x ∷ [
 last_of_push [] x = refl
 last_of_push (y ∷ ys) x = rw (last_of_push ys x) refl
 
--- behind one more row that row is the last of its group
+-- after one more row that row is the last of its group
 pub last_of_group_push : (rows : List Row) (row : Row) (group : ℕ) → last_of_group (rows ++ row ∷ []) group ≡ cond (row.group == group) (Some row) (last_of_group rows group)
 last_of_group_push rows row group =
     rw (filter-append (λ (r : Row). r.group == group) rows (row ∷ [])) (go (row.group == group) (filter (λ (r : Row). r.group == group) rows))
@@ -31,10 +33,12 @@ last_of_group_more rows i group d lt =
 rows_of_more : (rows : List Row) (codes : List ℕ) (i : ℕ) → i < length codes → rows_of rows (take (i + 1) codes) ≡ rows_of rows (take i codes) ++ filter_map (row_of rows) (get_or codes i 0 ∷ [])
 rows_of_more rows codes i lt = rw (take_more codes i 0 lt) (filter_map-append (row_of rows) (take i codes) (get_or codes i 0 ∷ []))
 
+-- a code with a row counts last in its group
 pub last_code_more : (rows : List Row) (codes : List ℕ) (i group : ℕ) (row : Row) → i < length codes → row_of rows (get_or codes i 0) ≡ Some row → last_of_group (rows_of rows (take (i + 1) codes)) group ≡ cond (row.group == group) (Some row) (last_of_group (rows_of rows (take i codes)) group)
 last_code_more rows codes i group row lt at =
     rw (rows_of_more rows codes i lt, at) (last_of_group_push (rows_of rows (take i codes)) row group)
 
+-- a code without a row changes nothing
 pub last_code_kept : (rows : List Row) (codes : List ℕ) (i group : ℕ) → i < length codes → row_of rows (get_or codes i 0) ≡ None → last_of_group (rows_of rows (take (i + 1) codes)) group ≡ last_of_group (rows_of rows (take i codes)) group
 last_code_kept rows codes i group lt at =
     rw (rows_of_more rows codes i lt, at) (ap (λ rs. last_of_group rs group) (append-nil (rows_of rows (take i codes))))
@@ -52,7 +56,7 @@ last_is_found (x ∷ xs) group = go (x.group == group) refl (last_of_group xs gr
     go false e None l found = rw (e, l) tt
     go false e (Some row) l found = rw (e, l) (Contains-append_right (x ∷ []) xs row found.0, found.1)
 
--- none is the last exactly where none passes
+-- none is the last exactly if none passes
 none_of_filter : {X : Type 0} (p : X → Bool) (xs : List X) → IsNone (last_of (filter p xs)) → All (λ x. p x ≡ false) xs
 none_of_filter p [] none = All-nil (λ x. p x ≡ false)
 none_of_filter {X} p (x ∷ xs) none = go (p x) refl (none_of_filter p xs)
@@ -61,15 +65,18 @@ none_of_filter {X} p (x ∷ xs) none = go (p x) refl (none_of_filter p xs)
     go true e rest = let some : IsNone (last_of (cond true (x ∷ filter p xs) (filter p xs))) = rw e at none in absurd (cc)
     go false e rest = All-cons (λ x. p x ≡ false) x xs e (rest (rw e at none))
 
+-- if no item passes, there is no last one that passes
 all_fail_filter : {X : Type 0} (p : X → Bool) (xs : List X) → All (λ x. p x ≡ false) xs → IsNone (last_of (filter p xs))
 all_fail_filter p [] all = refl
 all_fail_filter {X} p (x ∷ xs) all =
     let Fails : X → Type 0 = λ x. p x ≡ false in
     rw (All-head Fails x xs all) (all_fail_filter p xs (All-tail Fails x xs all))
 
+-- there is no last one that passes exactly if no item passes
 pub last_of_filter_none : {X : Type 0} (p : X → Bool) (xs : List X) → IsNone (last_of (filter p xs)) ↔ All (λ x. p x ≡ false) xs
 last_of_filter_none p xs = (none_of_filter p xs, all_fail_filter p xs)
 
+-- there is no last row of a group exactly if no row is of the group
 pub last_is_none : (rows : List Row) (group : ℕ) → IsNone (last_of_group rows group) ↔ All (λ row. row.group ≢ group) rows
 last_is_none rows group =
     let Is : Row → Bool = λ row. row.group == group in (

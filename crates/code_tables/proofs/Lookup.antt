@@ -1,3 +1,5 @@
+-- A code has one row at most, and the search finds it.
+-- `find` (src/table.rt) rests on it.
 use Rattle.std.proofs.Common.{◌≡◌, ◌≢◌, ℕ, zero, suc, ◌<◌, Bool, true, false, ◌&&◌, not, ◌==◌, IsTrue, List, [], ◌∷◌, length, get_or, Option, Some, None, IsNone, IfSome, All, Contains, refl, sym, ◌∙◌, ap, arith}
 use Rattle.std.proofs.lemmas.Bool.{eq-eqb, true≢false}
 use Rattle.std.proofs.lemmas.Bool.Decides.{nat_tests}
@@ -7,7 +9,7 @@ use Rattle.std.specs.List.{list_any}
 use Rattle.code_tables.specs.declared.row.Row.{Row}
 use Rattle.code_tables.specs.Codes.{codes_stand_once, row_of}
 
--- where no row has the code, it has no row
+-- if no row has the code, it has no row
 pub row_of_none : (rows : List Row) (code : ℕ) → All (λ row. row.code ≢ code) rows → row_of rows code ≡ None
 row_of_none [] code none = refl
 row_of_none (x ∷ xs) code none =
@@ -21,6 +23,7 @@ once_at_head : (b c : Bool) → IsTrue (not b && c) → (b ≡ false) × IsTrue 
 once_at_head true c h = absurd (true≢false (sym h))
 once_at_head false c h = (refl, h)
 
+-- the code of the first row is not that of a later one
 stands_no_more : (x : Row) (xs : List Row) → IsTrue (codes_stand_once (x ∷ xs)) → (row : Row) (k : ℕ) → k < length xs → get_or xs k row ≡ row → x.code ≢ row.code
 stands_no_more x xs once row k lt at same =
     let Same : Row → Bool = λ later. later.code == x.code in
@@ -39,7 +42,7 @@ row_of_only (x ∷ xs) code row once (suc k, lt, at) is =
     let here : x.code ≢ row.code = stands_no_more x xs once row k (omega arith) at in
     grind (arith, nat_tests)
 
--- a row that is the code's, or none where no row has the code, is the row of the code
+-- a row that is the code's, or none if no row has the code, is the row of the code
 pub row_of_is : (rows : List Row) (code : ℕ) (r : Option Row) → IsTrue (codes_stand_once rows) → IfSome r (λ row. Contains rows row × (row.code ≡ code)) → (IsNone r → All (λ row. row.code ≢ code) rows) → r ≡ row_of rows code
 row_of_is rows code None once found none = sym (row_of_none rows code (none refl))
 row_of_is rows code (Some row) once found none = sym (row_of_only rows code row once found.0 found.1)

@@ -1,3 +1,4 @@
+-- Codes looks codes up, Kinds says what they do, and Systems gives the table of each system.
 pub mod Codes
 pub mod Kinds
 pub mod SystemA

@@ -1,4 +1,4 @@
-//! What a G code does.
+//! What a G code does. Its number in a system is in system.rt, its values are in block_words.
 ghost use Rattle.std.specs.Prelude.{◌≡◌};
 ghost use Rattle.code_tables.specs.Kinds.{is_refused, is_arc, is_cycle};
 

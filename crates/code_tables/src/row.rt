@@ -1,14 +1,18 @@
-//! A row of a code table.
+//! A row of a code table, and which of several rows of a block counts.
+//! 6 other crates use it.
 ghost use Rattle.std.specs.Prelude.{◌≡◌, ◌≢◌, ◌↔◌, ◌==◌, if◌then◌else◌, IsNone, IfSome, Some, All, Contains};
 ghost use Rattle.code_tables.specs.Codes.{last_of_group};
 
 use crate::kind::CodeKind;
 
-/// A row of a code table: the number behind G, the modal group, and what the code does.
+/// A row of a code table: the number after G, the modal group, and what the code does.
 #[derive(Clone, Copy, Debug, PartialEq, Eq)]
 pub struct Row {
+    /// The number after G.
     pub code: u16,
+    /// Its modal group (group.rt).
     pub group: u8,
+    /// What the code does.
     pub kind: CodeKind,
 }
 

@@ -1,4 +1,6 @@
-//! The two G-code systems as tables.
+//! The two G-code systems as tables. A further code is a row here and in specs/SystemA.antt or
+//! SystemB.antt.
+//! 6 other crates use it.
 ghost use Rattle.std.specs.Prelude.{◌≡◌, IsTrue};
 ghost use Rattle.code_tables.specs.Codes.{codes_stand_once, names_work_offsets, row_of};
 ghost use Rattle.code_tables.specs.SystemA.{system_a_rows};

@@ -1,4 +1,4 @@
-//! A table of codes.
+//! A table of codes, and how a code is looked up. The tables themselves are in system.rt.
 ghost use Rattle.std.specs.Prelude.{◌≡◌, ◌≢◌, ◌↔◌, List, IsTrue, IsNone, IfSome, Some, All, Contains, filter, false};
 ghost use Rattle.code_tables.specs.Codes.{codes_stand_once, row_of, is_of_group, last_of, last_code_of_group};
 
@@ -8,6 +8,7 @@ use std::marker::Model;
 /// A table of `N` rows in which no code stands twice.
 #[derive(Debug, Drop)]
 pub struct CodeTable<const N: usize> {
+    /// The rows, of which no two have one code.
     rows: [Row; N],
 }
 

@@ -1,3 +1,5 @@
+-- The grammar of the command line, word by word, over the list of commands (Table). clap_reading
+-- proves its reading exact by it, lathe_top cites `listed_command`.
 use Rattle.std.specs.Prelude.{◌≡◌, ℕ, Bool, true, false, ◌&&◌, ◌==◌, not, if◌then◌else◌, List, [], ◌∷◌, ◌++◌, find, length, nat_le, Option, Some, None, is_some, map, option_and_then, option_map, codes}
 use Rattle.std.specs.List.{after_first, before_first, list_any, slice_index}
 use Rattle.std.specs.Str.{IsUtf8, bytes_eq}
@@ -12,8 +14,6 @@ use Rattle.command_words.specs.declared.making.Limits.{Limits}
 use Rattle.command_words.specs.declared.table.Task.{Task}
 use Rattle.command_words.specs.declared.table.Task.TheVariants as task
 
--- The grammar of the command line, word by word, over the list of commands.
-
 -- an option's name and its text
 abbrev pub Marked : Type 0
 Marked = Text × Text
@@ -23,10 +23,12 @@ pub record Given : Type 0 where
   pub names : List Text
   pub marked : List Marked
 
+-- what was given, with a name more before the others
 abbrev pub with_name : Text → Option Given → Option Given
 with_name word None = None
 with_name word (Some given) = Some (record given { names = word ∷ given.names })
 
+-- what was given, with an option and its text more before the others
 abbrev pub with_text : Text → Text → Option Given → Option Given
 with_text id text None = None
 with_text id text (Some given) = Some (record given { marked = (id, text) ∷ given.marked })
@@ -39,6 +41,7 @@ is_option word = slice_index word 0 == 45 && nat_le 2 (length word)
 abbrev pub IsName : Text → Type 0
 IsName word = IsUtf8 word × (is_option word ≡ false)
 
+-- each of these words is a name
 abbrev pub AreNames : List Text → Type 0
 AreNames [] = Unit {0}
 AreNames (word ∷ rest) = IsName word × AreNames rest
@@ -47,6 +50,7 @@ AreNames (word ∷ rest) = IsName word × AreNames rest
 abbrev pub option_name : Text → Text
 option_name word = before_first (λ b. b == 61) word
 
+-- the text attached to an option, if there is one
 abbrev pub option_text : Text → Option Text
 option_text word = if list_any (λ b. b == 61) word then Some (after_first (λ b. b == 61) word) else None
 
@@ -95,9 +99,13 @@ stand_once (one ∷ marked) = not (is_some (text_in one.0 marked)) && stand_once
 
 -- the texts of the options, where they were given
 pub record OptionTextsView : Type 0 where
+  -- the most blocks to run
   pub blocks : Option Text
+  -- the file of the turret of path 1
   pub turret1 : Option Text
+  -- the file of the turret of path 2
   pub turret2 : Option Text
+  -- the programs that the tapes may lack
   pub outside : Option Text
 
 -- 100,000 blocks where no limit is given
@@ -111,6 +119,7 @@ file_of None = Some None
 file_of (Some []) = None
 file_of (Some (b ∷ text)) = Some (Some (b ∷ text))
 
+-- the files of both turrets, where they are named
 abbrev pub turret_files : Option Text → Option Text → TurretFiles
 turret_files one two = record { one = one; two = two }
 
@@ -157,7 +166,7 @@ command_with task.Make (number ∷ []) limits files = option_map (λ n. command.
 command_with task.Expand (tape ∷ []) limits files = Some (command.Expand tape)
 command_with _ _ _ _ = None
 
--- the same, of the texts of the options
+-- the command that a task makes of its words and of the texts of the options
 abbrev pub command_of : Task → List Text → OptionTextsView → Option Command
 command_of what words texts =
     option_and_then
@@ -186,14 +195,19 @@ command_given row all =
     then command_of row.task all.names (texts_for row all.marked)
     else None
 
+-- the command of a row, by the words after its name
 abbrev pub command_behind : List Text → Listing → Option Command
 command_behind rest row = option_and_then (command_given row) (given row.options rest)
 
 -- a word that is one of these options, alone or with a text attached
 pub record IsOptionOf (options : List Text) (id : Text) : Type 0 where
+  -- it is not `--`
   pub named : bytes_eq (long_word id) (codes "--") ≡ false
+  -- it is one of the options
   pub own : option_of options (long_word id) ≡ Some id
+  -- alone it has no text; 61 is the character `=`
   pub alone : option_text (long_word id) ≡ None
+  -- with `=` and a text it is that option with that text
   pub with : (text : Text) → (bytes_eq (long_word id ++ 61 ∷ text) (codes "--") ≡ false)
       × (option_of options (long_word id ++ 61 ∷ text) ≡ Some id) × (option_text (long_word id ++ 61 ∷ text) ≡ Some text)
 

@@ -1,3 +1,4 @@
+-- What the making of a command answers. clap_reading cites this; the grammar is in Listed.
 use Rattle.std.specs.Prelude.{◌≡◌, ⊤, Option, Some, None, Result, Ok, Err, option_map}
 use Rattle.command_words.specs.Listed.{OptionTextsView}
 use Rattle.command_words.specs.declared.option_texts.OptionTexts.{OptionTexts}

@@ -1,3 +1,4 @@
+-- Numbers on the command line. lathe_top cites this too.
 use Rattle.std.specs.Prelude.{ℕ, Bool, ◌&&◌, if◌then◌else◌, List, length, nat_le, Option, Some, None}
 use Rattle.std.specs.Char.{is_ascii_digit}
 use Rattle.std.specs.List.{list_all}
@@ -7,6 +8,7 @@ use Rattle.std.specs.Str.Parse.{digits_value}
 abbrev pub is_numeral : List ℕ → Bool
 is_numeral text = nat_le 1 (length text) && (nat_le (length text) 7 && list_all is_ascii_digit text)
 
+-- the value, if it lies from low to high
 abbrev pub between : ℕ → ℕ → ℕ → Option ℕ
 between low high value = if nat_le low value && nat_le value high then Some value else None
 

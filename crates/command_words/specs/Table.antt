@@ -1,3 +1,5 @@
+-- The commands of the program, as one list of rows. What the words after a command's name mean is
+-- in Listed. clap_reading and lathe_top cite this.
 use Rattle.std.specs.Prelude.{ℕ, Bool, true, ◌&&◌, not, List, [], ◌∷◌, map, find, Option, Some, None, codes}
 use Rattle.std.specs.List.{list_any}
 use Rattle.std.specs.Str.{bytes_eq}
@@ -7,8 +9,6 @@ use Rattle.command_words.specs.declared.table.Row.{Row}
 use Rattle.command_words.specs.declared.table.Task.{Task}
 use Rattle.command_words.specs.declared.table.Task.TheVariants.{Verify, Waits, Races, Trace, Run, Resume, Edit, Moves, State, Zones, Branch, Make, Expand}
 
--- The commands of the program.
-
 -- a word, or a part of one: its bytes
 abbrev pub Text : Type 0
 Text = List ℕ
@@ -16,12 +16,18 @@ Text = List ℕ
 -- a command: the word that it begins with, what its words are called, which options it takes, what
 -- it does with the journal, and what it asks for
 pub record Listing : Type 0 where
+  -- the word that it begins with
   pub name : Text
+  -- what its words are called; it takes as many
   pub words : List Text
+  -- the options that it takes, without the dashes
   pub options : List Text
+  -- what it does with the journal
   pub journal : Journal
+  -- what it asks for
   pub task : Task
 
+-- a row of these
 abbrev pub listing : Text → List Text → List Text → Journal → Task → Listing
 listing name words options journal task =
     record { name = name; words = words; options = options; journal = journal; task = task }
@@ -46,6 +52,7 @@ turret_options = codes "turret1" ∷ codes "turret2" ∷ []
 abbrev pub run_options : List Text
 run_options = codes "blocks" ∷ turret_options
 
+-- all commands, in the order of the code's table
 unfoldable pub listings : List Listing
 listings =
     listing (codes "verify") pair_words [] journal.None Verify
@@ -83,6 +90,7 @@ abbrev pub journal_in : Option Listing → Journal
 journal_in None = journal.None
 journal_in (Some row) = row.journal
 
+-- what the command of these words does with the journal
 abbrev pub journal_of : List Text → Journal
 journal_of [] = journal.None
 journal_of (name ∷ rest) = journal_in (row_of name)

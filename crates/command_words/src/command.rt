@@ -1,4 +1,5 @@
 //! A command of the program, with its names and numbers.
+//! lathe_top performs it.
 ghost use Rattle.std.specs.Prelude.{◌≡◌, ℕ, List, IfOk, option_map, string_bytes};
 
 use std::alloc::{AllocError, Global};
@@ -7,6 +8,7 @@ use std::marker::Model;
 /// A file's name, just as the words have it. It may be empty.
 #[derive(Debug, Drop)]
 pub struct Name {
+    /// The bytes of the name.
     text: String,
 }
 
@@ -17,7 +19,7 @@ impl Model for Name {
 }
 
 impl Name {
-    /// The name that a text has, in memory of its own.
+    /// The name that a text has, in memory of its own. The only error is that memory runs out.
     pub(crate) fn new(alloc: Global, text: &str) -> Result<Name, AllocError>
         ensures { IfOk result (λ name. name ≡ text.now) }
     {
@@ -44,7 +46,9 @@ impl Name {
 /// The files to which the turrets write what they get, if they were named. Neither name is empty.
 #[derive(Debug, Drop)]
 pub struct TurretFiles {
+    /// The file of the turret of path 1.
     pub one: Option<Name>,
+    /// The file of the turret of path 2.
     pub two: Option<Name>,
 }
 
@@ -52,7 +56,9 @@ pub struct TurretFiles {
 /// above the greatest.
 #[derive(Clone, Copy, Debug, PartialEq, Eq)]
 pub struct ProgramRange {
+    /// The first O number of the range.
     pub least: u16,
+    /// The last one.
     pub greatest: u16,
 }
 

@@ -1,4 +1,5 @@
 //! Why words give no command.
+//! lathe_top answers status 2 for the first and 12 for the second.
 ghost use Rattle.std.specs.Prelude.{◌≡◌};
 ghost use Rattle.command_words.specs.declared.fault.WordsFault.TheVariants.{NoMemory};
 
@@ -19,6 +20,7 @@ pub enum WordsFault {
 impl From<AllocError> for WordsFault {
     ghost from_gives = { λ _ fault. fault ≡ NoMemory };
 
+    /// Memory that runs out while a command is made.
     fn from(_: AllocError) -> WordsFault {
         WordsFault::NoMemory
     }

@@ -1,4 +1,6 @@
 //! Laws of the command words, each the contract of a function that does nothing.
+//! The words and options are those of specs/Listed.antt.
+//! No proof rests on them: they say what the grammar allows.
 ghost use Rattle.std.specs.Prelude.{◌≡◌, ℕ, true, List, [], ◌∷◌, ◌++◌, Some, codes};
 ghost use Rattle.std.specs.List.{list_all};
 ghost use Rattle.command_words.specs.Listed.{AreNames, IsName, IsOptionOf, given, gives_a_command, long_word};

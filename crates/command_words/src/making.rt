@@ -1,4 +1,5 @@
 //! The command that a row's task makes of what its words were given.
+//! The grammar says the same in specs/Listed.antt; clap_reading calls [`command_of`].
 ghost use Rattle.std.specs.Prelude.{◌≡◌, ◌≤◌, IfSome, map, option_map};
 ghost use Rattle.nc_number.specs.declared.limits.TheConstants.{MOST_RECORDS};
 ghost use Rattle.command_words.specs.Listed.{command_of, command_with, file_of, files_of, limit_of, outside_of, range_by, range_of};
@@ -33,8 +34,7 @@ pub(crate) struct Limits {
 }
 
 /// The command that a task makes of its words and of the texts of the options.
-///
-/// `Usage` comes exactly if they give no command, and `NoMemory` only for want of memory.
+/// Errors: `Usage` exactly if they give no command; `NoMemory` only if memory runs out.
 pub fn command_of(
     alloc: Global,
     task: Task,
@@ -115,7 +115,7 @@ fn limit_of(limit: Option<&str>) -> Option<u32>
     }
 }
 
-/// The files of the turrets.
+/// The files that the options name for the turrets. Errors: `Usage` for an empty name, or memory.
 fn files_of(alloc: Global, texts: &OptionTexts<'_>) -> Result<TurretFiles, WordsFault>
     ensures { Answers (files_of (texts_seen texts.now)) result }
 {
@@ -128,7 +128,7 @@ fn files_of(alloc: Global, texts: &OptionTexts<'_>) -> Result<TurretFiles, Words
     }
 }
 
-/// The file that an option names. An empty name is none.
+/// The file that an option names, if it was given. Errors: `Usage` for an empty name, or memory.
 fn file_of(alloc: Global, text: Option<&str>) -> Result<Option<Name>, WordsFault>
     ensures { Answers (file_of (option_map (λ s. s.now) text.entry)) result }
 {
@@ -139,7 +139,8 @@ fn file_of(alloc: Global, text: Option<&str>) -> Result<Option<Name>, WordsFault
     }
 }
 
-/// The command that a task makes of its words.
+/// The command that a task makes of its words. Errors: `Usage` if their number or a number among
+/// them is wrong, or memory.
 fn command_with(
     alloc: Global,
     task: Task,
@@ -229,8 +230,8 @@ fn command_with(
     }
 }
 
-/// The command that branches at the meeting of this number. There are no more meetings than a
-/// journal may have records.
+/// The command that branches at the meeting of this number, at most 4,000,000: a journal has no
+/// more records. Else `Usage`.
 fn branched(meetings: &str) -> Result<Command, WordsFault>
     ensures { Answers (option_map Command.Branch (number_of 0 MOST_RECORDS meetings.now)) result }
 {
@@ -240,7 +241,7 @@ fn branched(meetings: &str) -> Result<Command, WordsFault>
     }
 }
 
-/// The command that makes the pair of this number.
+/// The command that makes the pair of this number, 0 to 999,999. Else `Usage`.
 fn made(number: &str, files: TurretFiles) -> Result<Command, WordsFault>
     ensures { Answers (option_map (λ n. Command.Make n files) (number_of 0 999999 number.now)) result }
 {

@@ -1,4 +1,6 @@
 //! Numbers on the command line.
+//! specs/Number.antt says what such a number is.
+//! For making.rt.
 ghost use Rattle.std.specs.Prelude.{◌≡◌};
 ghost use Rattle.std.specs.Char.{is_ascii_digit};
 ghost use Rattle.std.specs.List.{list_all};
@@ -30,7 +32,7 @@ fn is_numeral_text(text: &str) -> bool
     1 <= text.len() && text.len() <= MOST_DIGITS && has_digits_alone(text)
 }
 
-/// Whether no byte is anything but a decimal digit; an empty text passes.
+/// Whether each byte is a decimal digit; an empty text passes.
 fn has_digits_alone(text: &str) -> bool
     ensures { result ≡ list_all is_ascii_digit text.now }
 {

@@ -1,10 +1,13 @@
 //! The commands as one list of rows.
+//! What a task makes of its words is in making.rt. The launcher has the same commands in
+//! scripts/words.sh.
+//! clap_reading and twin_lathe look up in it.
 ghost use Rattle.std.specs.Prelude.{◌≡◌, map, option_map, string_bytes};
 ghost use Rattle.std.specs.List.{list_any};
 ghost use Rattle.std.specs.Str.{bytes_eq};
 ghost use Rattle.command_words.specs.Table.{journal_of, listings, row_in, row_of, row_seen, takes_option};
 
-/// What a command asks for.
+/// What a command asks for. `Command` says what each one does.
 #[derive(Clone, Copy, Debug, PartialEq, Eq)]
 pub enum Task {
     Verify,
@@ -42,7 +45,9 @@ pub struct Row {
     pub words: &'static [&'static str],
     /// The options that it takes, each once at most, with a text: `--NAME TEXT` or `--NAME=TEXT`.
     pub options: &'static [&'static str],
+    /// What it does with the journal.
     pub journal: Journal,
+    /// What it asks for.
     pub task: Task,
 }
 
@@ -60,7 +65,7 @@ macro_rules! command_rows {
     };
 }
 
-/// The commands of the program.
+/// The commands of the program, as specs/Table.antt lists them.
 const ROWS: [Row; 13] = command_rows! {
     "verify" ["left", "right", "settings"] [] None Verify;
     "waits" ["left", "right", "settings"] ["outside"] None Waits;
@@ -117,7 +122,7 @@ fn is_among(texts: &[&str], id: &str) -> bool
     false
 }
 
-/// The commands of the program.
+/// The rows of all commands.
 pub fn rows() -> &'static [Row]
     ensures { map row_seen result.now ≡ listings }
 {

@@ -1,4 +1,5 @@
--- The links once a node was added behind the others.
+-- The links once a node was added after the others.
+-- `write` (src/shared.rt) rests on it.
 use Rattle.std.proofs.Common.{◌≡◌, ◌≢◌, ℕ, ◌+◌, ◌<◌, ◌≤◌, List, [], ◌∷◌, ◌++◌, Option, None, Some, length, get_or, All, map, arith, sym, ◌∙◌, ap, subst, below_more, length-append, set, inl, inr}
 use Rattle.std.proofs.lemmas.List.{get_or_append_left, get_or-set_other}
 use Rattle.std.proofs.lemmas.Grind.{get_or-set_at}
@@ -12,12 +13,15 @@ use Rattle.common_vars.specs.declared.links.Write.{Write}
 use Rattle.common_vars.specs.Writes.{IsShared}
 use Rattle.common_vars.specs.Links.{IsLatestBefore, IsSomeBefore, AreLinked, AreEnds, no_node, node_at, variable_at, stamp_at}
 
+-- a list with one more has one more
 length_grown : (nodes : List Node) (n : Node) → length (nodes ++ n ∷ []) ≡ length nodes + 1
 length_grown nodes n = length-append nodes (n ∷ [])
 
+-- the nodes before stay at their places
 old_node : (nodes : List Node) (n : Node) (i : ℕ) → i < length nodes → node_at nodes i ≡ node_at (nodes ++ n ∷ []) i
 old_node nodes n i inside = sym (get_or_append_left nodes (n ∷ []) no_node i inside)
 
+-- the new node is the last
 new_node : (nodes : List Node) (n : Node) → n ≡ node_at (nodes ++ n ∷ []) (length nodes)
 new_node nodes n = sym (get_or-append_seam nodes n [] no_node)
 
@@ -33,6 +37,7 @@ latest_kept nodes n m v (Some i) short latest = (
       latest.2 j behind below (ap (λ x. x.write.variable) (old_node nodes n j (omega arith)) ∙ same),
 )
 
+-- a place of some write before stays one
 some_kept : (nodes : List Node) (n : Node) (m v : ℕ) (o : Option ℕ) → m ≤ length nodes
     → IsSomeBefore nodes m v o → IsSomeBefore (nodes ++ n ∷ []) m v o
 some_kept nodes n m v None short some = tt
@@ -45,6 +50,7 @@ pub record Joins (nodes : List Node) (n : Node) : Type 0 where
   pub jump : IsSomeBefore nodes (length nodes) n.write.variable n.jump
   pub stamp : (i : ℕ) → i < length nodes → stamp_at nodes i ≤ n.write.stamp
 
+-- nodes with one more that is linked well are linked well
 pub AreLinked-push : (nodes : List Node) (n : Node) → AreLinked nodes → Joins nodes n → AreLinked (nodes ++ n ∷ [])
 AreLinked-push nodes n linked joins =
     let longer = nodes ++ n ∷ [] in
@@ -106,6 +112,7 @@ latest_longer nodes n v (Some i) other latest =
           j inside behind,
     )
 
+-- the list of latest places with that of the new node is right for the nodes with it
 pub AreEnds-push : (nodes : List Node) (latest : List (Option ℕ)) (n : Node) → AreEnds nodes latest
     → n.write.variable < 1000 → AreEnds (nodes ++ n ∷ []) (set latest n.write.variable (Some (length nodes)))
 AreEnds-push nodes latest n ends small =
@@ -153,7 +160,7 @@ end_read nodes latest v o ends small read =
     let P : Option ℕ → Type 0 = IsLatestBefore nodes (length nodes) v in
     subst P (sym same) (ends.each v small)
 
--- both hold on once a write is put behind the others and is its variable's latest
+-- both hold on once a write is put after the others and is its variable's latest
 pub stay_linked : (nodes longer : List Node) (latest : List (Option ℕ)) (n : Node) (v : ℕ) (o : Option ℕ)
     → AreLinked nodes → AreEnds nodes latest → v < 1000 → n.write.variable ≡ v → n.previous ≡ o → o ≡ get_or latest v o
     → IsSomeBefore nodes (length nodes) v n.jump

@@ -1,4 +1,5 @@
 -- What the search finds is the latest write.
+-- `value_at` (src/links.rt) rests on it.
 use Rattle.std.proofs.Common.{◌≡◌, ℕ, zero, suc, ◌<◌, ◌≤◌, true, false, List, [], ◌∷◌, None, Some, length, map, arith, refl, unwrap_or, get_or, sym, ◌∙◌, ap, subst}
 use Rattle.std.proofs.lemmas.List.{get_or_default}
 use Rattle.std.proofs.lemmas.Bool.Decides.{nat_tests}
@@ -8,15 +9,19 @@ use Rattle.common_vars.specs.declared.links.Write.{Write}
 use Rattle.common_vars.specs.Writes.{is_write_of, latest_write, value_after}
 use Rattle.common_vars.specs.Links.{IsPast, no_node, node_at, variable_at, stamp_at}
 
+-- the writes of the nodes
 abbrev pub written : List Node → List Write
 written nodes = map (λ node. node.write) nodes
 
+-- a write of another variable, or of a later record, is none of those that are looked for
 passes_over : (k v : ℕ) (w : Write) → (w.variable ≡ v → k < w.stamp) → is_write_of k v w ≡ false
 passes_over k v w later = grind (arith, nat_tests)
 
+-- a write of the variable by an early record is one
 takes : (k v : ℕ) (w : Write) → w.variable ≡ v → w.stamp ≤ k → is_write_of k v w ≡ true
 takes k v w same early = grind (arith, nat_tests)
 
+-- if no write of v is early enough, none is found
 none-found : (k v : ℕ) (nodes : List Node)
     → ((j : ℕ) → j < length nodes → variable_at nodes j ≡ v → k < stamp_at nodes j)
     → latest_write k v (written nodes) ≡ None
@@ -27,6 +32,7 @@ none-found k v (n ∷ ns) past =
     let first : is_write_of k v n.write ≡ false = passes_over k v n.write (past 0 (omega arith)) in
     rw (rest, first) refl
 
+-- the latest write that is early enough is found
 found : (k v : ℕ) (nodes : List Node) (i : ℕ) → IsPast nodes k v (Some i) → stamp_at nodes i ≤ k
     → latest_write k v (written nodes) ≡ Some (node_at nodes i).write.value
 found k v [] i past early = absurd (omega (arith, past.0))
@@ -42,10 +48,12 @@ found k v (n ∷ ns) (suc i) past early =
     early in
     rw rest refl
 
+-- so it gives the value of the variable
 pub value-found : (nodes : List Node) (k v : ℕ) (i : ℕ) → IsPast nodes k v (Some i) → stamp_at nodes i ≤ k
     → (node_at nodes i).write.value ≡ value_after k v (written nodes)
 value-found nodes k v i past early = sym (ap (λ o. unwrap_or o Vacant) (found k v nodes i past early))
 
+-- without such a write the variable is vacant
 pub value-none : (nodes : List Node) (k v : ℕ) → IsPast nodes k v None → Vacant ≡ value_after k v (written nodes)
 value-none nodes k v past = sym (ap (λ o. unwrap_or o Vacant) (none-found k v nodes past))
 

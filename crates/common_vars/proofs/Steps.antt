@@ -1,4 +1,5 @@
 -- One step of the search along the links.
+-- `value_at` (src/links.rt) rests on it.
 use Rattle.std.proofs.Common.{ℕ, ◌+◌, List, Option, None, Some, length}
 use Rattle.common_vars.specs.declared.links.Node.{Node}
 use Rattle.common_vars.specs.Links.{IsPast, IsLatestBefore}

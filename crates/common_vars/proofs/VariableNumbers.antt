@@ -1,4 +1,6 @@
 -- The rows of the variables' table and the numbers of the variables say the same.
+-- block_values, named_vars and path_state take it. `a_variable_has_one_number` and `variable_of`
+-- (src/variable.rt) rest on it.
 use Rattle.std.proofs.Common.{◌≡◌, ◌≢◌, ℕ, zero, suc, ◌≤◌, Bool, true, false, List, [], ◌∷◌, find, cond, Option, Some, None, IfSome, IsNone, inl, inr, refl, ap, sym, subst, ◌∙◌, arith}
 use Rattle.std.specs.Prelude.{option_map, ◌↔◌}
 use Rattle.std.proofs.lemmas.Bool.{leb-true, and_parts}
@@ -13,13 +15,16 @@ abbrev Says : Row → Type 0
 Says row = (number : ℕ) → row.first ≤ number → number ≤ row.last
     → IsVariable (row.variable number) × (number_of (row.variable number) ≡ number)
 
+-- each row names variables that exist, by their own numbers
 abbrev AllSay : List Row → Type 0
 AllSay [] = Unit {0}
 AllSay (row ∷ rows) = Says row × AllSay rows
 
+-- a row of one number does
 one_says : (number : ℕ) (variable : Variable) → IsVariable variable → number_of variable ≡ number → Says (one number variable)
 one_says number variable there is = λ n low high. (there, is ∙ (let same : number ≡ n = omega arith in same))
 
+-- the table does
 all_say : AllSay variable_rows
 all_say = (
   one_says 0 Null tt refl,
@@ -122,6 +127,7 @@ all_say = (
   ),
 )
 
+-- what such rows name exists and has that number
 named_well : (rows : List Row) → AllSay rows → (number : ℕ) (variable : Variable) → named_in rows number ≡ Some variable
     → IsVariable variable × (number_of variable ≡ number)
 named_well [] say number variable is = cc
@@ -138,17 +144,20 @@ named_well (row ∷ rows) say number variable is = go (named_well rows say.1 num
         subst P same (say.0 number (leb-true _ _ within.0) (leb-true _ _ within.1))
     go below false outside later = below later
 
+-- what a number names exists and has that number
 pub what_is_named : (number : ℕ) (variable : Variable) → variable_of number ≡ Some variable
     → IsVariable variable × (number_of variable ≡ number)
 unfolding variable_of
 what_is_named number variable is = named_well variable_rows all_say number variable is
 
+-- 1 to 33 name the local variables
 local_found : (i : ℕ) → 1 ≤ i → i ≤ 33 → named_in variable_rows i ≡ Some (Local i)
 local_found i low high =
     let null : is_in i (one 0 Null) ≡ false = grind (arith, nat_tests) in
     let inside : is_in i (range 1 33 Local) ≡ true = grind (arith, nat_tests) in
     rw (null, inside) refl
 
+-- 100 to 199 name common variables
 hundred_found : (v : ℕ) → 100 ≤ v → v ≤ 199 → named_in variable_rows v ≡ Some (Common v)
 hundred_found v low high =
     let null : is_in v (one 0 Null) ≡ false = grind (arith, nat_tests) in
@@ -156,6 +165,7 @@ hundred_found v low high =
     let inside : is_in v (range 100 199 Common) ≡ true = grind (arith, nat_tests) in
     rw (null, below, inside) refl
 
+-- and so do 500 to 999
 five_hundred_found : (v : ℕ) → 500 ≤ v → v ≤ 999 → named_in variable_rows v ≡ Some (Common v)
 five_hundred_found v low high =
     let null : is_in v (one 0 Null) ≡ false = grind (arith, nat_tests) in
@@ -215,6 +225,7 @@ settled number None there is missed = go (variable_of number) refl
     go None is = refl
     go (Some variable) named = let told = what_is_named number variable named in absurd (missed refl variable told.0 told.1)
 
+-- a number names a variable exactly if it is the variable's number
 pub one_number : (number : ℕ) (variable : Variable)
     → (variable_of number ≡ Some variable) ↔ (IsVariable variable × (number_of variable ≡ number))
 one_number number variable = (what_is_named number variable, λ told. ap variable_of (sym told.1) ∙ found_by_number variable told.0)

@@ -1,4 +1,5 @@
 -- The common variables #100 to #199 and #500 to #999, and which of them the paths share.
+-- path_state takes it for one path.
 use Rattle.std.specs.Prelude.{ℕ, ◌≤◌, ◌==◌, ◌⊎◌, Bool, ◌&&◌, ◌||◌, nat_le, List, [], ◌∷◌, Option, None, Some, replicate, slice_index_or, slice_set, if◌then◌else◌}
 use Rattle.std.specs.Option.{option_or}
 use Rattle.nc_number.specs.declared.value.Var.{Var}
@@ -16,7 +17,7 @@ is_common v = (nat_le 100 v && nat_le v 199) || (nat_le 500 v && nat_le v 999)
 abbrev pub common_number : ℕ → Option ℕ
 common_number v = if is_common v then Some v else None
 
--- the variables of one path, each at its own number, while none was written
+-- the variables of one path, each at its own number (0 to 999), while none was written
 abbrev pub none_written : List Var
 none_written = replicate 1000 Vacant
 

@@ -1,3 +1,4 @@
+-- Common, Variables and Writes are for callers; Links is of the inside.
 pub mod Common
 pub mod Variables
 pub mod Writes

@@ -1,4 +1,5 @@
 -- How the writes of one variable are linked, so that an early one is found without passing each.
+-- For this crate alone.
 use Rattle.std.specs.Prelude.{◌≡◌, ◌≢◌, ℕ, ◌<◌, ◌≤◌, List, Option, None, Some, length, slice_index_or}
 use Rattle.nc_number.specs.declared.value.Var.TheVariants.{Vacant}
 use Rattle.common_vars.specs.declared.links.Node.{Node}
@@ -7,12 +8,15 @@ use Rattle.common_vars.specs.declared.links.Node.{Node}
 abbrev pub no_node : Node
 no_node = record { write = record { stamp = 0; variable = 0; value = Vacant }; previous = None; jump = None; span = 0 }
 
+-- the node at a place
 abbrev pub node_at : List Node → ℕ → Node
 node_at nodes i = slice_index_or nodes i no_node
 
+-- the number of the variable that it writes
 abbrev pub variable_at : List Node → ℕ → ℕ
 variable_at nodes i = (node_at nodes i).write.variable
 
+-- from how many records on its write is seen
 abbrev pub stamp_at : List Node → ℕ → ℕ
 stamp_at nodes i = (node_at nodes i).write.stamp
 
@@ -27,7 +31,7 @@ abbrev pub IsSomeBefore : List Node → ℕ → ℕ → Option ℕ → Type 0
 IsSomeBefore nodes n v None = Unit {0}
 IsSomeBefore nodes n v (Some i) = (i < n) × (variable_at nodes i ≡ v)
 
--- No write of v behind the place is one of the first k records; with no place, no write of v is.
+-- No write of v after the place is one of the first k records; with no place, no write of v is.
 abbrev pub IsPast : List Node → ℕ → ℕ → Option ℕ → Type 0
 IsPast nodes k v None = (j : ℕ) → j < length nodes → variable_at nodes j ≡ v → k < stamp_at nodes j
 IsPast nodes k v (Some i) =
@@ -43,5 +47,6 @@ pub record AreLinked (nodes : List Node) : Type 0 where
 
 -- the list has the place of each variable's latest node
 pub record AreEnds (nodes : List Node) (latest : List (Option ℕ)) : Type 0 where
+  -- one place for each number up to 999
   pub sized : length latest ≡ 1000
   pub each : (v : ℕ) → v < 1000 → IsLatestBefore nodes (length nodes) v (slice_index_or latest v None)

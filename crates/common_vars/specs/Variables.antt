@@ -1,4 +1,5 @@
 -- The variables of the control, and their numbers.
+-- path_state and block_values read and write by it.
 use Rattle.std.specs.Prelude.{◌≡◌, ℕ, ◌+◌, ◌*◌, ◌≤◌, ◌⊎◌, Bool, true, false, ◌&&◌, nat_le, List, [], ◌∷◌, find, Option, option_map}
 use Rattle.common_vars.specs.declared.variable.AxisLetter.{AxisLetter}
 use Rattle.common_vars.specs.declared.variable.AxisLetter.TheVariants.{X, Z}
@@ -12,12 +13,16 @@ pub record Row : Type 0 where
   pub last : ℕ
   pub variable : ℕ → Variable
 
+-- a row of all numbers from first to last
 abbrev pub range : ℕ → ℕ → (ℕ → Variable) → Row
 range first last variable = record { first = first; last = last; variable = variable }
 
+-- a row of one number
 abbrev pub one : ℕ → Variable → Row
 one number variable = range number number (λ n. variable)
 
+-- the table of all variables. 4001 and on are modal codes by their group, 5001 and on positions,
+-- 5201 and on the work offsets, 20 numbers each.
 abbrev pub variable_rows : List Row
 variable_rows =
     one 0 Null ∷ range 1 33 Local ∷ range 100 199 Common ∷ range 500 999 Common ∷ one 3000 Raise
@@ -47,7 +52,8 @@ abbrev pub axis_place : AxisLetter → ℕ
 axis_place X = 1
 axis_place Z = 2
 
--- the number of a variable
+-- the number of a variable: a modal code is 4000 and its group, a position 5000 or 5020 and the
+-- place of its axis, a work offset 5200, 20 for each offset, and the place of its axis
 abbrev pub number_of : Variable → ℕ
 number_of Null = 0
 number_of (Local i) = i
@@ -73,6 +79,7 @@ IsVariable (Code group) = IsModalGroup group
 IsVariable (Work n axis) = n ≤ 6
 IsVariable _ = Unit {0}
 
+-- it is a coordinate of the external offset (0) or of G54 to G59 (1 to 6)
 abbrev pub IsWorkOffset : Variable → Type 0
 IsWorkOffset (Work n axis) = n ≤ 6
 IsWorkOffset _ = ⊥

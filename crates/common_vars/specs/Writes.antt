@@ -1,4 +1,5 @@
 -- The shared variables as the list of their writes, earliest first.
+-- two_path and race_order take it.
 use Rattle.std.specs.Prelude.{ℕ, Bool, ◌+◌, ◌<◌, ◌≤◌, ◌==◌, ◌&&◌, ◌⊎◌, nat_le, List, [], ◌∷◌, Option, None, Some, unwrap_or, if◌then◌else◌}
 use Rattle.std.specs.Option.{option_or}
 use Rattle.nc_number.specs.declared.value.Var.{Var}
@@ -13,7 +14,7 @@ pub record Writes : Type 0 where
   pub writes : List Write
   pub room : ℕ
 
--- v is shared, where so many from #100 on and so many from #500 on are
+-- v is shared, if so many from #100 on and so many from #500 on are
 abbrev pub IsShared : ℕ → ℕ → ℕ → Type 0
 IsShared shared100 shared500 v =
     ((100 ≤ v) × (v < 100 + shared100)) ⊎ ((500 ≤ v) × (v < 500 + shared500))

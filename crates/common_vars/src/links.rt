@@ -1,4 +1,5 @@
-//! The writes of shared variables, linked so that a value is found without a walk.
+//! The writes of shared variables, linked so that a value is found without a walk. Only shared.rt
+//! uses it.
 ghost use Rattle.std.specs.Prelude.{◌≡◌, ℕ, ◌<◌, IfSome, length, map};
 ghost use Rattle.common_vars.specs.Writes.{value_after};
 ghost use Rattle.common_vars.specs.Links.{AreLinked, IsLatestBefore, IsSomeBefore};
@@ -35,7 +36,7 @@ impl Model for Link {
 }
 
 impl Link {
-    /// The link to a place, or to none.
+    /// The link to a place, or to none. In its number 0 is none.
     fn to(place: Option<usize>) -> Link
         requires { IfSome place (λ i. i < usize.MAX) }
         ensures { result ≡ place }
@@ -63,6 +64,7 @@ impl Link {
 /// A write, linked to earlier writes of the same variable.
 #[derive(Debug, Drop)]
 pub struct Node {
+    /// The write itself.
     pub(crate) write: Write,
     /// The write before it.
     pub(crate) previous: Link,
@@ -76,7 +78,7 @@ pub struct Node {
 /// A run has a node for each write of a shared variable.
 const _: () = prove!(size_of::<Node>() <= 48);
 
-/// Where the jump of the node at `place` leads; with no place, nowhere.
+/// Where the jump of the node at a place leads, or none; with no place, none.
 fn jump_from(nodes: &[Node], place: Option<usize>) -> Option<usize>
     requires linked { AreLinked nodes.now }
     requires inside { IfSome place (λ i. i < length nodes.now) }
@@ -87,7 +89,7 @@ fn jump_from(nodes: &[Node], place: Option<usize>) -> Option<usize>
     nodes[place?].jump.place()
 }
 
-/// How many writes back the jump of the node at `place` leads.
+/// How many writes of its variable the jump of the node at a place goes back; with no place, 0.
 fn span_at(nodes: &[Node], place: Option<usize>) -> usize
     requires { IfSome place (λ i. i < length nodes.now) }
 {
@@ -97,8 +99,7 @@ fn span_at(nodes: &[Node], place: Option<usize>) -> usize
     }
 }
 
-/// The node of a write that comes behind `nodes`, and whose variable was last written at
-/// `previous`.
+/// The node of a write that comes after `nodes`, and whose variable was last written at `previous`.
 pub(crate) fn linked(nodes: &[Node], previous: Option<usize>, write: Write) -> Node
     requires linked { AreLinked nodes.now }
     requires previous { IsSomeBefore nodes.now (length nodes.now) write.variable previous }

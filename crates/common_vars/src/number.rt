@@ -1,4 +1,4 @@
-//! The number of a common variable.
+//! The number of a common variable, as a type. `edit_texts` and `run_records` keep it.
 ghost use Rattle.std.specs.Prelude.{◌≡◌, ◌↔◌, IsSome};
 ghost use Rattle.common_vars.specs.Common.{IsCommon};
 
@@ -8,6 +8,7 @@ use std::marker::Model;
 /// The number of a common variable: 100 to 199, or 500 to 999.
 #[derive(Clone, Copy, Debug, PartialEq, Eq)]
 pub struct CommonNumber {
+    /// 100 to 199, or 500 to 999.
     number: u32,
 }
 
@@ -35,7 +36,7 @@ impl CommonNumber {
         CommonNumber { number: v }
     }
 
-    /// The common variable of this number: none exactly where it names none.
+    /// The common variable of this number: none exactly if it names none.
     pub fn of(v: u32) -> Option<Self>
         ensures number { result ≡ common_number v }
         ensures some { IsSome result ↔ IsCommon v }

@@ -1,4 +1,5 @@
-//! The common variables of one path.
+//! The common variables of one path. Those that both paths share are in shared.rt.
+//! path_state uses it.
 ghost use Rattle.std.specs.Prelude.{◌≡◌, ◌↔◌, ℕ, List, IsTrue, IfOk, unwrap_or};
 ghost use Rattle.nc_number.specs.declared.value.Var.{Var};
 ghost use Rattle.common_vars.specs.Common.{IsCommon, AreCommon, none_written, value_of, with_value, after_writes, latest_of};
@@ -20,6 +21,7 @@ pub fn is_common(v: u32) -> bool
 /// The common variables of one path, each at its own number.
 #[derive(Debug, Drop)]
 pub struct Own {
+    /// What each variable holds, at its number; 1000 of them.
     values: Vec<Var>,
 }
 
@@ -35,7 +37,7 @@ impl Model for Own {
 }
 
 impl Own {
-    /// All of them vacant.
+    /// All of them vacant. An error is out of memory.
     pub fn new(alloc: Global) -> Result<Own, NoMemory>
         ensures { IfOk result (λ own. own ≡ none_written) }
     {
@@ -61,7 +63,7 @@ impl Own {
 }
 
 /// The common variables are their list of writes: each holds what the latest write of it wrote,
-/// and is vacant where it was never written.
+/// and is vacant if it was never written.
 pub fn each_variable_holds_its_latest_write()
     ensures { (writes : List (ℕ × Var)) (v : ℕ) → IsCommon v → AreCommon writes
         → value_of v (after_writes writes none_written) ≡ unwrap_or (latest_of v writes) Var.Vacant }

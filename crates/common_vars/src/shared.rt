@@ -1,4 +1,5 @@
-//! The common variables that the paths share.
+//! The common variables that the paths share, with every write of the run. two_path holds them. The
+//! laws at the end are said of the list of writes.
 ghost use Rattle.std.specs.Prelude.{◌≡◌, ◌↔◌, ◌+◌, ◌<◌, ◌≤◌, ℕ, List, [], ◌∷◌, ◌++◌, if◌then◌else◌, All, IsTrue, IfOk, IsOk, OnOk};
 ghost use Rattle.common_vars.specs.declared.links.Write.{Write};
 ghost use Rattle.common_vars.specs.Writes.{IsShared, is_write_of, value_after};
@@ -12,8 +13,11 @@ use std::marker::Model;
 /// The common variables that the paths share, as the list of their writes.
 #[derive(Debug, Drop)]
 pub struct Shared {
+    /// How many variables from #100 on are shared.
     shared100: u32,
+    /// How many variables from #500 on are shared.
     shared500: u32,
+    /// The writes so far, earliest first.
     nodes: Vec<Node>,
     /// The latest node of each variable, at its number.
     latest: Vec<Option<usize>>,
@@ -38,7 +42,7 @@ impl Model for Shared {
         × AreLinked shared.nodes.items × AreEnds shared.nodes.items shared.latest.items };
 }
 
-/// Whether both paths share `#v`, where the first `shared100` variables from `#100` on and the
+/// Whether both paths share `#v`, if the first `shared100` variables from `#100` on and the
 /// first `shared500` from `#500` on are shared.
 pub fn is_shared(shared100: u32, shared500: u32, v: u32) -> bool
     ensures { IsTrue result ↔ IsShared shared100 shared500 v }
@@ -47,8 +51,8 @@ pub fn is_shared(shared100: u32, shared500: u32, v: u32) -> bool
 }
 
 impl Shared {
-    /// No variable written, the first `shared100` from `#100` on and the first `shared500` from
-    /// `#500` on shared.
+    /// No variable written. The first `shared100` from `#100` on and the first `shared500` from
+    /// `#500` on are shared. An error is out of memory.
     pub fn new(alloc: Global, shared100: u32, shared500: u32) -> Result<Shared, NoMemory>
         requires lower { shared100 ≤ 100 }
         requires upper { shared500 ≤ 500 }
@@ -127,7 +131,7 @@ pub fn later_writes_change_no_earlier_value()
         → value_after k v (writes ++ later) ≡ value_after k v writes }
 {}
 
-/// Nothing changes behind the last write.
+/// After the last write no value changes, however many records come.
 pub fn nothing_changes_behind_the_last_write()
     ensures { (writes : List Write) (last k v : ℕ) → All (λ w. w.stamp ≤ last) writes → last ≤ k
         → value_after k v writes ≡ value_after last v writes }

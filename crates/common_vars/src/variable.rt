@@ -1,4 +1,5 @@
-//! What the number of a variable names.
+//! What the number of a variable names, for all numbers after `#`. How an expression reads it is in
+//! block_values.
 ghost use Rattle.std.specs.Prelude.{◌≡◌, ◌≢◌, ◌↔◌, ◌+◌, ◌≤◌, ℕ, Some, IsNone, IfSome};
 ghost use Rattle.common_vars.specs.declared.variable.Variable.{Variable};
 ghost use Rattle.common_vars.specs.Variables.{IsVariable, IsWorkOffset, number_of, variable_of, is_protected, is_readable};
@@ -10,7 +11,7 @@ pub enum AxisLetter {
     Z,
 }
 
-/// What the number behind a `#` names.
+/// What the number after a `#` names.
 #[derive(Clone, Copy, Debug, PartialEq, Eq)]
 pub enum Variable {
     /// `#0`, which is always vacant.
@@ -20,7 +21,7 @@ pub enum Variable {
     /// `#100` to `#199` and `#500` to `#999`: a common variable, by its number.
     Common(u32),
     /// `#4001`, `#4002`, `#4003`, `#4005`, `#4006`, `#4007` and `#4014`: the code in force of that
-    /// modal group, where the control's system has the group.
+    /// modal group, if the control's system has the group.
     Code(u8),
     /// `#4109`: F.
     Feed,
@@ -100,7 +101,8 @@ fn named_by(number: u32) -> Option<Variable>
     })
 }
 
-/// The work offset whose variable stands so many numbers behind that of the external offset's X.
+/// The work offset whose variable is so many numbers after that of the external offset's X (#5201).
+/// Each offset has 20 numbers, of which the first two are X and Z.
 fn work_offset(behind: u8) -> Option<Variable>
     requires { behind ≤ 121 }
     ensures named { IfSome result IsWorkOffset }

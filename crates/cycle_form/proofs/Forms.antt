@@ -1,4 +1,4 @@
--- What the tests of a form say of it.
+-- What the tests of a form say of it: that the contour is one, and that a finish starts above it.
 use Rattle.std.proofs.Common.{◌≡◌, ◌≤◌, true, not, ◌&&◌, List, [], ◌∷◌, pos, ◌+ℤ◌, All}
 use Rattle.std.specs.Prelude.{int_le}
 use Rattle.std.proofs.lemmas.List.Elements.{All-head, All-tail}
@@ -10,6 +10,7 @@ use Rattle.rough_cycle.specs.Roughing.{Rough, IsForm, IsFinishStart}
 use Rattle.nc_number.proofs.Integers.{le_is}
 use Rattle.cycle_form.specs.Forms.{goes_down, descends, is_form, is_finish_start}
 
+-- A contour that passes the test descends.
 falls : (p : Point) (points : List Point) → descends p points ≡ true → Descends p points
 falls p [] e = tt
 falls p (q ∷ points) e =
@@ -18,16 +19,18 @@ falls p (q ∷ points) e =
     let down = both (int_le p.x q.x) (int_le q.z p.z) orders.0 in
     (le_is p.x q.x down.0, le_is q.z p.z down.1, falls q points parts.1)
 
--- the last point of a contour is one that was written
+-- The last point of a contour has lengths that literals can write.
 pub last_near : (p : Point) (points : List Point) → IsWritten p → All IsWritten points → IsWritten (last_of p points)
 last_near p [] near all = near
 last_near p (q ∷ points) near all = last_near q points (All-head IsWritten q points all) (All-tail IsWritten q points all)
 
+-- A form that passes the test, with a depth above 0 and its first point at the start's Z, is one.
 pub form : (r : Rough) → 1 ≤ r.depth → r.first.z ≡ r.start.z → is_form r ≡ true → IsForm r
 form r deep at_start e =
     let parts = both (descends r.first r.points) (int_le ((last_of r.first r.points).x +ℤ pos r.across) r.start.x) e in
     record { deep = deep; at_start = at_start; descends = falls r.first r.points parts.0; high = le_is _ _ parts.1 }
 
+-- A start that passes the test lies above and before the contour.
 pub finish_start : (r : Rough) (start : Point) → is_finish_start r start ≡ true → IsFinishStart r start
 finish_start r start e =
     let parts = both (int_le (last_of r.first r.points).x start.x) (int_le r.first.z start.z) e in

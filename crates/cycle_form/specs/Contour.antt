@@ -1,4 +1,5 @@
--- The blocks of a contour.
+-- The blocks of a contour: lines with G01 or without, and the points they lead to, in 0.001 mm. 71,
+-- 88 and 90 are the letters G, X and Z. For this crate alone.
 use Rattle.std.specs.Prelude.{ℕ, ◌==◌, List, [], ◌∷◌, ◌++◌, length, drop, Option, Some, None, ℤ, pos, if◌then◌else◌}
 use Rattle.nc_number.specs.Options.{◌>>=◌, is_some_of}
 use Rattle.line_text.specs.declared.body.Word.{Word}
@@ -8,16 +9,16 @@ use Rattle.line_text.specs.declared.body.Body.TheVariants.{Words, Statement}
 use Rattle.nc_number.specs.declared.point.Point.{Point}
 use Rattle.cycle_form.specs.Words.{literal_at, length_at, is_code}
 
--- the words of a block that is no statement
+-- The words of a block that is no statement.
 abbrev pub words_of : Body → Option (List Word)
 words_of (Words words) = Some words
 words_of (Statement text) = None
 
--- the words behind a G01
+-- The words after the G01 that a line may begin with.
 unfoldable pub behind_line : List Word → List Word
 behind_line words = if is_code (pos 1) (literal_at words 0 71) then drop 1 words else words
 
--- X, Z, or both in either order
+-- The point of X, Z, or both in either order. An axis that is not named stays where it was.
 unfoldable pub target_of : Point → List Word → Option Point
 target_of from words =
     if length words == 1 then one_axis (length_at words 0 88) (length_at words 0 90)
@@ -33,13 +34,14 @@ target_of from words =
     two_axes x z (Some late) (Some early) = Some (record { x = late; z = early })
     two_axes x z late early = None
 
--- where a block of the contour leads
+-- Where a block of the contour leads; none if it has other words.
 unfoldable pub contour_point : Point → Body → Option Point
 contour_point from body = do
   words ← words_of body
   target_of from (behind_line words)
 
--- the points of the blocks up to the first with this number, behind those that were read
+-- The points read so far and those of these blocks, up to the first block with the number `last`;
+-- none if a block before it leads nowhere, or no block has it.
 unfoldable pub points_behind : List Point → Point → ℕ → List Block → Option (List Point)
 points_behind done from last [] = None
 points_behind done from last (block ∷ blocks) = do

@@ -1,4 +1,5 @@
--- What the first four blocks of a G71 form say.
+-- What the first four blocks of a G71 form say: the start, two G71, and the contour's first block.
+-- The letters are bytes: 71 G, 85 U, 82 R, 80 P, 81 Q, 87 W, 70 F, 88 X. For this crate alone.
 use Rattle.std.specs.Prelude.{◌≡◌, ℕ, ◌≤◌, ◌&&◌, ◌==◌, nat_lt, List, [], ◌∷◌, length, Option, Some, None, is_none, ℤ, pos, negsuc, int_lt, if◌then◌else◌}
 use Rattle.nc_number.specs.Arithmetic.{whole_of}
 use Rattle.nc_number.specs.Options.{◌>>=◌, is_some_of}
@@ -11,30 +12,32 @@ use Rattle.cycle_form.specs.declared.head.Head.{Head}
 use Rattle.cycle_form.specs.Words.{literal_at, length_at, is_code, start_of}
 use Rattle.cycle_form.specs.Contour.{words_of}
 
+-- The number, if it is not negative.
 abbrev pub natural : ℤ → Option ℕ
 natural (pos n) = Some n
 natural (negsuc n) = None
 
--- a length that is not negative
+-- The length, in 0.001 mm, that the word at place i writes under this letter, if it is not
+-- negative.
 unfoldable pub size_at : List Word → ℕ → ℕ → Option ℕ
 size_at words i letter = do
   z ← length_at words i letter
   natural z
 
--- a sequence number
+-- The sequence number that the word at place i writes under this letter.
 unfoldable pub number_at : List Word → ℕ → ℕ → Option ℕ
 number_at words i letter = do
   literal ← literal_at words i letter
   n ← whole_of literal.value
   natural n
 
--- a feed above 0
+-- The feed above 0, in 0.000001, that the word at place i writes under this letter.
 unfoldable pub feed_at : List Word → ℕ → ℕ → Option ℤ
 feed_at words i letter = do
   literal ← literal_at words i letter
   if int_lt (pos 0) literal.value then Some literal.value else None
 
--- G71 U<depth> R<retreat>
+-- G71 U<depth> R<retreat>, in this order; the depth is above 0.
 unfoldable pub cut_of : List Word → Option Cut
 cut_of words =
     if length words == 3 && is_code (pos 71) (literal_at words 0 71) then (do
@@ -42,7 +45,7 @@ cut_of words =
       retreat ← size_at words 2 82
       if nat_lt 0 depth then Some (record { depth = depth; retreat = retreat }) else None) else None
 
--- G71 P<first> Q<last> U<across> W<along> F<feed>
+-- G71 P<first> Q<last> U<across> W<along> F<feed>, in this order.
 unfoldable pub call_of : List Word → Option Call
 call_of words =
     if length words == 6 && is_code (pos 71) (literal_at words 0 71) then (do
@@ -53,16 +56,18 @@ call_of words =
       feed ← feed_at words 5 70
       Some (record { first = first; last = last; across = across; along = along; feed = feed })) else None
 
--- the words of a block without a number
+-- The words of a block without a sequence number.
 unfoldable pub plain_words : Block → Option (List Word)
 plain_words block = if is_none block.sequence then words_of block.body else None
 
--- G00 X<x> under this number
+-- The X of the contour's first block: G00 X<x> under this number.
 unfoldable pub first_of : ℕ → Block → Option ℤ
 first_of number block = do
   words ← words_of block.body
   if (is_some_of number block.sequence && length words == 2) && is_code (pos 0) (literal_at words 0 71) then length_at words 1 88 else None
 
+-- What these four blocks say, if they are the first of a form. The contour begins at the Z of the
+-- start.
 unfoldable pub head_of : Block → Block → Block → Block → Option Head
 head_of a b c d = do
   a_words ← plain_words a
@@ -74,24 +79,27 @@ head_of a b c d = do
   x ← first_of call.first d
   Some (record { start = start; cut = cut; call = call; first = record { x = x; z = start.z } })
 
--- the first four blocks of a form, of which the last three stand first here
+-- The same of a block and of the three after it.
 abbrev pub head_at : Block → List Block → Option Head
 head_at a [] = None
 head_at a (b ∷ []) = None
 head_at a (b ∷ c ∷ []) = None
 head_at a (b ∷ c ∷ d ∷ blocks) = head_of a b c d
 
+-- The lengths of a cut are those that a literal can write (at most 10^11 increments of 0.001 mm),
+-- and the depth is above 0.
 pub record IsSoundCut (cut : Cut) : Type 0 where
   pub deep : 1 ≤ cut.depth
   pub depth : cut.depth ≤ 100000000000
   pub retreat : cut.retreat ≤ 100000000000
 
+-- The allowances are lengths that a literal can write.
 pub record IsSoundCall (call : Call) : Type 0 where
   pub across : call.across ≤ 100000000000
   pub along : call.along ≤ 100000000000
 
--- all lengths are those that a literal can write, the depth is above 0, and the contour begins at
--- the start's Z
+-- All lengths are those that a literal can write, the depth is above 0, and the contour begins at
+-- the start's Z.
 pub record IsSoundHead (head : Head) : Type 0 where
   pub start : IsWritten head.start
   pub cut : IsSoundCut head.cut

@@ -1,4 +1,5 @@
--- The parts of a tape that are written out.
+-- The parts of a tape that are written out, and when one is sound and clear. tape_expand reads
+-- this.
 use Rattle.std.specs.Prelude.{ℕ, Bool, true, false, ◌&&◌, ◌==◌, List, ℤ}
 use Rattle.rough_cycle.specs.declared.block.PlainBlock.{PlainBlock}
 use Rattle.rough_cycle.specs.Form.{IsNearForm}
@@ -7,46 +8,54 @@ use Rattle.rough_cycle.specs.Roughing.{Rough, IsForm, IsFinishStart, first_moved
 use Rattle.cycle_form.specs.declared.part.PartKind.{PartKind}
 use Rattle.cycle_form.specs.declared.part.PartKind.TheVariants.{Roughing, Finishing}
 
--- what contracts see of a part: its form, the sequence numbers of its contour, its feed, and the
--- lines of its blocks
+-- What contracts see of a part: what it does, its form, the sequence numbers of its contour, its
+-- feed, and the lines of its blocks.
 pub record PartView : Type 0 where
   pub kind : PartKind
+  -- The contour, the cut and the allowances, in 0.001 mm.
   pub rough : Rough
   pub first : ℕ
   pub last : ℕ
+  -- In 0.000001.
   pub feed : ℤ
+  -- The lines of the text that it takes the place of, from 1.
   pub lines : List ℕ
 
--- a finish starts above and before its contour
+-- A finish starts above and before its contour; a roughing has no start of its own.
 abbrev pub IsSoundStart : Rough → PartKind → Type 0
 IsSoundStart r Roughing = Unit {0}
 IsSoundStart r (Finishing start) = IsFinishStart r start
 
+-- Its form is one, its lengths are those that literals can write, and its start is sound.
 pub record IsSoundPart (part : PartView) : Type 0 where
   pub form : IsForm part.rough
   pub near : IsNearForm part.rough
   pub start : IsSoundStart part.rough part.kind
 
+-- The plain blocks that a form stands for, by what the part does. At most 1,001 passes are made.
 abbrev pub blocks_by : Rough → PartKind → List PlainBlock
 blocks_by r Roughing = rough_blocks r 1001
 blocks_by r (Finishing start) = finish_blocks r start
 
--- the blocks that it stands for
+-- The plain blocks that a part stands for.
 abbrev pub part_blocks : PartView → List PlainBlock
 part_blocks part = blocks_by part.rough part.kind
 
--- no whole point on a move of these blocks lies inside the contour
+-- No whole point on a move of these blocks lies inside the contour: of G71 the one with its
+-- allowances, of G70 the one itself.
 abbrev pub AreClearOf : Rough → PartKind → List PlainBlock → Type 0
 AreClearOf r Roughing blocks = AreClear (first_moved r) (points_moved r) r.start blocks
 AreClearOf r (Finishing start) blocks = AreClear r.first r.points start blocks
 
+-- No whole point on a move of the part's own blocks does.
 abbrev pub IsClearPart : PartView → Type 0
 IsClearPart part = AreClearOf part.rough part.kind (part_blocks part)
 
--- a G71 along the contour between these numbers
+-- The part is a G71.
 abbrev pub is_roughing : PartKind → Bool
 is_roughing Roughing = true
 is_roughing (Finishing start) = false
 
+-- The part is a G71 along the contour between these sequence numbers.
 abbrev pub is_called : ℕ → ℕ → PartView → Bool
 is_called first last part = is_roughing part.kind && part.first == first && part.last == last

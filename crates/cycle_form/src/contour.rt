@@ -1,4 +1,5 @@
-//! The contour that a roughing cycle names.
+//! The contour that a roughing cycle names: its blocks, and the points they lead to. Whether it
+//! descends is judged in `form`.
 ghost use Rattle.std.specs.Prelude.{◌≡◌, [], Some, IfOk, IfSome, All, option_map};
 ghost use Rattle.rough_cycle.specs.Form.{IsWritten};
 ghost use Rattle.nc_number.specs.Options.{is_some_of};
@@ -9,7 +10,7 @@ use nc_number::Point;
 use nc_text::{Block, Body, Word};
 use std::alloc::{AllocError, Global};
 
-/// The words behind the G01 that a line of a contour may begin with.
+/// The words after the G01 that a line of a contour may begin with.
 #[tactic(auto, unfolding(crate::specs::Contour::behind_line))]
 fn behind_line(words: &[Word]) -> &[Word]
     ensures { result.now ≡ behind_line words.now }
@@ -21,7 +22,8 @@ fn behind_line(words: &[Word]) -> &[Word]
     }
 }
 
-/// An axis that is not named stays where it is.
+/// The point that X, Z or both lead to, in 0.001 mm. An axis that is not named stays where it is;
+/// other words make it none.
 #[tactic(auto, unfolding(crate::specs::Contour::target_of))]
 fn target_of(from: &Point, words: &[Word]) -> Option<Point>
     requires { IsWritten from.now }
@@ -47,7 +49,8 @@ fn target_of(from: &Point, words: &[Word]) -> Option<Point>
     }
 }
 
-/// A line of a contour has no word but G01 and its axes; any other block ends the form.
+/// The point that a block of a contour leads to. It has no word but G01 and its axes; any other
+/// block ends the form.
 #[tactic(auto, unfolding(crate::specs::Contour::contour_point))]
 fn contour_point(from: &Point, body: &Body) -> Option<Point>
     requires { IsWritten from.now }
@@ -70,7 +73,8 @@ pub(crate) fn is_numbered(number: u32, sequence: Option<u32>) -> bool
     }
 }
 
-/// The points of the blocks up to the first with this number.
+/// The points of the blocks up to the first with the number `last`; none if a block before it leads
+/// nowhere, or no block has it. The only error is out of memory.
 pub(crate) fn points_of(
     alloc: Global,
     from: &Point,

@@ -1,4 +1,4 @@
-//! Why the roughing cycles of a tape can't be written out.
+//! Why the roughing cycles of a tape can't be written out: 93 and 94. tape_expand hands these on.
 ghost use Rattle.std.specs.Prelude.{◌≡◌};
 
 use thiserror::Error;

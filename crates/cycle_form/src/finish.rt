@@ -1,4 +1,4 @@
-//! The finishing cycle G70.
+//! The finishing cycle G70: its call, its start, and the form of G71 whose contour it takes.
 ghost use Rattle.std.specs.Prelude.{◌≡◌, None, IfOk, IfSome, option_copied};
 ghost use Rattle.rough_cycle.specs.Form.{rough_of};
 ghost use Rattle.cycle_form.specs.Parts.{IsSoundPart};
@@ -17,12 +17,15 @@ use std::alloc::{AllocError, Global};
 /// Which contour G70 calls, by the sequence numbers of its first and last block, and its feed.
 #[derive(Clone, Copy, Debug, PartialEq, Eq)]
 pub struct FinishCall {
+    /// The sequence number of the contour's first block.
     pub first: u32,
+    /// The sequence number of its last block.
     pub last: u32,
+    /// The feed, above 0.
     pub feed: Value,
 }
 
-/// G70 P Q F, its words in this order and no others.
+/// The call of G70 P Q F: these words in this order and no others.
 #[tactic(auto, unfolding(crate::specs::Forms::finish_call_of))]
 fn finish_call_of(words: &[Word]) -> Option<FinishCall>
     ensures { result ≡ finish_call_of words.now }
@@ -36,7 +39,8 @@ fn finish_call_of(words: &[Word]) -> Option<FinishCall>
     Some(FinishCall { first, last, feed })
 }
 
-/// A later form with the same numbers replaces an earlier one.
+/// The place i if this part is a form with these numbers, else the place found before: a later form
+/// replaces an earlier one.
 fn later(first: u32, last: u32, part: &Part, i: usize, found: Option<usize>) -> Option<usize>
     ensures { result ≡ later first last part.now i found }
 {
@@ -47,7 +51,8 @@ fn later(first: u32, last: u32, part: &Part, i: usize, found: Option<usize>) -> 
     }
 }
 
-/// Forms before the first of these parts are another program's, and not seen.
+/// The place of the last of these parts that is a form with these numbers. The parts are those of
+/// one program.
 fn latest_place(first: u32, last: u32, parts: &[Part]) -> Option<usize>
     ensures { result ≡ latest_from first last None 0 parts.now }
 {
@@ -67,7 +72,7 @@ fn latest(first: u32, last: u32, parts: &[Part]) -> Option<&Part>
     parts.get(place)
 }
 
-/// A start above and before the contour.
+/// Whether the start lies above and before the contour.
 fn is_finish_start(rough: &RoughForm, start: &Point) -> bool
     ensures { result ≡ is_finish_start (rough_of rough.now) start.now }
 {
@@ -75,7 +80,8 @@ fn is_finish_start(rough: &RoughForm, start: &Point) -> bool
     last.x <= start.x && rough.first.z <= start.z
 }
 
-/// A finish stands for its own part of the tape, so it has a contour of its own.
+/// A copy of the form: a finish stands for its own part of the tape, so it has a contour of its
+/// own. The only error is out of memory.
 fn copy_of(alloc: Global, rough: &RoughForm) -> Result<RoughForm, AllocError>
     ensures { IfOk result (λ copy. rough_of copy ≡ rough_of rough.now) }
 {
@@ -91,7 +97,7 @@ fn copy_of(alloc: Global, rough: &RoughForm) -> Result<RoughForm, AllocError>
     })
 }
 
-/// The start is a block by itself, without a sequence number.
+/// The start that a block says: G00 X Z, without a sequence number.
 #[tactic(auto, unfolding(crate::specs::Forms::start_in))]
 fn start_in(block: &Block) -> Option<Point>
     ensures { result ≡ start_in block.now }
@@ -100,7 +106,7 @@ fn start_in(block: &Block) -> Option<Point>
     start_of(words)
 }
 
-/// The call has no sequence number either.
+/// The call that a block says: G70, without a sequence number.
 #[tactic(auto, unfolding(crate::specs::Forms::finish_call_in))]
 fn finish_call_in(block: &Block) -> Option<FinishCall>
     ensures { result ≡ finish_call_in block.now }
@@ -109,7 +115,8 @@ fn finish_call_in(block: &Block) -> Option<FinishCall>
     finish_call_of(words)
 }
 
-/// A start below or behind the contour makes no finish, and its G70 belongs to no form.
+/// The part of a G70 from this start along this form; none if the start lies below the contour or
+/// after it. The only error is out of memory.
 fn finish_by(
     alloc: Global,
     form: &Part,
@@ -136,8 +143,9 @@ fn finish_by(
     )))
 }
 
-/// G70 in `b`, from the start in the block `a` before it, along the contour of the latest form of
-/// these parts with its numbers.
+/// The part of the G70 in `b`, from the start in the block `a` before it, along the contour of the
+/// latest form of these parts with its numbers; none if there is none of these. The only error is
+/// out of memory.
 #[tactic(auto, unfolding(crate::specs::Forms::finish_at))]
 pub(crate) fn finish_at(
     alloc: Global,

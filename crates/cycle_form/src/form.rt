@@ -1,4 +1,5 @@
-//! The forms of the roughing cycle G71.
+//! The forms of the roughing cycle G71: from its start to the last block of its contour. What its
+//! first blocks say: `head`; its contour: `contour`.
 ghost use Rattle.std.specs.Prelude.{◌≡◌, ◌+◌, ◌≤◌, IfOk, IfSome, All, take, drop, map};
 ghost use Rattle.rough_cycle.specs.Contour.{last_of};
 ghost use Rattle.rough_cycle.specs.Form.{rough_of, IsNearForm, IsWritten};
@@ -18,7 +19,8 @@ use std::alloc::{AllocError, Global};
 /// The passes that a form may have.
 const MOST_PASSES: u128 = 1_000;
 
-/// The form that begins with the block `a`, after which these blocks stand.
+/// The part of the form that begins with the block `a` and goes on with `rest`; none if that is no
+/// form. The only error is out of memory.
 #[tactic(auto, unfolding(crate::specs::Forms::form_at))]
 pub(crate) fn form_at(
     alloc: Global,
@@ -39,7 +41,8 @@ pub(crate) fn form_at(
     form_of(alloc, marks, a, &head, points, blocks)
 }
 
-/// A form with too many passes, or with a skip sign or a comment in it, is none.
+/// The part of a form of this head and these points; none if the contour is none, if it has too
+/// many passes, or if a skip sign or a comment is in it. The only error is out of memory.
 fn form_of(
     alloc: Global,
     marks: &[bool],
@@ -94,7 +97,8 @@ fn rough_by(head: &Head, points: Vec<Point>) -> RoughForm
     }
 }
 
-/// All conditions of a form but for its count of passes.
+/// Whether the contour descends and ends below the start: all conditions of a form but for its
+/// count of passes.
 fn is_form(rough: &RoughForm) -> bool
     requires { IsNearForm (rough_of rough.now) }
     ensures { result ≡ is_form (rough_of rough.now) }
@@ -103,7 +107,8 @@ fn is_form(rough: &RoughForm) -> bool
     descends(&rough.first, &rough.points) && is_below_start(&last, rough.across, &rough.start)
 }
 
-/// The last X of a contour with its allowance is at most the start's.
+/// Whether the last X of a contour with its allowance is at most the start's. Lengths are in 0.001
+/// mm.
 fn is_below_start(last: &Point, across: u64, start: &Point) -> bool
     requires last { IsWritten last.now }
     requires across { across ≤ 100000000000 }
@@ -112,7 +117,7 @@ fn is_below_start(last: &Point, across: u64, start: &Point) -> bool
     last.x + across as i64 <= start.x
 }
 
-/// Each point of a contour goes down from the one before it.
+/// Whether each point of a contour goes down from the one before it.
 fn descends(first: &Point, points: &[Point]) -> bool
     ensures { result ≡ descends first.now points.now }
 {
@@ -126,14 +131,14 @@ fn descends(first: &Point, points: &[Point]) -> bool
     true
 }
 
-/// X does not fall, Z does not rise, and one of them changes.
+/// Whether from p to q X does not fall, Z does not rise, and one of them changes.
 fn goes_down(p: &Point, q: &Point) -> bool
     ensures { result ≡ goes_down p.now q.now }
 {
     p.x <= q.x && q.z <= p.z && !(q.x <= p.x && p.z <= q.z)
 }
 
-/// The last point of a contour.
+/// The last point of a contour, which may be its first.
 pub(crate) fn last_of(first: &Point, points: &[Point]) -> Point
     ensures { result ≡ last_of first.now points.now }
 {
@@ -144,8 +149,8 @@ pub(crate) fn last_of(first: &Point, points: &[Point]) -> Point
     last
 }
 
-/// A pass has four blocks, and the way along the contour four and one for each point after the
-/// first.
+/// Whether a form has at most 1,000 passes. A pass has four blocks, and the way along the contour
+/// has four and one for each point after the first. The only error is out of memory.
 #[tactic(auto, using(crate::proofs::PassCount::short))]
 fn is_short(alloc: Global, rough: &RoughForm) -> Result<bool, AllocError>
     requires { IsNearForm (rough_of rough.now) }
@@ -156,7 +161,7 @@ fn is_short(alloc: Global, rough: &RoughForm) -> Result<bool, AllocError>
     Ok(blocks.len() as u128 <= 4 * MOST_PASSES + 4 + points)
 }
 
-/// The blocks from the second point of a contour on.
+/// The blocks after the first three: from the second point of a contour on.
 fn behind_three(blocks: &[Block]) -> &[Block]
     ensures { result.now ≡ drop 3 blocks.now }
 {
@@ -174,7 +179,8 @@ fn first_blocks(blocks: &[Block], points: usize) -> &[Block]
     front
 }
 
-/// The lines that go when the form is written out.
+/// The lines of these blocks, which go when the form is written out. The only error is out of
+/// memory.
 fn lines_of(alloc: Global, blocks: &[Block]) -> Result<Vec<u32>, AllocError>
     ensures { IfOk result (λ lines. lines.items ≡ map (λ block. block.line) blocks.now) }
 {

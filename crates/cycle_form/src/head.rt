@@ -1,4 +1,5 @@
-//! The two blocks that a roughing cycle begins with.
+//! What the first four blocks of a G71 form say: its start, its two G71, and the contour's first
+//! block.
 ghost use Rattle.std.specs.Prelude.{◌≡◌, ◌≤◌, IfSome, Some, option_map, unsigned_abs};
 ghost use Rattle.cycle_form.specs.Head.{natural, size_at, number_at, feed_at, cut_of, call_of, plain_words, first_of, head_of, head_at, IsSoundCall, IsSoundCut, IsSoundHead};
 
@@ -10,7 +11,9 @@ use nc_text::{Block, Body, Word};
 /// How a form cuts: lengths in 0.001 mm.
 #[derive(Clone, Copy, Debug, PartialEq, Eq)]
 pub struct Cut {
+    /// How deep each pass cuts: a radius, above 0.
     pub depth: u64,
+    /// How far the tool draws back after a pass.
     pub retreat: u64,
 }
 
@@ -18,9 +21,13 @@ pub struct Cut {
 /// allowances in 0.001 mm, and a feed.
 #[derive(Clone, Copy, Debug, PartialEq, Eq)]
 pub struct Call {
+    /// The sequence number of the contour's first block.
     pub first: u32,
+    /// The sequence number of its last block.
     pub last: u32,
+    /// The allowance along X, a diameter.
     pub across: u64,
+    /// The allowance along Z.
     pub along: u64,
     pub feed: Value,
 }
@@ -28,20 +35,22 @@ pub struct Call {
 /// What the first four blocks of a form say.
 #[derive(Clone, Copy, Debug, PartialEq, Eq)]
 pub struct Head {
+    /// Where the tool stands before the cycle.
     pub start: Point,
     pub cut: Cut,
     pub call: Call,
+    /// The contour's first point, at the Z of the start.
     pub first: Point,
 }
 
-/// A size is no negative length.
+/// The number, if it is not negative.
 fn natural(n: i64) -> Option<u64>
     ensures { result ≡ natural n }
 {
     if n < 0 { None } else { Some(n as u64) }
 }
 
-/// A length in 0.001 mm that the word at this place writes.
+/// The length in 0.001 mm that the word at place i writes under this letter, if it is not negative.
 #[tactic(auto, unfolding(crate::specs::Head::size_at))]
 fn size_at(words: &[Word], i: usize, letter: u8) -> Option<u64>
     ensures size { result ≡ size_at words.now i letter }
@@ -51,7 +60,7 @@ fn size_at(words: &[Word], i: usize, letter: u8) -> Option<u64>
     natural(z)
 }
 
-/// A sequence number that the word at this place writes.
+/// The sequence number that the word at place i writes under this letter.
 #[tactic(auto, unfolding(crate::specs::Head::number_at))]
 pub(crate) fn number_at(words: &[Word], i: usize, letter: u8) -> Option<u32>
     ensures { result ≡ number_at words.now i letter }
@@ -61,7 +70,7 @@ pub(crate) fn number_at(words: &[Word], i: usize, letter: u8) -> Option<u32>
     if n < 0 { None } else { Some(n as u32) }
 }
 
-/// A feed is above 0.
+/// The feed above 0 that the word at place i writes under this letter.
 #[tactic(auto, unfolding(crate::specs::Head::feed_at))]
 pub(crate) fn feed_at(words: &[Word], i: usize, letter: u8) -> Option<Value>
     ensures { result ≡ feed_at words.now i letter }
@@ -71,7 +80,7 @@ pub(crate) fn feed_at(words: &[Word], i: usize, letter: u8) -> Option<Value>
     if 0 < feed.micro() { Some(feed) } else { None }
 }
 
-/// G71 U R, its words in this order and no others.
+/// The cut of G71 U R: these words in this order and no others; the depth is above 0.
 #[tactic(auto, unfolding(crate::specs::Head::cut_of))]
 fn cut_of(words: &[Word]) -> Option<Cut>
     ensures cut { result ≡ cut_of words.now }
@@ -89,7 +98,7 @@ fn cut_of(words: &[Word]) -> Option<Cut>
     }
 }
 
-/// G71 P Q U W F, its words in this order and no others.
+/// The call of G71 P Q U W F: these words in this order and no others.
 #[tactic(auto, unfolding(crate::specs::Head::call_of))]
 fn call_of(words: &[Word]) -> Option<Call>
     ensures call { result ≡ call_of words.now }
@@ -126,7 +135,7 @@ pub(crate) fn plain_words(block: &Block) -> Option<&[Word]>
     }
 }
 
-/// The first block of the contour: G00 to an X, under the number that P names.
+/// The X, in 0.001 mm, of the contour's first block: G00 to an X, under the number that P names.
 #[tactic(auto, unfolding(crate::specs::Head::first_of))]
 fn first_of(number: u32, block: &Block) -> Option<i64>
     ensures first { result ≡ first_of number block.now }
@@ -145,7 +154,8 @@ fn first_of(number: u32, block: &Block) -> Option<i64>
     length_at(words, 1, b'X')
 }
 
-/// The contour begins at the Z of the start.
+/// What these four blocks say, if they are the first of a form. The contour begins at the Z of the
+/// start.
 #[tactic(auto, unfolding(crate::specs::Head::head_of))]
 fn head_of(a: &Block, b: &Block, c: &Block, d: &Block) -> Option<Head>
     ensures head { result ≡ head_of a.now b.now c.now d.now }

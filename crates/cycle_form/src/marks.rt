@@ -1,4 +1,5 @@
-//! Which lines of a text have a skip sign or a comment.
+//! Which lines of a text have a skip sign or a comment. A form with such a line is none: to write
+//! it out would lose the comment, and the sign would skip only a part of it.
 ghost use Rattle.std.specs.Prelude.{◌≡◌, ◌||◌, IfOk};
 ghost use Rattle.std.specs.List.{list_all};
 ghost use Rattle.cycle_form.specs.Marks.{is_mark, marks_of, is_plain};
@@ -6,7 +7,8 @@ ghost use Rattle.cycle_form.specs.Marks.{is_mark, marks_of, is_plain};
 use nc_text::Block;
 use std::alloc::{AllocError, Global};
 
-/// For each line of a text whether it has a skip sign or begins a comment, from line 1 on.
+/// For each line of a text whether it has a skip sign or begins a comment, from line 1 on. The only
+/// error is out of memory.
 pub fn marks_of(alloc: Global, text: &[u8]) -> Result<Vec<bool>, AllocError>
     ensures { IfOk result (λ marks. marks.items ≡ marks_of text.now) }
 {
@@ -24,7 +26,7 @@ pub fn marks_of(alloc: Global, text: &[u8]) -> Result<Vec<bool>, AllocError>
     Ok(marks)
 }
 
-/// A bracket begins a comment, a slash is a skip sign.
+/// Whether the line has a mark with this byte: a bracket begins a comment, a slash is a skip sign.
 fn is_marked(before: bool, b: u8) -> bool
     ensures { result ≡ (before || is_mark b) }
 {
@@ -41,7 +43,7 @@ pub(crate) fn is_plain(marks: &[bool], block: &Block) -> bool
     }
 }
 
-/// Writing a form out would lose a comment, and a skip sign would skip a part of it.
+/// Whether no line of these blocks has a skip sign or a comment.
 pub(crate) fn are_plain(marks: &[bool], blocks: &[Block]) -> bool
     ensures { result ≡ list_all (is_plain marks.now) blocks.now }
 {

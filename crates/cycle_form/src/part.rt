@@ -1,4 +1,5 @@
-//! A part of a tape that stands for plain blocks.
+//! A part of a tape that stands for plain blocks. How its moves are made is in rough_cycle; how
+//! they are written, in tape_expand.
 ghost use Rattle.std.specs.Prelude.{◌≡◌, IfOk};
 ghost use Rattle.rough_cycle.specs.Form.{rough_of};
 ghost use Rattle.cycle_form.specs.Parts.{PartView, IsSoundPart, IsClearPart, part_blocks, is_called};
@@ -25,10 +26,14 @@ pub enum PartKind {
 #[derive(Debug, Drop)]
 pub struct Part {
     kind: PartKind,
+    /// The contour, the cut and the allowances, in 0.001 mm.
     rough: RoughForm,
+    /// The sequence number of the contour's first block.
     first: u32,
+    /// The sequence number of its last block.
     last: u32,
     feed: Value,
+    /// The lines of the text that it takes the place of.
     lines: Vec<u32>,
 }
 
@@ -94,7 +99,7 @@ impl Part {
         }
     }
 
-    /// The blocks that it stands for.
+    /// The plain blocks that it stands for. The only error is out of memory.
     pub fn blocks(&self, alloc: Global) -> Result<Vec<PlainBlock>, AllocError>
         ensures { IfOk result (λ blocks. blocks.items ≡ part_blocks self.now) }
     {
@@ -128,7 +133,7 @@ impl Part {
         }
     }
 
-    /// Its form.
+    /// Its form, which is one by the type.
     pub(crate) fn rough(&self) -> &RoughForm
         ensures form { rough_of result.now ≡ self.now.rough }
         ensures sound { IsSoundPart self.now }

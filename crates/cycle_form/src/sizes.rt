@@ -9,7 +9,7 @@ use crate::part::Part;
 use nc_number::{Failing, MOST_BLOCKS};
 use std::alloc::{AllocError, Global};
 
-/// Every part has a line, so 0 is never told.
+/// The first of these lines; 0 if there is none, but every part has a line.
 fn first_line(lines: &[u32]) -> u32
     ensures { result ≡ first_line lines.now }
 {
@@ -19,7 +19,7 @@ fn first_line(lines: &[u32]) -> u32
     }
 }
 
-/// The blocks of a part take the place of its lines.
+/// The count of blocks with those of a part in place of its lines. The only error is out of memory.
 fn blocks_with(alloc: Global, blocks: u128, part: &Part) -> Result<u128, AllocError>
     requires { blocks ≤ MOST_BLOCKS }
     ensures { IfOk result (λ more. more ≡ blocks_with blocks part.now) }
@@ -30,7 +30,7 @@ fn blocks_with(alloc: Global, blocks: u128, part: &Part) -> Result<u128, AllocEr
 
 /// Whether a tape of so many blocks has at most 20,000 once these parts are written out.
 ///
-/// Errors: 94 at the first line of the part with which it first has more.
+/// Errors: 94 at the first line of the part with which it first has more; out of memory.
 pub fn check_sizes(alloc: Global, blocks: usize, parts: &[Part]) -> Result<(), Failing<CycleFault>>
     requires { blocks ≤ MOST_BLOCKS }
     ensures { Gives (λ _. tt) result (sized blocks parts.now) }

@@ -1,4 +1,5 @@
-//! The parts of a program, from its first block to its last.
+//! The parts of a tape, from its first block to its last. What makes a form is judged in `form` and
+//! `finish`.
 ghost use Rattle.std.specs.Prelude.{◌≡◌, [], IfOk, IfSome, All, length, drop};
 ghost use Rattle.cycle_form.specs.Parts.{IsSoundPart};
 ghost use Rattle.std.specs.List.{list_any};
@@ -39,7 +40,7 @@ fn some_word(code: i64, words: &[Word]) -> bool
     words.iter().any(|word| has_word(code, word))
 }
 
-/// A statement has no G code.
+/// Whether one of the block's words writes this G code out; a statement has none.
 fn has_code(code: i64, body: &Body) -> bool
     ensures { result ≡ has_code code body.now }
 {
@@ -49,7 +50,7 @@ fn has_code(code: i64, body: &Body) -> bool
     }
 }
 
-/// A cycle that is no form is refused, not passed by.
+/// The part; or that the cycle is part of no form, which is refused and not passed by.
 fn part_or_bad(part: Option<Part>) -> Found
     requires { IfSome part IsSoundPart }
     ensures found { result ≡ part_or_bad part }
@@ -61,7 +62,8 @@ fn part_or_bad(part: Option<Part>) -> Found
     }
 }
 
-/// A form whose first G71 is the first of these blocks.
+/// The part of a form whose first G71 is the first of these blocks. The only error is out of
+/// memory.
 fn form_behind(
     alloc: Global,
     marks: &[bool],
@@ -77,7 +79,8 @@ fn form_behind(
     }
 }
 
-/// A finish over a form of the same program.
+/// The part of a finish whose G70 is this block, over a form of the same program. The only error is
+/// out of memory.
 fn finish_behind(
     alloc: Global,
     marks: &[bool],
@@ -94,7 +97,7 @@ fn finish_behind(
     }
 }
 
-/// G71 comes before G70, where a block has both.
+/// What begins in a block. If it has both, G71 comes before G70. The only error is out of memory.
 fn part_in(
     alloc: Global,
     marks: &[bool],
@@ -117,7 +120,8 @@ fn part_in(
     Ok(Found::Nothing)
 }
 
-/// The parts so far, and those of a program.
+/// The parts so far, and those of a program. Errors: 93 at the first block with a cycle that is
+/// part of no form; out of memory.
 fn with_program(
     alloc: Global,
     marks: &[bool],
@@ -150,25 +154,25 @@ fn with_program(
     Ok(parts)
 }
 
-/// The parts of the present program alone.
+/// The parts from the place `from` on: those of the present program.
 fn behind(parts: &[Part], from: usize) -> &[Part]
     ensures { result.now ≡ drop from parts.now }
 {
     parts.get(from..).unwrap_or(&[])
 }
 
-/// The blocks of a part behind its first belong to it, whatever they say.
+/// How many blocks of a part come after its first. They belong to it, whatever they say.
 fn blocks_left(part: &Part) -> usize
     ensures { result ≡ blocks_left part.now }
 {
     part.lines().len().saturating_sub(1)
 }
 
-/// The parts of a tape that are written out, in the order of the text. `marks` tells of each line
-/// of its text whether it has a skip sign or a comment.
+/// The parts of a tape that are written out, in the order of the text. `marks` says of each line of
+/// its text whether it has a skip sign or a comment.
 ///
 /// Errors: 93 at the least line with a block that has G70 or G71 and is part of no form, or with
-/// the first G71 of a form with more than 1,000 passes.
+/// the first G71 of a form with more than 1,000 passes; out of memory.
 pub fn parts_of(
     alloc: Global,
     marks: &[bool],

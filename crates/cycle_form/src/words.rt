@@ -1,4 +1,4 @@
-//! The words of a block, as lengths and codes.
+//! The words of a block, as lengths and codes. A place is the index of a word in its block, from 0.
 ghost use Rattle.std.specs.Prelude.{◌≡◌, ◌≤◌, IfSome, Some, unsigned_abs};
 ghost use Rattle.rough_cycle.specs.Form.{IsWritten};
 ghost use Rattle.cycle_form.specs.Words.{literal_of, literal_at, length_at, is_code, start_of};
@@ -45,7 +45,7 @@ pub(crate) fn length_at(words: &[Word], i: usize, letter: u8) -> Option<i64>
     Some(literal.increments())
 }
 
-/// Whether the literal is this code, by its value.
+/// Whether the literal is this G code, by its value.
 pub(crate) fn is_code(code: i64, literal: Option<Literal>) -> bool
     ensures { result ≡ is_code code literal }
 {
@@ -58,7 +58,7 @@ pub(crate) fn is_code(code: i64, literal: Option<Literal>) -> bool
     }
 }
 
-/// The point of a block with G00, X and Z.
+/// The point of a block of G00, X and Z, in this order, in 0.001 mm.
 #[tactic(auto, unfolding(crate::specs::Words::start_of))]
 pub(crate) fn start_of(words: &[Word]) -> Option<Point>
     ensures start { result ≡ start_of words.now }

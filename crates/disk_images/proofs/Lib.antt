@@ -1,3 +1,4 @@
+-- The files of proofs, each after those that it uses.
 pub mod Parts
 pub mod Moments
 pub mod Torn

@@ -1,4 +1,4 @@
--- What a call adds to what a crash may leave.
+-- What a call adds to what a crash may leave: the images after it come of those before it.
 use Rattle.std.proofs.Common.{◌≡◌, ◌⊎◌, inl, inr, ℕ, ◌+◌, ◌≤◌, ◌<◌, max, List, [], ◌++◌, refl, sym, arith, subst, append-nil}
 use Rattle.std.proofs.lemmas.Bool.{cases_lt}
 use Rattle.disk_model.specs.Device.{Elapses, Looks, Tears, Torn, Stays}
@@ -15,19 +15,23 @@ module _ (step : List ℕ → List ℕ → Type 0) (old new : Images) (gone : Li
     (later : (c : List ℕ) → IsAmong gone c → old.calls < new.calls)
     (held : (c : List ℕ) → IsAmong (images_now old) c → IsAmong (images_now new) c ⊎ ((old.calls < new.calls) × IsAmong gone c))
     (comes : (c : List ℕ) → IsAmong (images_now new) c → (b : List ℕ) × IsAmong (images_now old) b × step b c) where
+  -- an image that was left by then was left before, or is one that this call ended
   left_in : (t : ℕ) (c : List ℕ) → WasLeft t new.past c → WasLeft t old.past c ⊎ IsAmong gone c
   left_in t c was = elim (left_either t old.past (all_ended new.calls gone) c (subst (λ (p : List Ended). WasLeft t p c) past was)) [
     | inl before ↦ inl before
     | inr here ↦ inr (left_among t new.calls gone c here)
   ]
 
+  -- an image that this call ended was left at each moment before it
   left_of : (t : ℕ) (c : List ℕ) → t < new.calls → IsAmong gone c → WasLeft t new.past c
   left_of t c earlier here =
       subst (λ (p : List Ended). WasLeft t p c) (sym past) (left_right t old.past (all_ended new.calls gone) c (all_left t new.calls gone c earlier here))
 
+  -- an image from before the call may be left since its time
   covered : (c : List ℕ) → IsAmong (images_now old) c → (images_state new).image_since old.calls c
   covered c here = elim (held c here) [ inl now ↦ inl now | inr out ↦ inr (out.0, left_of old.calls c out.0 out.1) ]
 
+  -- an image that may be left since its time comes of one from before the call
   inside : (c : List ℕ) → (images_state new).image_since old.calls c → (b : List ℕ) × IsAmong (images_now old) b × step b c
   inside c (inl now) = comes c now
   inside c (inr was) = elim (left_in old.calls c was.1) [
@@ -35,6 +39,7 @@ module _ (step : List ℕ → List ℕ → Type 0) (old new : Images) (gone : Li
     | inr here ↦ (c, ended c here, stays c)
   ]
 
+  -- an image that may be left since an earlier time was so before the call, or is since the call
   before : (t : ℕ) (c : List ℕ) → t ≤ old.calls → (images_state new).image_since t c
       → (images_state old).image_since t c ⊎ (images_state new).image_since old.calls c
   before t c le (inl now) = inr (inl now)
@@ -51,6 +56,7 @@ module _ (step : List ℕ → List ℕ → Type 0) (old new : Images) (gone : Li
           go (inr more) = let same : t ≡ old.calls = omega (arith, le, more) in
               absurd (left_none old.calls old.past c kept.ended (subst (λ (s : ℕ). WasLeft s old.past c) same earlier))
 
+  -- the record of the trait: time moves, and images come of images
   pub elapses : Elapses step (images_state old) (images_state new)
   elapses = record {
     later = let fits = kept.calls_fit in omega (arith, counted, fits);

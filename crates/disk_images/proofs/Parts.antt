@@ -6,15 +6,18 @@ use Rattle.std.specs.Prelude.{Result, Ok, Err, IfOk}
 use Rattle.disk_images.specs.Images.{Images, images_now, images_since, images_state}
 use Rattle.disk_images.specs.Among.{IsAmong, Ended, AreEnded, WasLeft, all_ended, left_since}
 
+-- an image in the first list is in both together
 pub among_left : (xs ys : List (List ℕ)) (c : List ℕ) → IsAmong xs c → IsAmong (xs ++ ys) c
 among_left [] ys c none = absurd none
 among_left (x ∷ xs) ys c (inl is) = inl is
 among_left (x ∷ xs) ys c (inr rest) = inr (among_left xs ys c rest)
 
+-- an image in the second list is in both together
 pub among_right : (xs ys : List (List ℕ)) (c : List ℕ) → IsAmong ys c → IsAmong (xs ++ ys) c
 among_right [] ys c here = here
 among_right (x ∷ xs) ys c here = inr (among_right xs ys c here)
 
+-- an image in both together is in one of them
 pub among_either : (xs ys : List (List ℕ)) (c : List ℕ) → IsAmong (xs ++ ys) c → IsAmong xs c ⊎ IsAmong ys c
 among_either [] ys c here = inr here
 among_either (x ∷ xs) ys c (inl is) = inl (inl is)
@@ -26,20 +29,24 @@ left_none calls [] c are none = none
 left_none calls (e ∷ past) c are (inl here) = omega (arith, here.0, are.0)
 left_none calls (e ∷ past) c are (inr rest) = left_none calls past c are.1 rest
 
+-- images that were ended by then were ended by any later call
 pub ended_later : (calls more : ℕ) (past : List Ended) → calls ≤ more → AreEnded calls past → AreEnded more past
 ended_later calls more [] le are = tt
 ended_later calls more (e ∷ past) le are = (omega (arith, are.0, le), ended_later calls more past le are.1)
 
+-- images that end with this call, and those before, were ended by it
 pub ended_all : (calls : ℕ) (past : List Ended) (images : List (List ℕ)) → AreEnded calls past → AreEnded calls (past ++ all_ended calls images)
 ended_all calls [] [] are = tt
 ended_all calls [] (image ∷ images) are = (omega arith, ended_all calls [] images tt)
 ended_all calls (e ∷ past) images are = (are.0, ended_all calls past images are.1)
 
+-- an image of two lists of ended ones was left in one of them
 pub left_either : (since : ℕ) (past more : List Ended) (c : List ℕ) → WasLeft since (past ++ more) c → WasLeft since past c ⊎ WasLeft since more c
 left_either since [] more c here = inr here
 left_either since (e ∷ past) more c (inl here) = inl (inl here)
 left_either since (e ∷ past) more c (inr rest) = elim (left_either since past more c rest) [ inl first ↦ inl (inr first) | inr second ↦ inr second ]
 
+-- an image of the second list is one of both
 pub left_right : (since : ℕ) (past more : List Ended) (c : List ℕ) → WasLeft since more c → WasLeft since (past ++ more) c
 left_right since [] more c here = here
 left_right since (e ∷ past) more c here = inr (left_right since past more c here)
@@ -50,6 +57,7 @@ all_left since until [] c before none = absurd none
 all_left since until (image ∷ images) c before (inl is) = inl (before, is)
 all_left since until (image ∷ images) c before (inr rest) = inr (all_left since until images c before rest)
 
+-- an image that was left of those ended at one moment is one of them
 pub left_among : (since until : ℕ) (images : List (List ℕ)) (c : List ℕ) → WasLeft since (all_ended until images) c → IsAmong images c
 left_among since until [] c none = absurd none
 left_among since until (image ∷ images) c (inl here) = inl here.1
@@ -80,6 +88,7 @@ left_push since (first ∷ past) e = go (nat_lt since first.until) refl (left_pu
     go true is rest = rw is (ap (λ (l : List (List ℕ)). first.bytes ∷ l) rest)
     go false is rest = rw is rest
 
+-- the list of images has exactly those that a crash since then may leave
 pub listed_images : (d : Images) (since : ℕ) (c : List ℕ) → IsAmong (images_since d since) c ↔ (images_state d).image_since since c
 listed_images d since c = go (nat_lt since d.calls) refl
   where
@@ -99,6 +108,7 @@ listed_images d since c = go (nat_lt since d.calls) refl
       λ here. elim here [ inl now ↦ among_left (images_now d) [] c now | inr was ↦ absurd (grind (arith, nat_tests)) ],
     )
 
+-- a list that the code answers has exactly these images
 pub just_listed : {E : Type 0} {A : Type 0} (items : A → List (List ℕ)) (d : Images) (since : ℕ) (r : Result A E) → IfOk r (λ l. items l ≡ images_since d since)
     → IfOk r (λ l. (c : List ℕ) → IsAmong (items l) c ↔ (images_state d).image_since since c)
 just_listed items d since (Ok l) is = λ c. subst (λ (xs : List (List ℕ)). IsAmong xs c ↔ (images_state d).image_since since c) (sym is) (listed_images d since c)

@@ -1,4 +1,5 @@
--- What a write makes images is what a torn write leaves.
+-- What a write makes images is what a torn write leaves: a first part of it over the image from
+-- before.
 use Rattle.std.proofs.Common.{◌≡◌, inl, inr, ℕ, zero, suc, ◌+◌, ◌≤◌, List, [], ◌∷◌, ◌++◌, length, take, refl, sym, ap, ◌∙◌, arith, subst}
 use Rattle.std.specs.List.{flat_map}
 use Rattle.std.proofs.lemmas.List.{length-take}
@@ -23,6 +24,7 @@ torn_first : (image : List ℕ) (at : ℕ) (bytes : List ℕ) (count : ℕ) → 
 torn_first image at bytes count =
     torn_shorter at (length (take count bytes)) (length bytes) image _ (omega (arith, length-take count bytes)) (torn_by_write image at (take count bytes))
 
+-- an image with a first part of the write over it is a torn one
 torn_some : (image : List ℕ) (at : ℕ) (bytes : List ℕ) (count : ℕ) (c : List ℕ) → IsAmong (torn_to image at bytes count) c → Torn at (length bytes) image c
 unfolding torn_to
 torn_some image at bytes zero c none = absurd none
@@ -32,6 +34,7 @@ torn_some image at bytes (suc count) c here =
       | inr last ↦ elim last [ inl is ↦ subst (Torn at (length bytes) image) (sym is) (torn_first image at bytes (suc count)) | inr none ↦ absurd none ]
     ]
 
+-- each image that a write adds is a torn one of an image from before
 torn_each : (images : List (List ℕ)) (at : ℕ) (bytes c : List ℕ) → IsAmong (flat_map (torn_images at bytes) images) c
     → (b : List ℕ) × IsAmong images b × Torn at (length bytes) b c
 torn_each [] at bytes c none = absurd none
@@ -43,16 +46,20 @@ torn_each (image ∷ images) at bytes c here =
 
 -- A write that is made of each image, whatever a read gives then of it.
 module _ (d : Images) (at : ℕ) (bytes content : List ℕ) (faults : ℕ) (kept : IsKept d) (torn : Torn at (length bytes) d.bytes content) where
+  -- how many bytes are written
   abbrev n : ℕ
   n = length bytes
 
+  -- the disk after the write
   abbrev wrote : Images
   wrote = record (grown (after_request d (at + n)) at bytes) { bytes = content; faults = faults }
 
+  -- the images from before stay
   held : (c : List ℕ) → IsAmong (images_now d) c → IsAmong (images_now wrote) c
   held c (inl is) = inr (among_right d.others (d.bytes ∷ flat_map (torn_images at bytes) (images_now d)) c (inl is))
   held c (inr rest) = inr (among_left d.others (d.bytes ∷ flat_map (torn_images at bytes) (images_now d)) c rest)
 
+  -- each image after it is one from before, or that with a part of the write over it
   comes : (c : List ℕ) → IsAmong (images_now wrote) c → (b : List ℕ) × IsAmong (images_now d) b × Torn at n b c
   comes c (inl is) = (d.bytes, inl refl, subst (Torn at n d.bytes) (sym is) torn)
   comes c (inr rest) = elim (among_either d.others (d.bytes ∷ flat_map (torn_images at bytes) (images_now d)) c rest) [
@@ -63,6 +70,7 @@ module _ (d : Images) (at : ℕ) (bytes content : List ℕ) (faults : ℕ) (kept
     ]
   ]
 
+  -- the write tears, as the trait says
   pub tears_grown : Tears at n (images_state d) (images_state wrote)
   tears_grown = record {
     time = elapses (Torn at n) d wrote [] kept (torn_not at n) refl (none_gone d.past (next d.calls)) (λ c none. absurd none) (λ c none. absurd none)
@@ -79,6 +87,7 @@ pub torn_none : (image : List ℕ) (at : ℕ) (bytes : List ℕ) → torn_to ima
 unfolding torn_to
 torn_none image at bytes = refl
 
+-- the first parts of a write with one byte more are those, and that with one byte more
 pub torn_more : (image : List ℕ) (at : ℕ) (bytes : List ℕ) (count : ℕ)
     → torn_to image at bytes (count + 1) ≡ torn_to image at bytes count ++ written_over image at (take (count + 1) bytes) ∷ []
 unfolding torn_to

@@ -10,22 +10,27 @@ use Rattle.disk_images.proofs.Moments.{tears_not}
 use Rattle.disk_images.proofs.Torn.{tears_grown}
 use Rattle.disk_images.proofs.Coming.{has_fault, no_fault}
 
+-- after a step that may fail, the disk is what is due or as it was
 pub done_or_not : {T E : Type 0} (r : Result T E) (old due new : Images) → (IsOk r → new ≡ due) → (IsErr r → new ≡ old) → (new ≡ due) ⊎ (new ≡ old)
 done_or_not (Ok x) old due new ok err = inl (ok refl)
 done_or_not (Err e) old due new ok err = inr (err refl)
 
+-- a write that is refused counts a call and a fault
 pub write_refused : (d : Images) (at : ℕ) (bytes : List ℕ) → refuses_write d (at + length bytes) ≡ true
     → after_write d at bytes ≡ with_fault (after_request d (at + length bytes))
 write_refused d at bytes is = rw is refl
 
+-- a write that is to fail by its number may still be torn over each image
 pub write_listed : (d : Images) (at : ℕ) (bytes : List ℕ) → refuses_write d (at + length bytes) ≡ false → next_fails d ≡ true
     → after_write d at bytes ≡ with_fault (grown (after_request d (at + length bytes)) at bytes)
 write_listed d at bytes is fails = rw (is, fails) refl
 
+-- a write that isn't to fail is made of what a read gives
 pub write_done : (d : Images) (at : ℕ) (bytes : List ℕ) → refuses_write d (at + length bytes) ≡ false → next_fails d ≡ false
     → after_write d at bytes ≡ overwritten (after_request d (at + length bytes)) at bytes
 write_done d at bytes is fails = rw (is, fails) refl
 
+-- a write of these bytes at this place, on a disk before and after it
 module _ {T E : Type 0} (d new : Images) (at : ℕ) (bytes : List ℕ) (kept : IsKept d) where
   -- a write that failed, and wrote nothing or counts as written
   pub failed_writes : (e : E) → (new ≡ with_fault (after_request d (at + length bytes))) ⊎ (new ≡ with_fault (grown (after_request d (at + length bytes)) at bytes))
@@ -45,6 +50,7 @@ module _ {T E : Type 0} (d new : Images) (at : ℕ) (bytes : List ℕ) (kept : I
     cause = has_fault e d new (ap (λ (n : Images). n.faults) is) kept.faults_fit;
   }
 
+  -- a write that succeeded
   pub done_writes : (x : T) → at + length bytes < 2 ^ 62 → new ≡ overwritten (after_request d (at + length bytes)) at bytes
       → Writes {T = T} {E = E} at bytes (images_state d) (images_state new) (Ok x)
   done_writes x short is = record {

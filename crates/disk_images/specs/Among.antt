@@ -1,4 +1,5 @@
--- Which images are in a list, and which were left at some moment.
+-- Which images are in a list, and which were left at some moment. An image is the bytes of the
+-- whole file; a moment is how many calls the disk has had.
 use Rattle.std.specs.Prelude.{◌≡◌, ◌⊎◌, ℕ, ◌≤◌, ◌<◌, nat_lt, if◌then◌else◌, List, [], ◌∷◌, map}
 
 -- an image is one of these
@@ -8,7 +9,9 @@ IsAmong (image ∷ images) c = (c ≡ image) ⊎ IsAmong images c
 
 -- An image that a sync ended: a crash may have left it until the disk had had so many calls.
 pub record Ended : Type 0 where
+  -- the image
   pub bytes : List ℕ
+  -- how many calls the disk had had
   pub until : ℕ
 
 -- these images were ended when the disk had had so many calls
@@ -20,12 +23,12 @@ abbrev pub WasLeft : ℕ → List Ended → List ℕ → Type 0
 WasLeft since [] c = ⊥
 WasLeft since (e ∷ past) c = ((since < e.until) × (c ≡ e.bytes)) ⊎ WasLeft since past c
 
--- those of them
+-- those of the ended images that a crash at that time, or later, may have left
 abbrev pub left_since : ℕ → List Ended → List (List ℕ)
 left_since since [] = []
 left_since since (e ∷ past) = if nat_lt since e.until then e.bytes ∷ left_since since past else left_since since past
 
--- none was ended later than that
+-- no image was ended later than that
 abbrev pub AreEnded : ℕ → List Ended → Type 0
 AreEnded calls [] = Unit {0}
 AreEnded calls (e ∷ past) = (e.until ≤ calls) × AreEnded calls past

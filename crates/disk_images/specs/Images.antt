@@ -1,17 +1,22 @@
--- What a disk in memory holds that keeps every image.
+-- What a disk in memory holds that keeps every image, and what each call makes of it. The crates of
+-- tests disk_vectors and journal_vectors use it.
 use Rattle.std.specs.Prelude.{◌⊎◌, ℕ, zero, suc, ◌+◌, ◌-◌, ◌^◌, ◌<◌, ◌==◌, ◌||◌, nat_le, nat_lt, Bool, List, [], ◌∷◌, ◌++◌, length, take, max, Some, if◌then◌else◌}
 use Rattle.std.specs.List.{flat_map, list_any}
 use Rattle.disk_model.specs.Device.{DiskState, written_over}
 use Rattle.nc_number.specs.Faults.{next}
 use Rattle.disk_images.specs.Among.{IsAmong, Ended, AreEnded, WasLeft, all_ended, left_since}
 
+-- what the disk holds; a moment is how many calls it has had
 pub record Images : Type 0 where
   pub bytes : List ℕ  -- what a read gives
   pub others : List (List ℕ)  -- what else a crash now may leave
   pub past : List Ended  -- what a crash before a sync may have left, since the disk was made
   pub failing : List ℕ  -- the numbers of the calls that are to fail, from 1
+  -- how many calls it has had
   pub calls : ℕ
+  -- where the farthest write that was asked for ends
   pub reach : ℕ
+  -- how many calls failed
   pub faults : ℕ
 
 -- what a crash now may leave
@@ -37,9 +42,13 @@ images_state d = record {
 
 -- what is true of every such disk
 pub record IsKept (d : Images) : Type 0 where
+  -- what a read gives is shorter than 2 ^ 62 bytes
   pub small : length d.bytes < 2 ^ 62
+  -- no image was ended later than now
   pub ended : AreEnded d.calls d.past
+  -- the count of calls fits 64 bits
   pub calls_fit : d.calls < 2 ^ 64
+  -- so does that of faults
   pub faults_fit : d.faults < 2 ^ 64
 
 -- a disk that has had no call

@@ -1,7 +1,8 @@
--- How the fields of a disk stand for what it holds.
+-- How the fields of a disk stand for what it holds. For this crate alone.
 use Rattle.disk_images.specs.declared.disk.ImagesDisk.TheInside.{Inside}
 use Rattle.disk_images.specs.Images.{Images, IsKept}
 
+-- what the fields hold
 abbrev pub images_of : Inside → Images
 images_of d = record {
   bytes = d.bytes.items;
@@ -13,5 +14,6 @@ images_of d = record {
   faults = d.faults;
 }
 
+-- the fields keep what is true of every such disk
 abbrev pub HasKept : Inside → Type 0
 HasKept d = IsKept (images_of d)

@@ -1,4 +1,5 @@
-//! A disk in memory that keeps every image.
+//! A disk in memory that keeps every image, and what each of its calls does. disk_vectors and
+//! journal_vectors test with it.
 
 ghost use Rattle.std.specs.Prelude.{◌≡◌, ◌+◌, ◌-◌, ◌^◌, ◌<◌, ◌==◌, length, IfOk, IsOk, IsErr, is_err};
 ghost use Rattle.std.specs.List.{list_any};
@@ -21,18 +22,26 @@ const LENGTH_LIMIT: usize = 1 << 62;
 /// it, whatever it leaves of the others.
 ///
 /// A call fails where its number, counted from 1, is listed, where a write would end at or past
-/// 2^62, and where memory is wanting. A write that fails by its number writes nothing, and counts
+/// 2^62, and if memory runs out. A write that fails by its number writes nothing, and counts
 /// as written all the same; a call without memory does nothing, but is counted. `len` and `read_at`
 /// take no memory. Each write takes as much as it makes images; it is for small disks.
 #[derive(Drop)]
 pub struct ImagesDisk {
+    /// Where the memory comes from.
     alloc: Global,
+    /// What a read gives.
     bytes: Vec<u8>,
+    /// What else a crash now may leave.
     others: Vec<Image>,
+    /// What a crash before a sync may have left, since the disk was made.
     past: Vec<EndedImage>,
+    /// The numbers of the calls that are to fail, from 1.
     failing: Vec<u64>,
+    /// How many calls it has had.
     calls: u64,
+    /// Where the farthest write that was asked for ends.
     reach: u128,
+    /// How many calls failed.
     faults: u64,
 }
 
@@ -156,7 +165,7 @@ impl ImagesDisk {
         self.faults = self.faults.saturating_add(1);
     }
 
-    /// All that was written is on the disk.
+    /// Ends each image but what a read gives: all that was written is on the disk.
     fn settle(&mut self) -> Result<(), NoMemory>
         ensures ok { IsOk result → self.new ≡ after_settling self.old }
         ensures err { IsErr result → self.new ≡ self.old }
@@ -182,7 +191,7 @@ impl ImagesDisk {
         (refused, fails)
     }
 
-    /// A crash may leave a first part of the write.
+    /// Adds the images with a first part of the write, which a crash may leave.
     fn grow(&mut self, at: usize, bytes: &[u8]) -> Result<(), NoMemory>
         requires { at + length bytes.now < 2 ^ 62 }
         ensures ok { IsOk result → self.new ≡ grown self.old at bytes.now }
@@ -193,7 +202,7 @@ impl ImagesDisk {
         Ok(())
     }
 
-    /// Writes, so that a read gives it, and a crash may leave a first part of it.
+    /// Writes, so that a read gives the bytes, and a crash may leave a first part of them.
     fn overwrite(&mut self, at: usize, bytes: &[u8]) -> Result<(), NoMemory>
         requires { at + length bytes.now < 2 ^ 62 }
         ensures ok { IsOk result → self.new ≡ overwritten self.old at bytes.now }
@@ -217,10 +226,12 @@ impl Disk for ImagesDisk {
 
     ghost coherent = { images_coherent };
 
+    /// How many calls failed.
     fn faults(&self) -> u64 {
         self.faults
     }
 
+    /// The length of the file in bytes. It fails by its number alone.
     fn len(&mut self) -> Result<u64, Failed>
         ensures fails { is_err result ≡ next_fails self.old }
         ensures model { self.new ≡ after_look self.old }
@@ -230,6 +241,7 @@ impl Disk for ImagesDisk {
         Ok(self.bytes.len() as u64)
     }
 
+    /// Reads at a place as many bytes as fit, and says how many. It fails by its number alone.
     fn read_at(&mut self, at: u64, into: &mut [u8]) -> Result<usize, Failed>
         ensures fails { is_err result ≡ next_fails self.old }
         ensures model { self.new ≡ after_look self.old }
@@ -239,6 +251,8 @@ impl Disk for ImagesDisk {
         Ok(read_into(&self.bytes, at, into))
     }
 
+    /// Writes bytes at a place. It fails by its number, if it would end at 2^62 or later, and
+    /// without memory.
     fn write_at(&mut self, at: u64, bytes: &[u8]) -> Result<(), Failed>
         ensures model { Comes (write_fails self.old (at + length bytes.now)) (after_write self.old at bytes.now)
             (with_fault (after_request self.old (at + length bytes.now))) self.new (is_err result) }
@@ -261,6 +275,7 @@ impl Disk for ImagesDisk {
         Ok(())
     }
 
+    /// Puts all that was written on the disk. It fails by its number and without memory.
     fn sync(&mut self) -> Result<(), Failed>
         ensures model { Comes (next_fails self.old) (after_sync self.old)
             (with_fault (after_look self.old)) self.new (is_err result) }

@@ -1,4 +1,4 @@
-//! Images that a sync ended.
+//! Images that a sync ended: a crash may have left them before it.
 
 ghost use Rattle.std.specs.Prelude.{◌≡◌, ◌++◌, ◌∷◌, [], IfOk, OnOk};
 ghost use Rattle.disk_images.specs.Among.{all_ended, left_since};
@@ -11,7 +11,9 @@ use std::marker::Model;
 /// An image that a crash may have left until the disk had had so many calls.
 #[derive(Drop)]
 pub(crate) struct EndedImage {
+    /// The image.
     bytes: Vec<u8>,
+    /// How many calls the disk had had when it ended.
     until: u64,
 }
 

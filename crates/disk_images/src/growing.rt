@@ -1,4 +1,4 @@
-//! What a write adds to the images.
+//! What a write adds to the images: a first part of it may be left over each of them.
 
 ghost use Rattle.std.specs.Prelude.{◌≡◌, ◌+◌, ◌^◌, ◌<◌, ◌++◌, ◌∷◌, length, IfOk, OnOk};
 ghost use Rattle.std.specs.List.{flat_map};

@@ -1,4 +1,4 @@
-//! The bytes that a crash may leave.
+//! An image: the bytes of the whole file that a crash may leave.
 
 ghost use Rattle.std.specs.Prelude.{◌≡◌, ◌+◌, ◌-◌, ◌^◌, ◌≤◌, ◌<◌, ◌++◌, List, ℕ, length, take, drop, replicate, IfOk};
 ghost use Rattle.disk_model.specs.Device.{written_over};
@@ -10,6 +10,7 @@ use std::marker::Model;
 /// What a crash may leave: the bytes of the whole file.
 #[derive(Drop)]
 pub struct Image {
+    /// The bytes, from the first on.
     bytes: Vec<u8>,
 }
 
@@ -52,7 +53,7 @@ impl Image {
     }
 }
 
-/// The old bytes with these over them, and zeros between where they begin behind the end.
+/// The old bytes with these over them, and zeros between where they begin after the end.
 pub(crate) fn write_over(
     alloc: Global,
     old: &[u8],

@@ -1,4 +1,5 @@
 -- Content that is copied stretch by stretch.
+-- For the proof of `copy_written` of src/memory.rt.
 use Rattle.std.proofs.Common.{◌≡◌, ◌⊎◌, inl, inr, ℕ, ◌+◌, ◌≤◌, ◌<◌, List, [], ◌++◌, length, take, drop, get_or, sym, ◌∙◌, ap, subst, arith, take-append-drop}
 use Rattle.std.proofs.lemmas.Bool.{cases_lt}
 use Rattle.std.proofs.lemmas.List.{drop_more, length-take-le, get_or-take}
@@ -11,6 +12,7 @@ pub record IsCopied (from : List ℕ) (left : List Stretch) (content : List ℕ)
   pub no_longer : length content ≤ length from
   pub same : (i : ℕ) → i < length content → IsOutside i left → get_or content i 0 ≡ get_or from i 0
 
+-- when one stretch more is copied, one less is left to copy
 pub copied_more : (from old new : List ℕ) (written : List Stretch) (k : ℕ) (none : Stretch) → k < length written → length new ≡ length old
     → ((i : ℕ) → (get_or written k none).at ≤ i → i < (get_or written k none).at + (get_or written k none).len → i < length old → get_or new i 0 ≡ get_or from i 0)
     → ((i : ℕ) → (i < (get_or written k none).at) ⊎ ((get_or written k none).at + (get_or written k none).len ≤ i) → get_or new i 0 ≡ get_or old i 0)
@@ -31,7 +33,7 @@ copied_more from old new written k none within size inside outside copied =
           ];
     }
 
--- with nothing left to copy it is the front
+-- with nothing left to copy the content is the front of what it has become
 pub copied_all : (from content : List ℕ) → IsCopied from [] content → content ++ drop (length content) from ≡ from
 copied_all from content copied =
     let size : length content ≡ length (take (length content) from) = sym (length-take-le (length content) from copied.no_longer) in

@@ -1,4 +1,5 @@
 -- A disk whose written stretches are filled, one after another.
+-- For the proof of `fill_stretches` of src/memory.rt.
 use Rattle.std.proofs.Common.{◌≡◌, ◌⊎◌, inl, inr, ℕ, zero, suc, ◌+◌, ◌-◌, ◌≤◌, ◌<◌, max, List, [], ◌∷◌, ◌++◌, length, take, drop, replicate, get_or, refl, ◌∙◌, ap, arith, length-append, length-drop}
 use Rattle.std.proofs.lemmas.Bool.{cases_lt}
 use Rattle.std.proofs.lemmas.List.{length-take, length-replicate, get_or_append_left, get_or-append_right, get_or-take, get_or-drop, get_or-replicate}
@@ -7,11 +8,13 @@ use Rattle.disk_model.specs.Image.{IsImage, IsOutside, greatest_end}
 use Rattle.disk_model.specs.Memory.{IsFilled}
 use Rattle.disk_model.proofs.Images.{greatest_end-push, greatest_end-least, outside_push, push_outside}
 
+-- a stretch ends no later than the greatest end
 pub end_within : (len : ℕ) (written : List Stretch) (i : ℕ) (d : Stretch) → i < length written → (get_or written i d).at + (get_or written i d).len ≤ greatest_end len written
 end_within len [] i d within = absurd (omega arith)
 end_within len (w ∷ written) zero d within = omega arith
 end_within len (w ∷ written) (suc i) d within = omega (arith, end_within len written i d (omega arith))
 
+-- a filled disk is an image that a crash may leave
 pub filled_image : (with : ℕ) (synced : List ℕ) (written : List Stretch) (c : List ℕ) → IsFilled with synced written c → IsImage synced written c
 filled_image with synced written c filled = record {
   no_shorter = omega (arith, filled.len, greatest_end-least (length synced) written);
@@ -19,6 +22,7 @@ filled_image with synced written c filled = record {
   outside = filled.outside;
 }
 
+-- without writes nothing is filled
 pub filled_none : (with : ℕ) (synced : List ℕ) → IsFilled with synced [] synced
 filled_none with synced = record { len = refl; outside = λ i within out. refl; inside = λ i within not_out. absurd (not_out (within, tt)) }
 
@@ -86,6 +90,7 @@ module _ (with : ℕ) (synced : List ℕ) (written : List Stretch) (s : Stretch)
     ]
   ]
 
+  -- the image with one stretch more
   pub filled_push : IsFilled with synced (written ++ s ∷ []) next
   filled_push = record {
     len = omega (arith, length-next, filled.len, greatest_end-push (length synced) written s);

@@ -1,4 +1,6 @@
--- What a fuse makes of the calls that it passes on, and of those that it fails.
+-- What a fuse makes of the calls that it passes on, and of those that it fails: a refinement of the
+-- disk below it.
+-- For the proofs of src/fuse.rt.
 use Rattle.std.proofs.Common.{◌≡◌, ◌⊎◌, inl, inr, ⊎_elim, ℕ, ◌+◌, ◌-◌, ◌^◌, ◌≤◌, ◌<◌, max, min, List, length, Bool, true, false, refl, sym, ap, arith, subst, Result}
 use Rattle.std.specs.Prelude.{◌==◌, not}
 use Rattle.disk_model.specs.Device.{Torn, Tears, Looks, Elapses, HasCause}
@@ -34,6 +36,7 @@ module _ (old new : Memory) (p q r : ℕ) (less : p - 1 ≤ q) where
       let small = allowed.inner.plan.counted in
       record { inner = more calls end allowed.inner; passed = omega (arith, less, counted, small, allowed.passed); unburnt = λ used. refl }
 
+  -- a call that writes nothing, passed on, writes nothing
   pub passed_looks : Looks (memory_state old) (memory_state new) → Looks (fuse_state (whole old p r)) (fuse_state (whole new q r))
   passed_looks passed = record {
     time = time (λ b c. c ≡ b) passed.time;
@@ -43,6 +46,7 @@ module _ (old new : Memory) (p q r : ℕ) (less : p - 1 ≤ q) where
     allows = allows passed.allows (passed.counted old.bytes refl);
   }
 
+  -- a write that is passed on tears no more than it does below
   pub passed_tears : (at n : ℕ) → Tears at n (memory_state old) (memory_state new) → Tears at n (fuse_state (whole old p r)) (fuse_state (whole new q r))
   passed_tears at n passed = record {
     time = time (Torn at n) passed.time;
@@ -53,6 +57,7 @@ module _ (old new : Memory) (p q r : ℕ) (less : p - 1 ≤ q) where
     allows = allows passed.allows (passed.counted old.bytes refl);
   }
 
+  -- and its result has its cause
   pub passed_cause : {T E : Type 0} (result : Result T E) → HasCause (memory_state old) (memory_state new) result → HasCause (fuse_state (whole old p r)) (fuse_state (whole new q r)) result
   passed_cause result passed = record { later = omega (arith, passed.later); failed = λ err. omega (arith, passed.failed err); calm = λ ok. ap (λ k. min (k + 0) (2 ^ 64 - 1)) (passed.calm ok) }
 
@@ -73,6 +78,7 @@ module _ (f : Fuse) (fits : f.burnt < 2 ^ 64) (out : f.passes ≡ 0) (reach : �
   stopped_allows : (calls end : ℕ) → FuseAllows f calls end → FuseAllows stopped calls end
   stopped_allows calls end allows = record { inner = allows.inner; passed = allows.passed; unburnt = λ used. absurd (omega (arith, used, out, allows.passed)) }
 
+-- a call that the fuse fails, and that writes nothing, reaches nothing
 pub stopped_looks : (f : Fuse) → f.burnt < 2 ^ 64 → f.passes ≡ 0 → Looks (fuse_state f) (fuse_state (after_stop f))
 stopped_looks f fits out = record {
   time = stopped_time f fits out f.reach (λ b c. c ≡ b) (λ c. refl);
@@ -82,6 +88,7 @@ stopped_looks f fits out = record {
   allows = stopped_allows f fits out f.reach;
 }
 
+-- a write that the fuse fails reaches nothing
 pub stopped_tears : (f : Fuse) (at n : ℕ) → f.burnt < 2 ^ 64 → f.passes ≡ 0 → Tears at n (fuse_state f) (fuse_state (record (after_stop f) { reach = max f.reach (at + n) }))
 stopped_tears f at n fits out = record {
   time = stopped_time f fits out (max f.reach (at + n)) (Torn at n) (torn_not at n);
@@ -108,26 +115,31 @@ module _ (f i : Fuse) (n : Memory) (none : f.burnt ≡ 0) (is : i ≡ record f {
   less : f.passes - 1 ≤ f.passes - 1
   less = omega arith
 
+  -- a length that is passed on
   pub carried_measures : {E : Type 0} (result : Result ℕ E) → Measures (memory_state i.inner) (memory_state n) result → Measures (fuse_state f) (fuse_state (record i { inner = n })) result
   carried_measures result =
       subst (λ (k : Fuse). Measures (memory_state k.inner) (memory_state n) result → Measures (fuse_state f) (fuse_state (record k { inner = n })) result) (sym is)
       (λ does. record { size = does.size; small = does.small; looks = on_looks f n (f.passes - 1) less none does.looks; cause = on_cause f n (f.passes - 1) less none result does.cause })
 
+  -- a read
   pub carried_fetches : {E : Type 0} (at : ℕ) (before after : List ℕ) (result : Result ℕ E) → Fetches at before after (memory_state i.inner) (memory_state n) result → Fetches at before after (fuse_state f) (fuse_state (record i { inner = n })) result
   carried_fetches at before after result =
       subst (λ (k : Fuse). Fetches at before after (memory_state k.inner) (memory_state n) result → Fetches at before after (fuse_state f) (fuse_state (record k { inner = n })) result) (sym is)
       (λ does. record { within = does.within; count = does.count; got = does.got; looks = on_looks f n (f.passes - 1) less none does.looks; cause = on_cause f n (f.passes - 1) less none result does.cause })
 
+  -- a write
   pub carried_writes : {T E : Type 0} (at : ℕ) (bytes : List ℕ) (result : Result T E) → Writes at bytes (memory_state i.inner) (memory_state n) result → Writes at bytes (fuse_state f) (fuse_state (record i { inner = n })) result
   carried_writes at bytes result =
       subst (λ (k : Fuse). Writes at bytes (memory_state k.inner) (memory_state n) result → Writes at bytes (fuse_state f) (fuse_state (record k { inner = n })) result) (sym is)
       (λ does. record { written = does.written; small = does.small; tears = on_tears f n (f.passes - 1) less none at (length bytes) does.tears; cause = on_cause f n (f.passes - 1) less none result does.cause })
 
+  -- a sync
   pub carried_syncs : {T E : Type 0} (result : Result T E) → Syncs (memory_state i.inner) (memory_state n) result → Syncs (fuse_state f) (fuse_state (record i { inner = n })) result
   carried_syncs result =
       subst (λ (k : Fuse). Syncs (memory_state k.inner) (memory_state n) result → Syncs (fuse_state f) (fuse_state (record k { inner = n })) result) (sym is)
       (λ does. record { settled = does.settled; looks = on_looks f n (f.passes - 1) less none does.looks; cause = on_cause f n (f.passes - 1) less none result does.cause })
 
+  -- and what such a write leaves of the fuse
   pub carried_model : (at : ℕ) (bytes : List ℕ) → true ≡ not (f.passes == 0) → n ≡ after_write i.inner at bytes → record i { inner = n } ≡ fuse_after_write f at bytes
   carried_model at bytes passes =
       subst (λ (k : Fuse). n ≡ after_write k.inner at bytes → record k { inner = n } ≡ fuse_after_write f at bytes) (sym is)

@@ -1,4 +1,5 @@
 -- What the images between two syncs have to do with single writes.
+-- For Filled, Kept and the law of src/laws.rt.
 use Rattle.std.proofs.Common.{◌≡◌, ◌⊎◌, inl, inr, ℕ, ◌+◌, ◌≤◌, ◌<◌, min, max, List, [], ◌∷◌, ◌++◌, length, get_or, map, refl, sym, ◌∙◌, arith, Bool, cond, ◌&&◌}
 use Rattle.std.specs.Prelude.{nat_le, nat_lt}
 use Rattle.std.proofs.lemmas.Bool.{cases_lt}
@@ -10,18 +11,22 @@ use Rattle.disk_model.specs.declared.stretch.Stretch.{Stretch}
 use Rattle.disk_model.specs.Device.{Torn}
 use Rattle.disk_model.specs.Image.{IsImage, IsOutside, greatest_end}
 
+-- the greatest end, with one stretch more
 pub greatest_end-push : (len : ℕ) (written : List Stretch) (s : Stretch) → greatest_end len (written ++ s ∷ []) ≡ max (s.at + s.len) (greatest_end len written)
 greatest_end-push len [] s = refl
 greatest_end-push len (w ∷ written) s = omega (arith, greatest_end-push len written s)
 
+-- it is not below the length
 pub greatest_end-least : (len : ℕ) (written : List Stretch) → len ≤ greatest_end len written
 greatest_end-least len [] = omega arith
 greatest_end-least len (w ∷ written) = omega (arith, greatest_end-least len written)
 
+-- a place outside all stretches is outside the first ones and outside the last one
 pub outside_push : (i : ℕ) (written : List Stretch) (s : Stretch) → IsOutside i (written ++ s ∷ []) → IsOutside i written × ((i < s.at) ⊎ (s.at + s.len ≤ i))
 outside_push i [] s out = (tt, out.0)
 outside_push i (w ∷ written) s out = let rest = outside_push i written s out.1 in ((out.0, rest.0), rest.1)
 
+-- a place outside the first stretches and outside the last one is outside all
 pub push_outside : (i : ℕ) (written : List Stretch) (s : Stretch) → IsOutside i written → (i < s.at) ⊎ (s.at + s.len ≤ i) → IsOutside i (written ++ s ∷ [])
 push_outside i [] s out apart = (apart, tt)
 push_outside i (w ∷ written) s out apart = (out.0, push_outside i written s out.1 apart)
@@ -34,13 +39,13 @@ image_synced synced written = record {
   outside = λ i within apart. refl;
 }
 
--- with nothing written there is no other
+-- with nothing written the only image is what was synced
 pub image_only : (synced c : List ℕ) → IsImage synced [] c → c ≡ synced
 image_only synced c image =
     let size : length c ≡ length synced = omega (arith, image.no_shorter, image.no_longer) in
     same_number_lists c synced size (λ i within. image.outside i (omega (arith, size)) tt)
 
--- an image, and a torn write
+-- an image that a further write tears is an image with that write
 pub image_torn : (synced : List ℕ) (written : List Stretch) (s : Stretch) (b c : List ℕ) → IsImage synced written b → Torn s.at s.len b c → IsImage synced (written ++ s ∷ []) c
 image_torn synced written s b c image torn = record {
   no_shorter = omega (arith, image.no_shorter, torn.no_shorter);
@@ -98,6 +103,7 @@ module _ (synced : List ℕ) (written : List Stretch) (s : Stretch) (c : List �
       let least = greatest_end-least (length synced) written in
       (omega arith, omega arith, omega (arith, image.no_shorter), omega (arith, image.no_longer))
 
+  -- such an image from before
   pub image_back : (b : List ℕ) × IsImage synced written b × Torn s.at s.len b c
   image_back = (
     before,

@@ -1,4 +1,6 @@
 -- What a write keeps true of a disk in memory, and what it adds to what a crash may leave.
+-- Invariants of the disk in memory.
+-- For the proofs of src/memory.rt.
 use Rattle.std.proofs.Common.{◌≡◌, ◌⊎◌, inl, inr, ℕ, ◌+◌, ◌≤◌, ◌<◌, max, List, [], ◌∷◌, ◌++◌, length, false, refl, sym, ◌∙◌, ap, arith, subst, length-append}
 use Rattle.disk_model.specs.declared.stretch.Stretch.{Stretch}
 use Rattle.disk_model.specs.Device.{Torn, Tears, Looks, Reads, Only, written_over}
@@ -9,6 +11,7 @@ use Rattle.disk_model.proofs.Plans.{IsSound, short_of, look_allows}
 use Rattle.disk_model.proofs.Written.{torn_not, torn_by_write}
 use Rattle.disk_model.proofs.Images.{greatest_end-push, image_only, image_torn, image_back}
 
+-- a stretch noted keeps the facts of the disk
 pub kept_marked : (m : Memory) (s : Stretch) (marked : List Stretch) → IsKept m → s.at + s.len ≤ m.room → length m.written < m.calls → marked ≡ m.written ++ s ∷ [] → IsKept (record m { written = marked })
 kept_marked m s marked kept within counted is = record {
   image = subst (λ (w : List Stretch). IsImage m.synced w m.bytes) (sym is) (image_torn m.synced m.written s m.bytes m.bytes kept.image (torn_not s.at s.len m.bytes));
@@ -44,6 +47,7 @@ module _ (m : Memory) (s : Stretch) (bytes : List ℕ) (faults : ℕ) (kept : Is
   before t c le (inl now) = inr (inl now)
   before t c le (inr past) = inl (inr (past.0, omega (arith, past.0, kept.settled), past.2))
 
+  -- a write that is noted tears its stretch and nothing else
   pub tears_marked : Tears s.at s.len (memory_state m) (memory_state marked)
   tears_marked = record {
     time = record { later = omega (arith, kept.calls_fit); moves = omega arith; covered = λ c now. inl (covered c now); inside = inside; before = before };
@@ -81,7 +85,7 @@ looks_counted m kept = record {
   allows = look_allows m;
 }
 
--- nor does a sync that succeeds
+-- a sync that succeeds adds no image
 pub settled_looks : (m : Memory) → IsKept m → next_fails m ≡ false → Looks (memory_state m) (memory_state (after_settling (after_look m)))
 settled_looks m kept passes =
     let short = short_of m kept passes in
@@ -107,6 +111,7 @@ settled_looks m kept passes =
           };
     }
 
+-- the bytes of a noted write are an image
 pub image_put : (m n : Memory) (at : ℕ) (bytes : List ℕ) → IsKept m → n.synced ≡ m.synced → n.bytes ≡ m.bytes → n.written ≡ m.written ++ (record { at = at; len = length bytes }) ∷ [] → IsImage n.synced n.written (written_over n.bytes at bytes)
 image_put m n at bytes kept synced same marked =
     let s : Stretch = record { at = at; len = length bytes } in

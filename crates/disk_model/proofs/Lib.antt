@@ -1,3 +1,5 @@
+-- The lemmas of this crate. Runs and Written are for other crates, the rest is of the disks in
+-- memory.
 pub mod Copies
 pub mod Filled
 pub mod Fused

@@ -1,4 +1,5 @@
 -- What the plan of a disk in memory makes of its calls.
+-- For Kept.
 use Rattle.std.proofs.Common.{◌≡◌, ℕ, ◌+◌, ◌^◌, ◌≤◌, ◌<◌, max, false, true, refl, arith}
 use Rattle.std.specs.Prelude.{nat_le}
 use Rattle.std.proofs.lemmas.Bool.Decides.{nat_tests}
@@ -17,9 +18,11 @@ plan_passes m calls end plan within =
 abbrev pub IsSound : Memory → ℕ → ℕ → Type 0
 IsSound m upto faults = (calls end : ℕ) → MemoryAllows m calls end → m.calls + 1 ≤ calls → max m.reach upto ≤ end → faults ≡ 0
 
+-- a call that succeeds adds no fault
 pub sound_done : (m : Memory) (upto : ℕ) → IsSound m upto m.faults
 sound_done m upto = λ calls end allows used asked. allows.none_yet (omega arith) (omega arith)
 
+-- a call that fails was not allowed
 pub sound_failed : (m : Memory) (upto : ℕ) → next_fails m ≡ true → IsSound m upto (next m.faults)
 sound_failed m upto fails = λ calls end allows used asked. let passes = plan_passes m calls end allows.plan used in absurd (cc)
 
@@ -27,6 +30,7 @@ sound_failed m upto fails = λ calls end allows used asked. let passes = plan_pa
 pub short_of : (m : Memory) → IsKept m → next_fails m ≡ false → m.calls + 1 < 2 ^ 64
 short_of m kept passes = let fits = kept.record_fits in grind (arith, nat_tests)
 
+-- a call that writes nothing leaves what the disk allows
 pub look_allows : (m : Memory) (calls end : ℕ) → MemoryAllows m calls end → MemoryAllows (after_look m) calls end
 look_allows m calls end allows = record {
   plan = record { recorded = allows.plan.recorded; counted = allows.plan.counted; unlisted = allows.plan.unlisted; within = allows.plan.within };

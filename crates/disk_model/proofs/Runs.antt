@@ -1,9 +1,11 @@
 -- How runs of calls go on.
+-- gate_file, run_journal, run_table, run_branch, run_edits and lathe_top build their runs by these.
 use Rattle.std.proofs.Common.{◌≡◌, inl, inr, ⊎_elim, ℕ, ◌+◌, ◌≤◌, max, List, arith, refl, sym, subst, ◌∙◌, Option, Some, None}
 use Rattle.disk_model.specs.Device.{DiskState, Elapses, Looks, IsCoherent, IsSettled, Reads, Stays}
 use Rattle.nc_number.specs.Faults.{Rose}
 use Rattle.disk_model.specs.Moments.{LeavesOnly, Unwritten, Uses, Peeks}
 
+-- two runs, one after the other
 pub joined : (P Q R : List ℕ → Type 0) (a b c : DiskState) → LeavesOnly P a b → LeavesOnly Q b c → ((x : List ℕ) → P x → R x) → ((x : List ℕ) → Q x → R x) → LeavesOnly R a c
 joined P Q R a b c first second from_p from_q = record {
   later = omega (arith, first.later, second.later);
@@ -11,6 +13,7 @@ joined P Q R a b c first second from_p from_q = record {
   before = λ t x le since. ⊎_elim (λ earlier. ⊎_elim (λ old. inl old) (λ p. inr (from_p x p)) (first.before t x le earlier)) (λ q. inr (from_q x q)) (second.before t x (omega (arith, le, first.later)) since);
 }
 
+-- an image that has P has what P implies
 pub widened : (P Q : List ℕ → Type 0) (a b : DiskState) → LeavesOnly P a b → ((x : List ℕ) → P x → Q x) → LeavesOnly Q a b
 widened P Q a b run more = record {
   later = run.later;
@@ -18,6 +21,7 @@ widened P Q a b run more = record {
   before = λ t x le since. ⊎_elim (λ old. inl old) (λ p. inr (more x p)) (run.before t x le since);
 }
 
+-- a run of no call
 pub no_call : (P : List ℕ → Type 0) (a : DiskState) → IsCoherent a → ((x : List ℕ) → a.image x → P x) → LeavesOnly P a a
 no_call P a coherent here = record {
   later = omega arith;
@@ -25,9 +29,11 @@ no_call P a coherent here = record {
   before = λ t x le since. inl since;
 }
 
+-- what a crash may leave at the end of a run
 pub image_now : (P : List ℕ → Type 0) (old new : DiskState) → IsCoherent new → LeavesOnly P old new → (c : List ℕ) → new.image c → P c
 image_now P old new coherent run c now = run.each c (coherent.counts_now old.clock c run.later now)
 
+-- the calls of two runs, and the further of their ends
 pub uses_add : (m n e f : ℕ) (a b c : DiskState) → Uses m e a b → Uses n f b c → Uses (m + n) (max e f) a c
 uses_add m n e f a b c first second = record {
   calls = λ bytes reads. let told = first.told bytes reads in omega (arith, first.calls bytes reads, second.calls told.0 told.1);
@@ -37,6 +43,7 @@ uses_add m n e f a b c first second = record {
   allows = λ calls end allows. second.allows calls end (first.allows calls end allows);
 }
 
+-- a run of no call uses nothing
 pub uses_none : (n e : ℕ) (a : DiskState) → Uses n e a a
 uses_none n e a = record {
   calls = λ bytes reads. omega arith;
@@ -46,6 +53,7 @@ uses_none n e a = record {
   allows = λ calls end allows. allows;
 }
 
+-- a run that uses less uses no more than this
 pub uses_widened : (m n e f : ℕ) (a b : DiskState) → Uses m e a b → m ≤ n → e ≤ f → Uses n f a b
 uses_widened m n e f a b uses more further = record {
   calls = λ bytes reads. omega (arith, uses.calls bytes reads, more);
@@ -55,7 +63,7 @@ uses_widened m n e f a b uses more further = record {
   allows = uses.allows;
 }
 
--- the first call
+-- a run of one call leaves what that call may leave
 pub begun : (P : List ℕ → Type 0) (step : List ℕ → List ℕ → Type 0) (old new : DiskState) → Elapses step old new → ((b c : List ℕ) → old.image b → step b c → P c) → LeavesOnly P old new
 begun P step old new time here = record {
   later = time.later;
@@ -63,7 +71,7 @@ begun P step old new time here = record {
   before = λ t c le since. ⊎_elim (λ earlier. inl earlier) (λ now. let from = time.inside c now in inr (here from.0 c from.1 from.2)) (time.before t c le since);
 }
 
--- one call more
+-- a run with one call more leaves what the run or that call may leave
 pub goes_on : (P : List ℕ → Type 0) (step : List ℕ → List ℕ → Type 0) (old mid new : DiskState) → LeavesOnly P old mid → Elapses step mid new → ((b c : List ℕ) → mid.image b → step b c → P c) → LeavesOnly P old new
 goes_on P step old mid new so_far time here = record {
   later = omega (arith, so_far.later, time.later);
@@ -71,7 +79,7 @@ goes_on P step old mid new so_far time here = record {
   before = λ t c le since. ⊎_elim (λ earlier. so_far.before t c le earlier) (λ now. let from = time.inside c now in inr (here from.0 c from.1 from.2)) (time.before t c (omega (arith, le, so_far.later)) since);
 }
 
--- one call more that writes nothing
+-- a run with one call more that writes nothing leaves only what the run leaves
 pub looks_on : (P : List ℕ → Type 0) (old mid new : DiskState) → IsCoherent mid → LeavesOnly P old mid → Looks mid new → LeavesOnly P old new
 looks_on P old mid new coherent so_far looks = goes_on P Stays old mid new so_far looks.time (λ b c image same. subst P (sym same) (image_now P old mid coherent so_far b image))
 
@@ -89,12 +97,13 @@ no_fault calls end old new coherent bytes reads allows room within rose =
     let none = coherent.enough bytes calls end reads allows room within in
     omega (arith, none, rose)
 
+-- in a run whose calls the disk allows there is no fault
 pub no_fault_used : (m e calls end : ℕ) (old new : DiskState) → IsCoherent new → Uses m e old new → (bytes : List ℕ) → Reads old bytes → old.allows calls end → old.calls + m ≤ calls → max old.reach e ≤ end → Rose old.faults new.faults → ⊥
 no_fault_used m e calls end old new coherent uses bytes reads allows room within rose =
     let told = uses.told bytes reads in
     no_fault calls end old new coherent told.0 told.1 (uses.allows calls end allows) (omega (arith, uses.calls bytes reads)) (omega (arith, uses.reach bytes reads)) rose
 
--- a run that writes nothing, and another
+-- a run of no call writes nothing
 pub unwritten_none : (disk : DiskState) → IsCoherent disk → Unwritten disk disk
 unwritten_none disk coherent = record {
   moments = record { later = omega arith; each = coherent.only_now; before = λ t c le since. inl since };
@@ -102,6 +111,7 @@ unwritten_none disk coherent = record {
   same = refl;
 }
 
+-- two runs that write nothing, one after the other, are one
 pub unwritten_more : (a b c : DiskState) → Unwritten a b → Unwritten b c → Unwritten a c
 unwritten_more a b c first second = record {
   moments = joined a.image b.image a.image a b c first.moments second.moments (λ x here. here) first.now;
@@ -109,7 +119,7 @@ unwritten_more a b c first second = record {
   same = second.same ∙ first.same;
 }
 
--- one call that writes nothing
+-- one call that writes nothing is a run that writes nothing
 pub unwritten_look : (old new : DiskState) → IsCoherent new → Looks old new → Unwritten old new
 unwritten_look old new coherent looks =
     let moments = begun old.image Stays old new looks.time (λ b c image same. subst old.image (sym same) image) in
@@ -119,9 +129,11 @@ unwritten_look old new coherent looks =
 pub settled_kept : (a b : DiskState) → Unwritten a b → IsSettled a → IsSettled b
 settled_kept a b unwritten settled = λ bytes reads c here. settled bytes (sym unwritten.same ∙ reads) c (unwritten.now c here)
 
+-- a run of no call writes nothing and has no fault
 pub peeks_none : (n : ℕ) (disk : DiskState) → IsCoherent disk → Peeks n disk disk
 peeks_none n disk coherent = record { later = omega arith; unwritten = unwritten_none disk coherent; uses = uses_none n 0 disk }
 
+-- one call that writes nothing is such a run, of one call
 pub peeks_look : (old new : DiskState) → IsCoherent new → Looks old new → old.faults ≤ new.faults → Peeks 1 old new
 peeks_look old new coherent looks later = record {
   later = later;
@@ -135,6 +147,7 @@ peeks_look old new coherent looks later = record {
   };
 }
 
+-- two such runs, one after the other, are one, with the calls of both
 pub peeks_more : (m n k : ℕ) (a b c : DiskState) → Peeks m a b → Peeks n b c → m + n ≤ k → Peeks k a c
 peeks_more m n k a b c first second enough = record {
   later = omega (arith, first.later, second.later);

@@ -1,9 +1,11 @@
 -- What is read after a write.
+-- disk_images takes `filled_up` and the lemmas on torn writes.
 use Rattle.std.proofs.Common.{◌≡◌, ◌⊎◌, inl, inr, ℕ, ◌+◌, ◌-◌, ◌≤◌, ◌<◌, max, List, ◌++◌, length, take, drop, replicate, get_or, refl, sym, ◌∙◌, ap, arith, append_assoc, length-append, length-drop}
 use Rattle.std.proofs.lemmas.Bool.{cases_lt}
 use Rattle.std.proofs.lemmas.List.{take_at, take_all, drop_all, take-append-le, length-take, length-replicate, replicate-append-replicate, append-nil, get_or_append_left, get_or-append_right, get_or-take, get_or-drop}
 use Rattle.disk_model.specs.Device.{written_over, Torn}
 
+-- up to the write's offset, zeros for the whole write are zeros for its gap
 front : (old : List ℕ) (at n : ℕ) → take at (old ++ replicate (at + n - length old) 0) ≡ take at (old ++ replicate (at - length old) 0)
 front old at n = elim (cases_lt (length old) at) [
   | inl past ↦
@@ -16,6 +18,7 @@ front old at n = elim (cases_lt (length old) at) [
   | inr within ↦ take-append-le at old (replicate (at + n - length old) 0) within ∙ sym (take-append-le at old (replicate (at - length old) 0) within)
 ]
 
+-- behind the write's end nothing is added
 back : (old : List ℕ) (end : ℕ) → drop end (old ++ replicate (end - length old) 0) ≡ drop end old
 back old end = elim (cases_lt (length old) end) [
   | inl past ↦
@@ -35,9 +38,11 @@ filled_up old at bytes long is =
     ∙ ap (λ (l : List ℕ). take at (old ++ replicate (at - length old) 0) ++ bytes ++ l) (back old (at + length bytes))
 
 module _ (old : List ℕ) (at : ℕ) (bytes : List ℕ) where
+  -- what stands before the write has its offset as length
   pub length-front : length (take at (old ++ replicate (at - length old) 0)) ≡ at
   length-front = simp (length-take, length-append, length-replicate) (omega arith)
 
+  -- the length after the write: the old one, or the write's end
   pub length-written_over : length (written_over old at bytes) ≡ max (length old) (at + length bytes)
   length-written_over =
       omega (arith, length-front, length-append (take at (old ++ replicate (at - length old) 0) ++ bytes) (drop (at + length bytes) old), length-append (take at (old ++ replicate (at - length old) 0)) bytes, length-drop (at + length bytes) old)
@@ -65,6 +70,6 @@ module _ (old : List ℕ) (at : ℕ) (bytes : List ℕ) where
     outside = stays;
   }
 
--- and so is one that wrote nothing
+-- a write that wrote nothing left what a torn write may leave
 pub torn_not : (at n : ℕ) (bytes : List ℕ) → Torn at n bytes bytes
 torn_not at n bytes = record { no_shorter = omega arith; no_longer = omega arith; outside = λ i within apart. refl }

@@ -1,9 +1,10 @@
--- The facts of a disk in memory agree with one another.
+-- The facts of a disk in memory agree with one another. For this crate alone.
 use Rattle.std.specs.Prelude.{◌≡◌}
 use Rattle.std.proofs.Common.{arith, inl, inr}
 use Rattle.disk_model.specs.Device.{IsCoherent}
 use Rattle.disk_model.specs.Memory.{Memory, memory_state}
 
+-- the facts of a disk in memory agree, whatever it holds
 pub memory_coherent : (m : Memory) → IsCoherent (memory_state m)
 memory_coherent m = record {
   counts_now = λ t c le now. inl now;

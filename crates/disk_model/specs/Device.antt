@@ -1,4 +1,5 @@
 -- What a disk holds, and what a crash may leave of it.
+-- The crates of the journal and of the commands cite this. Runs of several calls are in Moments.
 use Rattle.std.specs.Prelude.{◌≡◌, ◌⊎◌, ℕ, ◌+◌, ◌-◌, ◌≤◌, ◌<◌, max, List, ◌++◌, length, take, drop, slice_index, replicate, Option, Some, None, Result, IsOk, IsErr}
 pub use Rattle.nc_number.specs.Faults.{next, Rose}
 
@@ -35,25 +36,38 @@ Stays old new = new ≡ old
 -- One call: at each moment inside it a crash leaves what it might have left before, after a step of
 -- this kind.
 pub record Elapses (step : List ℕ → List ℕ → Type 0) (old new : DiskState) : Type 0 where
+  -- time does not go back
   pub later : old.clock ≤ new.clock
+  -- and each call moves it
   pub moves : next old.clock ≤ new.clock
+  -- what a crash might have left before the call is left since then
   pub covered : (c : List ℕ) → old.image c → new.image_since old.clock c
+  -- a crash inside the call leaves that, after a step
   pub inside : (c : List ℕ) → new.image_since old.clock c → (b : List ℕ) × old.image b × step b c
+  -- what a crash may have left since an earlier time was left before the call or inside it
   pub before : (t : ℕ) (c : List ℕ) → t ≤ old.clock → new.image_since t c
       → old.image_since t c ⊎ new.image_since old.clock c
 
 -- A call that writes nothing.
 pub record Looks (old new : DiskState) : Type 0 where
+  -- it makes no image
   pub time : Elapses Stays old new
+  -- a read gives what it gave
   pub same : new.reads ≡ old.reads
+  -- it counts as a call
   pub counted : (bytes : List ℕ) → Reads old bytes → new.calls ≡ next old.calls
+  -- it asks for no write
   pub reach : (bytes : List ℕ) → Reads old bytes → new.reach ≡ old.reach
+  -- what the disk allowed it still allows
   pub allows : (calls end : ℕ) → old.allows calls end → new.allows calls end
 
 -- A write of n bytes, done or failed.
 pub record Tears (at n : ℕ) (old new : DiskState) : Type 0 where
+  -- images are torn in its range
   pub time : Elapses (Torn at n) old new
+  -- what a read gives may be torn too
   pub told : (bytes : List ℕ) → Reads old bytes → (c : List ℕ) × Reads new c × Torn at n bytes c
+  -- a disk that tells no content still tells none
   pub untold : old.reads ≡ None → new.reads ≡ None
   pub counted : (bytes : List ℕ) → Reads old bytes → new.calls ≡ next old.calls
   pub reach : (bytes : List ℕ) → Reads old bytes → new.reach ≡ max old.reach (at + n)
@@ -62,8 +76,11 @@ pub record Tears (at n : ℕ) (old new : DiskState) : Type 0 where
 -- The count of faults never falls. An error comes only where it rose, and an Ok only where it
 -- stayed.
 pub record HasCause {T E : Type 0} (old new : DiskState) (result : Result T E) : Type 0 where
+  -- the count does not fall
   pub later : old.faults ≤ new.faults
+  -- an error raised it
   pub failed : IsErr result → Rose old.faults new.faults
+  -- an Ok left it
   pub calm : IsOk result → new.faults ≡ old.faults
 
 -- a crash leaves this and nothing else
@@ -77,8 +94,12 @@ IsSettled disk = (bytes : List ℕ) → Reads disk bytes → Only bytes disk.ima
 -- The facts of a disk agree with one another, and where it allows what it was used for it has had
 -- no fault.
 pub record IsCoherent (disk : DiskState) : Type 0 where
+  -- an image of now is one since any time before
   pub counts_now : (t : ℕ) (c : List ℕ) → t ≤ disk.clock → disk.image c → disk.image_since t c
+  -- since now there are no other images
   pub only_now : (c : List ℕ) → disk.image_since disk.clock c → disk.image c
+  -- what a read gives is an image
   pub as_read : (bytes : List ℕ) → Reads disk bytes → disk.image bytes
+  -- a disk that allows what it was used for has had no fault
   pub enough : (bytes : List ℕ) (calls end : ℕ) → Reads disk bytes → disk.allows calls end
       → disk.calls ≤ calls → disk.reach ≤ end → disk.faults ≡ 0

@@ -1,19 +1,24 @@
 -- A disk that fails every call once it has passed a number of calls on.
+-- The disk below it is in Memory. For this crate and its callers' tests.
 use Rattle.std.specs.Prelude.{◌≡◌, ◌⊎◌, ℕ, ◌+◌, ◌-◌, ◌^◌, ◌≤◌, ◌==◌, ◌||◌, Bool, List, length, min, max, Some, if◌then◌else◌}
 use Rattle.std.proofs.Common.{arith, inl, inr}
 use Rattle.disk_model.specs.Device.{DiskState, IsCoherent}
 use Rattle.nc_number.specs.Faults.{next}
 use Rattle.disk_model.specs.Memory.{Memory, CrashLeaves, CrashLeft, MemoryAllows, next_fails, write_fails, after_look, after_sync, after_write}
 
+-- what a disk with a fuse holds
 pub record Fuse : Type 0 where
+  -- the disk that it passes calls on to
   pub inner : Memory
   pub passes : ℕ  -- how many calls it will still pass on
   pub burnt : ℕ  -- how many it has failed
   pub reach : ℕ  -- the greatest end that a write was asked for which it failed
 
+-- its next call fails: it is burnt out, or the disk below it fails
 abbrev pub fuse_fails : Fuse → Bool
 fuse_fails f = f.passes == 0 || next_fails f.inner
 
+-- its next call fails, if it is a write up to this end
 abbrev pub fuse_write_fails : Fuse → ℕ → Bool
 fuse_write_fails f end = f.passes == 0 || write_fails f.inner end
 
@@ -25,12 +30,15 @@ after_stop f = record f { burnt = next f.burnt }
 abbrev pub after_pass : Fuse → Memory → Fuse
 after_pass f inner = record f { passes = f.passes - 1; inner = inner }
 
+-- the disk with its fuse after a call that writes nothing
 abbrev pub fuse_after_look : Fuse → Fuse
 fuse_after_look f = if f.passes == 0 then after_stop f else after_pass f (after_look f.inner)
 
+-- the disk with its fuse after a sync
 abbrev pub fuse_after_sync : Fuse → Fuse
 fuse_after_sync f = if f.passes == 0 then after_stop f else after_pass f (after_sync f.inner)
 
+-- the disk with its fuse after a write of these bytes at this offset
 abbrev pub fuse_after_write : Fuse → ℕ → List ℕ → Fuse
 fuse_after_write f at bytes =
     if f.passes == 0 then record (after_stop f) { reach = max f.reach (at + length bytes) }
@@ -38,10 +46,14 @@ fuse_after_write f at bytes =
 
 -- the disk in memory allows so many calls, they are passed on, and none has been failed
 pub record FuseAllows (f : Fuse) (calls end : ℕ) : Type 0 where
+  -- the disk in memory allows them
   pub inner : MemoryAllows f.inner calls end
+  -- they are passed on
   pub passed : calls ≤ f.inner.calls + f.passes
+  -- and none has been failed
   pub unburnt : f.inner.calls + f.burnt ≤ calls → f.burnt ≡ 0
 
+-- all that can be said of a disk with a fuse; counts stay at the last value of u64
 abbrev pub fuse_state : Fuse → DiskState
 fuse_state f = record {
   reads = Some f.inner.bytes;
@@ -54,6 +66,7 @@ fuse_state f = record {
   allows = FuseAllows f;
 }
 
+-- the facts of a disk with a fuse agree, whatever it holds
 pub fuse_coherent : (f : Fuse) → IsCoherent (fuse_state f)
 fuse_coherent f = record {
   counts_now = λ t c le now. inl now;

@@ -1,8 +1,10 @@
 -- How the fields of a fuse stand for what it is.
+-- For this crate alone.
 use Rattle.std.specs.Prelude.{◌≡◌, ◌<◌}
 use Rattle.disk_model.specs.declared.fuse.FuseDisk.TheInside.{Inside}
 use Rattle.disk_model.specs.Fuse.{Fuse}
 
+-- the fuse of these fields
 abbrev pub fuse_of : Inside → Fuse
 fuse_of f = record { inner = f.inner; passes = f.passes; burnt = f.burnt; reach = f.reach }
 

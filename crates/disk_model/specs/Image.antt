@@ -1,4 +1,5 @@
 -- What a crash may leave between two syncs.
+-- For this crate alone; the journal sees images through Device.
 use Rattle.std.specs.Prelude.{◌≡◌, ◌⊎◌, ℕ, ◌+◌, ◌≤◌, ◌<◌, max, List, [], ◌∷◌, length, slice_index}
 use Rattle.disk_model.specs.declared.stretch.Stretch.{Stretch}
 

@@ -1,3 +1,5 @@
+-- The words in which contracts speak of a disk. Device, Moments and Calls are for all crates; the
+-- others are of the disks in memory.
 pub mod Calls
 pub mod Coherent
 pub mod Device

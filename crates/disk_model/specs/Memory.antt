@@ -1,4 +1,5 @@
 -- What a disk in memory holds.
+-- Only the two disks in memory use it; what holds of every disk is in Device.
 use Rattle.std.specs.Prelude.{◌≡◌, ◌⊎◌, ℕ, ◌+◌, ◌-◌, ◌^◌, ◌≤◌, ◌<◌, ◌==◌, ◌||◌, nat_le, nat_lt, Bool, false, List, [], ◌∷◌, ◌++◌, length, max, slice_index, Some, if◌then◌else◌}
 use Rattle.std.specs.List.{list_any}
 use Rattle.disk_model.specs.declared.stretch.Stretch.{Stretch}
@@ -6,6 +7,7 @@ use Rattle.disk_model.specs.Device.{DiskState, written_over}
 use Rattle.nc_number.specs.Faults.{next}
 use Rattle.disk_model.specs.Image.{IsOutside, IsImage, greatest_end}
 
+-- all that a disk in memory keeps
 pub record Memory : Type 0 where
   pub bytes : List ℕ  -- what a read gives
   pub synced : List ℕ  -- what was on the disk at the last sync
@@ -48,10 +50,14 @@ pub record HasPlan (m : Memory) (calls end : ℕ) : Type 0 where
   pub unlisted : (k : ℕ) → k < calls → list_any (λ n. n == k + 1) m.failing ≡ false
   pub within : end ≤ m.room
 
+-- the disk allows so many calls and writes up to this end
 pub record MemoryAllows (m : Memory) (calls end : ℕ) : Type 0 where
+  -- there is room for them
   pub plan : HasPlan m calls end
+  -- and if no more were made, no call has failed
   pub none_yet : m.calls ≤ calls → m.reach ≤ end → m.faults ≡ 0
 
+-- all that can be said of a disk in memory
 abbrev pub memory_state : Memory → DiskState
 memory_state m = record {
   reads = Some m.bytes;
@@ -66,21 +72,32 @@ memory_state m = record {
 
 -- what is true of every disk in memory
 pub record IsKept (m : Memory) : Type 0 where
+  -- what a read gives is an image since the last sync
   pub image : IsImage m.synced m.written m.bytes
+  -- what was synced is one since the sync before
   pub earlier : IsImage m.earlier_synced m.earlier_written m.synced
+  -- the last sync was one of its calls
   pub settled : m.synced_at ≤ m.calls
+  -- its bytes have room,
   pub bytes_fit : length m.bytes ≤ m.room
+  -- and so has every write
   pub ends_fit : greatest_end (length m.synced) m.written ≤ m.room
+  -- each call notes one stretch at most
   pub recorded : length m.written ≤ m.calls
+  -- the room is below 2^62 bytes
   pub small : m.room < 2 ^ 62
+  -- these counts are numbers of 64 bits
   pub record_fits : m.call_room < 2 ^ 64
   pub calls_fit : m.calls < 2 ^ 64
   pub faults_fit : m.faults < 2 ^ 64
 
 -- What a crash leaves that fills each unsynced byte with this one.
 pub record IsFilled (with : ℕ) (synced : List ℕ) (written : List Stretch) (c : List ℕ) : Type 0 where
+  -- it is as long as the furthest write
   pub len : length c ≡ greatest_end (length synced) written
+  -- what was not written is as it was synced
   pub outside : (i : ℕ) → i < length synced → IsOutside i written → slice_index c i ≡ slice_index synced i
+  -- each other byte is that one
   pub inside : (i : ℕ) → i < length c → ((i < length synced) × IsOutside i written → ⊥) → slice_index c i ≡ with
 
 -- a disk that has had no call
@@ -122,7 +139,7 @@ after_look m = record m { calls = next m.calls; faults = (if next_fails m then n
 abbrev pub after_sync : Memory → Memory
 after_sync m = if next_fails m then after_look m else after_settling (after_look m)
 
--- a write up to this end is after_request for
+-- a write up to this end was asked for
 abbrev pub after_request : Memory → ℕ → Memory
 after_request m end = record m { calls = next m.calls; reach = max m.reach end }
 
@@ -130,7 +147,7 @@ after_request m end = record m { calls = next m.calls; reach = max m.reach end }
 abbrev pub with_fault : Memory → Memory
 with_fault m = record m { faults = next m.faults }
 
--- it is noted where a write is made
+-- a stretch that is written is noted
 abbrev pub with_mark : Memory → ℕ → ℕ → Memory
 with_mark m at len = record m { written = m.written ++ (record { at = at; len = len }) ∷ [] }
 

@@ -1,23 +1,30 @@
 -- What a run of calls did, for the layers above.
+-- gate_file, run_journal, run_table and the crates above speak of several calls by these. The
+-- lemmas that join runs are in proofs/Runs.
 use Rattle.std.specs.Prelude.{◌≡◌, ◌⊎◌, ℕ, ◌+◌, ◌≤◌, max, List, None}
 use Rattle.disk_model.specs.Device.{DiskState, Reads}
 
 -- A crash at any moment of the run leaves an image that has P.
 pub record LeavesOnly (P : List ℕ → Type 0) (old new : DiskState) : Type 0 where
   pub later : old.clock ≤ new.clock
+  -- each image that a crash inside the run may leave
   pub each : (c : List ℕ) → new.image_since old.clock c → P c
   -- for a run that began earlier
   pub before : (t : ℕ) (c : List ℕ) → t ≤ old.clock → new.image_since t c → old.image_since t c ⊎ P c
 
 -- The run wrote nothing: a crash leaves what it might have left before.
 pub record Unwritten (old new : DiskState) : Type 0 where
+  -- at each moment of the run
   pub moments : LeavesOnly old.image old new
+  -- and after it
   pub now : (c : List ℕ) → new.image c → old.image c
+  -- a read gives what it gave
   pub same : new.reads ≡ old.reads
 
 -- The run made so many calls at most, and asked for no write past this end; a disk that tells its
 -- content still does, and one that tells none tells none. What the disk allows it still allows.
 pub record Uses (count end : ℕ) (old new : DiskState) : Type 0 where
+  -- calls are counted only by a disk that tells its content
   pub calls : (bytes : List ℕ) → Reads old bytes → new.calls ≤ old.calls + count
   pub reach : (bytes : List ℕ) → Reads old bytes → new.reach ≤ max old.reach end
   pub told : (bytes : List ℕ) → Reads old bytes → (c : List ℕ) × Reads new c

@@ -1,4 +1,5 @@
 //! A disk as the journal sees it.
+//! Disks in memory are in memory.rt and fuse.rt, the real file in real_outside.
 
 ghost use Rattle.std.specs.Prelude.{◌≡◌};
 ghost use Rattle.disk_model.specs.Device.{DiskState, IsCoherent};

@@ -1,4 +1,5 @@
 //! A disk that stops.
+//! Only tests use it.
 
 ghost use Rattle.std.specs.Prelude.{◌≡◌, ◌+◌, ◌-◌, ◌^◌, ◌<◌, ◌==◌, length, is_err, not, IsTrue};
 ghost use Rattle.disk_model.specs.Calls.{Measures, Fetches, Writes, Syncs};
@@ -10,9 +11,13 @@ use std::marker::Model;
 /// stop: none of them reaches the disk in memory.
 #[derive(Drop)]
 pub struct FuseDisk {
+    /// The disk that gets the calls.
     inner: MemoryDisk,
+    /// How many calls it will still pass on.
     passes: u64,
+    /// How many calls it has failed.
     burnt: u64,
+    /// The greatest end of a write that it failed.
     reach: u128,
 }
 
@@ -74,10 +79,12 @@ impl Disk for FuseDisk {
 
     ghost coherent = { fuse_coherent };
 
+    /// Its own faults and those of the disk below.
     fn faults(&self) -> u64 {
         self.inner.faults().saturating_add(self.burnt)
     }
 
+    /// The length of the disk below, or an error once burnt out.
     fn len(&mut self) -> Result<u64, Failed>
         ensures fails { is_err result ≡ fuse_fails self.old }
         ensures model { self.new ≡ fuse_after_look self.old }
@@ -89,6 +96,7 @@ impl Disk for FuseDisk {
         self.inner.len()
     }
 
+    /// A read of the disk below, or an error once burnt out.
     fn read_at(&mut self, at: u64, into: &mut [u8]) -> Result<usize, Failed>
         ensures fails { is_err result ≡ fuse_fails self.old }
         ensures model { self.new ≡ fuse_after_look self.old }
@@ -100,6 +108,7 @@ impl Disk for FuseDisk {
         self.inner.read_at(at, into)
     }
 
+    /// A write to the disk below, or an error once burnt out; its end is noted.
     fn write_at(&mut self, at: u64, bytes: &[u8]) -> Result<(), Failed>
         ensures fails { is_err result ≡ fuse_write_fails self.old (at + length bytes.now) }
         ensures model { self.new ≡ fuse_after_write self.old at bytes.now }
@@ -112,6 +121,7 @@ impl Disk for FuseDisk {
         self.inner.write_at(at, bytes)
     }
 
+    /// A sync of the disk below, or an error once burnt out.
     fn sync(&mut self) -> Result<(), Failed>
         ensures fails { is_err result ≡ fuse_fails self.old }
         ensures model { self.new ≡ fuse_after_sync self.old }

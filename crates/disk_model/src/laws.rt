@@ -1,4 +1,5 @@
-//! What a crash between two syncs may leave, told write by write.
+//! What a crash between two syncs may leave, told write by write, and what a new disk allows. The
+//! images themselves are in specs/Image.antt.
 
 ghost use Rattle.std.specs.Prelude.{◌≡◌, ◌↔◌, ◌-◌, ◌^◌, ◌≤◌, ◌<◌, ◌++◌, [], ◌∷◌, List, ℕ};
 ghost use Rattle.disk_model.specs.declared.stretch.Stretch.{Stretch};

@@ -1,4 +1,6 @@
 //! A disk in memory, whose calls can be made to fail, and which can crash.
+//! Where it writes and when it was synced is enough to say what a crash may leave.
+//! Only tests use it.
 
 ghost use Rattle.std.specs.Prelude.{◌≡◌, ◌⊎◌, slice_index, ◌+◌, ◌-◌, ◌^◌, ◌≤◌, ◌<◌, ◌++◌, ◌==◌, [], ℕ, length, take, drop, min, IfOk, is_err, vec_capacity, replicate, max};
 ghost use Rattle.std.specs.List.{list_any};
@@ -21,7 +23,9 @@ const LENGTH_LIMIT: usize = 1 << 62;
 /// What was on the disk at a sync, and where it was written since.
 #[derive(Drop)]
 struct Epoch {
+    /// The bytes that were on the disk at the sync.
     synced: Vec<u8>,
+    /// The stretches that were written since.
     written: Vec<Stretch>,
 }
 
@@ -32,15 +36,25 @@ struct Epoch {
 /// written all the same.
 #[derive(Drop)]
 pub struct MemoryDisk {
+    /// What a read gives.
     bytes: Vec<u8>,
+    /// The last sync, and the writes since.
     present: Epoch,
+    /// The sync before it, and the writes between the two.
     earlier: Epoch,
+    /// How many calls there were just after the last sync.
     synced_at: u64,
+    /// How many bytes there is room for.
     room: usize,
+    /// How many calls there is room for.
     call_room: usize,
+    /// The numbers, from 1, of the calls that are to fail.
     failing: Vec<u64>,
+    /// How many calls there were.
     calls: u64,
+    /// The greatest end that a write was asked for.
     reach: u128,
+    /// How many calls failed.
     faults: u64,
 }
 
@@ -88,7 +102,8 @@ impl MemoryDisk {
         MemoryDisk::with_bytes(alloc, bytes, room, calls, failing)
     }
 
-    /// A disk that holds these bytes, with room for 1,048,576 more.
+    /// A disk that holds these bytes, with room for 1,048,576 more. A room of 2^62 bytes or more is
+    /// `NoMemory`.
     pub fn of_bytes(
         alloc: Global,
         bytes: Vec<u8>,
@@ -158,7 +173,7 @@ impl Epoch {
     }
 }
 
-/// Puts bytes in at an offset, and zeros where it lies behind the end.
+/// Puts bytes in at an offset, over what is there, and zeros between the end and an offset past it.
 fn put_over(content: &mut Vec<u8>, at: usize, bytes: &[u8])
     requires { at + length bytes.now ≤ vec_capacity content.old }
     ensures items { content.new.items ≡ written_over content.old.items at bytes.now }
@@ -168,7 +183,7 @@ fn put_over(content: &mut Vec<u8>, at: usize, bytes: &[u8])
     put_inside(content, at, bytes);
 }
 
-/// Makes the content so long at least, with this byte behind its end.
+/// Makes the content at least so long, with this byte after its end.
 fn fill_up(content: &mut Vec<u8>, end: usize, with: u8)
     requires { end ≤ vec_capacity content.old }
     ensures items { content.new.items ≡ content.old.items ++ replicate (end - length content.old.items) with }
@@ -205,7 +220,7 @@ impl MemoryDisk {
         self.call_room as u64 <= self.calls || is_listed(&self.failing, self.calls + 1)
     }
 
-    /// Counts a call that writes nothing, and says whether it succeeds.
+    /// Counts a call that writes nothing. Error: it is one of those that fail.
     fn look(&mut self) -> Result<(), Failed>
         ensures fails { is_err result ≡ next_fails self.old }
         ensures model { self.new ≡ after_look self.old }
@@ -221,7 +236,8 @@ impl MemoryDisk {
         Ok(())
     }
 
-    /// All that was written is on the disk. Only what was written since the sync before is copied.
+    /// Puts on the disk all that was written. Only what was written since the sync before is
+    /// copied.
     fn settle(&mut self)
         ensures { self.new ≡ after_settling self.old }
     {
@@ -234,7 +250,8 @@ impl MemoryDisk {
     }
 }
 
-/// Makes the content what it has become: in the stretches that were written, and behind its end.
+/// Makes the content what it has become, given where it was written: copies the stretches, and what
+/// lies past its end.
 fn copy_written(content: &mut Vec<u8>, from: &[u8], written: &[Stretch])
     requires image { IsImage content.old.items written.now from.now }
     requires room { length from.now ≤ vec_capacity content.old }
@@ -297,7 +314,7 @@ impl MemoryDisk {
         self.present.written.push_reserved(Stretch { at, len });
     }
 
-    /// Writes where it was noted before.
+    /// Writes the bytes where the write was noted before.
     fn put(&mut self, at: usize, bytes: &[u8])
         requires within { at + length bytes.now ≤ self.old.room }
         requires image { IsImage self.old.synced self.old.written (written_over self.old.bytes at bytes.now) }
@@ -387,10 +404,12 @@ impl Disk for MemoryDisk {
 
     ghost coherent = { memory_coherent };
 
+    /// How many calls have failed.
     fn faults(&self) -> u64 {
         self.faults
     }
 
+    /// The number of bytes. Fails if the call is listed or the record is full; so below.
     fn len(&mut self) -> Result<u64, Failed>
         ensures fails { is_err result ≡ next_fails self.old }
         ensures model { self.new ≡ after_look self.old }
@@ -400,6 +419,7 @@ impl Disk for MemoryDisk {
         Ok(self.bytes.len() as u64)
     }
 
+    /// A read, as the trait says.
     fn read_at(&mut self, at: u64, into: &mut [u8]) -> Result<usize, Failed>
         ensures fails { is_err result ≡ next_fails self.old }
         ensures model { self.new ≡ after_look self.old }
@@ -409,6 +429,7 @@ impl Disk for MemoryDisk {
         Ok(read_into(&self.bytes, at, into))
     }
 
+    /// A write, which also fails past the room.
     fn write_at(&mut self, at: u64, bytes: &[u8]) -> Result<(), Failed>
         ensures fails { is_err result ≡ write_fails self.old (at + length bytes.now) }
         ensures model { self.new ≡ after_write self.old at bytes.now }
@@ -429,6 +450,7 @@ impl Disk for MemoryDisk {
         Ok(())
     }
 
+    /// Puts on the disk all that was written.
     fn sync(&mut self) -> Result<(), Failed>
         ensures fails { is_err result ≡ next_fails self.old }
         ensures model { self.new ≡ after_sync self.old }

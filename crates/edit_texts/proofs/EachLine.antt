@@ -9,6 +9,7 @@ use Rattle.edit_texts.specs.Lines.{line_says}
 use Rattle.edit_texts.specs.Edits.{with_said, or_refused, edits_from, edits_of}
 use Rattle.edit_texts.specs.Given.{edits_in, AreAllowed, AreEditsOf, IsFirstBad}
 
+-- each line is allowed, and this is what they say
 abbrev Said : List (List ℕ) → List Entry → Type 0
 Said texts said = map line_says texts ≡ map Some said
 
@@ -50,16 +51,21 @@ record Whole (texts : List (List ℕ)) (before : ℕ) : Type 0 where
 
 -- the first one that is not allowed behind so many edits
 record Broken (texts : List (List ℕ)) (before : ℕ) : Type 0 where
+  -- the lines before it, which are allowed,
   front : List (List ℕ)
+  -- the line itself,
   line : List ℕ
+  -- and the lines behind it
   after : List (List ℕ)
   texts_are : texts ≡ front ++ line ∷ after
   said : List Entry
   are : Said front said
   few : before + length (edits_in said) ≤ 64
+  -- it says nothing that is allowed, or it is an edit too many
   bad : (line_says line ≡ None)
       ⊎ ((edit : PathEdit) × (line_says line ≡ Some (says.Edit edit)) × (before + length (edits_in said) ≡ 64))
 
+-- a blank line or a comment in front changes nothing,
 behind_nothing : (line : List ℕ) (texts : List (List ℕ)) (before : ℕ) → line_says line ≡ Some says.Nothing
     → Whole texts before ⊎ Broken texts before → Whole (line ∷ texts) before ⊎ Broken (line ∷ texts) before
 behind_nothing line texts before here (inl whole) = inl (record {
@@ -78,6 +84,7 @@ behind_nothing line texts before here (inr broken) = inr (record {
   bad = broken.bad;
 })
 
+-- and an edit in front leaves one fewer to the rest
 behind_edit : (line : List ℕ) (edit : PathEdit) (texts : List (List ℕ)) (before : ℕ) → line_says line ≡ Some (says.Edit edit)
     → Whole texts (before + 1) ⊎ Broken texts (before + 1) → Whole (line ∷ texts) before ⊎ Broken (line ∷ texts) before
 behind_edit line edit texts before here (inl whole) = inl (record {
@@ -147,6 +154,7 @@ unfolding edits_of
 given_whole text said all =
     ap (λ (l : List (List ℕ)). edits_from l 1 []) (sym (append-nil (lines text))) ∙ through (lines text) [] said 1 [] all.are (omega (arith, all.few))
 
+-- a text with a first bad line is refused with the number of that line
 pub are_refused : (text : List ℕ) (number : ℕ) → IsFirstBad text number → edits_of text ≡ Err number
 unfolding edits_of
 are_refused text number first =
@@ -154,6 +162,7 @@ are_refused text number first =
     ap (λ (l : List (List ℕ)). edits_from l 1 []) first.are ∙ through first.before (first.line ∷ first.after) first.said 1 [] first.allowed.are (omega (arith, first.allowed.few))
     ∙ refused_at first.line first.after (1 + length first.before) (edits_in first.said) first.bad ∙ ap (λ n. Err n) place
 
+-- a line that is the first bad one has a number, counted from 1
 first_bad : (text : List ℕ) → Broken (lines text) 0 → (number : ℕ) × IsFirstBad text number
 first_bad text broken = (
   length broken.front + 1,
@@ -169,9 +178,11 @@ first_bad text broken = (
   },
 )
 
+-- a text whose lines are all allowed gives their edits,
 pub are_given : (text : List ℕ) (edits : List PathEdit) → AreEditsOf text edits → edits_of text ≡ Ok edits
 are_given text edits (said, all, is) = given_whole text said all ∙ ap (λ l. Ok l) (sym is)
 
+-- and what it gives are these
 pub is_given : (text : List ℕ) (edits : List PathEdit) → edits_of text ≡ Ok edits → AreEditsOf text edits
 is_given text edits is = go (sorted (lines text) 0 (omega arith))
   where
@@ -185,6 +196,7 @@ is_given text edits is = go (sorted (lines text) 0 (omega arith))
         let clash : Ok edits ≡ Err first.0 = sym is ∙ are_refused text first.0 first.1 in
         absurd cc
 
+-- and a refusal is of its first bad line
 pub is_refused : (text : List ℕ) (number : ℕ) → edits_of text ≡ Err number → IsFirstBad text number
 is_refused text number is = go (sorted (lines text) 0 (omega arith))
   where

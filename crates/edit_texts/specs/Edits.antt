@@ -1,4 +1,5 @@
--- The edits that a text gives.
+-- The edits that a text gives. What one line says is in Lines.
+-- lathe_looks and lathe_top use these words.
 use Rattle.std.specs.Prelude.{ℕ, ◌+◌, nat_lt, List, [], ◌∷◌, ◌++◌, length, Option, Some, None, Result, Ok, Err, if◌then◌else◌}
 use Rattle.std.specs.Str.Lines.{lines}
 use Rattle.edit_texts.specs.declared.edit_list.PathEdit.{PathEdit}

@@ -1,10 +1,13 @@
--- The refusal of a text of edits.
+-- The refusal of a text of edits. Which line is the first bad one is in Given.
+-- lathe_looks uses these words.
 use Rattle.std.specs.Prelude.{ℕ, List, codes}
 use Rattle.edit_texts.specs.declared.reading.EditFault.{EditFault}
 
+-- the number of the refusal of a bad line, as docs/ERRORS.md has it
 abbrev pub fault_number : ℕ
 fault_number = 91
 
+-- the name of that refusal
 abbrev pub fault_name : List ℕ
 fault_name = codes "BadEdit"
 

@@ -1,4 +1,5 @@
 -- What the edits of a text are, and what its first bad line is.
+-- For this crate alone.
 use Rattle.std.specs.Prelude.{◌≡◌, ◌⊎◌, ℕ, ◌+◌, ◌≤◌, List, [], ◌∷◌, ◌++◌, length, map, Some, None}
 use Rattle.std.specs.Str.Lines.{lines}
 use Rattle.edit_texts.specs.declared.edit_list.PathEdit.{PathEdit}

@@ -1,4 +1,4 @@
--- What callers read.
+-- The words in which contracts speak of a text of edits. First what callers read.
 pub mod Edits
 pub mod Given
 pub mod Faults

@@ -1,4 +1,5 @@
 -- What a line of a text of edits says. A line that is none of these is not allowed.
+-- For this crate alone.
 use Rattle.std.specs.Prelude.{ℕ, List, [], ◌∷◌, Option, Some, None, codes, ℤ, if◌then◌else◌}
 use Rattle.std.specs.Str.{bytes_eq}
 use Rattle.nc_number.specs.declared.value.Var.{Var}
@@ -21,7 +22,7 @@ use Rattle.edit_texts.specs.declared.entry.Entry.TheVariants as says
 abbrev pub edit_of_preset : Preset → PathEdit
 edit_of_preset preset = record { path = preset.path; edit = edit.Offset (preset_slot preset.kind preset.number) preset.to }
 
--- the number of a common variable
+-- the number of a common variable: 100 to 199, or 500 to 999
 unfoldable pub number_of : List ℕ → Option ℕ
 number_of text = do
   n ← number_in 100 999 text

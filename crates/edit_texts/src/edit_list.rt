@@ -1,4 +1,5 @@
-//! The edits of a text.
+//! The edits of a text. Each has its path; there are 64 at most.
+//! lathe_looks, lathe_top and run_edits use what it exports.
 ghost use Rattle.std.specs.Prelude.{◌≡◌, ◌≤◌, [], length, Some, None, if◌then◌else◌, IfOk};
 ghost use Rattle.edit_texts.specs.Edits.{with_said};
 
@@ -54,7 +55,8 @@ impl EditList {
         self.items.as_slice()
     }
 
-    /// Takes what a line says behind those before it, and tells whether it is allowed there.
+    /// Takes what a line says behind those before it, and tells whether it is allowed there. The
+    /// error is that memory ran out.
     pub(crate) fn take(&mut self, said: Option<Entry>) -> Result<bool, NoMemory>
         ensures { IfOk result (λ taken. with_said self.old said ≡ (if taken then Some self.new else None)) }
     {

@@ -1,4 +1,5 @@
-//! What the fields of a line of edits say.
+//! What the fields of a line of edits say. Lines and their fields are cut in field_lines.
+//! For this crate alone: reading.rt uses it.
 ghost use Rattle.std.specs.Prelude.{◌≡◌, IfOk};
 ghost use Rattle.field_lines.specs.Field.{texts};
 ghost use Rattle.cell_settings.specs.Preset.{IsPreset};
@@ -103,7 +104,7 @@ fn read_fields(fields: &[&[u8]]) -> Option<Entry>
     }
 }
 
-/// What a line says, if it is allowed.
+/// What a line says, if it is allowed. The error is that memory ran out.
 #[tactic(auto, unfolding(crate::specs::Lines::line_says))]
 pub(crate) fn read_line(alloc: Global, line: &[u8]) -> Result<Option<Entry>, AllocError>
     ensures { IfOk result (λ entry. entry ≡ line_says line.now) }

@@ -1,4 +1,5 @@
-//! From a text to the edits.
+//! From a text to the edits. What a line says is in named.rt.
+//! lathe_looks uses what it exports.
 ghost use Rattle.std.specs.Prelude.{◌≡◌, ◌<◌, ◌^◌, length, Some, None, if◌then◌else◌, IfOk};
 ghost use Rattle.nc_number.specs.Answers.{GivesBy};
 ghost use Rattle.edit_texts.specs.Edits.{edits_of, with_said};
@@ -35,7 +36,7 @@ impl EditFault {
     }
 }
 
-/// Reads a text of edits.
+/// Reads a text of edits, or refuses it with its first line that is not allowed, counted from 1.
 ///
 /// A line is empty, a comment that begins with `(`, or one of `work p n X.. Z..`, `tool p n X..
 /// Z..`, `wear p n X.. Z..` as in the settings, `var p v` with a number, and `var p v vacant`,

@@ -1,4 +1,4 @@
-//! Fields, and the whole numbers and paths in them.
+//! Fields, and the whole numbers and paths in them. Lengths are in `length`.
 ghost use Rattle.std.specs.Prelude.{◌≡◌, ◌-◌, ◌^◌, ◌<◌, ◌≤◌, min, IfOk, IfSome};
 ghost use Rattle.field_lines.specs.Field.{texts, fields_of, value_of, is_number, number_in, path_of};
 ghost use Rattle.std.specs.Char.{is_ascii_digit};
@@ -7,7 +7,7 @@ ghost use Rattle.std.specs.List.{list_all};
 use nc_number::Path;
 use std::alloc::{AllocError, Global};
 
-/// The fields of a line, without the spaces round them.
+/// The fields of a line, without the blanks round them. The only error is out of memory.
 pub(crate) fn fields(alloc: Global, line: &[u8]) -> Result<Vec<&[u8]>, AllocError>
     ensures { IfOk result (λ v. texts v.items ≡ fields_of line.now) }
 {
@@ -30,7 +30,7 @@ fn is_number(text: &[u8]) -> bool
     !text.is_empty() && are_digits(text) && !(text.len() > 1 && text[0] == b'0')
 }
 
-/// The number that digits spell, or the largest `u64` where it is larger.
+/// The number that digits spell, or the largest `u64` if it is larger.
 fn value(digits: &[u8]) -> u64
     ensures { result ≡ min (value_of digits.now) (2 ^ 64 - 1) }
 {
@@ -44,7 +44,7 @@ fn value(digits: &[u8]) -> u64
 }
 
 /// The number of a field, from `low` to `high`: decimal digits, without a sign and without a
-/// leading zero.
+/// leading zero; none for any other text.
 #[tactic(auto, unfolding(crate::specs::Field::number_in))]
 pub fn number_in(low: u32, high: u32, text: &[u8]) -> Option<u32>
     ensures value { result ≡ number_in low high text.now }
@@ -61,7 +61,7 @@ pub fn number_in(low: u32, high: u32, text: &[u8]) -> Option<u32>
     }
 }
 
-/// The path that a field names: `1` or `2`.
+/// The path that a field names, `1` or `2`; none for any other text.
 #[tactic(auto, unfolding(crate::specs::Field::path_of))]
 pub fn read_path(text: &[u8]) -> Option<Path>
     ensures { result ≡ path_of text.now }

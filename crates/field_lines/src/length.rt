@@ -1,11 +1,11 @@
-//! Lengths and points in fields.
+//! Lengths and points in fields, in 0.001 mm.
 ghost use Rattle.std.specs.Prelude.{◌≡◌, ◌≤◌, IfSome, unsigned_abs};
 ghost use Rattle.field_lines.specs.Length.{within_travel, length_of, axis_of, point_of};
 ghost use Rattle.nc_number.specs.Position.{travel, IsPosition};
 
 use nc_number::{Point, TRAVEL, is_literal, parse_word};
 
-/// A length in 0.001 mm, if it is in the travel.
+/// The length, if it is in the travel.
 fn within_travel(length: i64) -> Option<i64>
     ensures value { result ≡ within_travel length }
     ensures travel { IfSome result (λ n. unsigned_abs n ≤ travel) }
@@ -17,7 +17,7 @@ fn within_travel(length: i64) -> Option<i64>
     }
 }
 
-/// The length that a literal writes, if it is in the travel.
+/// The length in 0.001 mm that a literal writes, if it is in the travel.
 #[tactic(auto, unfolding(crate::specs::Length::length_of))]
 fn length_of(text: &[u8]) -> Option<i64>
     ensures value { result ≡ length_of text.now }
@@ -32,7 +32,7 @@ fn length_of(text: &[u8]) -> Option<i64>
     }
 }
 
-/// The length of a field that begins with this letter.
+/// The length in 0.001 mm of a field that begins with this letter.
 #[tactic(auto, unfolding(crate::specs::Length::axis_of))]
 fn axis(letter: u8, field: &[u8]) -> Option<i64>
     ensures value { result ≡ axis_of letter field.now }
@@ -50,7 +50,7 @@ fn axis(letter: u8, field: &[u8]) -> Option<i64>
     }
 }
 
-/// The point of a field for X and a field for Z: None where one is no literal of its letter, or a
+/// The point of a field for X and a field for Z; none if one is no literal of its letter, or a
 /// length is out of the travel.
 #[tactic(auto, unfolding(crate::specs::Length::point_of))]
 pub fn read_point(across: &[u8], along: &[u8]) -> Option<Point>

@@ -1,4 +1,4 @@
-//! Lines, and what of them counts.
+//! Lines, their ends, and the fields that count. What a line means is known to the crates above.
 ghost use Rattle.std.specs.Prelude.{◌≡◌, ◌<◌, ◌+◌, ◌∷◌, ◌==◌, length, position, option_map, IfOk};
 ghost use Rattle.std.specs.Str.Lines.{lines, strip_carriage_return};
 ghost use Rattle.field_lines.specs.Field.{texts};
@@ -7,7 +7,7 @@ ghost use Rattle.field_lines.specs.Line.{is_comment, line_fields};
 use crate::field::fields;
 use std::alloc::{AllocError, Global};
 
-/// The place of the first line end.
+/// The place of the first line feed.
 fn line_end(text: &[u8]) -> Option<usize>
     ensures { result ≡ position (λ b. b == 10) text.now }
 {
@@ -24,7 +24,7 @@ fn without_carriage_return(line: &[u8]) -> &[u8]
     }
 }
 
-/// The first line of a text without what ends it, and the text behind it.
+/// The first line of a text without what ends it, and the text after it.
 pub fn cut_line(text: &[u8]) -> (&[u8], &[u8])
     requires { 0 < length text.now }
     ensures lines { lines text.now ≡ result.0.now ∷ lines result.1.now }
@@ -40,7 +40,7 @@ pub fn cut_line(text: &[u8]) -> (&[u8], &[u8])
     }
 }
 
-/// Whether the line begins with a bracket.
+/// Whether the line's first field begins with a bracket.
 fn is_comment(fields: &[&[u8]]) -> bool
     ensures { result ≡ is_comment (texts fields.now) }
 {
@@ -50,8 +50,8 @@ fn is_comment(fields: &[&[u8]]) -> bool
     }
 }
 
-/// The fields of a line, none for an empty line and for a comment, which begins with `(`. None for
-/// a line that has a carriage return.
+/// The fields of a line: none of them for an empty line and for a comment, which begins with `(`;
+/// `None` for a line that has a carriage return in it. The only error is out of memory.
 #[tactic(auto, unfolding(crate::specs::Line::line_fields))]
 pub fn line_fields(alloc: Global, line: &[u8]) -> Result<Option<Vec<&[u8]>>, AllocError>
     ensures { IfOk result (λ fields. option_map (λ v. texts v.items) fields ≡ line_fields line.now) }

@@ -1,4 +1,4 @@
--- What makes a line readable.
+-- What makes a line readable: none of its refusals holds. open_forms and tape_relation take it.
 use Rattle.std.proofs.Common.{◌≡◌, Bool, true, false, cond, not, ◌&&◌, Result, Ok, Err, refl}
 use Rattle.line_text.specs.declared.refusal.Refusal.{Refusal}
 use Rattle.line_text.specs.declared.refusal.Refusal.TheVariants.{TooManyDigits, BadCharacter, NoNumber, OpenComment}
@@ -18,6 +18,7 @@ pub record IsReadable (skipped allowed broken : Bool) (what says : Said) : Type 
   pub whole : broken ≡ false
   pub says_is : says ≡ cond skipped said.Nothing what
 
+-- if the least refusal is none, no refusal holds
 least_ok : (long allowed broken unclosed skipped : Bool) (what says : Said) → least long (not allowed) broken unclosed skipped what ≡ Ok says → IsReadable skipped allowed broken what says
 least_ok true allowed broken unclosed skipped what says e = absurd cc
 least_ok false false broken unclosed skipped what says e = absurd cc
@@ -26,5 +27,6 @@ least_ok false true false true skipped what says e = absurd cc
 least_ok false true false false true what says e = record { allowed_is = refl; whole = refl; says_is = cc }
 least_ok false true false false false what says e = record { allowed_is = refl; whole = refl; says_is = cc }
 
+-- a line that says something has none of the refusals
 pub judged_ok : (skipped allowed unclosed : Bool) (reading : Reading) (says : Said) → judged skipped allowed unclosed reading ≡ Ok says → IsReadable skipped allowed reading.broken reading.said says
 judged_ok skipped allowed unclosed reading says e = least_ok (reading.long && not skipped) allowed reading.broken unclosed skipped reading.said says e

@@ -1,3 +1,4 @@
+-- The order in which the proofs are checked: each file after those it uses.
 pub mod Cutting
 pub mod Placing
 pub mod Judged

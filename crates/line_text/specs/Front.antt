@@ -1,4 +1,5 @@
--- The head of a block: comments, the skip sign, and N before a statement.
+-- The head of a block: comments, the skip sign, and N before a statement. open_forms and
+-- tape_relation cite it too.
 use Rattle.std.specs.Prelude.{ℕ, ◌-◌, Bool, false, not, ◌&&◌, ◌||◌, ◌==◌, nat_le, nat_eq, codes, List, [], ◌∷◌, filter, take, drop, Option, Some, None, if◌then◌else◌}
 use Rattle.std.specs.Char.{is_ascii_digit}
 use Rattle.std.specs.List.{prefix_len, starts_with}
@@ -10,7 +11,7 @@ use Rattle.line_text.specs.Pieces.{is_comment, bytes_of}
 abbrev pub behind_comments : List Sign → List Sign
 behind_comments signs = drop (prefix_len is_comment signs) signs
 
--- a digit behind the skip sign that names a switch
+-- a digit from 1 to 9 after the skip sign names a switch (49 and 57 are these digits)
 abbrev pub is_switch : ℕ → Bool
 is_switch b = nat_le 49 b && nat_le b 57
 
@@ -19,15 +20,17 @@ abbrev pub switch_behind : List Sign → ℕ
 switch_behind [] = 1
 switch_behind (sign ∷ signs) = if is_switch sign.byte then sign.byte - 48 else 1
 
+-- what stands after that digit
 abbrev pub behind_digit : List Sign → List Sign
 behind_digit [] = []
 behind_digit (sign ∷ signs) = if is_switch sign.byte then signs else sign ∷ signs
 
--- the switch of the skip sign, if the signs begin with one
+-- the switch of the skip sign, if the signs begin with one (47 is `/`)
 abbrev pub switch_of : List Sign → Option ℕ
 switch_of [] = None
 switch_of (sign ∷ signs) = if sign.byte == 47 then Some (switch_behind signs) else None
 
+-- what stands after the skip sign and its digit
 abbrev pub behind_switch : List Sign → List Sign
 behind_switch [] = []
 behind_switch (sign ∷ signs) = if sign.byte == 47 then behind_digit signs else sign ∷ signs
@@ -41,17 +44,19 @@ abbrev pub is_statement : List ℕ → Bool
 is_statement text =
     (starts_with nat_eq text (codes "#") || starts_with nat_eq text (codes "IF") || starts_with nat_eq text (codes "WHILE")) || (starts_with nat_eq text (codes "GOTO") || starts_with nat_eq text (codes "DO") || starts_with nat_eq text (codes "END"))
 
--- what a literal is made of
+-- what a literal is made of: digits, 46 the point, 43 the plus, 45 the minus
 abbrev pub is_number_sign : Sign → Bool
 is_number_sign sign = is_ascii_digit sign.byte || sign.byte == 46 || sign.byte == 43 || sign.byte == 45
 
+-- the signs of a literal that the signs begin with
 abbrev pub number_part : List Sign → List Sign
 number_part signs = take (prefix_len is_number_sign signs) signs
 
+-- what stands after it
 abbrev pub behind_number : List Sign → List Sign
 behind_number signs = drop (prefix_len is_number_sign signs) signs
 
--- whether the signs are N with a literal and a statement behind it
+-- whether the signs are N (78) with a literal, and a statement after it
 abbrev pub is_numbered : List Sign → Bool
 is_numbered [] = false
 is_numbered (sign ∷ signs) = (sign.byte == 78 && is_literal (bytes_of (number_part signs))) && is_statement (sentence_of (behind_number signs))

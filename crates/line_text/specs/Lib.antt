@@ -1,3 +1,4 @@
+-- What a line of a tape says, in the order in which it is read: signs, pieces, front, values, said.
 pub mod Signs
 pub mod Places
 pub mod Pieces

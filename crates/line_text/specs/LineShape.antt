@@ -1,4 +1,4 @@
--- The shape of what a line says.
+-- The shape of what a line says: what nc_text and the crates above may count on.
 use Rattle.std.specs.Prelude.{◌≡◌, ℕ, ◌≤◌, ◌==◌, true, false, List, length, All, Option, None, Some, IfSome}
 use Rattle.std.specs.Char.{is_ascii_uppercase}
 use Rattle.std.specs.List.{list_any}
@@ -14,23 +14,31 @@ use Rattle.line_text.specs.Values.{is_value}
 -- A letter and a whole value, on a line of at most so many bytes. N and O among the words are
 -- computed: a literal N is the block's sequence number, and a literal O begins a program.
 pub record IsWordShape (most : ℕ) (word : Word) : Type 0 where
+  -- it begins with a letter, in upper case
   pub letter : is_ascii_uppercase word.letter ≡ true
+  -- a whole value follows
   pub value : is_value word.text ≡ true
+  -- it is no longer than the line
   pub short : length word.text ≤ most
+  -- a word N (78) has no literal
   pub sequence : word.letter ≡ 78 → is_literal word.text ≡ false
+  -- a word O (79) has no literal
   pub program : word.letter ≡ 79 → is_literal word.text ≡ false
 
 -- a computed O is alone in its block
 abbrev pub IsAlone : Option ℕ → List Word → Type 0
 IsAlone sequence words = list_any (λ word. word.letter == 79) words ≡ true → (length words ≡ 1) × (sequence ≡ None)
 
+-- words of that shape, or a text that begins as a statement does
 abbrev pub IsBodyShape : ℕ → Option ℕ → Body → Type 0
 IsBodyShape most sequence (Words words) = All (IsWordShape most) words × IsAlone sequence words
 IsBodyShape most sequence (Statement text) = (is_statement text ≡ true) × (length text ≤ most)
 
 -- what stands in a block
 pub record IsSaidShape (most : ℕ) (sequence : Option ℕ) (body : Body) : Type 0 where
+  -- a sequence number is at most 99,999
   pub sequence_is : IfSome sequence (λ n. n ≤ 99999)
+  -- the words or the statement have their shape
   pub body_is : IsBodyShape most sequence body
 
 -- what a line of so many bytes says

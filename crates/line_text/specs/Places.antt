@@ -2,6 +2,6 @@
 use Rattle.std.specs.Prelude.{◌+◌, ◌^◌, ◌<◌, List, All}
 use Rattle.line_text.specs.declared.sign.Sign.{Sign}
 
--- the line is shorter than 2 ^ 32 bytes
+-- the place after each sign is below 2 ^ 32
 abbrev pub ArePlaced : List Sign → Type 0
 ArePlaced signs = All (λ sign. sign.place + 1 < 2 ^ 32) signs

@@ -1,4 +1,5 @@
--- The refusals of a tape's text in the table of causes.
+-- The refusals of a tape's text in the table of causes. nc_text, open_forms and tape_relation cite
+-- them.
 use Rattle.std.specs.Prelude.{ℕ}
 use Rattle.nc_number.specs.declared.cause.Cause.{Cause}
 use Rattle.nc_number.specs.declared.cause.Cause.TheVariants as causes
@@ -6,6 +7,7 @@ use Rattle.nc_number.specs.Causes.{cause_number}
 use Rattle.line_text.specs.declared.refusal.Refusal.{Refusal}
 use Rattle.line_text.specs.declared.refusal.Refusal.TheVariants.{TooManyDigits, BadCharacter, NoNumber, OpenComment, NoProgramNumber, NoEnd, LineTooLong, TooManyBlocks, TapeTooLong, WordRange}
 
+-- the row of a refusal
 abbrev pub cause_of : Refusal → Cause
 cause_of TooManyDigits = causes.TooManyDigits
 cause_of BadCharacter = causes.BadCharacter

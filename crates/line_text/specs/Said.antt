@@ -1,4 +1,5 @@
--- What a line between the `%` lines says, and what makes it unreadable.
+-- What a line between the `%` lines says, and what makes it unreadable. The crates above cite
+-- `line_says`; in this file 78 is the letter N and 79 the letter O.
 use Rattle.std.specs.Prelude.{◌≡◌, ℕ, ◌<◌, ◌+◌, ◌/◌, ◌%◌, ◌^◌, Bool, true, false, not, ◌&&◌, ◌||◌, ◌==◌, nat_lt, List, [], ◌∷◌, length, map, filter, take, All, Option, Some, None, Result, Ok, Err, is_some, if◌then◌else◌}
 use Rattle.std.specs.List.{list_all, list_any, prefix_len}
 use Rattle.std.specs.Global.{Vec}
@@ -17,7 +18,7 @@ use Rattle.line_text.specs.Pieces.{bytes_of, pieces_of, value_len}
 use Rattle.line_text.specs.Front.{behind_comments, switch_of, behind_switch, sentence_of, is_statement, is_numbered, number_part, behind_number}
 use Rattle.line_text.specs.Values.{is_value, number_in, has_long_front}
 
--- the line is shorter than 2 ^ 32 bytes
+-- the text of each piece is shorter than 2 ^ 32 bytes
 abbrev pub AreShort : List Piece → Type 0
 AreShort pieces = All (λ piece. length piece.text < 2 ^ 32) pieces
 
@@ -33,6 +34,7 @@ is_sound piece = piece.whole && is_value piece.text
 abbrev pub is_long : Piece → Bool
 is_long piece = (piece.letter == 78 || piece.letter == 79) && has_long_front piece.text
 
+-- an O stands among the words, with whatever value
 abbrev pub has_program_letter : List Piece → Bool
 has_program_letter pieces = list_any (λ piece. piece.letter == 79) pieces
 
@@ -45,9 +47,11 @@ abbrev pub sequence_from : Option ℕ → List Piece → Option ℕ
 sequence_from before [] = before
 sequence_from before (piece ∷ pieces) = sequence_from (if is_sequence piece then number_in 0 99999 piece.text else before) pieces
 
+-- a sequence number is from 0 to 99,999; any other word is in range here
 abbrev pub is_in_range : Piece → Bool
 is_in_range piece = not (is_sequence piece) || is_some (number_in 0 99999 piece.text)
 
+-- a piece as a word of a block
 abbrev pub word_of : Piece → Word
 word_of piece = record { letter = piece.letter; start = piece.start; end = piece.end; text = piece.text }
 
@@ -60,10 +64,12 @@ abbrev pub is_program : Bool → List Piece → Bool
 is_program slash [] = false
 is_program slash (piece ∷ pieces) = ((not slash && length pieces == 0) && piece.letter == 79) && is_literal piece.text
 
+-- the O number from 1 to 9,999, or none if it is out of that range
 abbrev pub program_number : List Piece → Option ℕ
 program_number [] = None
 program_number (piece ∷ pieces) = number_in 1 9999 piece.text
 
+-- the words say an O number if they are one, and else a block
 abbrev pub said_by : Bool → List Piece → Said
 said_by slash pieces =
     if is_program slash pieces then said.Program (program_number pieces)
@@ -81,18 +87,21 @@ read_pieces slash pieces = record {
 abbrev pub unreadable : Reading
 unreadable = record { long = false; broken = true; said = said.Nothing }
 
+-- a block of words, if nothing stands before the first letter
 unfoldable pub read_words : Bool → List Sign → Reading
 read_words slash signs = if value_len signs 0 == 0 then read_pieces slash (pieces_of signs) else unreadable
 
--- a statement behind N and a literal
+-- the literal after N
 abbrev pub numbered_text : List Sign → List ℕ
 numbered_text [] = []
 numbered_text (sign ∷ signs) = bytes_of (number_part signs)
 
+-- the statement after N and its literal
 abbrev pub numbered_sentence : List Sign → List ℕ
 numbered_sentence [] = []
 numbered_sentence (sign ∷ signs) = sentence_of (behind_number signs)
 
+-- a statement with a sequence number
 unfoldable pub read_numbered : List Sign → Reading
 read_numbered signs = record {
   long = has_too_many_digits (numbered_text signs);
@@ -100,6 +109,7 @@ read_numbered signs = record {
   said = said.Block (record { sequence = number_in 0 99999 (numbered_text signs); in_range = is_some (number_in 0 99999 (numbered_text signs)); body = Statement (numbered_sentence signs) });
 }
 
+-- a statement without one
 unfoldable pub read_statement : List Sign → Reading
 read_statement signs = record {
   long = false;
@@ -132,10 +142,12 @@ judged skipped allowed unclosed reading =
     else (if skipped then Ok said.Nothing
     else Ok reading.said))))
 
+-- what stands after the first comments of a line: a block with or without a skip sign, or none
 unfoldable pub read_head : List Sign → Reading
 read_head [] = no_block
 read_head (sign ∷ signs) = read_block (is_some (switch_of (sign ∷ signs))) (behind_comments (behind_switch (sign ∷ signs)))
 
+-- what the signs of a line say, or the least refusal; the skips are the switches that are set
 abbrev pub judged_signs : ℕ → Scan → Result Said Refusal
 judged_signs skips scan =
     judged (is_skipped skips (switch_of (behind_comments scan.list))) (are_allowed scan.list) scan.unclosed (read_head (behind_comments scan.list))
@@ -149,6 +161,7 @@ abbrev pub IsNumbered : List Sign → Option (Vec ℕ × Vec ℕ) → Type 0
 IsNumbered signs None = is_numbered signs ≡ false
 IsNumbered signs (Some found) = (is_numbered signs ≡ true) × (found.0.items ≡ numbered_text signs) × (found.1.items ≡ numbered_sentence signs) × (is_literal found.0.items ≡ true)
 
+-- a statement as a reading: it is never broken here
 abbrev pub statement_reading : Option ℕ → Bool → List ℕ → Bool → Reading
 statement_reading number in_range text long = record {
   long = long;

@@ -1,18 +1,21 @@
--- The bytes of a line that count.
+-- The bytes of a line that count: its signs. Of a comment only its opening bracket does.
 use Rattle.std.specs.Prelude.{ℕ, ◌+◌, ◌-◌, Bool, true, false, not, ◌&&◌, ◌||◌, ◌==◌, List, [], ◌∷◌, length, take, slice_index, if◌then◌else◌}
 use Rattle.std.specs.Char.{is_ascii_digit, is_ascii_uppercase, to_ascii_uppercase}
 use Rattle.std.specs.List.{list_all, suffix_len}
 use Rattle.line_text.specs.declared.sign.Sign.{Sign}
 
--- spaces and tabs are ignored
+-- spaces (32) and tabs (9) are ignored
 abbrev pub is_blank : ℕ → Bool
 is_blank b = b == 32 || b == 9
 
 -- what a line has outside blanks and comments, in upper case; a comment is its opening bracket
 pub record Scan : Type 0 where
+  -- the bytes that count
   pub list : List Sign
+  -- the line ends inside a comment
   pub unclosed : Bool
 
+-- one sign more in front, if it counts
 abbrev pub add_sign : Bool → ℕ → ℕ → Scan → Scan
 add_sign true place b scan = record scan { list = record { place = place; byte = to_ascii_uppercase b } ∷ scan.list }
 add_sign false place b scan = scan
@@ -22,7 +25,7 @@ abbrev pub counted_sign : Bool → ℕ → ℕ → List Sign
 counted_sign true place b = record { place = place; byte = to_ascii_uppercase b } ∷ []
 counted_sign false place b = []
 
--- whether the byte behind b stands in a comment, where b does or doesn't
+-- whether the byte after b stands in a comment, where b does or doesn't: 40 opens, 41 closes
 abbrev pub inside_behind : Bool → ℕ → Bool
 inside_behind true b = not (b == 41)
 inside_behind false b = b == 40
@@ -32,26 +35,29 @@ abbrev pub scan_of : List ℕ → Bool → ℕ → Scan
 scan_of [] inside place = record { list = []; unclosed = inside }
 scan_of (b ∷ bs) inside place = add_sign (not inside && not (is_blank b)) place b (scan_of bs (inside_behind inside b) (place + 1))
 
+-- the line without its last byte, if that is b
 abbrev pub without_last : ℕ → List ℕ → List ℕ
 without_last b line = if slice_index line (length line - 1) == b then take (length line - 1) line else line
 
--- a carriage return is ignored directly before a line feed
+-- a carriage return (13) is ignored directly before a line feed
 abbrev pub without_return : List ℕ → Bool → List ℕ
 without_return line ended = if ended then without_last 13 line else line
 
+-- the line without the blanks at its end
 abbrev pub without_blanks : List ℕ → List ℕ
 without_blanks line = take (length line - suffix_len is_blank line) line
 
--- what is read of a line: blanks at its end and one `;` before them are ignored
+-- what is read of a line: blanks at its end and one `;` (59) before them are ignored
 abbrev pub content_of : List ℕ → Bool → List ℕ
 content_of line ended = without_last 59 (without_blanks (without_return line ended))
 
--- the bytes that may stand outside comments
+-- the bytes that may stand outside comments: letters, digits and . + - / ( ) # [ ] = *
 abbrev pub is_allowed : ℕ → Bool
 is_allowed b =
     is_ascii_uppercase b || is_ascii_digit b || b == 46 || b == 43 || b == 45 || b == 47 || b == 40 || b == 41 || b == 35 || b == 91
     || b == 93 || b == 61 || b == 42
 
+-- each sign may stand there
 abbrev pub are_allowed : List Sign → Bool
 are_allowed signs = list_all (λ sign. is_allowed sign.byte) signs
 

@@ -1,4 +1,5 @@
--- What may stand behind an address letter.
+-- What may stand after an address letter. tape_relation cites it too; 91 and 93 are square
+-- brackets, 35 is `#`, 46 the point.
 use Rattle.std.specs.Prelude.{ℕ, ◌+◌, Bool, false, ◌&&◌, ◌||◌, ◌==◌, nat_le, List, [], ◌∷◌, length, take, drop, Option, Some, None, Result, Ok, Err, ℤ, pos, negsuc, if◌then◌else◌}
 use Rattle.std.specs.Char.{is_ascii_digit}
 use Rattle.std.specs.List.{list_all, prefix_len}
@@ -27,11 +28,13 @@ is_reference (b ∷ bs) = if b == 35 then is_variable bs else b == 91 && closes 
 abbrev pub is_value : List ℕ → Bool
 is_value text = is_literal text || is_reference (behind_sign text)
 
+-- the number, if it is from low to high
 abbrev pub in_range : ℕ → ℕ → Option ℤ → Option ℕ
 in_range low high None = None
 in_range low high (Some (pos n)) = if nat_le low n && nat_le n high then Some n else None
 in_range low high (Some (negsuc n)) = None
 
+-- the whole number that a literal reads as, if it is in the range
 abbrev pub range_of : ℕ → ℕ → Result Literal NumberFault → Option ℕ
 range_of low high (Ok literal) = in_range low high (whole_of literal.value)
 range_of low high (Err fault) = None
@@ -40,6 +43,7 @@ range_of low high (Err fault) = None
 unfoldable pub number_in : ℕ → ℕ → List ℕ → Option ℕ
 number_in low high text = range_of low high (word_literal text)
 
+-- how many digits the text begins with
 abbrev pub digits_len : List ℕ → ℕ
 digits_len text = prefix_len is_ascii_digit text
 
@@ -48,10 +52,12 @@ abbrev pub fraction_len : List ℕ → ℕ
 fraction_len [] = 0
 fraction_len (b ∷ bs) = if b == 46 then 1 + digits_len bs else 0
 
+-- how many signs it begins with: at most one counts
 abbrev pub sign_len : List ℕ → ℕ
 sign_len [] = 0
 sign_len (b ∷ bs) = if is_sign b then 1 else 0
 
+-- the length of digits, and of a point and digits after them
 abbrev pub unsigned_len : List ℕ → ℕ
 unsigned_len text = digits_len text + fraction_len (drop (digits_len text) text)
 

@@ -25,7 +25,7 @@ pub(crate) fn depth_behind(depth: usize, byte: u8) -> usize
     }
 }
 
-/// Letters inside square brackets are names of functions, and begin no word.
+/// Whether the byte begins a word: letters inside square brackets are names of functions.
 fn begins_word(depth: usize, byte: u8) -> bool
     ensures { result ≡ begins_word depth byte }
 {
@@ -58,7 +58,7 @@ fn part_len(value: &[Sign]) -> usize
     value.iter().take_while(|sign| sign.byte != b'(').count()
 }
 
-/// A comment counts as one sign, whatever it holds.
+/// Whether all signs are comments; each counts as one sign, whatever it holds.
 fn are_comments(signs: &[Sign]) -> bool
     ensures { result ≡ list_all is_comment signs.now }
 {

@@ -24,7 +24,7 @@ pub(crate) fn behind_comments(signs: &[Sign]) -> &[Sign]
     rest
 }
 
-/// A skip sign may name one of nine switches by a digit behind it.
+/// Whether the byte is a digit from 1 to 9, which names one of nine switches after a skip sign.
 fn is_switch(byte: u8) -> bool
     ensures { result ≡ is_switch byte }
 {
@@ -112,7 +112,7 @@ pub(crate) fn begins_statement(signs: &[Sign]) -> bool
         || begins_with(signs, b"END")
 }
 
-/// What a literal is made of.
+/// Whether the byte is a digit, a point, a plus or a minus.
 fn is_number_sign(byte: u8) -> bool
     ensures { result ≡ (is_ascii_digit byte || byte == 46 || byte == 43 || byte == 45) }
 {

@@ -16,7 +16,7 @@ use crate::words::read_pieces;
 use nc_number::{ByteList, Failing, is_literal};
 use std::alloc::{AllocError, Global};
 
-/// A block of words.
+/// Reads a block of words, with or without a skip sign.
 #[tactic(auto, unfolding(crate::specs::Said::read_words))]
 fn read_words(alloc: Global, slash: bool, signs: &[Sign]) -> Result<Reading, AllocError>
     requires short { length signs.now < 2 ^ 32 }
@@ -58,7 +58,7 @@ fn numbered(alloc: Global, signs: &[Sign]) -> Result<Option<(Vec<u8>, Vec<u8>)>,
     }
 }
 
-/// A statement is never broken here: its text is read by the layers above.
+/// A statement as a reading: never broken here, because its text is read by the layers above.
 fn statement(number: Option<u32>, in_range: bool, text: Vec<u8>, long: bool) -> Reading
     ensures { result ≡ statement_reading number in_range text.items long }
 {
@@ -73,7 +73,7 @@ fn statement(number: Option<u32>, in_range: bool, text: Vec<u8>, long: bool) -> 
     }
 }
 
-/// A block behind its skip sign.
+/// Reads a block after its skip sign.
 #[tactic(auto, unfolding(crate::specs::Said::read_block, crate::specs::Said::read_numbered, crate::specs::Said::read_statement))]
 fn read_block(alloc: Global, slash: bool, signs: &[Sign]) -> Result<Reading, AllocError>
     requires short { length signs.now < 2 ^ 32 }
@@ -92,7 +92,7 @@ fn read_block(alloc: Global, slash: bool, signs: &[Sign]) -> Result<Reading, All
     read_words(alloc, slash, signs)
 }
 
-/// Bit n of the skips is switch n; a block without a skip sign is never skipped.
+/// Whether the block is skipped: bit n of the skips is switch n. Without a skip sign it never is.
 fn is_skipped(skips: u16, switch: Option<u8>) -> bool
     requires { IfSome switch (λ n. n ≤ 9) }
     ensures { result ≡ is_skipped skips switch }
@@ -127,7 +127,7 @@ fn judged(
     }
 }
 
-/// What stands behind the comments that a line begins with.
+/// Reads what stands after the comments that a line begins with.
 #[tactic(auto, unfolding(crate::specs::Said::read_head))]
 fn read_head(alloc: Global, head: &[Sign]) -> Result<Reading, AllocError>
     requires short { length head.now < 2 ^ 32 }

@@ -5,7 +5,9 @@ use std::alloc::Global;
 /// Where lines are read. The room that one line takes is used for the next.
 #[derive(Debug, Drop)]
 pub struct LineBuffer {
+    /// Where the memory comes from.
     pub alloc: Global,
+    /// The signs of the line that is read.
     pub signs: Vec<Sign>,
 }
 

@@ -4,9 +4,11 @@ use crate::body::Body;
 /// A block without its line.
 #[derive(Debug, Drop)]
 pub struct SaidBlock {
+    /// The last sequence number of the block, if it has one.
     pub sequence: Option<u32>,
     /// Each sequence number of the block is in its range.
     pub in_range: bool,
+    /// Its words or its statement.
     pub body: Body,
 }
 
@@ -26,5 +28,6 @@ pub struct Reading {
     pub long: bool,
     /// Something stands where no word can.
     pub broken: bool,
+    /// What it says.
     pub said: Said,
 }

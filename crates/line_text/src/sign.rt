@@ -10,18 +10,20 @@ use std::alloc::AllocError;
 /// bracket.
 #[derive(Clone, Copy, Debug, PartialEq, Eq)]
 pub struct Sign {
+    /// Its place in the line, counted from 0.
     pub place: u32,
+    /// The byte, in upper case.
     pub byte: u8,
 }
 
-/// Spaces and tabulators are ignored everywhere.
+/// Whether the byte is a space or a tabulator, which are ignored everywhere.
 fn is_blank(byte: u8) -> bool
     ensures { result ≡ is_blank byte }
 {
     byte == b' ' || byte == b'\t'
 }
 
-/// The characters of a tape outside comments, in upper case.
+/// Whether the byte is a character of a tape outside comments, in upper case.
 fn is_allowed(byte: u8) -> bool
     ensures { result ≡ is_allowed byte }
 {
@@ -60,7 +62,7 @@ fn without_return(line: &[u8], ended: bool) -> &[u8]
     }
 }
 
-/// Blanks before the end of a line would hide its semicolon.
+/// How many blanks a line ends with. They would hide its semicolon.
 fn blanks_at_end(line: &[u8]) -> usize
     ensures count { result ≡ suffix_len is_blank line.now }
     ensures within { result ≤ length line.now }

@@ -26,14 +26,14 @@ fn closes(text: &[u8]) -> bool
     false
 }
 
-/// The number of a variable has neither sign nor point.
+/// Whether the bytes are digits alone: the number of a variable has neither sign nor point.
 fn are_digits(text: &[u8]) -> bool
     ensures { result ≡ list_all is_ascii_digit text.now }
 {
     text.iter().all(|b| b.is_ascii_digit())
 }
 
-/// Behind `#`: digits, or an expression in brackets.
+/// Whether the text is what may follow `#`: digits, or an expression in brackets.
 fn is_variable(text: &[u8]) -> bool
     requires { length text.now < 2 ^ 32 }
     ensures { result ≡ is_variable text.now }
@@ -50,7 +50,7 @@ fn is_variable(text: &[u8]) -> bool
     }
 }
 
-/// A variable, or an expression in brackets.
+/// Whether the text is a variable, or an expression in brackets.
 fn is_reference(text: &[u8]) -> bool
     requires { length text.now < 2 ^ 32 }
     ensures { result ≡ is_reference text.now }
@@ -67,7 +67,7 @@ fn is_reference(text: &[u8]) -> bool
     }
 }
 
-/// The signs that may stand before a value.
+/// Whether the byte is a plus or a minus.
 fn is_sign(byte: u8) -> bool
     ensures { result ≡ is_sign byte }
 {
@@ -165,7 +165,7 @@ pub(crate) fn has_long_front(text: &[u8]) -> bool
     is_literal(front) && has_too_many_digits(front)
 }
 
-/// A number below 0 is in no range.
+/// The number, if it is from low to high. A number below 0 is in no range.
 fn in_range(low: u32, high: u32, n: Option<i64>) -> Option<u32>
     ensures value { result ≡ in_range low high n }
     ensures range { IfSome result (λ n. n ≤ high) }

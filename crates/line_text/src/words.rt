@@ -11,14 +11,14 @@ use crate::values::{has_long_front, is_value, number_in};
 use nc_number::is_literal;
 use std::alloc::{AllocError, Global};
 
-/// An N with a literal is the block's sequence number.
+/// Whether the piece is the block's sequence number: an N with a literal.
 fn is_sequence(piece: &Piece) -> bool
     ensures { result ≡ is_sequence piece.now }
 {
     piece.letter == b'N' && is_literal(piece.text.as_slice())
 }
 
-/// A letter with a whole value.
+/// Whether the piece is a letter with a whole value.
 fn is_sound(piece: &Piece) -> bool
     requires { length piece.now.text < 2 ^ 32 }
     ensures { result ≡ is_sound piece.now }
@@ -26,7 +26,7 @@ fn is_sound(piece: &Piece) -> bool
     piece.whole && is_value(piece.text.as_slice())
 }
 
-/// A sequence number or an O number with more digits than are allowed, whatever stands behind it.
+/// Whether it is a sequence number or an O number with too many digits, whatever follows.
 fn is_long(piece: &Piece) -> bool
     ensures { result ≡ is_long piece.now }
 {
@@ -56,7 +56,7 @@ fn has_program_letter(pieces: &[Piece]) -> bool
     pieces.iter().any(|piece| piece.letter == b'O')
 }
 
-/// Nothing but comments stands beside an O word.
+/// Whether nothing but comments stands beside an O word.
 fn stands_alone(slash: bool, pieces: &[Piece]) -> bool
     ensures { result ≡ stands_alone slash pieces.now }
 {
@@ -85,14 +85,14 @@ fn sequence(pieces: &[Piece]) -> Option<u32>
     number
 }
 
-/// A sequence number is at most 99,999; any other word is in range here.
+/// Whether a sequence number is at most 99,999; any other word is in range here.
 fn is_in_range(piece: &Piece) -> bool
     ensures { result ≡ is_in_range piece.now }
 {
     !is_sequence(piece) || number_in(0, 99_999, piece.text.as_slice()).is_some()
 }
 
-/// Every sequence number counts here, though only the last one stays.
+/// Whether every sequence number is in its range, though only the last one stays.
 fn are_in_range(pieces: &[Piece]) -> bool
     ensures { result ≡ list_all is_in_range pieces.now }
 {
@@ -131,7 +131,7 @@ fn words(alloc: Global, pieces: Vec<Piece>) -> Result<Vec<Word>, AllocError>
     Ok(words)
 }
 
-/// An O number stands alone in its block, without a skip sign.
+/// Whether the words are an O number alone in its block, without a skip sign.
 fn is_program(slash: bool, pieces: &[Piece]) -> bool
     ensures { result ≡ is_program slash pieces.now }
 {
@@ -183,7 +183,7 @@ fn front_of(pieces: &[Piece], count: usize) -> &[Piece]
     front
 }
 
-/// The words of a block.
+/// Reads the words of a block, with or without a skip sign.
 pub(crate) fn read_pieces(
     alloc: Global,
     slash: bool,

@@ -1,4 +1,4 @@
-//! The levels of local variables.
+//! The levels of local variables `#1` to `#33`. Which call opens or closes one is in path_state.
 ghost use Rattle.std.specs.Prelude.{◌≡◌, ◌+◌, ◌<◌, ◌≤◌, ◌∷◌, [], length};
 ghost use Rattle.local_levels.specs.Stack.{base_level, opened, local, with_local, reopened, closed};
 
@@ -48,7 +48,9 @@ impl Default for Level {
 /// The levels of one path: the running level, and those that wait for it below.
 #[derive(Debug, Drop)]
 pub struct Levels {
+    /// The level whose variables the path reads and writes.
     running: Level,
+    /// The levels that wait for it, the base level first.
     below: ArrayVec<Level, MOST_OPEN>,
 }
 

@@ -1,5 +1,5 @@
 -- The code of a tree makes of it what the tree means. It needs one operand more at once than right
--- operands are deep.
+-- operands are deep inside one another.
 use Rattle.std.proofs.Common.{◌≡◌, ℕ, suc, ◌+◌, ◌-◌, ◌<◌, List, [], ◌∷◌, Result, refl, sym, ◌∙◌, ap, arith}
 use Rattle.std.proofs.lemmas.Bool.Decides.{nat_tests}
 use Rattle.nc_number.specs.declared.value.Var.{Var}
@@ -12,20 +12,21 @@ use Rattle.macro_eval.specs.declared.code.Instr.TheVariants as instr
 use Rattle.macro_eval.specs.Meaning.{Answer, meaning, then_with}
 use Rattle.macro_eval.specs.Postfix.{code_before, postfix, takes, fits, run, tree_of_code, tree_is, IsCode}
 
--- what goes on with a value in two steps goes on with what the first makes of it
+-- To go on in two steps is to go on with what the first makes of the value.
 then_then : (a : Answer) (f g h : Var → List Var → Answer)
     → ((v : Var) (left : List Var) → f v left ≡ then_with (g v left) h) → then_with a f ≡ then_with (then_with a g) h
 then_then (Got v, left) f g h steps = steps v left
 then_then (Need n, left) f g h steps = refl
 then_then (Fault n, left) f g h steps = refl
 
+-- To go on with the value itself changes nothing.
 pub then_ends : (a : Answer) → then_with a (λ v left. (Got v, left)) ≡ a
 then_ends (Got v, left) = refl
 then_ends (Need n, left) = refl
 then_ends (Fault n, left) = refl
 
 module _ (table : ℕ → Result Look VarFault) where
-  -- the code of a tree leaves its value on the stack, and goes on
+  -- The code of a tree leaves its value on the stack, and goes on.
   runs : (t : Tree) (code : List Instr) (stack reads : List Var) → run table (code_before t code) stack reads
       ≡ then_with (meaning table t reads) (λ v left. run table code (v ∷ stack) left)
   runs (Number z) code stack reads = refl
@@ -41,18 +42,18 @@ module _ (table : ℕ → Result Look VarFault) where
       ∙ then_then (meaning table a reads) _ _ _ (λ v left.
       runs b (instr.Join op ∷ code) (v ∷ stack) left ∙ then_then (meaning table b left) _ _ _ (λ w left. refl))
 
-  -- the code of a tree alone answers its meaning
+  -- The code of a tree runs to what the tree means.
   pub run_is_meaning : (t : Tree) (reads : List Var) → run table (postfix t) [] reads ≡ meaning table t reads
   run_is_meaning t reads = runs t [] [] reads ∙ then_ends (meaning table t reads)
 
 module _ (most : ℕ) where
-  -- an instruction that finds its operands leaves one in their place
+  -- An instruction that finds its operands leaves one in their place.
   goes_on : (i : Instr) (code : List Instr) (before height : ℕ) → before ≡ takes i + height → height < most
       → fits most (i ∷ code) before ≡ fits most code (suc height)
   goes_on i code before height is room =
       let left : (before - takes i) + 1 ≡ suc height = omega arith in rw left (grind (arith, nat_tests))
 
-  -- the code of a tree, with such room above what stands on the stack, leaves one operand more
+  -- The code of a tree, with enough room above what is on the stack, leaves one operand more.
   leaves_one : (t : Tree) (code : List Instr) (height : ℕ) → height + right_depth t < most
       → fits most (code_before t code) height ≡ fits most code (suc height)
   leaves_one (Number z) code height room = goes_on (instr.Number z) code height height (omega arith) (omega arith)
@@ -71,6 +72,7 @@ module _ (most : ℕ) where
       ∙ leaves_one b (instr.Join op ∷ code) (suc height) (omega arith)
       ∙ goes_on (instr.Join op) code (suc (suc height)) height (omega arith) (omega arith)
 
+-- The code of a tree whose right operands are less than 16 deep is sound.
 pub is_code : (code : List Instr) (t : Tree) → code ≡ postfix t → right_depth t < 16 → IsCode code
 is_code code t is shallow = record {
   written = is ∙ ap postfix (sym (ap tree_of_code is ∙ tree_is t));

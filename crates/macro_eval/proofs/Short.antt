@@ -8,11 +8,13 @@ use Rattle.macro_eval.specs.Meaning.{Answer, then_with}
 use Rattle.macro_eval.specs.Postfix.{step, run}
 use Rattle.macro_eval.proofs.Compiled.{then_ends}
 
+-- A code of one instruction is that instruction.
 pub one_is : (code : List Instr) (a : Instr) → 1 ≤ length code → length code < 2 → code ≡ get_or code 0 a ∷ []
 one_is [] a most least = absurd (omega (arith, most))
 one_is (i ∷ []) a most least = refl
 one_is (i ∷ j ∷ code) a most least = absurd (omega (arith, least))
 
+-- A code of three instructions is these three.
 pub three_are : (code : List Instr) (a b c : Instr) → 3 ≤ length code → length code < 4
     → code ≡ get_or code 0 a ∷ get_or code 1 b ∷ get_or code 2 c ∷ []
 three_are [] a b c most least = absurd (omega (arith, most))
@@ -21,7 +23,7 @@ three_are (i ∷ j ∷ []) a b c most least = absurd (omega (arith, most))
 three_are (i ∷ j ∷ k ∷ []) a b c most least = refl
 three_are (i ∷ j ∷ k ∷ l ∷ code) a b c most least = absurd (omega (arith, least))
 
--- an operand alone is what the code answers
+-- An operand alone is what the code answers.
 pub alone_runs : (table : ℕ → Result Look VarFault) (i : Instr) (reads : List Var) (a : Answer)
     → step table i [] reads ≡ (a, []) → run table (i ∷ []) [] reads ≡ a
 alone_runs table i reads a is =

@@ -1,5 +1,6 @@
 -- What an expression means: its value, the shared variable that must be read next, or an alarm; and
--- the reads left.
+-- the reads that are left. Numbers are in 0.000001. path_state, block_values, named_vars and
+-- two_path read this.
 use Rattle.std.specs.Prelude.{ℕ, Bool, List, [], ◌∷◌, Option, Some, None, Result, Ok, Err, ℤ, pos, unsigned_abs, if◌then◌else◌}
 use Rattle.std.specs.Int.{is_negative}
 use Rattle.nc_number.specs.declared.cause.Cause.{Cause}
@@ -22,18 +23,20 @@ use Rattle.macro_eval.specs.declared.scope.VarFault.{VarFault}
 use Rattle.macro_eval.specs.declared.scope.Eval.{Eval}
 use Rattle.macro_eval.specs.declared.scope.Eval.TheVariants.{Got, Need, Fault}
 
+-- The alarm with this cause's number.
 abbrev pub alarm : Cause → Eval
 alarm cause = Fault (cause_number cause)
 
--- a computed number
+-- A calculated number, or the alarm of its fault.
 abbrev pub made : Result ℤ NumberFault → Eval
 made (Ok z) = Got (Is z)
 made (Err fault) = alarm (cause_of_number_fault fault)
 
--- behind a sign, which makes a number
+-- The value after a sign, which makes a vacant one 0.
 abbrev pub signed : Bool → Var → Eval
 signed minus v = Got (Is (with_sign minus (or_zero v)))
 
+-- What the function makes of a number.
 abbrev pub function_value : Fun → ℤ → Result ℤ NumberFault
 function_value Sqrt z = root_of z
 function_value Abs z = Ok (pos (unsigned_abs z))
@@ -41,9 +44,11 @@ function_value Fix z = Ok (dropped z)
 function_value Fup z = raised z
 function_value Round z = rounded z
 
+-- What the function makes of a value; a vacant one counts as 0.
 abbrev pub applied : Fun → Var → Eval
 applied f v = made (function_value f (or_zero v))
 
+-- What the operator makes of two numbers.
 abbrev pub operator_value : Op → ℤ → ℤ → Result ℤ NumberFault
 operator_value Add a b = sum_of a b
 operator_value Sub a b = difference_of a b
@@ -54,59 +59,65 @@ operator_value Div a b = quotient_of a b
 operator_value BitAnd a b = and_of a b
 operator_value Modulo a b = remainder_of a b
 
+-- What the operator makes of two values; a vacant one counts as 0.
 abbrev pub joined : Op → Var → Var → Eval
 joined op a b = made (operator_value op (or_zero a) (or_zero b))
 
--- a value that must be whole
+-- The number, or alarm 4 if there is none.
 abbrev pub whole_or_alarm : Option ℤ → Result ℤ Cause
 whole_or_alarm (Some n) = Ok n
 whole_or_alarm None = Err NotWhole
 
+-- The whole number that a value is, or alarm 4 if it has a fraction; a vacant one counts as 0.
 abbrev pub whole_number : Var → Result ℤ Cause
 whole_number v = whole_or_alarm (whole_of (or_zero v))
 
--- no number below 0 names a variable
+-- The number of a variable, or alarm 30 if it is below 0.
 abbrev pub named_by : Result ℤ Cause → Result ℕ Cause
 named_by (Ok n) = if is_negative n then Err VariableRange else Ok (unsigned_abs n)
 named_by (Err cause) = Err cause
 
--- the variable whose number was computed
+-- The number of the variable that a calculated value names.
 abbrev pub variable_number : Var → Result ℕ Cause
 variable_number v = named_by (whole_number v)
 
--- an answer, and the reads that are left
+-- The answer of an evaluation, and the reads that are left.
 abbrev pub Answer : Type 0
 Answer = Eval × List Var
 
--- the next read, or the need of one
+-- The next read, or that variable n is needed.
 abbrev pub next_read : ℕ → List Var → Answer
 next_read n [] = (Need n, [])
 next_read n (v ∷ left) = (Got v, left)
 
--- what a look at variable n gives
+-- What a look at variable n gives: what it holds; the next read if the paths share it; or alarm 30.
 abbrev pub seen : Result Look VarFault → ℕ → List Var → Answer
 seen (Ok (look.Is v)) n reads = (Got v, reads)
 seen (Ok look.Shared) n reads = next_read n reads
 seen (Err fault) n reads = (alarm VariableRange, reads)
 
 module _ (table : ℕ → Result Look VarFault) where
+  -- What variable n gives, by what is known of each variable.
   abbrev pub looked_at : ℕ → List Var → Answer
   looked_at n reads = seen (table n) n reads
 
+  -- The same of a number that was calculated, or its alarm.
   abbrev pub looked_by : Result ℕ Cause → List Var → Answer
   looked_by (Ok n) reads = looked_at n reads
   looked_by (Err cause) reads = (alarm cause, reads)
 
+  -- What the variable gives whose number is this value.
   abbrev pub looked_up : Var → List Var → Answer
   looked_up v reads = looked_by (variable_number v) reads
 
--- goes on with a value; a need or an alarm is the answer
+-- Goes on with a value; a need or an alarm is the answer.
 abbrev pub then_with : Answer → (Var → List Var → Answer) → Answer
 then_with (Got v, left) next = next v left
 then_with (Need n, left) next = (Need n, left)
 then_with (Fault n, left) next = (Fault n, left)
 
--- the meaning of a tree, read from left to right
+-- The meaning of a tree, read from left to right. `table` says what is known of each variable, and
+-- `reads` are the values of shared variables that were read so far.
 abbrev pub meaning : (ℕ → Result Look VarFault) → Tree → List Var → Answer
 meaning table (Number z) reads = (Got (Is z), reads)
 meaning table (Variable n) reads = looked_at table n reads

@@ -1,4 +1,5 @@
--- Postfix code, and what a machine with a stack of operands makes of it.
+-- Postfix code (each operator after its operands), and what a machine with a stack of operands
+-- makes of it. race_report reads this.
 use Rattle.std.specs.Prelude.{◌≡◌, ℕ, ◌+◌, ◌-◌, ◌==◌, ◌&&◌, nat_le, Bool, true, List, [], ◌∷◌, Result, pos, refl}
 use Rattle.std.proofs.Common.{◌∙◌, ap}
 use Rattle.nc_number.specs.declared.value.Var.{Var}
@@ -12,7 +13,7 @@ use Rattle.macro_eval.specs.declared.code.Instr.TheVariants as instr
 use Rattle.macro_eval.specs.declared.code.TheConstants.{OPERANDS}
 use Rattle.macro_eval.specs.Meaning.{Answer, looked_at, looked_up, signed, applied, joined, then_with}
 
--- the code of a tree, its operands first, before the code that goes on with it
+-- The code of a tree, its operands first, before the code that goes on with it.
 abbrev pub code_before : Tree → List Instr → List Instr
 code_before (Number z) code = instr.Number z ∷ code
 code_before (Variable n) code = instr.Variable n ∷ code
@@ -21,10 +22,11 @@ code_before (Signed minus e) code = code_before e (instr.Sign minus ∷ code)
 code_before (Applied f e) code = code_before e (instr.Call f ∷ code)
 code_before (Joined op a b) code = code_before a (code_before b (instr.Join op ∷ code))
 
+-- The code of a tree.
 abbrev pub postfix : Tree → List Instr
 postfix t = code_before t []
 
--- what an instruction makes of the trees on a stack, the last one first
+-- What an instruction makes of the trees on a stack, of which the last one is first.
 abbrev pub put : Instr → List Tree → List Tree
 put (instr.Number z) trees = Number z ∷ trees
 put (instr.Variable n) trees = Variable n ∷ trees
@@ -34,19 +36,21 @@ put (instr.Call f) (e ∷ trees) = Applied f e ∷ trees
 put (instr.Join op) (b ∷ a ∷ trees) = Joined op a b ∷ trees
 put i trees = trees
 
+-- What the code makes of the trees on a stack.
 abbrev pub built : List Instr → List Tree → List Tree
 built [] trees = trees
 built (i ∷ code) trees = built code (put i trees)
 
+-- The tree on top of the stack.
 abbrev pub first_tree : List Tree → Tree
 first_tree [] = Number (pos 0)
 first_tree (e ∷ trees) = e
 
--- the tree whose code it is
+-- The tree whose code it is.
 abbrev pub tree_of_code : List Instr → Tree
 tree_of_code code = first_tree (built code [])
 
--- the code of a tree puts it on the stack, and goes on
+-- The code of a tree puts it on the stack, and goes on.
 built_is : (t : Tree) (code : List Instr) (trees : List Tree)
     → built (code_before t code) trees ≡ built code (t ∷ trees)
 built_is (Number z) code trees = refl
@@ -57,11 +61,11 @@ built_is (Applied f e) code trees = built_is e (instr.Call f ∷ code) trees
 built_is (Joined op a b) code trees =
     built_is a (code_before b (instr.Join op ∷ code)) trees ∙ built_is b (instr.Join op ∷ code) (a ∷ trees)
 
--- the code of a tree gives it back
+-- The code of a tree gives it back.
 pub tree_is : (t : Tree) → tree_of_code (postfix t) ≡ t
 tree_is t = ap first_tree (built_is t [] [])
 
--- how many operands an instruction takes
+-- How many operands an instruction takes.
 abbrev pub takes : Instr → ℕ
 takes (instr.Number z) = 0
 takes (instr.Variable n) = 0
@@ -70,19 +74,19 @@ takes (instr.Sign minus) = 1
 takes (instr.Call f) = 1
 takes (instr.Join op) = 2
 
--- whether the code finds its operands, with so many on the stack, never has more than so many
--- there, and leaves one
+-- With `height` operands on the stack the code finds its operands, never has more than `most`
+-- there, and leaves one.
 abbrev pub fits : ℕ → List Instr → ℕ → Bool
 fits most [] height = height == 1
 fits most (i ∷ code) height =
     (nat_le (takes i) height && nat_le ((height - takes i) + 1) most) && fits most code ((height - takes i) + 1)
 
--- code that is a tree's, and finds room for its operands
+-- Code that is a tree's, and finds room for its operands.
 pub record IsCode (code : List Instr) : Type 0 where
   pub written : code ≡ postfix (tree_of_code code)
   pub runs : fits OPERANDS code 0 ≡ true
 
--- one instruction on the stack, its last operand first: its answer, and the stack below
+-- One instruction on the stack, its last operand first: its answer, and the stack below.
 abbrev pub step : (ℕ → Result Look VarFault) → Instr → List Var → List Var → Answer × List Var
 step table (instr.Number z) stack reads = ((Got (Is z), reads), stack)
 step table (instr.Variable n) stack reads = (looked_at table n reads, stack)
@@ -92,12 +96,12 @@ step table (instr.Call f) (v ∷ stack) reads = ((applied f v, reads), stack)
 step table (instr.Join op) (w ∷ v ∷ stack) reads = ((joined op v w, reads), stack)
 step table i stack reads = ((Fault 0, reads), stack)
 
--- the value that stands alone on the stack
+-- The value on top of the stack.
 abbrev pub top : List Var → Var
 top [] = Vacant
 top (v ∷ stack) = v
 
--- the instructions one after another
+-- The instructions one after another.
 abbrev pub run : (ℕ → Result Look VarFault) → List Instr → List Var → List Var → Answer
 run table [] stack reads = (Got (top stack), reads)
 run table (i ∷ code) stack reads =

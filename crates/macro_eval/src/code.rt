@@ -1,4 +1,5 @@
-//! An expression as code for a stack, and its making.
+//! An expression as code for a stack, and its making. What is done with it is in `running`; how it
+//! is read from the text, in macro_expr.
 ghost use Rattle.std.specs.Prelude.{◌≡◌, ◌-◌, ◌<◌, nat_le, ◌∷◌, reverse, true, IfOk, OnOk};
 ghost use Rattle.macro_expr.specs.Tree.{tree_of, right_depth};
 ghost use Rattle.macro_eval.specs.Postfix.{postfix, code_before, fits};
@@ -32,6 +33,7 @@ pub enum Instr {
 /// An expression as postfix code, whose operands the stack can hold. Contracts see its tree.
 #[derive(Debug, Drop)]
 pub struct Code {
+    /// The instructions, first to last.
     instrs: Vec<Instr>,
 }
 
@@ -46,6 +48,8 @@ impl Model for Code {
 
     ghost Value = { Tree };
 
+    /// The instructions of the code, in just the room that they need. The only error is out of
+    /// memory.
     ghost coded = { code_by (List Instr) (coded_list (row instr_type).coded) postfix tree_of_code tree_is };
 
     ghost view = { λ code. tree_of_code code.instrs.items };
@@ -65,8 +69,8 @@ impl Code {
 
 /// The code of an expression.
 ///
-/// An expression whose right operands stand 16 deep or deeper inside one another is refused as if
-/// memory ran out; none that the tape can write is.
+/// `NoMemory`: out of memory. An expression whose right operands stand 16 deep or deeper inside one
+/// another is refused in the same way; none that the tape can write is.
 #[tactic(auto, using(crate::specs::Postfix::tree_is))]
 pub fn compile(alloc: Global, tree: &Expr) -> Result<Code, NoMemory>
     ensures { IfOk result (λ code. code ≡ tree_of tree.now) }
@@ -111,7 +115,8 @@ fn is_shallow(tree: &Expr, room: usize) -> bool
     }
 }
 
-/// Puts the code of the tree behind the instructions, the last instruction first.
+/// Adds the code of the tree after the instructions, the last instruction first. The only error is
+/// out of memory.
 ///
 /// It calls itself on right operands alone, as deep as they stand inside one another.
 fn emit_backwards(instrs: &mut Vec<Instr>, tree: &Expr) -> Result<(), NoMemory>
@@ -144,7 +149,8 @@ fn emit_backwards(instrs: &mut Vec<Instr>, tree: &Expr) -> Result<(), NoMemory>
     }
 }
 
-/// Pushes an instruction, which is to stand before those that were pushed earlier.
+/// Pushes an instruction, which will come before those that were pushed earlier. The only error is
+/// out of memory.
 fn put(instrs: &mut Vec<Instr>, instr: Instr) -> Result<(), NoMemory>
     ensures { OnOk result (reverse instrs.new.items ≡ instr ∷ reverse instrs.old.items) }
 {

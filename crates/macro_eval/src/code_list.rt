@@ -1,4 +1,5 @@
-//! The codes of a statement.
+//! The codes of a statement, in the order in which they are evaluated. What is done with their
+//! values is in block_values.
 ghost use Rattle.std.specs.Prelude.{◌≡◌, ◌≤◌, [], ◌∷◌, ◌++◌, length, IfOk, OnOk};
 ghost use Rattle.macro_expr.specs.Tree.{tree_of, variable_of, test_of, aim_of, sentence_of, evaluated, evaluated_name, evaluated_test, evaluated_aim};
 
@@ -40,10 +41,10 @@ impl CodeList {
     }
 }
 
-/// The codes of a statement: of a condition left and right, then of a computed number on the left
-/// side, then of the value; of a jump that of its computed target.
+/// The codes of a statement: of a condition left and right, then of a calculated number on the left
+/// side, then of the value; of a jump that of its calculated target.
 ///
-/// It lacks memory as [`compile`] does.
+/// The errors are those of [`compile`].
 pub fn compile_statement(alloc: Global, statement: &Statement) -> Result<CodeList, NoMemory>
     ensures { IfOk result (λ list. list ≡ evaluated (sentence_of statement.now)) }
 {
@@ -52,7 +53,7 @@ pub fn compile_statement(alloc: Global, statement: &Statement) -> Result<CodeLis
     Ok(CodeList { codes })
 }
 
-/// How many trees the statement evaluates.
+/// How many codes the statement has.
 fn count(statement: &Statement) -> usize
     ensures { result ≡ length (evaluated (sentence_of statement.now)) }
 {
@@ -66,7 +67,7 @@ fn count(statement: &Statement) -> usize
     }
 }
 
-/// How many codes the number of a variable takes: 1 if it is computed.
+/// How many codes the number of a variable takes: 1 if it is calculated, else 0.
 fn count_name(variable: &VarRef) -> usize
     ensures count { result ≡ length (evaluated_name (variable_of variable.now)) }
     ensures bound { result ≤ 1 }
@@ -77,7 +78,7 @@ fn count_name(variable: &VarRef) -> usize
     }
 }
 
-/// How many codes the target of a jump takes: 1 if it is computed.
+/// How many codes the target of a jump takes: 1 if it is calculated, else 0.
 fn count_target(target: &Target) -> usize
     ensures count { result ≡ length (evaluated_aim (aim_of target.now)) }
     ensures bound { result ≤ 1 }
@@ -88,7 +89,8 @@ fn count_target(target: &Target) -> usize
     }
 }
 
-/// Puts the code of each expression of the statement, in the order of evaluation.
+/// Adds the code of each expression of the statement, in the order of evaluation. The errors are
+/// those of `compile`.
 fn put_statement(
     alloc: Global,
     codes: &mut Vec<Code>,
@@ -112,7 +114,7 @@ fn put_statement(
     }
 }
 
-/// Puts the codes of both sides of a comparison.
+/// Adds the codes of both sides of a comparison. The errors are those of `compile`.
 fn put_condition(alloc: Global, codes: &mut Vec<Code>, condition: &Cond) -> Result<(), NoMemory>
     ensures { OnOk result (codes.new.items ≡ codes.old.items ++ evaluated_test (test_of condition.now)) }
 {
@@ -120,7 +122,8 @@ fn put_condition(alloc: Global, codes: &mut Vec<Code>, condition: &Cond) -> Resu
     put(alloc, codes, &condition.right)
 }
 
-/// The number of the variable, where it is computed, and then the value.
+/// Adds the code of the variable's number, if it is calculated, and then that of the value. The
+/// errors are those of `compile`.
 fn put_assignment(
     alloc: Global,
     codes: &mut Vec<Code>,
@@ -134,7 +137,7 @@ fn put_assignment(
     put(alloc, codes, tree)
 }
 
-/// Puts the code of a variable's number, if it is computed.
+/// Adds the code of a variable's number, if it is calculated. The errors are those of `compile`.
 fn put_name(alloc: Global, codes: &mut Vec<Code>, variable: &VarRef) -> Result<(), NoMemory>
     ensures { OnOk result (codes.new.items ≡ codes.old.items ++ evaluated_name (variable_of variable.now)) }
 {
@@ -144,7 +147,7 @@ fn put_name(alloc: Global, codes: &mut Vec<Code>, variable: &VarRef) -> Result<(
     }
 }
 
-/// Puts the code of a jump's target, if it is computed.
+/// Adds the code of a jump's target, if it is calculated. The errors are those of `compile`.
 fn put_target(alloc: Global, codes: &mut Vec<Code>, target: &Target) -> Result<(), NoMemory>
     ensures { OnOk result (codes.new.items ≡ codes.old.items ++ evaluated_aim (aim_of target.now)) }
 {
@@ -154,7 +157,7 @@ fn put_target(alloc: Global, codes: &mut Vec<Code>, target: &Target) -> Result<(
     }
 }
 
-/// Puts the code of one expression.
+/// Adds the code of one expression. The errors are those of `compile`.
 fn put(alloc: Global, codes: &mut Vec<Code>, tree: &Expr) -> Result<(), NoMemory>
     ensures { OnOk result (codes.new.items ≡ codes.old.items ++ tree_of tree.now ∷ []) }
 {

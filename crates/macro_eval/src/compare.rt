@@ -1,4 +1,4 @@
-//! Comparisons.
+//! The comparisons of conditions: EQ, NE, GT, GE, LT, LE. block_values calls `holds`.
 ghost use Rattle.std.specs.Prelude.{◌≡◌};
 ghost use Rattle.macro_eval.specs.Relations.{are_same, holds_of};
 

@@ -1,4 +1,4 @@
-//! The stack of an evaluation.
+//! The stack of an evaluation. It has room for 16 values and takes no memory.
 ghost use Rattle.std.specs.Prelude.{◌≡◌, ◌<◌, [], ◌∷◌, length};
 
 use crate::code::OPERANDS;
@@ -8,7 +8,9 @@ use std::marker::Model;
 /// The operands of an evaluation, the last one first.
 #[derive(Drop)]
 pub struct Operands {
+    /// The places of the stack, the first operand first.
     values: [Var; OPERANDS],
+    /// How many of them are in use.
     height: usize,
 }
 

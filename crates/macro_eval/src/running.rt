@@ -1,4 +1,4 @@
-//! The evaluation of a code.
+//! The evaluation of a code. One instruction is in `stepping`.
 ghost use Rattle.std.specs.Prelude.{◌≡◌, ◌+◌, ◌-◌, ◌<◌, ◌≤◌, ℕ, List, [], true, length, Result};
 ghost use Rattle.nc_number.specs.declared.value.Var.{Var};
 ghost use Rattle.macro_expr.specs.Tree.{Tree, variables};
@@ -13,7 +13,8 @@ use crate::scope::{Eval, Scope};
 use crate::stepping::{is_join, is_operand, operand_value, pair_value, step};
 use nc_number::Var;
 
-/// The answer of the code, and the reads that are left, by a stack of operands.
+/// The answer of the code, and the reads that are left, by a stack of operands. The general way of
+/// `evaluate`.
 #[inline(never)]
 fn run<'a, S: Scope>(instrs: &[Instr], scope: &S, reads: &'a [Var]) -> (Eval, &'a [Var])
     requires { fits OPERANDS instrs.now 0 ≡ true }

@@ -1,4 +1,5 @@
-//! What an evaluation asks of its variables, and what it answers.
+//! What an evaluation asks of its variables, and what it answers. Who knows the variables
+//! (path_state) has this trait.
 ghost use Rattle.std.specs.Prelude.{◌≡◌, ℕ, Result};
 ghost use Rattle.macro_eval.specs.declared.scope.Look.{Look};
 ghost use Rattle.macro_eval.specs.declared.scope.VarFault.{VarFault};

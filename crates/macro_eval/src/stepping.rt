@@ -1,4 +1,4 @@
-//! One instruction of an evaluation.
+//! One instruction of an evaluation. The order of instructions is in `running`.
 ghost use Rattle.std.specs.Prelude.{◌≡◌, ◌≤◌, ◌==◌, [], ◌∷◌, List, length};
 ghost use Rattle.nc_number.specs.declared.value.Var.{Var};
 ghost use Rattle.macro_eval.specs.Meaning.{made, signed, function_value, operator_value, looked_at, looked_up};
@@ -14,7 +14,7 @@ use nc_number::{
     neg, round, sqrt, sub,
 };
 
-/// A number that was computed, or the alarm of its fault.
+/// A number that was calculated, or the alarm of its fault.
 fn made(number: Result<Value, NumberFault>) -> Eval
     ensures { result ≡ made number }
 {
@@ -24,7 +24,7 @@ fn made(number: Result<Value, NumberFault>) -> Eval
     }
 }
 
-/// What stands behind a sign.
+/// The value after a sign; a vacant one counts as 0.
 fn signed(minus: bool, operand: &Var) -> Eval
     ensures { result ≡ signed minus operand.now }
 {
@@ -75,7 +75,7 @@ fn looked_at<'a, S: Scope>(scope: &S, variable: u32, reads: &'a [Var]) -> (Eval,
     }
 }
 
-/// What a look at the variable of that number gives.
+/// What a look at the variable of that number gives, and the reads that are left.
 fn looked_up<'a, S: Scope>(scope: &S, number: &Var, reads: &'a [Var]) -> (Eval, &'a [Var])
     ensures { (result.0, result.1.now) ≡ looked_up (S.table scope.now) number.now reads.now }
 {

@@ -1,12 +1,12 @@
-//! Values as whole numbers and as numbers of variables.
+//! Values as whole numbers and as numbers of variables. block_values calls these too.
 ghost use Rattle.std.specs.Prelude.{◌≡◌, ◌≤◌, unsigned_abs, IfOk};
 ghost use Rattle.macro_eval.specs.Meaning.{whole_number, variable_number};
 
 use nc_number::{Cause, Var};
 
-/// The whole number that a computed value is; a vacant one counts as 0.
+/// The whole number that a calculated value is; a vacant one counts as 0.
 ///
-/// It is alarm 4 where the value has a fraction.
+/// Error: alarm 4 if the value has a fraction.
 pub fn whole_number(computed: &Var) -> Result<i64, Cause>
     ensures value { result ≡ whole_number computed.now }
     ensures range { IfOk result (λ n. unsigned_abs n ≤ 99999999) }
@@ -17,9 +17,9 @@ pub fn whole_number(computed: &Var) -> Result<i64, Cause>
     }
 }
 
-/// The number of the variable that a computed value names; a vacant one counts as 0.
+/// The number of the variable that a calculated value names; a vacant one counts as 0.
 ///
-/// It is alarm 4 where the value has a fraction, and 30 where it is below 0.
+/// Error: alarm 4 if the value has a fraction, and 30 if it is below 0.
 pub fn variable_number(computed: &Var) -> Result<u32, Cause>
     ensures { result ≡ variable_number computed.now }
 {

@@ -9,6 +9,7 @@ use Rattle.nc_number.specs.Results.{◌>>=◌}
 use Rattle.nc_number.specs.Answers.{Fails}
 use Rattle.macro_expr.specs.Reading.{Read, chain, joined_by}
 
+-- the tree, as it is read
 abbrev pub ok_tree : Tree → Result Tree Stop
 ok_tree t = Ok t
 

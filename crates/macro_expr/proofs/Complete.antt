@@ -1,4 +1,5 @@
 -- What has a tree by the grammar is read as that tree.
+-- macro_limits takes `first_at`, `looked` and `sum_is`.
 use Rattle.std.proofs.Common.{◌≡◌, ℕ, zero, suc, ◌/◌, ◌==◌, Bool, true, false, cond, List, [], ◌∷◌, ◌++◌, None, Some, Result, Ok, Err, ℤ, unsigned_abs, refl, sym, ◌∙◌, ap, arith, append_assoc}
 use Rattle.std.specs.Prelude.{codes}
 use Rattle.std.specs.Char.{is_ascii_digit}
@@ -23,9 +24,11 @@ use Rattle.macro_expr.proofs.ChainLaws.{IsRead, chained, chain_read}
 abbrev pub NoNumber : List ℕ → Type 0
 NoNumber rest = begins is_number_byte rest ≡ false
 
+-- the text begins with no operator of a term
 abbrev pub NoProduct : List ℕ → Type 0
 NoProduct rest = NoNumber rest × (operator Product rest ≡ None)
 
+-- the text begins with no operator at all that could go on the expression
 abbrev pub NoSum : List ℕ → Type 0
 NoSum rest = NoNumber rest × (operator Product rest ≡ None) × (operator Sum rest ≡ None)
 
@@ -36,6 +39,7 @@ product_quiet =
     each (operator_words Product) (λ w op. (rest : List ℕ) → NoNumber (w ++ rest))
     ((λ _. refl) also (λ _. refl) also (λ _. refl) also (λ _. refl) also tt)
 
+-- an operator of a sum is none of a term
 sum_quiet : (word : List ℕ) (op : Op) → IsWord (operator_words Sum) word op
     → (rest : List ℕ) → NoProduct (word ++ rest)
 unfolding operator
@@ -43,10 +47,12 @@ sum_quiet =
     each (operator_words Sum) (λ w op. (rest : List ℕ) → NoProduct (w ++ rest))
     ((λ _. (refl, refl)) also (λ _. (refl, refl)) also (λ _. (refl, refl)) also (λ _. (refl, refl)) also tt)
 
+-- a text that goes on no number begins with no digit
 no_digit : (rest : List ℕ) → NoNumber rest → begins is_ascii_digit rest ≡ false
 no_digit [] quiet = refl
 no_digit (b ∷ rest) quiet = (or_parts (is_ascii_digit b) (b == 46) quiet).0
 
+-- a number of few enough digits is read as its millionths
 literal_read : (t : List ℕ) → is_literal t ≡ true → has_too_many_digits t ≡ false → literal_of t ≡ Ok (literal_micro t)
 unfolding literal_of
 literal_read t is short =
@@ -58,6 +64,7 @@ literal_read t is short =
 abbrev pub valued : {A : Type 0} → (ℕ → Bool) → (ℤ → A) → List ℕ → ℤ → Read A
 valued p value text m = Ok (value m, behind_run p text)
 
+-- a run of digits is read as its number, if no such byte follows
 run_read : {A : Type 0} (p : ℕ → Bool) (value : ℤ → A) (t rest : List ℕ) → list_all p t ≡ true → is_literal t ≡ true
     → has_too_many_digits t ≡ false → begins p rest ≡ false
     → (literal_of (run p (t ++ rest)) >>= valued p value (t ++ rest)) ≡ Ok (value (literal_micro t), rest)
@@ -66,6 +73,7 @@ run_read p value t rest bytes is short quiet =
     ap (λ r. r >>= valued p value (t ++ rest)) (ap literal_of cut.0 ∙ literal_read t is short)
     ∙ ap (λ xs. Ok (value (literal_micro t), xs)) cut.1
 
+-- a whole number is read as it is
 pub digits_read : IsRead (λ rest. begins is_ascii_digit rest ≡ false) IsWhole digits_at
 unfolding digits_at
 digits_read t n is rest quiet =
@@ -89,6 +97,7 @@ no_mark b is = (
   grind (arith, nat_tests),
 )
 
+-- three steps of reading are the first two and then the third, or the first and then the other two
 bind_bind : {A B C : Type 0} (r : Result A Stop) (f : A → Result B Stop) (g : B → Result C Stop)
     → (r >>= λ x. f x >>= g) ≡ ((r >>= f) >>= g)
 bind_bind (Ok x) f g = refl
@@ -98,11 +107,13 @@ bind_bind (Err e) f g = refl
 abbrev pub first_at : (List ℕ → Read Tree) → List ℕ → Read Tree
 first_at inner = chained Product (signed_at inner) (prim_at inner)
 
+-- a sum is a chain, whose first term may have a sign
 pub sum_is : (inner : List ℕ → Read Tree) (text : List ℕ)
     → sum_at inner text ≡ chained Sum (first_at inner) (product_at inner) text
 unfolding sum_at
 sum_is inner text = bind_bind (signed_at inner text) _ _
 
+-- a variable that was read, as an expression
 abbrev pub looked : Named × List ℕ → Read Tree
 looked v = Ok (look v.0, v.1)
 
@@ -198,10 +209,12 @@ module _ (inner : List ℕ → Read Tree) (Inner : List ℕ → Tree → Type 0)
       ∙ chain_read Sum _ _ (first_at inner) (product_at inner) NoProduct first_read product_read sum_quiet
       t e is rest (quiet.0, quiet.1) quiet.2
 
+-- behind a closing bracket no operator stands
 pub behind_bracket : (rest : List ℕ) → NoSum (codes "]" ++ rest)
 unfolding operator
 behind_bracket rest = (refl, refl, refl)
 
+-- an expression whose brackets nest less than so deep is read as its tree
 pub within_read : (n : ℕ) → IsRead NoSum (IsWithin n) (inside n)
 unfolding inside
 within_read zero t e is rest quiet = absurd is

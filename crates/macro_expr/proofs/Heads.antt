@@ -1,4 +1,5 @@
 -- Words and runs at the head of a text.
+-- macro_limits and open_forms take lemmas from here.
 use Rattle.std.proofs.Common.{◌≡◌, ℕ, suc, ◌+◌, ◌==◌, ◌&&◌, not, Bool, true, false, cond, List, [], ◌∷◌, ◌++◌, length, take, drop, Option, None, Some, refl, sym, ◌∙◌, ap, subst, arith, inl, inr, eqb-true}
 use Rattle.std.specs.Prelude.{nat_le}
 use Rattle.std.specs.Option.{option_or, option_map}
@@ -54,9 +55,11 @@ Each (w ∷ words) P = P w.0 w.1 × Each words P
 
 -- what holds of the first word, and what of those behind it
 infixr 5 ◌also◌
+-- one proof for each word of a table, in a row
 abbrev pub ◌also◌ : {A B : Type 0} → A → B → A × B
 first also others = (first, others)
 
+-- what is proved of each word of a table holds of the word that was found
 pub each : {A : Type 0} (words : List (List ℕ × A)) (P : List ℕ → A → Type 0) → Each words P
     → (word : List ℕ) (m : A) → IsWord words word m → P word m
 each [] P all word m is = absurd is
@@ -68,6 +71,7 @@ abbrev pub Leads : Rank → List ℕ → Op → Type 0
 Leads rank word op = (rest : List ℕ) → ◌≡◌ {A = Option (Op × List ℕ) × Bool}
     (operator rank (word ++ rest), nat_le 1 (length word)) (Some (op, rest), true)
 
+-- a word of a rank leads to that operator
 pub leads : (rank : Rank) (word : List ℕ) (op : Op) → IsWord (operator_words rank) word op → Leads rank word op
 unfolding operator
 leads Product word op is =
@@ -77,6 +81,7 @@ leads Sum word op is =
     each (operator_words Sum) (Leads Sum)
     ((λ _. refl) also (λ _. refl) also (λ _. refl) also (λ _. refl) also tt) word op is
 
+-- a run that no such byte follows ends where the other text begins
 count_run : (p : ℕ → Bool) (t rest : List ℕ) → list_all p t ≡ true → begins p rest ≡ false
     → position_or_len (λ b. not (p b)) (t ++ rest) ≡ length t
 count_run p [] [] all quiet = refl
@@ -96,9 +101,11 @@ run_whole p t rest all quiet =
       ap (λ n. drop n (t ++ rest)) count ∙ drop-append_seam t rest,
     )
 
+-- a text is its longest run and what stands behind it
 pub run_splits : (p : ℕ → Bool) (text : List ℕ) → text ≡ run p text ++ behind_run p text
 run_splits p text = sym (take-append-drop (position_or_len (λ b. not (p b)) text) text)
 
+-- all bytes of the run are such bytes
 pub run_all : (p : ℕ → Bool) (text : List ℕ) → list_all p (run p text) ≡ true
 run_all p [] = refl
 run_all p (b ∷ text) = go (run_all p text) (p b) refl

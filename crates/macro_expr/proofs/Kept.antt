@@ -1,5 +1,6 @@
 -- What holds of each tree by the grammar: how deep its right operands stand, and how many variables
 -- it names.
+-- path_state takes `variables-append`.
 use Rattle.std.proofs.Common.{◌≡◌, ℕ, zero, suc, ◌+◌, ◌*◌, ◌≤◌, List, [], ◌∷◌, ◌++◌, arith}
 use Rattle.std.specs.Prelude.{codes}
 use Rattle.std.specs.List.{All}
@@ -23,12 +24,15 @@ pub record Kept (most : ℕ) (t : List ℕ) (e : Tree) : Type 0 where
 abbrev AreKept : ℕ → (List ℕ → Tree → Type 0) → Type 0
 AreKept most Texts = (t : List ℕ) (e : Tree) → Texts t e → Kept most t e
 
+-- two texts name the variables of both
 signs-append : (t u : List ℕ) → variable_signs (t ++ u) ≡ variable_signs t + variable_signs u
 signs-append t u = sum_by-append _ t u
 
+-- more text in front names no fewer variables
 behind : (a : ℕ) (front t : List ℕ) → a ≤ variable_signs t → a ≤ variable_signs (front ++ t)
 behind a front t named = rw (signs-append front t) (omega arith)
 
+-- a chain of operators: its right operands stand one deeper
 chain_kept : (rank : Rank) (First Operand : List ℕ → Tree → Type 0) (most : ℕ)
     → AreKept most First → AreKept most Operand → AreKept (suc most) (IsChain rank First Operand)
 chain_kept rank First Operand most first operand _ _ (one t e is) =
@@ -76,12 +80,14 @@ module _ (Inner : List ℕ → Tree → Type 0) (most : ℕ) (inner : AreKept mo
       (chain_kept Product (IsSigned Inner) (IsPrim Inner) most signed_kept prim_kept)
       (chain_kept Product (IsPrim Inner) (IsPrim Inner) most prim_kept prim_kept)
 
+-- an expression whose brackets nest less than n deep has right operands at most 2 n deep
 within_kept : (n : ℕ) → AreKept (2 * n) (IsWithin n)
 within_kept zero t e is = absurd is
 within_kept (suc n) t e is =
     let kept = sum_kept (IsWithin n) (2 * n) (within_kept n) t e is in
     record { deep = omega (arith, kept.deep); named = kept.named }
 
+-- an expression has them at most 12 deep, and names no more variables than its text has `#`
 pub expression_kept : AreKept 12 IsExpression
 expression_kept = within_kept 6
 
@@ -89,6 +95,7 @@ expression_kept = within_kept 6
 inside_kept : AreKept 12 (IsWithin 5)
 inside_kept t e is = let kept = within_kept 5 t e is in record { deep = omega (arith, kept.deep); named = kept.named }
 
+-- its right operands stand at most 12 deep
 abbrev IsShallow : Tree → Type 0
 IsShallow e = right_depth e ≤ 12
 
@@ -97,49 +104,59 @@ pub record AllKept (t : List ℕ) (trees : List Tree) : Type 0 where
   pub shallow : All IsShallow trees
   pub named : variables_in trees ≤ variable_signs t
 
+-- no tree at all,
 no_tree : (t : List ℕ) → AllKept t []
 no_tree t = record { shallow = All-nil IsShallow; named = omega arith }
 
+-- one tree,
 alone : (t : List ℕ) (e : Tree) → Kept 12 t e → AllKept t (e ∷ [])
 alone t e kept = record {
   shallow = All-cons IsShallow e [] kept.deep (All-nil IsShallow);
   named = omega (arith, kept.named);
 }
 
+-- two lists of trees name the variables of both
 pub variables-append : (xs ys : List Tree) → variables_in (xs ++ ys) ≡ variables_in xs + variables_in ys
 variables-append [] ys = omega arith
 variables-append (x ∷ xs) ys = let further = variables-append xs ys in omega arith
 
+-- and the trees of two texts are kept by both texts
 both : {t u : List ℕ} {xs ys : List Tree} → AllKept t xs → AllKept u ys → AllKept (t ++ u) (xs ++ ys)
 both {t} {u} {xs} {ys} left right = record {
   shallow = All-append IsShallow xs ys left.shallow right.shallow;
   named = rw (variables-append xs ys) (omega (arith, left.named, right.named, signs-append t u));
 }
 
+-- the trees of a condition,
 test_kept : (t : List ℕ) (test : Test) → IsTest t test → AllKept t (evaluated_test test)
 test_kept _ _ (compares t word u rel left right is_left is_word is_right) =
     both (no_tree (codes "[")) (both (alone t left (inside_kept t left is_left))
     (both (no_tree word) (both (alone u right (inside_kept u right is_right)) (no_tree (codes "]")))))
 
+-- of the target of a jump,
 aim_kept : (t : List ℕ) (aim : Aim) → IsTarget t aim → AllKept t (evaluated_aim aim) × IsAimInRange aim
 aim_kept _ _ (line t n is small) = (no_tree t, small)
 aim_kept _ _ (line_of t v is) = (alone t (look v) (variable_kept (IsWithin 5) 12 inside_kept t v is), tt)
 aim_kept _ _ (line_in t e is) = (alone t e (bracket_kept (IsWithin 5) 12 inside_kept t e is), tt)
 
+-- of the left side,
 name_kept : (t : List ℕ) (v : Named) → IsVariable (IsWithin 5) t v → AllKept t (evaluated_name v)
 name_kept _ _ (fixed t n is) = no_tree (codes "#" ++ t)
 name_kept _ _ (computed t e is) =
     both (no_tree (codes "#")) (alone t e (bracket_kept (IsWithin 5) 12 inside_kept t e is))
 
+-- and of an assignment
 assignment_kept : (t : List ℕ) (v : Named) (e : Tree) → IsAssignment t v e → AllKept t (evaluated_name v ++ e ∷ [])
 assignment_kept _ _ _ (assigns t u v e is_variable is) =
     both (name_kept t v is_variable) (both (no_tree (codes "=")) (alone u e (expression_kept u e is)))
 
+-- a loop is 1, 2 or 3
 loop_in_range : (word : List ℕ) (m : ℕ) → IsWord loop_words word m → IsLoop m
 loop_in_range =
     each loop_words (λ w m. IsLoop m)
     ((omega arith, omega arith) also (omega arith, omega arith) also (omega arith, omega arith) also tt)
 
+-- so a statement keeps it, and its numbers are in range
 pub statement_kept : (t : List ℕ) (s : Sentence) → IsStatement t s → AllKept t (evaluated s) × IsInRange s
 statement_kept _ _ (assign t v e is) = (assignment_kept t v e is, tt)
 statement_kept _ _ (goto t aim is) =

@@ -1,3 +1,4 @@
+-- The lemmas of this crate, each file by its subject. macro_limits takes most of them.
 pub mod Prefixes
 pub mod Chains
 pub mod Scans

@@ -1,9 +1,11 @@
 -- A text begins with a word.
+-- open_forms takes `behind_prefix`.
 use Rattle.std.proofs.Common.{◌≡◌, ℕ, ◌+◌, true, false, ◌==◌, ◌&&◌, nat_eq, List, [], ◌∷◌, length, take, drop, Option, None, Some, MatchOption, refl, cond, sym, ◌∙◌, ap, Bor}
 use Rattle.std.specs.Option.{option_map}
 use lib.Pointwise.{pointwise}
 use Rattle.macro_expr.specs.Words.{behind}
 
+-- what stands behind a word, by comparing the front
 behind_is : (word text : List ℕ)
     → behind word text ≡ cond (pointwise nat_eq (take (length word) text) word) (Some (drop (length word) text)) None
 behind_is [] text = refl
@@ -15,6 +17,7 @@ behind_is (w ∷ word) (b ∷ text) =
       | false ↦ refl
     ]
 
+-- the code's prefix search finds what stands behind the word
 pub behind_prefix : (word text : List ℕ) (r : Option (Bor (List ℕ)))
     → MatchOption r (pointwise nat_eq (take (length word) text) word ≡ false)
     (λ x. (pointwise nat_eq (take (length word) text) word ≡ true) × (x.now ≡ drop (length word) text)

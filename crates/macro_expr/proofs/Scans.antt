@@ -3,6 +3,7 @@ use Rattle.std.proofs.Common.{◌≡◌, ℕ, ◌+◌, ◌<◌, ◌||◌, true, 
 use Rattle.std.proofs.lemmas.List.{drop_more, take_more}
 use Rattle.macro_expr.specs.Limits.{begins_long, long_behind, too_deep}
 
+-- six open brackets are too many
 six_open : (rest : List ℕ) → too_deep 6 rest ≡ true
 six_open [] = refl
 six_open (b ∷ rest) = refl

@@ -1,4 +1,5 @@
 -- What is read of an expression has its tree by the grammar.
+-- macro_limits takes lemmas from here.
 use Rattle.std.proofs.Common.{◌≡◌, ℕ, zero, suc, ◌/◌, ◌==◌, Bool, true, false, cond, List, [], ◌++◌, Ok, Err, ℤ, unsigned_abs, refl, sym, subst, append_assoc}
 use Rattle.std.specs.Prelude.{codes}
 use Rattle.std.specs.Char.{is_ascii_digit}
@@ -29,6 +30,7 @@ literal_step {B} G t f next fails = go (is_literal t) refl (has_too_many_digits 
     go true is false short = next is short
     go false is b long = fails
 
+-- a run of digits that is read is such a number
 run-sound : {A : Type 0} {Is : List ℕ → A → Type 0} (p : ℕ → Bool) (value : ℤ → A)
     → ((t : List ℕ) → list_all p t ≡ true → is_literal t ≡ true → has_too_many_digits t ≡ false
     → Is t (value (literal_micro t))) → Reads Is (λ text. literal_of (run p text) >>= valued p value text)
@@ -38,6 +40,7 @@ run-sound {Is} p value make text =
     found (run p text) (behind_run p text) _ (make (run p text) (run_all p text) is short) (run_splits p text))
     (stops stop.Expression)
 
+-- a whole number that is read is one
 pub digits-sound : Reads IsWhole digits_at
 unfolding digits_at
 digits-sound =
@@ -112,6 +115,7 @@ module _ (inner : List ℕ → Read Tree) (Inner : List ℕ → Tree → Type 0)
       subst (Sound (IsSum Inner) text) (sym (sum_is inner text))
       (chained_sound Sum _ _ _ _ first-sound product-sound text)
 
+-- an expression that is read within so many brackets has that tree
 pub within-sound : (n : ℕ) → Reads (IsWithin n) (inside n)
 unfolding inside
 within-sound zero text = stops stop.Expression

@@ -1,4 +1,5 @@
 -- A statement of the grammar is read as that statement.
+-- macro_limits takes `condition_read`, `digits_target`, `looping` and `test_read`.
 use Rattle.std.proofs.Common.{◌≡◌, ℕ, ◌==◌, true, false, cond, List, [], ◌++◌, Some, Ok, Err, refl, sym, ◌∙◌, ap, append_assoc}
 use Rattle.std.specs.Prelude.{codes}
 use Rattle.std.specs.Char.{is_ascii_digit}
@@ -19,6 +20,7 @@ use Rattle.macro_expr.proofs.Complete.{NoSum, digits_read, begins_it, behind_bra
 abbrev Compares : List ℕ → Rel → Type 0
 Compares word rel = (rest : List ℕ) → (relation (word ++ rest) ≡ Some (rel, rest)) × NoSum (word ++ rest)
 
+-- a word of a relation is read as the relation
 compares_it : (word : List ℕ) (rel : Rel) → IsWord relation_words word rel → Compares word rel
 unfolding relation operator
 compares_it =
@@ -27,14 +29,17 @@ compares_it =
     also (λ _. (refl, (refl, refl, refl))) also (λ _. (refl, (refl, refl, refl))) also (λ _. (refl, (refl, refl, refl)))
     also tt)
 
+-- an expression before a closing bracket is read
 inner_reads : (n : ℕ) (t : List ℕ) (e : Tree) → IsWithin n t e → (rest : List ℕ)
     → inside n (t ++ (codes "]" ++ rest)) ≡ Ok (e, codes "]" ++ rest)
 inner_reads n t e is rest = within_read n t e is (codes "]" ++ rest) (behind_bracket rest)
 
+-- no operator follows at the end of a text
 nothing_follows : NoSum []
 unfolding operator
 nothing_follows = (refl, refl, refl)
 
+-- an expression that is all of the text is read
 expression_read : (t : List ℕ) (e : Tree) → IsExpression t e → inside 6 t ≡ Ok (e, [])
 expression_read t e is = ap (inside 6) (sym (append-nil t)) ∙ within_read 6 t e is [] nothing_follows
 
@@ -43,9 +48,11 @@ abbrev pub closing : Tree → Rel → (Tree × List ℕ) → Read Test
 closing left rel right =
     word_at (codes "]") right.1 >>= λ rest. Ok (record { left = left; rel = rel; right = right.0 }, rest)
 
+-- what stands behind the relation of a condition
 abbrev pub related : Tree → Rel × List ℕ → Read Test
 related left rel = inside 5 rel.1 >>= closing left rel.0
 
+-- a condition is read, whatever follows it,
 pub condition_read : (c : List ℕ) (test : Test) → IsTest c test → (rest : List ℕ)
     → condition_at (c ++ rest) ≡ Ok (test, rest)
 unfolding condition_at relation_at word_at
@@ -59,10 +66,12 @@ condition_read _ _ (compares t word u rel left right is_left is_rel is_right) re
     ∙ ap (λ o. relation_found o >>= related left) c.0
     ∙ ap (λ r. r >>= closing left rel) (inner_reads 5 u right is_right rest)
 
+-- also with its brackets
 pub test_read : (c : List ℕ) (test : Test) → IsTest c test → (rest : List ℕ) → test_at (c ++ rest) ≡ Ok (test, rest)
 unfolding test_at
 test_read c test is rest = ap or_no_condition (condition_read c test is rest)
 
+-- a variable that is all of the text is read
 as_variable : (t : List ℕ) (v : Named) → IsVariable (IsWithin 5) t v → variable_at (inside 5) t ≡ Ok (v, [])
 as_variable t v is =
     ap (variable_at (inside 5)) (sym (append-nil t))
@@ -83,6 +92,7 @@ digits_target t rest n is quiet =
     (begins_it is_ascii_digit t rest is.bytes is.literal)
     ∙ ap (λ r. r >>= (λ (n : ℕ × List ℕ). numbered n.0 n.1)) (digits_read t n is rest quiet)
 
+-- so is the target of a jump,
 target_read : (t : List ℕ) (aim : Aim) → IsTarget t aim → target_at t ≡ Ok (aim, [])
 unfolding target_at
 target_read _ _ (line t n is small) =
@@ -97,19 +107,23 @@ target_read _ _ (line_in _ _ (closed t e is)) =
     (ap (bracket_at (inside 5)) (sym (append-nil (codes "[" ++ (t ++ codes "]"))))
     ∙ bracket_read (inside 5) (IsWithin 5) (inner_reads 5) _ e (closed t e is) [])
 
+-- the number of a loop,
 loop_read : (word : List ℕ) (m : ℕ) → IsWord loop_words word m → loop_at word ≡ Ok (m, [])
 unfolding loop_at loop_of loop_word
 loop_read = each loop_words (λ w m. loop_at w ≡ Ok (m, [])) (refl also refl also refl also tt)
 
+-- what stands behind the left side of an assignment
 abbrev pub equals : Named × List ℕ → Read (Named × Tree)
 equals v = word_at (codes "=") v.1 >>= λ rest. inside 6 rest >>= λ e. Ok ((v.0, e.0), e.1)
 
+-- an assignment that is all of the text is read
 assignment_read : (t : List ℕ) (v : Named) (e : Tree) → IsAssignment t v e → assignment_at t ≡ Ok ((v, e), [])
 unfolding assignment_at word_at
 assignment_read _ _ _ (assigns t u v e is_variable is) =
     ap (λ r. r >>= equals) (variable_read (inside 5) (IsWithin 5) (inner_reads 5) t v is_variable (codes "=" ++ u) refl)
     ∙ ap (λ r. r >>= (λ e. Ok ((v, e.0), e.1))) (expression_read u e is)
 
+-- an assignment begins with `#`, byte 35
 starts_as_variable : (t : List ℕ) (v : Named) (e : Tree) → IsAssignment t v e → begins (λ b. b == 35) t ≡ true
 starts_as_variable _ _ _ (assigns _ u _ e (fixed t n w) is) = refl
 starts_as_variable _ _ _ (assigns _ u _ e (computed t x w) is) = refl
@@ -118,9 +132,11 @@ starts_as_variable _ _ _ (assigns _ u _ e (computed t x w) is) = refl
 abbrev pub looping : Test × List ℕ → Read Sentence
 looping test = word_at (codes "DO") test.1 >>= λ rest. loop_at rest >>= λ m. Ok (WhileDo test.0 m.0, m.1)
 
+-- an assignment that was read, as a statement
 abbrev as_assign : (Named × Tree) × List ℕ → Read Sentence
 as_assign a = Ok (Assign a.0.0 a.0.1, a.1)
 
+-- a statement that is all of the text is read,
 statement_read : (t : List ℕ) (s : Sentence) → IsStatement t s → statement_at t ≡ Ok (s, [])
 unfolding statement_at if_at while_at branch_at word_at keyword
 statement_read _ _ (assign t v e is) =
@@ -143,5 +159,6 @@ statement_read _ _ (end_loop word m is) = ap (λ r. r >>= (λ m. Ok (EndLoop m.0
 pub whole_expression_read : (t : List ℕ) (e : Tree) → IsExpression t e → whole (expression_at t) ≡ Ok e
 whole_expression_read t e is = ap whole (expression_read t e is)
 
+-- and nothing stands behind it
 pub whole_statement_read : (t : List ℕ) (s : Sentence) → IsStatement t s → whole (statement_at t) ≡ Ok s
 whole_statement_read t s is = ap whole (statement_read t s is)

@@ -1,4 +1,5 @@
 -- A statement that is read is one of the grammar.
+-- macro_limits and open_forms take lemmas from here.
 use Rattle.std.proofs.Common.{◌≡◌, ℕ, ◌==◌, nat_lt, Bool, true, false, cond, List, [], ◌∷◌, ◌++◌, length, Ok, Err, refl, sym, ◌∙◌, ap, subst, arith, append_assoc}
 use Rattle.std.specs.Prelude.{codes}
 use Rattle.std.specs.Char.{is_ascii_digit}
@@ -18,6 +19,7 @@ use Rattle.macro_expr.proofs.Steps.{Sound, found, stops, Reads, step, word_step,
 use Rattle.macro_expr.proofs.Sound.{digits-sound, bracket-sound, variable-sound, within-sound}
 use Rattle.macro_expr.proofs.StatementsComplete.{related}
 
+-- a condition that is read is one of the grammar,
 pub condition-sound : Reads IsTest condition_at
 unfolding condition_at relation_at relation
 condition-sound text =
@@ -31,6 +33,7 @@ condition-sound text =
     (simp (here, stands, relates, follows, ends, append_assoc)))))
     (stops stop.Expression)))
 
+-- also with its brackets,
 pub test-sound : Reads IsTest test_at
 unfolding test_at
 test-sound text = go (condition-sound text)
@@ -39,6 +42,7 @@ test-sound text = go (condition-sound text)
     go (found t rest x is stands) = found t rest x is stands
     go (stops s) = stops stop.Condition
 
+-- so is the target of a jump,
 pub target-sound : Reads IsTarget target_at
 unfolding target_at
 target-sound text = go (begins is_ascii_digit text) (begins (λ b. b == 35) text)
@@ -56,6 +60,7 @@ target-sound text = go (begins is_ascii_digit text) (begins (λ b. b == 35) text
         joins [] (λ v. ToNumberOf (look v)) line_of refl (variable-sound (inside 5) (IsWithin 5) (within-sound 5) text)
     go false false = joins [] ToNumberOf line_in refl (bracket-sound (inside 5) (IsWithin 5) (within-sound 5) text)
 
+-- and the number of a loop
 loop-sound : Reads (IsWord loop_words) loop_at
 unfolding loop_at loop_of loop_word
 loop-sound text =
@@ -64,9 +69,11 @@ loop-sound text =
     meant (λ o. Sound (IsWord loop_words) text (loop_found o rest)) loop_words number
     (λ m is. found number rest m is (run_splits is_ascii_digit text)) (stops stop.Loop)
 
+-- the text is an assignment of this tree to this variable
 abbrev pub IsAssign : List ℕ → Named × Tree → Type 0
 IsAssign t a = IsAssignment t a.0 a.1
 
+-- an assignment that is read is one of the grammar,
 pub assignment-sound : Reads IsAssign assignment_at
 unfolding assignment_at
 assignment-sound text =
@@ -76,6 +83,7 @@ assignment-sound text =
     found (t ++ (codes "=" ++ u)) rest (v, e) (assigns t u v e is_variable is)
     (simp (here, equals, stands, append_assoc)))))
 
+-- what is read behind IF,
 if-sound : (text at : List ℕ) → text ≡ codes "IF" ++ at → Sound IsStatement text (if_at at)
 unfolding if_at branch_at
 if-sound text at here =
@@ -88,6 +96,7 @@ if-sound text at here =
     step _ (assignment-sound body) (λ t rest a is follows.
     found _ rest _ (if_then c t test a.0 a.1 is_test is) (simp (here, stands, does, follows, append_assoc))))))
 
+-- behind WHILE,
 while-sound : (text at : List ℕ) → text ≡ codes "WHILE" ++ at → Sound IsStatement text (while_at at)
 unfolding while_at
 while-sound text at here =
@@ -100,6 +109,7 @@ while-sound text at here =
 abbrev Behind : List ℕ → List ℕ → Keyword → Type 0
 Behind text word k = (at : List ℕ) → text ≡ word ++ at → Sound IsStatement text (statement_for k at)
 
+-- and so each statement
 pub statement-sound : Reads IsStatement statement_at
 unfolding statement_at keyword
 statement-sound text = go (begins (λ b. b == 35) text)
@@ -129,8 +139,10 @@ whole-sound (found t (b ∷ rest) x is stands) y read =
     let fails = ap (λ z. cond z (Ok x) (Err stop.Expression)) (sym more) ∙ read in
     absurd (let no : ⊥ = cc in no)
 
+-- an expression that is all of the text has its tree by the grammar
 pub whole-expression-sound : (text : List ℕ) (e : Tree) → whole (expression_at text) ≡ Ok e → IsExpression text e
 whole-expression-sound text e read = whole-sound (within-sound 6 text) e read
 
+-- and so has a statement
 pub whole-statement-sound : (text : List ℕ) (s : Sentence) → whole (statement_at text) ≡ Ok s → IsStatement text s
 whole-statement-sound text s read = whole-sound (statement-sound text) s read

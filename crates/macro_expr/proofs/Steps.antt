@@ -1,4 +1,5 @@
 -- Steps of a reading: what is read stands at the head of the text by the grammar.
+-- macro_limits takes `Reads`, `Sound`, `found` and `stops`.
 use Rattle.std.proofs.Common.{◌≡◌, ℕ, List, ◌++◌, Ok, Err, append_assoc}
 use Rattle.macro_expr.specs.declared.stop.Stop.{Stop}
 use Rattle.macro_expr.specs.declared.stop.Stop.TheVariants as stop

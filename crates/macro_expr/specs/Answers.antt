@@ -1,4 +1,5 @@
 -- What is answered for a text, as it stands on the tape.
+-- block_forms, macro_limits and open_forms take words from here.
 use Rattle.std.specs.Prelude.{◌≤◌, ℕ, false, List, Result}
 use Rattle.nc_number.specs.declared.limits.TheConstants.{MOST_READS}
 use Rattle.macro_expr.specs.declared.tree.ExprFault.{ExprFault}
@@ -11,6 +12,7 @@ use Rattle.macro_expr.specs.Limits.{cleaned, variable_signs, answer}
 abbrev pub HasTree : List ℕ → Tree → Type 0
 HasTree text tree = IsExpression (cleaned false text) tree × (variable_signs (cleaned false text) ≤ MOST_READS)
 
+-- the same of a statement
 abbrev pub HasSentence : List ℕ → Sentence → Type 0
 HasSentence text sentence = IsStatement (cleaned false text) sentence × (variable_signs (cleaned false text) ≤ MOST_READS)
 

@@ -1,4 +1,5 @@
 -- The grammar of expressions and statements: which trees a cleaned text has.
+-- block_forms, macro_limits and open_forms take words from here.
 use Rattle.std.specs.Prelude.{◌≡◌, ℕ, zero, suc, ◌/◌, ◌≤◌, Bool, true, false, List, [], ◌∷◌, ◌++◌, ℤ, unsigned_abs, codes, ◌⊎◌}
 use Rattle.std.specs.Char.{is_ascii_digit}
 use Rattle.std.specs.List.{list_all}

@@ -1,4 +1,5 @@
 -- The limits of a text, and which refusal is answered where several hold.
+-- block_forms, macro_limits and open_forms take words from here.
 use Rattle.std.specs.Prelude.{ℕ, suc, Bool, true, false, ◌-◌, ◌==◌, ◌&&◌, ◌||◌, not, nat_eq, nat_lt, List, [], ◌∷◌, ◌++◌, length, slice_index, count_by, codes, Result, Ok, Err, if◌then◌else◌}
 use Rattle.std.specs.Char.{is_ascii_digit, to_ascii_uppercase}
 use Rattle.std.specs.List.{starts_with, ends_with}
@@ -15,6 +16,7 @@ use Rattle.macro_expr.specs.declared.stop.Stop.{Stop}
 use Rattle.macro_expr.specs.declared.stop.Stop.TheVariants.{Expression, Condition, Function, Loop, Sequence}
 use Rattle.macro_expr.specs.Words.{run, begins}
 
+-- the refusal of this cause
 abbrev pub refusal : Cause → ExprFault
 refusal cause = record { number = cause_number cause }
 
@@ -58,6 +60,7 @@ abbrev pub long_behind : List ℕ → List ℕ → Bool
 long_behind before [] = false
 long_behind before (b ∷ text) = begins_long before (b ∷ text) || long_behind (before ++ b ∷ []) text
 
+-- a number in the text has too many digits
 unfoldable pub has_long_number : List ℕ → Bool
 has_long_number text = long_behind [] text
 
@@ -70,6 +73,7 @@ abbrev pub too_deep : ℕ → List ℕ → Bool
 too_deep opened [] = nat_lt MOST_BRACKETS opened
 too_deep opened (b ∷ text) = nat_lt MOST_BRACKETS opened || too_deep (open_behind opened b) text
 
+-- more than five brackets are open at once
 unfoldable pub has_deep_brackets : List ℕ → Bool
 has_deep_brackets text = too_deep 0 text
 
@@ -77,6 +81,7 @@ has_deep_brackets text = too_deep 0 text
 abbrev pub variable_signs : List ℕ → ℕ
 variable_signs text = count_by (λ b. b == 35) text
 
+-- the text names more variables than a block may read, which are 32
 abbrev pub has_many_variables : List ℕ → Bool
 has_many_variables text = nat_lt MOST_READS (variable_signs text)
 

@@ -1,5 +1,6 @@
 -- Reading a text from left to right: its tree, or the refusal of the first place where reading
 -- fails. Laws beside this say that the trees are exactly those of the grammar.
+-- macro_limits takes words from here.
 use Rattle.std.specs.Prelude.{ℕ, zero, suc, ◌/◌, ◌==◌, Bool, List, length, Option, Some, None, Result, Ok, Err, ℤ, unsigned_abs, codes, if◌then◌else◌}
 use Rattle.std.specs.Char.{is_ascii_digit}
 use Rattle.nc_number.specs.Literals.{is_literal, has_too_many_digits, literal_micro}
@@ -22,6 +23,7 @@ abbrev pub expected : Option (List ℕ) → Result (List ℕ) Stop
 expected None = Err stop.Expression
 expected (Some rest) = Ok rest
 
+-- this word, and what stands behind it
 unfoldable pub word_at : List ℕ → List ℕ → Result (List ℕ) Stop
 word_at word text = expected (behind word text)
 
@@ -32,6 +34,7 @@ literal_of digits =
     then (if has_too_many_digits digits then Err stop.Expression else Ok (literal_micro digits))
     else Err stop.Expression
 
+-- a number without a sign
 unfoldable pub number_at : List ℕ → Read Tree
 number_at text = do
   micro ← literal_of (run is_number_byte text)
@@ -58,6 +61,7 @@ variable_behind inner text =
     then (digits_at text >>= λ n. Ok (Fixed n.0, n.1))
     else (bracket_at inner text >>= λ e. Ok (Computed e.0, e.1))
 
+-- a variable: `#` and its number, or `#` and an expression in brackets
 unfoldable pub variable_at : (List ℕ → Read Tree) → List ℕ → Read Named
 variable_at inner text = do
   rest ← word_at (codes "#") text
@@ -70,6 +74,7 @@ applied inner (Some f) text = do
   e ← bracket_at inner text
   Ok (Applied f e.0, e.1)
 
+-- a function and its brackets
 unfoldable pub function_at : (List ℕ → Read Tree) → List ℕ → Read Tree
 function_at inner text = applied inner (function_of (run is_letter text)) (behind_run is_letter text)
 
@@ -88,6 +93,7 @@ signed_by inner (Some found) text = do
   e ← prim_at inner found.1
   Ok (Signed found.0 e.0, e.1)
 
+-- a prim with its sign, if it has one
 unfoldable pub signed_at : (List ℕ → Read Tree) → List ℕ → Read Tree
 signed_at inner text = signed_by inner (sign text) text
 
@@ -119,6 +125,7 @@ operand_at Sum inner = product_at inner
 abbrev pub chain_at : Rank → (List ℕ → Read Tree) → Tree → List ℕ → Read Tree
 chain_at rank inner left text = chain (operator rank) (operand_at rank inner) (length text) left text
 
+-- a sum: the chain of its terms, of which the first one may have a sign
 unfoldable pub sum_at : (List ℕ → Read Tree) → List ℕ → Read Tree
 sum_at inner text = do
   first ← signed_at inner text

@@ -1,4 +1,5 @@
 -- Reading a statement from left to right.
+-- block_forms, macro_limits and open_forms take words from here.
 use Rattle.std.specs.Prelude.{ℕ, suc, ◌==◌, nat_lt, List, length, Option, Some, None, Result, Ok, Err, codes, if◌then◌else◌}
 use Rattle.std.specs.Char.{is_ascii_digit}
 use Rattle.nc_number.specs.declared.limits.TheConstants.{MOST_BRACKETS}
@@ -16,10 +17,12 @@ use Rattle.macro_expr.specs.Reading.{Read, word_at, digits_at, bracket_at, varia
 abbrev pub expression_at : List ℕ → Read Tree
 expression_at = inside (suc MOST_BRACKETS)
 
+-- the relation that was found, or that this is no expression
 abbrev pub relation_found : Option (Rel × List ℕ) → Read Rel
 relation_found None = Err stop.Expression
 relation_found (Some found) = Ok found
 
+-- the relation of a condition
 unfoldable pub relation_at : List ℕ → Read Rel
 relation_at text = relation_found (relation text)
 
@@ -33,6 +36,7 @@ condition_at text = do
   rest ← word_at (codes "]") right.1
   Ok (record { left = left.0; rel = rel.0; right = right.0 }, rest)
 
+-- a condition, or that there is none
 abbrev pub or_no_condition : Read Test → Read Test
 or_no_condition (Ok test) = Ok test
 or_no_condition (Err fault) = Err stop.Condition
@@ -45,12 +49,14 @@ test_at text = or_no_condition (condition_at text)
 abbrev pub numbered : ℕ → List ℕ → Read Aim
 numbered n rest = if nat_lt 99999 n then Err stop.Sequence else Ok (ToNumber n, rest)
 
+-- the target of a jump: digits, a variable or an expression in brackets
 unfoldable pub target_at : List ℕ → Read Aim
 target_at text =
     if begins is_ascii_digit text then (digits_at text >>= λ n. numbered n.0 n.1)
     else if begins (λ b. b == 35) text then (variable_at (inside MOST_BRACKETS) text >>= λ v. Ok (ToNumberOf (look v.0), v.1))
     else (bracket_at (inside MOST_BRACKETS) text >>= λ e. Ok (ToNumberOf e.0, e.1))
 
+-- the number of a loop, or that this is none
 abbrev pub loop_found : Option ℕ → List ℕ → Read ℕ
 loop_found None rest = Err stop.Loop
 loop_found (Some m) rest = Ok (m, rest)
@@ -77,14 +83,17 @@ branch_by test None text = do
   a ← assignment_at rest
   Ok (IfThen test a.0.0 a.0.1, a.1)
 
+-- what stands behind the condition of an IF
 unfoldable pub branch_at : Test → List ℕ → Read Sentence
 branch_at test text = branch_by test (behind (codes "GOTO") text) text
 
+-- what stands behind IF
 unfoldable pub if_at : List ℕ → Read Sentence
 if_at text = do
   test ← test_at text
   branch_at test.0 test.1
 
+-- what stands behind WHILE
 unfoldable pub while_at : List ℕ → Read Sentence
 while_at text = do
   test ← test_at text
@@ -100,10 +109,12 @@ statement_for word.Goto text = target_at text >>= λ aim. Ok (Goto aim.0, aim.1)
 statement_for word.Do text = loop_at text >>= λ m. Ok (DoOnly m.0, m.1)
 statement_for word.End text = loop_at text >>= λ m. Ok (EndLoop m.0, m.1)
 
+-- the statement of the word that was found, or that this is none
 abbrev pub statement_by : Option (Keyword × List ℕ) → Read Sentence
 statement_by None = Err stop.Expression
 statement_by (Some found) = statement_for found.0 found.1
 
+-- a statement
 unfoldable pub statement_at : List ℕ → Read Sentence
 statement_at text =
     if begins (λ b. b == 35) text then (assignment_at text >>= λ a. Ok (Assign a.0.0 a.0.1, a.1))

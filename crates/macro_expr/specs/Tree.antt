@@ -1,4 +1,5 @@
 -- Trees of expressions and statements, without where they lie in memory.
+-- block_forms, block_values and nine more crates take words from here.
 use Rattle.std.specs.Prelude.{ℕ, suc, ◌+◌, ◌≤◌, max, ℤ, Bool, List, [], ◌∷◌, ◌++◌}
 use Rattle.macro_expr.specs.declared.tree.Fun.{Fun}
 use Rattle.macro_expr.specs.declared.tree.Op.{Op}
@@ -69,6 +70,7 @@ pub record Test : Type 0 where
   pub rel : Rel
   pub right : Tree
 
+-- the condition of the code, without where it lies in memory
 abbrev pub test_of : Cond → Test
 test_of c = record { left = tree_of c.left; rel = c.rel; right = tree_of c.right }
 
@@ -77,6 +79,7 @@ pub data Aim : Type 0 where
   ToNumber : ℕ → Aim
   ToNumberOf : Tree → Aim
 
+-- the target of a jump of the code
 abbrev pub aim_of : Target → Aim
 aim_of (Line n) = ToNumber n
 aim_of (LineOf e) = ToNumberOf (tree_of e)
@@ -91,6 +94,7 @@ pub data Sentence : Type 0 where
   DoOnly : ℕ → Sentence
   EndLoop : ℕ → Sentence
 
+-- the statement of the code
 abbrev pub sentence_of : Statement → Sentence
 sentence_of (statement.Assign v e) = Assign (variable_of v) (tree_of e)
 sentence_of (statement.Goto t) = Goto (aim_of t)
@@ -106,14 +110,17 @@ sentence_of (statement.EndLoop m) = EndLoop m
 abbrev pub evaluated_test : Test → List Tree
 evaluated_test test = test.left ∷ test.right ∷ []
 
+-- of a left side: the tree that gives its number, if it is computed
 abbrev pub evaluated_name : Named → List Tree
 evaluated_name (Fixed n) = []
 evaluated_name (Computed e) = e ∷ []
 
+-- of a target: the tree that gives it, if it is computed
 abbrev pub evaluated_aim : Aim → List Tree
 evaluated_aim (ToNumber n) = []
 evaluated_aim (ToNumberOf e) = e ∷ []
 
+-- and of a statement
 abbrev pub evaluated : Sentence → List Tree
 evaluated (Assign v e) = evaluated_name v ++ e ∷ []
 evaluated (Goto aim) = evaluated_aim aim
@@ -132,10 +139,12 @@ variables_in (e ∷ trees) = variables e + variables_in trees
 abbrev pub IsLoop : ℕ → Type 0
 IsLoop m = (1 ≤ m) × (m ≤ 3)
 
+-- a target that is written out is a sequence number, at most 99,999
 abbrev pub IsAimInRange : Aim → Type 0
 IsAimInRange (ToNumber n) = n ≤ 99999
 IsAimInRange (ToNumberOf e) = Unit {0}
 
+-- the numbers that the statement writes out are in range
 abbrev pub IsInRange : Sentence → Type 0
 IsInRange (Assign v e) = Unit {0}
 IsInRange (Goto aim) = IsAimInRange aim

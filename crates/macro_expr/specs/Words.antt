@@ -1,4 +1,5 @@
 -- The words of the grammar, and the runs of letters and digits. 65 is A, 90 Z, 46 the point.
+-- macro_limits and open_forms take words from here.
 use Rattle.std.specs.Prelude.{ℕ, Bool, true, false, ◌==◌, ◌&&◌, ◌||◌, nat_le, List, [], ◌∷◌, length, take, drop, not, Option, None, Some, codes, if◌then◌else◌}
 use Rattle.std.specs.Option.{option_or, option_map}
 use Rattle.std.specs.List.{position_or_len}
@@ -30,25 +31,32 @@ abbrev pub operator_words : Rank → List (List ℕ × Op)
 operator_words Product = (codes "*", Mul) ∷ (codes "/", Div) ∷ (codes "AND", BitAnd) ∷ (codes "MOD", Modulo) ∷ []
 operator_words Sum = (codes "+", Add) ∷ (codes "-", Sub) ∷ (codes "OR", BitOr) ∷ (codes "XOR", BitXor) ∷ []
 
+-- the relations of a condition
 abbrev pub relation_words : List (List ℕ × Rel)
 relation_words =
     (codes "EQ", Eq) ∷ (codes "NE", Ne) ∷ (codes "GT", Gt) ∷ (codes "GE", Ge) ∷ (codes "LT", Lt) ∷ (codes "LE", Le) ∷ []
 
+-- the signs, and whether each turns the value round
 abbrev pub sign_words : List (List ℕ × Bool)
 sign_words = (codes "+", false) ∷ (codes "-", true) ∷ []
 
+-- the operator of this rank with which the text begins
 unfoldable pub operator : Rank → List ℕ → Option (Op × List ℕ)
 operator rank = first_word (operator_words rank)
 
+-- the relation with which it begins
 unfoldable pub relation : List ℕ → Option (Rel × List ℕ)
 relation = first_word relation_words
 
+-- the sign with which it begins
 unfoldable pub sign : List ℕ → Option (Bool × List ℕ)
 sign = first_word sign_words
 
+-- the byte is a letter, A to Z
 abbrev pub is_letter : ℕ → Bool
 is_letter b = nat_le 65 b && nat_le b 90
 
+-- the byte is a digit or the point
 abbrev pub is_number_byte : ℕ → Bool
 is_number_byte b = is_ascii_digit b || b == 46
 
@@ -56,6 +64,7 @@ is_number_byte b = is_ascii_digit b || b == 46
 abbrev pub run : (ℕ → Bool) → List ℕ → List ℕ
 run p text = take (position_or_len (λ b. not (p b)) text) text
 
+-- what stands behind the longest run of such bytes
 abbrev pub behind_run : (ℕ → Bool) → List ℕ → List ℕ
 behind_run p text = drop (position_or_len (λ b. not (p b)) text) text
 
@@ -64,6 +73,7 @@ abbrev pub begins : (ℕ → Bool) → List ℕ → Bool
 begins p [] = false
 begins p (b ∷ text) = p b
 
+-- the functions
 abbrev pub function_words : List (List ℕ × Fun)
 function_words =
     (codes "SQRT", Sqrt) ∷ (codes "ABS", Abs) ∷ (codes "FIX", Fix) ∷ (codes "FUP", Fup) ∷ (codes "ROUND", Round) ∷ []
@@ -81,6 +91,7 @@ all_of (Some found) = if length found.1 == 0 then Some found.0 else None
 unfoldable pub function_of : List ℕ → Option Fun
 function_of name = all_of (function_word name)
 
+-- the words of statements
 abbrev pub keyword_words : List (List ℕ × Keyword)
 keyword_words =
     (codes "IF", If) ∷ (codes "WHILE", While) ∷ (codes "GOTO", Goto) ∷ (codes "DO", Do) ∷ (codes "END", End) ∷ []
@@ -89,9 +100,11 @@ keyword_words =
 unfoldable pub keyword : List ℕ → Option (Keyword × List ℕ)
 keyword = first_word keyword_words
 
+-- the numbers of loops
 abbrev pub loop_words : List (List ℕ × ℕ)
 loop_words = (codes "1", 1) ∷ (codes "2", 2) ∷ (codes "3", 3) ∷ []
 
+-- the number of a loop with which it begins
 unfoldable pub loop_word : List ℕ → Option (ℕ × List ℕ)
 loop_word = first_word loop_words
 

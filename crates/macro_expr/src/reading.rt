@@ -1,4 +1,5 @@
 //! Expressions, read from left to right.
+//! For this crate alone.
 ghost use Rattle.std.specs.Prelude.{◌-◌, ◌<◌, Ok};
 ghost use Rattle.macro_expr.specs.Tree.{tree_of, variable_of, Joined};
 ghost use Rattle.nc_number.specs.Answers.{Gives};

@@ -1,4 +1,5 @@
 //! Statements, read from left to right.
+//! For this crate alone.
 ghost use Rattle.macro_expr.specs.Tree.{tree_of, variable_of, test_of, aim_of, sentence_of};
 ghost use Rattle.nc_number.specs.Answers.{Gives};
 ghost use Rattle.macro_expr.specs.Statements.{relation_at, condition_at, test_at, target_at, loop_at, assignment_at, branch_at, if_at, while_at, statement_for, statement_at};

@@ -1,4 +1,5 @@
 //! Why reading stops.
+//! block_forms, macro_limits and open_forms use it.
 ghost use Rattle.std.specs.Prelude.{◌≡◌};
 ghost use Rattle.macro_expr.specs.Limits.{refusal, cause_beside};
 

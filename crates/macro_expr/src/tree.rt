@@ -1,4 +1,5 @@
 //! The trees of expressions and statements.
+//! block_forms, block_values and six more crates use it.
 ghost use Rattle.std.specs.Prelude.{◌≡◌};
 ghost use Rattle.macro_expr.specs.Limits.{refusal};
 
@@ -88,8 +89,11 @@ pub enum Rel {
 /// A condition.
 #[derive(Drop)]
 pub struct Cond {
+    /// What stands before the relation.
     pub left: Expr,
+    /// The relation.
     pub rel: Rel,
+    /// What stands behind it.
     pub right: Expr,
 }
 
@@ -105,12 +109,19 @@ pub enum Target {
 /// A statement: what stands in a block in place of words.
 #[derive(Drop)]
 pub enum Statement {
+    /// `#i = expr`
     Assign(VarRef, Expr),
+    /// `GOTO n`
     Goto(Target),
+    /// `IF [cond] GOTO n`
     IfGoto(Cond, Target),
+    /// `IF [cond] THEN #i = expr`
     IfThen(Cond, VarRef, Expr),
+    /// `WHILE [cond] DO m`
     WhileDo(Cond, u8),
+    /// `DO m`
     DoOnly(u8),
+    /// `END m`
     EndLoop(u8),
 }
 
@@ -122,6 +133,7 @@ pub enum Statement {
 #[derive(Clone, Copy, Debug, PartialEq, Eq, Error)]
 #[error("refusal {number}")]
 pub struct ExprFault {
+    /// The number of the refusal, a row of the table of nc_number.
     pub number: u8,
 }
 

@@ -1,4 +1,5 @@
 //! The words of expressions: keywords, operators, functions.
+//! macro_limits and open_forms use it.
 ghost use Rattle.std.specs.Prelude.{◌≡◌, ◌≤◌, ◌==◌, not, length, take, drop, position, unwrap_or, IfSome};
 ghost use Rattle.std.specs.Option.{option_map};
 ghost use Rattle.std.specs.Char.{is_ascii_digit};
@@ -10,6 +11,7 @@ use crate::tree::{Fun, Op, Rel};
 /// The word that begins a statement other than an assignment.
 #[derive(Clone, Copy, Debug, PartialEq, Eq)]
 pub enum Keyword {
+    /// Before a condition, and then a jump or an assignment.
     If,
     While,
     Goto,

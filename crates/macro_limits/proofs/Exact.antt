@@ -1,4 +1,5 @@
 -- Which refusal is answered, by the cases of what is read and which limits are passed.
+-- For the law `each_limit_has_its_refusal`.
 use Rattle.std.proofs.Common.{◌≡◌, ◌↔◌, ℕ, ◌==◌, ◌&&◌, Bool, true, false, not, cond, List, Result, Ok, Err, refl, sym, ◌∙◌, ap, eqb-true, eq-eqb}
 use Rattle.std.proofs.lemmas.Bool.{and_parts, and_from, true≢false}
 use Rattle.nc_number.proofs.Bools.{not_true}
@@ -19,6 +20,7 @@ abbrev number_in : {A : Type 0} → Result A ExprFault → ℕ
 number_in (Ok x) = 0
 number_in (Err fault) = fault.number
 
+-- the refusal of this number
 abbrev fault_of : ℕ → ExprFault
 fault_of n = record { number = n }
 
@@ -41,6 +43,7 @@ Told n long deep many below =
     ◌≡◌ {A = Bool × Bool × Bool} (n == 5, n == 21, n == 25)
     (long, not long && deep, (not long && not deep) && (many && not below))
 
+-- so if reading stops,
 told_stop : (A : Type 0) (stop : Stop) (long deep many : Bool)
     → Told
     (cond long (refusal TooManyDigits) (cond deep (refusal TooManyBrackets) (refusal (cause_beside many stop)))).number
@@ -58,6 +61,7 @@ told_stop A stop.Loop false false false = refl
 told_stop A stop.Sequence false false true = refl
 told_stop A stop.Sequence false false false = refl
 
+-- and if it does not,
 told_tree : {A : Type 0} (x : A) (long deep many : Bool) → long ≡ false → deep ≡ false
     → Told (number_in (cond many (Err (refusal TooManyVariables)) (Ok x))) long deep many false
 told_tree x true deep many short shallow = absurd (true≢false short)
@@ -65,6 +69,7 @@ told_tree x false true many short shallow = absurd (true≢false shallow)
 told_tree x false false true short shallow = refl
 told_tree x false false false short shallow = refl
 
+-- whatever the text reads as
 told_answer : {A : Type 0} (text : List ℕ) (read : Result A Stop) → ((x : A) → read ≡ Ok x → IsWithinLimits text)
     → Told (number_in (answer text read)) (has_long_number text) (has_deep_brackets text) (has_many_variables text)
     (stops_before_variables read)
@@ -74,6 +79,7 @@ told_answer text (Ok x) within =
 told_answer {A} text (Err stop) within =
     told_stop A stop (has_long_number text) (has_deep_brackets text) (has_many_variables text)
 
+-- the answer is refused by the limits exactly as they say
 pub refused : {A : Type 0} (text : List ℕ) (read : Result A Stop) → ((x : A) → read ≡ Ok x → IsWithinLimits text)
     → IsRefusedByLimits text read (answer text read)
 refused text read within =
@@ -106,12 +112,13 @@ refused text read within =
       );
     }
 
--- what is read has a tree of the grammar
+-- an expression is refused by the limits exactly as they say: what reads has a tree of the grammar
 pub expression_refused : (text : List ℕ)
     → IsRefusedByLimits text (whole (expression_at text)) (answer text (whole (expression_at text)))
 expression_refused text =
     refused text (whole (expression_at text)) (λ e read. expression_limits text e (whole-expression-sound text e read))
 
+-- a statement is refused by the limits exactly as they say
 pub statement_refused : (text : List ℕ)
     → IsRefusedByLimits text (whole (statement_at text)) (answer text (whole (statement_at text)))
 statement_refused text =

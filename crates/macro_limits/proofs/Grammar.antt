@@ -1,4 +1,5 @@
 -- Each text of the grammar passes no limit: by induction over its parts.
+-- For both laws of src/law.rt.
 use Rattle.std.proofs.Common.{◌≡◌, ℕ, zero, suc, ◌+◌, ◌≤◌, Bool, true, false, cond, List, [], ◌∷◌, ◌++◌, length, nat_lt, refl, sym, ◌∙◌, ap, subst, arith, append_assoc}
 use Rattle.std.specs.Prelude.{codes}
 use Rattle.std.specs.Char.{is_ascii_digit}
@@ -25,6 +26,7 @@ word_is_plain : {A : Type 0} (words : List (List ℕ × A)) → Each words (λ w
     → (word : List ℕ) (m : A) → IsWord words word m → is_plain_word word ≡ true
 word_is_plain words all word m is = each words (λ w _. is_plain_word w ≡ true) all word m is
 
+-- an operator is a plain word
 operator_plain : (rank : Rank) (word : List ℕ) (op : Op) → IsWord (operator_words rank) word op
     → is_plain_word word ≡ true
 operator_plain Product = word_is_plain (operator_words Product) (refl also refl also refl also refl also tt)
@@ -53,6 +55,7 @@ inside_opens t opened few passes rest end =
     (open_ends (t ++ (93 ∷ rest)) opened small
     (passes (93 ∷ rest) (close_ends rest opened few (λ last quiet. end.1 last))))
 
+-- operands with operators between them pass no limit
 chain_passes : (rank : Rank) (First Operand : List ℕ → Tree → Type 0) (opened : ℕ) → opened ≤ 5
     → AllPass opened First → AllPass opened Operand → AllPass opened (IsChain rank First Operand)
 chain_passes rank First Operand opened few first operand _ _ (one t e is) = first t e is
@@ -102,6 +105,7 @@ levels_pass (suc (suc n)) opened few t e is =
     sum_passes (IsWithin (suc n)) opened (omega (arith, few))
     (λ t e is. (omega (arith, few), levels_pass (suc n) (suc opened) (omega (arith, few)) t e is)) t e is
 
+-- so no expression passes a limit
 expression_passes : AllPass 0 IsExpression
 expression_passes = levels_pass 6 0 (omega arith)
 
@@ -109,6 +113,7 @@ expression_passes = levels_pass 6 0 (omega arith)
 in_brackets : (t : List ℕ) (e : Tree) → IsWithin 5 t e → (1 ≤ 5) × Passes 1 t
 in_brackets t e is = (omega arith, levels_pass 5 1 (omega arith) t e is)
 
+-- at the start no bracket is open
 none_open : 0 ≤ 5
 none_open = omega arith
 
@@ -116,6 +121,7 @@ none_open = omega arith
 behind_word : (word t : List ℕ) → is_plain_word word ≡ true → Passes 0 t → Opens 0 (word ++ t)
 behind_word word t is_plain passes = word_opens word t 0 none_open is_plain passes
 
+-- a condition begins no number, and passes no limit
 test_opens : (t : List ℕ) (test : Test) → IsTest t test → Opens 0 t
 test_opens _ _ (compares t word u rel left right is_left is_word is_right) =
     let is_plain =
@@ -126,11 +132,13 @@ test_opens _ _ (compares t word u rel left right is_left is_word is_right) =
     subst (Opens 0) apart (inside_opens (t ++ (word ++ u)) 0 (omega arith)
     (then t (word ++ u) 1 (in_brackets t left is_left).1 behind))
 
+-- so the target of a GOTO
 target_passes : AllPass 0 IsTarget
 target_passes _ _ (line t n is small) = whole_passes t n 0 none_open is
 target_passes _ _ (line_of t v is) = opens_passes 0 t (variable_opens (IsWithin 5) 0 none_open in_brackets t v is)
 target_passes _ _ (line_in t e is) = bracket_passes (IsWithin 5) 0 none_open in_brackets t e is
 
+-- and an assignment
 assignment_passes : (t : List ℕ) (v : Named) (e : Tree) → IsAssignment t v e → Passes 0 t
 assignment_passes _ _ _ (assigns t u v e is_variable is) =
     then t (codes "=" ++ u) 0 (opens_passes 0 t (variable_opens (IsWithin 5) 0 none_open in_brackets t v is_variable))
@@ -141,6 +149,7 @@ abbrev IsShort : List ℕ → ℕ → Type 0
 IsShort word m =
     ◌≡◌ {A = Bool × Bool} (list_all is_ascii_digit word, nat_lt 8 (length (significant word))) (true, false)
 
+-- and the number of a loop
 loop_passes : (word : List ℕ) (m : ℕ) → IsWord loop_words word m → Passes 0 word
 loop_passes word m is rest end last quiet =
     let b = each loop_words IsShort (refl also refl also refl also tt) word m is in
@@ -155,9 +164,11 @@ behind_test word c middle t test first second is passes =
     (behind_word word (c ++ (middle ++ t)) first
     (then c (middle ++ t) 0 (opens_passes 0 c (test_opens c test is)) (behind_word middle t second passes)))
 
+-- a word and what stands behind it
 word_passes : (word t : List ℕ) → is_plain_word word ≡ true → Passes 0 t → Passes 0 (word ++ t)
 word_passes word t is_plain passes = opens_passes 0 (word ++ t) (behind_word word t is_plain passes)
 
+-- so no statement passes a limit
 statement_passes : AllPass 0 IsStatement
 statement_passes _ _ (assign t v e is) = assignment_passes t v e is
 statement_passes _ _ (goto t aim is) = word_passes (codes "GOTO") t refl (target_passes t aim is)
@@ -174,8 +185,10 @@ statement_passes _ _ (end_loop word m is) = word_passes (codes "END") word refl 
 alone : (t : List ℕ) → Passes 0 t → IsWithinLimits t
 alone t passes = text_within t (ap (passes_limit 0 0) (sym (append-nil t)) ∙ passes [] (refl, λ last. refl) 0 refl)
 
+-- a text that is an expression is within its limits
 pub expression_limits : (t : List ℕ) (e : Tree) → IsExpression t e → IsWithinLimits t
 expression_limits t e is = alone t (expression_passes t e is)
 
+-- a text that is a statement is within its limits
 pub statement_limits : (t : List ℕ) (s : Sentence) → IsStatement t s → IsWithinLimits t
 statement_limits t s is = alone t (statement_passes t s is)

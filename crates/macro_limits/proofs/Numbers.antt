@@ -1,4 +1,6 @@
 -- Words and numbers pass no limit, wherever they stand.
+-- A limit is too many digits in a number, or a sixth open bracket.
+-- For Grammar.
 use Rattle.std.proofs.Common.{◌≡◌, ℕ, suc, ◌+◌, ◌-◌, ◌<◌, ◌≤◌, ◌==◌, ◌&&◌, ◌||◌, not, Bool, true, false, cond, ℤ, List, [], ◌∷◌, ◌++◌, length, get_or, take, nat_lt, ◌⊎◌, inl, inr, refl, sym, ◌∙◌, ap, arith, append_assoc}
 use Rattle.std.specs.Char.{is_ascii_digit}
 use Rattle.std.specs.List.{list_all, position_or_len, before_first, after_first}
@@ -13,7 +15,7 @@ use Rattle.macro_expr.specs.Grammar.{IsNumber, IsWhole}
 use Rattle.macro_expr.proofs.Heads.{run_whole}
 use Rattle.macro_limits.proofs.Scan.{too_many_behind, long_at, passes_limit}
 
--- what may stand behind a word: it passes no limit behind any byte but a point
+-- what may stand behind a word: it passes no limit behind any byte but a point, 46
 abbrev pub Starts : ℕ → List ℕ → Type 0
 Starts opened text = (last : ℕ) → (last == 46) ≡ false → passes_limit opened last text ≡ false
 
@@ -25,24 +27,28 @@ Ends opened text = (begins is_number_byte text ≡ false) × ((last : ℕ) → p
 abbrev pub Passes : ℕ → List ℕ → Type 0
 Passes opened t = (rest : List ℕ) → Ends opened rest → Starts opened (t ++ rest)
 
--- the same of a part that begins no number
+-- a part that begins no number and passes no limit itself
 abbrev pub Opens : ℕ → List ℕ → Type 0
 Opens opened t = (rest : List ℕ) → Ends opened rest → Ends opened (t ++ rest)
 
+-- a part that begins no number passes no limit itself
 pub opens_passes : (opened : ℕ) (t : List ℕ) → Opens opened t → Passes opened t
 opens_passes opened t opens rest end last quiet = (opens rest end).1 last
 
--- a byte of a word
+-- a byte of a word: no digit, no point and no bracket, 91 and 93
 abbrev pub is_plain : ℕ → Bool
 is_plain b = not (is_number_byte b) && (not (b == 91) && not (b == 93))
 
+-- such a byte is part of no number
 no_number : (b : ℕ) → is_plain b ≡ true → is_number_byte b ≡ false
 no_number b plain = grind (arith, nat_tests)
 
+-- what begins no number begins with no digit
 pub no_digit : (text : List ℕ) → begins is_number_byte text ≡ false → begins is_ascii_digit text ≡ false
 no_digit [] quiet = refl
 no_digit (b ∷ text) quiet = (or_parts (is_ascii_digit b) (b == 46) quiet).0
 
+-- a byte that is no bracket leaves the depth
 same_depth : (opened b : ℕ) → (b == 91) ≡ false → (b == 93) ≡ false → open_behind opened b ≡ opened
 same_depth opened b no_open no_close = rw (no_open, no_close) refl
 
@@ -77,6 +83,7 @@ plain_byte b opened last text few plain starts =
     quiet_byte opened last b text few parts.0
     (ap (λ k. passes_limit k b text) (same_depth opened b no_open no_close) ∙ starts b parts.1)
 
+-- plain bytes may stand before what passes no limit,
 word_starts : (word rest : List ℕ) (opened : ℕ) → opened ≤ 5 → list_all is_plain word ≡ true → Starts opened rest
     → Starts opened (word ++ rest)
 word_starts [] rest opened few plain starts last quiet = starts last quiet
@@ -84,6 +91,7 @@ word_starts (b ∷ word) rest opened few plain starts last quiet =
     let parts = and_parts (is_plain b) (list_all is_plain word) plain in
     plain_byte b opened last (word ++ rest) few parts.0 (word_starts word rest opened few parts.1 starts)
 
+-- a word may stand behind a number, before what passes no limit
 pub word_ends : (word rest : List ℕ) (opened : ℕ) → opened ≤ 5 → is_plain_word word ≡ true → Starts opened rest
     → Ends opened (word ++ rest)
 word_ends [] rest opened few plain starts = absurd (let no : ⊥ = cc in no)
@@ -93,10 +101,11 @@ word_ends (b ∷ word) rest opened few plain starts =
     let further = word_starts word rest opened few all.1 starts in
     (no_number b parts.0, λ last. plain_byte b opened last (word ++ rest) few parts.0 further)
 
--- a bracket that opens and one that closes
+-- a bracket that opens, 91, may stand behind a number
 pub open_ends : (rest : List ℕ) (opened : ℕ) → opened ≤ 5 → Starts (suc opened) rest → Ends opened (91 ∷ rest)
 open_ends rest opened few starts = (refl, λ last. quiet_byte opened last 91 rest few refl (starts 91 refl))
 
+-- a bracket that closes, 93, may stand behind a number
 pub close_ends : (rest : List ℕ) (opened : ℕ) → suc opened ≤ 5 → Starts opened rest → Ends (suc opened) (93 ∷ rest)
 close_ends rest opened few starts =
     let back : suc opened - 1 ≡ opened = omega arith in
@@ -154,6 +163,7 @@ two_parts t = go (nat_lt (position_or_len is_point t) (length t)) refl
         let all : take (position_or_len is_point t) t ≡ t = grind (arith, common_steps) in
         inl (sym all)
 
+-- a number without a sign is behind its sign
 no_sign : (t : List ℕ) → list_all is_number_byte t ≡ true → behind_sign t ≡ t
 no_sign [] bytes = refl
 no_sign (b ∷ t) bytes =
@@ -161,16 +171,18 @@ no_sign (b ∷ t) bytes =
     let none : is_sign b ≡ false = grind (arith, nat_tests) in
     ap (λ x. cond x t (b ∷ t)) none
 
--- what a literal is behind its sign, and when it has too many digits
+-- what a literal is behind its sign
 abbrev unsigned_literal : List ℕ → Bool
 unsigned_literal t =
     (list_all is_ascii_digit (before_first is_point t) && list_all is_ascii_digit (after_first is_point t))
     && nat_lt 0 (length (before_first is_point t) + length (after_first is_point t))
 
+-- and when it has too many digits: above 8 before the point, or 6 behind it
 abbrev unsigned_long : List ℕ → Bool
 unsigned_long t =
     nat_lt 8 (length (significant (before_first is_point t))) || nat_lt 6 (length (after_first is_point t))
 
+-- a number of few enough digits passes no limit
 digits_pass : (t : List ℕ) (opened : ℕ) → opened ≤ 5 → list_all is_number_byte t ≡ true → is_literal t ≡ true
     → has_too_many_digits t ≡ false → Passes opened t
 digits_pass t opened few bytes literal short rest end last quiet =
@@ -196,14 +208,17 @@ digits_pass t opened few bytes literal short rest end last quiet =
           refl whole_short
     ]
 
+-- a number of the grammar passes no limit
 pub number_passes : (t : List ℕ) (micro : ℤ) (opened : ℕ) → opened ≤ 5 → IsNumber t micro → Passes opened t
 number_passes t micro opened few is = digits_pass t opened few is.bytes is.literal is.short
 
+-- digits are bytes of a number
 number_bytes : (t : List ℕ) → list_all is_ascii_digit t ≡ true → list_all is_number_byte t ≡ true
 number_bytes [] all = refl
 number_bytes (b ∷ t) all =
     let parts = and_parts (is_ascii_digit b) (list_all is_ascii_digit t) all in
     and_from _ _ (ap (λ x. x || b == 46) parts.0) (number_bytes t parts.1)
 
+-- a whole number of the grammar passes no limit
 pub whole_passes : (t : List ℕ) (n opened : ℕ) → opened ≤ 5 → IsWhole t n → Passes opened t
 whole_passes t n opened few is = digits_pass t opened few (number_bytes t is.bytes) is.literal is.short

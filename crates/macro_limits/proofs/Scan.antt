@@ -1,5 +1,6 @@
 -- One walk over a text sees both limits. Of what stands before a byte it keeps the last one and the
 -- brackets' number.
+-- For Numbers and Grammar.
 use Rattle.std.proofs.Common.{◌≡◌, ℕ, ◌+◌, ◌-◌, ◌==◌, ◌&&◌, ◌||◌, not, Bool, true, false, cond, List, [], ◌∷◌, ◌++◌, length, slice_index, nat_lt, refl, ◌∙◌, ap, arith, if◌then◌else◌}
 use Rattle.std.specs.Char.{is_ascii_digit}
 use Rattle.std.proofs.lemmas.Bool.{or_parts, or_from, lt-ltb}
@@ -10,10 +11,11 @@ use Rattle.nc_number.specs.Literals.{significant}
 use Rattle.macro_expr.specs.Words.{run, begins}
 use Rattle.macro_expr.specs.Limits.{ends, is_loop_head, begins_long, long_behind, has_long_number, open_behind, too_deep, has_deep_brackets}
 
--- whether the digits behind this byte are more than a number may have
+-- whether the digits behind this byte are more than a number may have: 6 behind a point, 46, else 8
 abbrev pub too_many_behind : ℕ → List ℕ → Bool
 too_many_behind last digits = if last == 46 then nat_lt 6 (length digits) else nat_lt 8 (length (significant digits))
 
+-- whether a number that is too long begins here
 abbrev pub long_at : ℕ → List ℕ → Bool
 long_at last text =
     begins is_ascii_digit text && not (is_ascii_digit last) && too_many_behind last (run is_ascii_digit text)
@@ -29,6 +31,7 @@ record IsLast (before : List ℕ) (last : ℕ) : Type 0 where
   digit : ends is_ascii_digit before ≡ is_ascii_digit last
   point : ends (λ b. b == 46) before ≡ (last == 46)
 
+-- what the last byte of a text is
 ends_push : (p : ℕ → Bool) (before : List ℕ) (b : ℕ) → ends p (before ++ b ∷ []) ≡ p b
 ends_push p before b =
     let long : length (before ++ b ∷ []) ≡ length before + 1 = grind (arith, common_steps) in
@@ -37,6 +40,7 @@ ends_push p before b =
     ap (λ x. x && p (slice_index (before ++ b ∷ []) (length (before ++ b ∷ []) - 1))) some
     ∙ ap (λ i. p (slice_index (before ++ b ∷ []) i)) at ∙ ap p (get_or_push before b 0 (length before) refl)
 
+-- the byte that was pushed is the last one
 pushed : (before : List ℕ) (b : ℕ) → IsLast (before ++ b ∷ []) b
 pushed before b = record { digit = ends_push is_ascii_digit before b; point = ends_push (λ b. b == 46) before b }
 
@@ -49,6 +53,7 @@ fewer true false true head six eight none = none
 fewer true false false true six eight none = refl
 fewer true false false false six eight none = none
 
+-- no number that is too long begins here, so none is seen by the other test
 not_long : (before : List ℕ) (last : ℕ) (text : List ℕ) → IsLast before last → long_at last text ≡ false
     → begins_long before text ≡ false
 not_long before last text is none =
@@ -61,6 +66,7 @@ not_long before last text is none =
     ∙ ap (λ z. starts && not (is_ascii_digit last) && cond z six whole) is.point
     ∙ fewer starts (is_ascii_digit last) (last == 46) (is_loop_head before) six eight none
 
+-- a text that passes no limit has no long number and is not too deep
 within : (text before : List ℕ) (last opened : ℕ) → IsLast before last → passes_limit opened last text ≡ false
     → (long_behind before text ≡ false) × (too_deep opened text ≡ false)
 within [] before last opened is none = (refl, none)
@@ -70,6 +76,7 @@ within (b ∷ text) before last opened is none =
     let further = within text (before ++ b ∷ []) b (open_behind opened b) (pushed before b) short.1 in
     (or_from _ _ (not_long before last (b ∷ text) is short.0) further.0, or_from _ _ shallow.0 further.1)
 
+-- a text in which the walk passes no limit has no long number and is not too deep
 pub text_within : (text : List ℕ) → passes_limit 0 0 text ≡ false
     → (has_long_number text ≡ false) × (has_deep_brackets text ≡ false)
 unfolding has_long_number has_deep_brackets

@@ -1,5 +1,6 @@
 -- Where the reading of a statement stops its cause stands; where a cause of statements alone
 -- stands, it stops for that.
+-- For the law of src/refusals.rt.
 use Rattle.std.proofs.Common.{◌≡◌, ℕ, ◌==◌, nat_lt, Bool, true, false, cond, List, [], ◌∷◌, ◌++◌, length, Some, Ok, Err, pos, refl, sym, ◌∙◌, ap, subst, arith, append_assoc}
 use Rattle.std.specs.Prelude.{codes}
 use Rattle.std.specs.Char.{is_ascii_digit}
@@ -122,6 +123,7 @@ module _ (Other : Stop → Type 0) where
 abbrev Due : List ℕ → Read Sentence → Type 0
 Due text = Caused IsStatement (OfStatement text) text
 
+-- an IF
 if-stops : (text at : List ℕ) → text ≡ codes "IF" ++ at → Due text (if_at at)
 unfolding if_at branch_at
 if-stops text at here =
@@ -151,6 +153,7 @@ if-stops text at here =
     (assignment-stops (OfStatement text) body))))
     (λ none. stopped stop.Condition (subst LacksCondition (sym here) (no_if at none)))
 
+-- a WHILE
 while-stops : (text at : List ℕ) → text ≡ codes "WHILE" ++ at → Due text (while_at at)
 unfolding while_at
 while-stops text at here =
@@ -162,6 +165,7 @@ while-stops text at here =
     (λ none. stopped stop.Loop (subst LacksLoop (sym whole) (no_while_do c digits test is_test none)))))
     (λ none. stopped stop.Condition (subst LacksCondition (sym here) (no_while at none)))
 
+-- a GOTO
 goto-stops : (text at : List ℕ) → text ≡ codes "GOTO" ++ at → Due text (target_at at >>= λ aim. Ok (Goto aim.0, aim.1))
 goto-stops text at here =
     joins_stop (codes "GOTO") Goto goto here
@@ -171,6 +175,7 @@ goto-stops text at here =
 abbrev Behind : List ℕ → List ℕ → Keyword → Type 0
 Behind text word k = (at : List ℕ) → text ≡ word ++ at → Due text (statement_for k at)
 
+-- each statement stops where a cause stands
 statement-stops : (text : List ℕ) → Due text (statement_at text)
 unfolding statement_at keyword
 statement-stops text = go (begins (λ b. b == 35) text)
@@ -211,28 +216,33 @@ whole-stops {Is} {Other} {text} (went (x, b ∷ rest)) s read =
     let same : stop.Expression ≡ s = cc in
     subst (Lacks Is Other text) same tt
 
+-- what an expression lacks where its reading stops
 pub expression_lacks : (text : List ℕ) (s : Stop) → whole (expression_at text) ≡ Err s → Lacks IsExpression Never text s
 expression_lacks text s read = whole-stops (within-stops Never 6 text) s read
 
+-- what a statement lacks where its reading stops
 pub statement_lacks : (text : List ℕ) (s : Stop) → whole (statement_at text) ≡ Err s
     → Lacks IsStatement (OfStatement text) text s
 statement_lacks text s read = whole-stops (statement-stops text) s read
 
+-- a target above the range stops the reading
 target_fails : (u : List ℕ) → IsPast u → target_at u ≡ Err stop.Sequence
 target_fails u past =
     ap target_at past.stands ∙ digits_target past.digits past.rest past.number past.whole past.ends
     ∙ ap (λ x. cond x (Err stop.Sequence) (Ok (ToNumber past.number, past.rest))) (lt-ltb 99999 past.number past.large)
 
--- reading fails behind a word without a condition or a loop's number
+-- reading stops behind a word without a condition,
 test_fails : {B : Type 0} (u : List ℕ) (f : Test × List ℕ → Read B) → HasNo IsTest u
     → (test_at u >>= f) ≡ Err stop.Condition
 test_fails u f lacks =
     test_step (λ r. r ≡ Err stop.Condition) u f (λ c rest test is stands. absurd (lacks c rest test stands is))
     (λ none. refl)
 
+-- a loop without its number stops it
 loop_fails : {B : Type 0} (u : List ℕ) (f : ℕ × List ℕ → Read B) → HasNoLoop u → (loop_at u >>= f) ≡ Err stop.Loop
 loop_fails u f lacks = loop_step (λ r. r ≡ Err stop.Loop) u f (λ m is. absurd (lacks m is)) (λ none. refl)
 
+-- what only a statement lacks stops its reading,
 statement_fails : (text : List ℕ) (s : Stop) → OfStatement text s → statement_at text ≡ Err s
 unfolding statement_at keyword if_at while_at branch_at word_at
 statement_fails text stop.Expression never = absurd never
@@ -250,5 +260,6 @@ statement_fails _ stop.Sequence (past_if c u test is past) =
     (test_read c test is (codes "GOTO" ++ u))
     ∙ ap (λ r. r >>= λ aim. Ok (IfGoto test aim.0, aim.1)) (target_fails u past)
 
+-- what only a statement lacks stops the reading of a whole text
 pub whole_statement_fails : (text : List ℕ) (s : Stop) → OfStatement text s → whole (statement_at text) ≡ Err s
 whole_statement_fails text s cause = ap whole (statement_fails text s cause)

@@ -1,4 +1,5 @@
 -- Where the reading of an expression stops its cause stands.
+-- For StatementsStopping.
 use Rattle.std.proofs.Common.{◌≡◌, ℕ, zero, suc, ◌+◌, ◌==◌, not, Bool, true, false, cond, List, [], ◌∷◌, ◌++◌, length, drop, None, Some, Ok, Err, refl, sym, ◌∙◌, ap, subst, arith, append_assoc}
 use Rattle.std.specs.Prelude.{codes}
 use Rattle.std.specs.Char.{is_ascii_digit}
@@ -24,10 +25,12 @@ use Rattle.macro_limits.specs.Refusals.{Lacks, IsPlain}
 -- reading goes on, or its cause stands where it stops; Other says it of the places that only a
 -- statement has
 pub data Caused {A : Type 0} (Is : List ℕ → A → Type 0) (Other : Stop → Type 0) (text : List ℕ) : Read A → Type 0 where
+  -- it went on
   went : (x : A × List ℕ) → Caused Is Other text (Ok x)
+  -- it stopped for this cause
   stopped : (s : Stop) → Lacks Is Other text s → Caused Is Other text (Err s)
 
--- so of each text
+-- a reader goes on, or stops where a cause stands, at each text
 abbrev pub Stops : {A : Type 0} → (Stop → Type 0) → (List ℕ → A → Type 0) → (List ℕ → Read A) → Type 0
 Stops Other Is reader = (text : List ℕ) → Caused Is Other text (reader text)
 
@@ -100,6 +103,7 @@ unfolding word_at
 word_stop {Is} {Other} {text} f word at next =
     behind_word (λ o. Caused Is Other text (expected o >>= f)) word at next (stopped stop.Expression tt)
 
+-- digits that must stand there
 digits_stop : {B : Type 0} {Is : List ℕ → B → Type 0} {Other : Stop → Type 0} {text : List ℕ}
     (f : ℕ × List ℕ → B × List ℕ) (at : List ℕ) → Caused Is Other text (digits_at at >>= λ n. Ok (f n))
 unfolding digits_at
@@ -163,6 +167,7 @@ module _ (Other : Stop → Type 0) (rank : Rank) (First Operand : List ℕ → T
 
 module _ (Other : Stop → Type 0) (inner : List ℕ → Read Tree) (Inner : List ℕ → Tree → Type 0)
     (inner-sound : Reads Inner inner) (inner-stops : Stops Other Inner inner) where
+  -- the reading of brackets stops where a cause stands
   pub bracket-stops : Stops Other (IsBracketed Inner) (bracket_at inner)
   unfolding bracket_at
   bracket-stops text =
@@ -171,6 +176,7 @@ module _ (Other : Stop → Type 0) (inner : List ℕ → Read Tree) (Inner : Lis
       (inner-sound opened) (inner-stops opened)
       (λ t rest e is stands. word_stop _ (codes "]") rest (λ behind ends. went (e, behind))))
 
+  -- the reading of a variable stops where a cause stands
   pub variable-stops : Stops Other (IsVariable Inner) (variable_at inner)
   unfolding variable_at variable_behind
   variable-stops text = word_stop _ (codes "#") text (λ rest here. go rest here (begins is_ascii_digit rest))
@@ -254,6 +260,7 @@ module _ (Other : Stop → Type 0) (inner : List ℕ → Read Tree) (Inner : Lis
       (chained_stops Other Sum _ _ _ _ (product-sound inner Inner inner-sound) product-stops
       (first-sound inner Inner inner-sound) first-stops text)
 
+-- the reading of an expression stops where a cause stands, whatever its depth
 pub within-stops : (Other : Stop → Type 0) (n : ℕ) → Stops Other (IsWithin n) (inside n)
 unfolding inside
 within-stops Other zero text = stopped stop.Expression tt

@@ -1,4 +1,6 @@
 -- Which texts are refused for a limit: 5, 21 and 25.
+-- 5 is a number of too many digits, 21 a sixth open bracket, 25 too many variables. 22, 23 and 24,
+-- a condition, a function or a loop, come before 25. For this crate's laws alone.
 use Rattle.std.specs.Prelude.{◌≡◌, ◌↔◌, ℕ, Bool, true, false, List, Result, Ok, Err}
 use Rattle.nc_number.specs.declared.cause.Cause.TheVariants.{TooManyDigits, TooManyBrackets, TooManyVariables}
 use Rattle.macro_expr.specs.declared.tree.ExprFault.{ExprFault}
@@ -31,6 +33,9 @@ NamesTooMany text read =
 -- the answer is 5, 21 or 25 exactly where that limit says
 pub record IsRefusedByLimits {A : Type 0} (text : List ℕ) (read : Result A Stop) (answer : Result A ExprFault)
     : Type 0 where
+  -- 5: too many digits
   pub digits : (answer ≡ Err (refusal TooManyDigits)) ↔ (has_long_number text ≡ true)
+  -- 21: too many brackets
   pub brackets : (answer ≡ Err (refusal TooManyBrackets)) ↔ IsTooDeep text
+  -- 25: too many variables
   pub variables : (answer ≡ Err (refusal TooManyVariables)) ↔ NamesTooMany text read

@@ -1,4 +1,5 @@
-//! The laws of the limits, over what `macro_expr` answers for a text.
+//! The laws of the limits, over what `macro_expr` answers for a text: refusals 5, 21 and 25.
+//! No proof of another crate rests on them.
 
 ghost use Rattle.std.specs.Prelude.{ℕ, false, List};
 ghost use Rattle.macro_expr.specs.Tree.{Tree, Sentence};
@@ -14,8 +15,8 @@ pub fn a_text_that_reads_is_within_its_limits()
     ensures statements { (text : List ℕ) (tree : Sentence) → IsStatement text tree → IsWithinLimits text }
 {}
 
-/// A law: for every text, 5, 21 and 25 are answered exactly where their limits say, whether it
-/// reads or not.
+/// A law: for every text, 5, 21 and 25 are answered exactly if their limits say so, whether it
+/// reads or not. The text is taken without blanks and comments, in upper case.
 pub fn each_limit_has_its_refusal()
     ensures expressions { (text : List ℕ) → IsRefusedByLimits (cleaned false text)
         (whole (expression_at (cleaned false text))) (expression_of text) }

@@ -1,4 +1,5 @@
-//! The law of readings that stop.
+//! The law of readings that stop: 20, 22, 23, 24 and the range of a sequence number. block_forms
+//! uses it.
 ghost use Rattle.std.specs.Prelude.{◌≡◌, ℕ, List, Err};
 ghost use Rattle.macro_expr.specs.declared.stop.Stop.{Stop};
 ghost use Rattle.macro_expr.specs.Grammar.{IsExpression, IsStatement};

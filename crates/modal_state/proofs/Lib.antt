@@ -1,1 +1,2 @@
+-- The one file of facts of this crate.
 pub mod NamedWork

@@ -1,3 +1,4 @@
+-- Rows whose codes of the work group all name a work offset leave one of G54 to G59 in force.
 use Rattle.std.proofs.Common.{◌≡◌, ℕ, Bool, true, false, ◌&&◌, ◌||◌, not, ◌==◌, IsTrue, List, [], ◌∷◌, Option, Some, None, IfSome, refl}
 use Rattle.code_tables.specs.declared.row.Row.{Row}
 use Rattle.code_tables.specs.declared.group.TheConstants.{WORK_GROUP}
@@ -10,6 +11,7 @@ named_first true true rest e h = refl
 named_first true false rest e h = h
 named_first false work rest e h = absurd (cc)
 
+-- if the first row and the rest pass a test, the rest does
 named_rest : (first rest : Bool) → IsTrue (first && rest) → IsTrue rest
 named_rest true rest h = h
 named_rest false rest h = absurd (cc)

@@ -1,3 +1,4 @@
+-- What clauses see of the fields of Modal (src/modal.rt). For this crate alone.
 use Rattle.modal_state.specs.View.{ModalView}
 use Rattle.modal_state.specs.declared.modal.Modal.TheInside.{Inside}
 

@@ -1,3 +1,6 @@
+-- What the G codes of a block leave in force: of each group the last code of the block.
+-- block_values, path_state, two_path and others cite it; which code is of which group is in
+-- code_tables.
 use Rattle.std.specs.Prelude.{ℕ, Bool, true, false, ◌+◌, ◌-◌, List, Option, Some, None, unwrap_or, ◌==◌, if◌then◌else◌}
 use Rattle.std.specs.Option.{option_map, option_map_or}
 use Rattle.nc_number.specs.declared.value.Var.TheVariants.{Vacant}
@@ -18,14 +21,17 @@ in_force_after rows group before = unwrap_or (option_map (λ row. row.code) (las
 abbrev pub motion_after : ModalView → List Row → CodeKind
 motion_after before rows = unwrap_or (option_map (λ row. row.kind) (last_of_group rows MOTION_GROUP)) before.motion
 
+-- the code makes S a constant surface speed
 abbrev pub is_surface : CodeKind → Bool
 is_surface Surface = true
 is_surface other = false
 
+-- the code makes F a feed by the revolution
 abbrev pub is_per_rev : CodeKind → Bool
 is_per_rev PerRev = true
 is_per_rev other = false
 
+-- the code makes X and Z how far a block goes
 abbrev pub is_incremental : CodeKind → Bool
 is_incremental Incremental = true
 is_incremental other = false
@@ -40,17 +46,18 @@ work_after rows before =
     let code = in_force_after rows WORK_GROUP before in
     if is_work_code code then code else before
 
--- the code of absolute input; in system A the letters tell, and it has none
+-- the code of absolute input: G90 of system B. In system A the letters tell, and it has none.
 abbrev pub absolute_code : System → ℕ
 absolute_code system.A = 0
 absolute_code system.B = 90
 
--- the code of feed by the revolution
+-- the code of feed by the revolution: G99 of system A, G95 of system B
 abbrev pub per_rev_code : System → ℕ
 per_rev_code system.A = 99
 per_rev_code system.B = 95
 
--- the modal state as a tape of this system begins
+-- the modal state as a tape of this system begins: G00, G97, feed by the revolution, G21, G40 and
+-- G54, in system B also G90; no F, S or T
 abbrev pub opening_modal : System → ModalView
 opening_modal system = record {
   g01 = 0;

@@ -1,3 +1,4 @@
+-- What the F, S and T words of a block leave in force. block_values and two_path cite it.
 use Rattle.std.specs.Prelude.{ℕ, Bool, true, nat_le, if◌then◌else◌, Option, Some, None, unwrap_or}
 use Rattle.std.specs.Option.{option_map_or}
 use Rattle.nc_number.specs.declared.value.Var.{Var}
@@ -35,6 +36,6 @@ with_words before words = record before {
   offset = option_map_or tool_offset words.tool before.offset;
 }
 
--- alarm 40 where the tool offset does not exist
+-- alarm 40 (OffsetNumber) where the tool offset does not exist
 abbrev pub tool_fault : Option ℕ → Option ModalFault
 tool_fault tool = if has_tool_offset tool then None else Some (fault OffsetNumber)

@@ -1,4 +1,4 @@
-//! Why a block's words were not taken.
+//! Why a block's words were not taken: the tool offset of T does not exist.
 ghost use Rattle.std.specs.Prelude.{◌≡◌};
 
 use nc_number::Cause;
@@ -8,12 +8,14 @@ use thiserror::Error;
 #[derive(Clone, Copy, Debug, PartialEq, Eq, Error)]
 #[error("modal alarm {number}")]
 pub struct ModalFault {
+    /// The number of the alarm in the table of causes: 40.
     pub number: u8,
 }
 
 impl ModalFault {
     ghost use Rattle.modal_state.specs.Faults.{fault};
 
+    /// The alarm of this cause.
     pub(crate) fn of(cause: Cause) -> Self
         ensures { result ≡ fault cause }
     {

@@ -1,4 +1,5 @@
-//! What is in force for a path.
+//! What is in force for a path: the type, and what a block's G codes and words make of it. The
+//! words F, S and T themselves are in words.rt.
 ghost use Rattle.std.specs.Prelude.{◌≡◌, ◌≤◌, ◌∷◌, [], IsTrue, IfSome, OnOk, OnErr};
 ghost use Rattle.std.specs.Result.{result_err};
 ghost use Rattle.nc_number.specs.Position.{IsPosition};
@@ -24,23 +25,39 @@ use std::marker::Model;
 /// in force ends at a position.
 #[derive(Clone, Copy, Debug, PartialEq, Eq)]
 pub struct Modal {
+    /// The motion code, as 1 for G01.
     g01: u16,
+    /// The spindle code: 96 or 97.
     g02: u16,
     // 0 where the system has no such codes
     g03: u16,
+    /// The feed code.
     g05: u16,
+    /// The unit code: 20 or 21.
     g06: u16,
+    /// The code of the nose radius, as 40.
     g07: u16,
+    /// The work offset code, from 54 to 59.
     g14: u16,
+    /// What a block with an axis word does.
     motion: CodeKind,
+    /// S is a constant surface speed.
     surface: bool,
+    /// F is by the revolution.
     per_rev: bool,
+    /// X and Z are how far a block goes.
     incremental: bool,
+    /// What F set last, in whole units.
     feed: Var,
+    /// What S set last as a speed.
     speed: Var,
+    /// The whole number of the last T word.
     tool: u16,
+    /// Its last two digits, or 0 for none.
     offset: u8,
+    /// What S set last as the highest speed.
     limit: Var,
+    /// Where the cycle in force ends, in machine coordinates.
     cycle: Option<Point>,
 }
 
@@ -284,8 +301,8 @@ fn per_rev_code(system: System) -> u16
     }
 }
 
-/// Of these rows the one of the group that counts. Most blocks have one row or none, of which
-/// there is no walk.
+/// The last of these rows that is of the group. Most blocks have one row or none, of which there is
+/// no walk.
 fn last_in(rows: &[Row], group: u8) -> Option<Row>
     ensures { result ≡ last_of_group rows.now group }
 {
@@ -317,6 +334,7 @@ fn surface_after(rows: &[Row], before: bool) -> bool
     last_in(rows, SPINDLE_GROUP).map_or(before, |row| is_surface(row.kind))
 }
 
+/// Whether the code makes S a constant surface speed.
 fn is_surface(kind: CodeKind) -> bool
     ensures { result ≡ is_surface kind }
 {
@@ -330,6 +348,7 @@ fn per_rev_after(rows: &[Row], before: bool) -> bool
     last_in(rows, FEED_GROUP).map_or(before, |row| is_per_rev(row.kind))
 }
 
+/// Whether the code makes F a feed by the revolution.
 fn is_per_rev(kind: CodeKind) -> bool
     ensures { result ≡ is_per_rev kind }
 {
@@ -343,6 +362,7 @@ fn incremental_after(rows: &[Row], before: bool) -> bool
     last_in(rows, ABSOLUTE_GROUP).map_or(before, |row| is_incremental(row.kind))
 }
 
+/// Whether the code makes X and Z how far a block goes.
 fn is_incremental(kind: CodeKind) -> bool
     ensures { result ≡ is_incremental kind }
 {

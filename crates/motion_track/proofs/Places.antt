@@ -1,3 +1,6 @@
+-- Distances of places in 0.0005 mm fit the machine's numbers.
+-- The longest length of a block is 100,000,000,000,000 (in 0.001 mm), so a target is twice that at
+-- most. Two places are 800,000,000,000,000 apart at most along each axis.
 use Rattle.std.proofs.Common.{◌≡◌, ℕ, ◌*◌, ◌≤◌, ◌∙◌, ap, arith, ℤ, unsigned_abs, to_z, of_z, w64}
 use Rattle.std.proofs.Math.Nat.{mul-le-mul}
 use Rattle.std.proofs.lemmas.Int.{to_z-of_z, fits_signed_from_abs}
@@ -15,7 +18,7 @@ same_place p q across along =
     let at : ℤ → ℤ → Place = λ a b. record { across = a; along = b } in
     ap (λ a. at a p.along) across ∙ ap (λ b. at q.across b) along
 
--- a length that is stored is the length
+-- a length of 200,000,000,000,000 at most is stored as it is in 64 bits
 stored : (z : ℤ) → unsigned_abs z ≤ 200000000000000 → to_z w64 (of_z w64 z) ≡ z
 stored z within = to_z-of_z w64 z (fits_signed_from_abs w64 z (omega arith))
 

@@ -1,3 +1,6 @@
+-- The test of the tolerance, in squares, says what the law of arcs says of lengths: the end is
+-- 0.010 mm from the circle at most.
+-- The tolerance is 20, so 400 below is its square and 1,600 four times that.
 use Rattle.std.proofs.Common.{◌≡◌, ℕ, zero, suc, ◌+◌, ◌-◌, ◌*◌, ◌<◌, ◌≤◌, max, min, Bool, true, false, nat_lt, nat_le, subst, refl, ap, arith, ℤ}
 use Rattle.std.proofs.Math.Nat.{mul-le-mul_left}
 use Rattle.std.proofs.lemmas.Bool.Decides.{nat_tests}
@@ -11,7 +14,7 @@ use Rattle.motion_track.specs.Tolerance.{Reaches, IsAtMostFarther, EndsOnCircle}
 mean : (S n g : ℕ) → S ≡ n + g → 4 * S * n ≤ (S + n) * (S + n)
 mean S n g e = rw e (omega arith)
 
--- the whole root of a number
+-- the whole root of a number: the greatest whole number whose square is no more
 root_of : (n : ℕ) → (r : ℕ) × (r * r ≤ n) × (n < (r + 1) * (r + 1))
 root_of zero = (0, omega arith, omega arith)
 root_of (suc n) = next (root_of n)
@@ -67,6 +70,7 @@ missed_by_little near e r E square some root low high reaches =
     let e_E : e * 1 ≤ e * E = mul-le-mul_left e some in
     omega (arith, bad, by_near, by_e, square, E_e, e_E, little)
 
+-- so a place that is farther than the tolerance is not reached
 farther_missed : (near e : ℕ) → 1600 * near < e * e → IsAtMostFarther (near + 400 + e) near → ⊥
 farther_missed near e past reaches = by (root_of near)
   where
@@ -82,6 +86,7 @@ farther_missed near e past reaches = by (root_of near)
             let root : 40 * r ≤ e = root_le (40 * r) e (omega (arith, low, past)) in
             missed_by_little near e r (e * e - 1600 * near) (omega (arith, past)) (omega (arith, past)) low root little reaches
 
+-- a test that passes says that the farther place is reached,
 not_past : (near far : ℕ) → is_past_tolerance far near ≡ false → IsAtMostFarther far near
 not_past near far taken = go (nat_lt (near + 400) far) (nat_lt (1600 * near) ((far - (near + 400)) * (far - (near + 400)))) refl refl
   where
@@ -90,6 +95,7 @@ not_past near far taken = go (nat_lt (near + 400) far) (nat_lt (1600 * near) ((f
     go true false eb ec = farther_reached near far (far - (near + 400)) (omega arith) (grind (arith, nat_tests))
     go true true eb ec = absurd (let wrong = rw (eb, ec) at taken in cc)
 
+-- and one that does not says that it isn't
 past : (near far : ℕ) → is_past_tolerance far near ≡ true → IsAtMostFarther far near → ⊥
 past near far refused reaches = go (nat_lt (near + 400) far) (nat_lt (1600 * near) ((far - (near + 400)) * (far - (near + 400)))) refl refl
   where
@@ -103,7 +109,7 @@ past near far refused reaches = go (nat_lt (near + 400) far) (nat_lt (1600 * nea
         let square : 1600 * near < e * e = grind (arith, nat_tests) in
         farther_missed near e square (subst (λ f. IsAtMostFarther f near) far_is reaches)
 
--- the same of two places in either order
+-- if the test passes of two places, each reaches the other, in either order
 pair_within : (a b : ℕ) → is_past_tolerance (max a b) (min a b) ≡ false → IsAtMostFarther b a × IsAtMostFarther a b
 pair_within a b taken = go (nat_le a b) refl
   where
@@ -119,6 +125,7 @@ pair_within a b taken = go (nat_le a b) refl
         let smaller : min a b ≡ b = omega arith in
         (nearer_reached b a le, not_past b a (rw (larger, smaller) at taken))
 
+-- the same of a test that does not pass
 pair_beyond : (a b : ℕ) → is_past_tolerance (max a b) (min a b) ≡ true → IsAtMostFarther b a × IsAtMostFarther a b → ⊥
 pair_beyond a b refused ends = go (nat_le a b) refl
   where
@@ -134,8 +141,10 @@ pair_beyond a b refused ends = go (nat_le a b) refl
         let smaller : min a b ≡ b = omega arith in
         past b a (rw (larger, smaller) at refused) ends.1
 
+-- an arc that is allowed ends on its circle,
 pub within : (at to : Point) (i k : ℤ) → misses at to (Offset i k) ≡ false → EndsOnCircle at to i k
 within at to i k taken = pair_within _ _ taken
 
+-- and one that is refused does not
 pub beyond : (at to : Point) (i k : ℤ) → misses at to (Offset i k) ≡ true → ¬ EndsOnCircle at to i k
 beyond at to i k refused ends = pair_beyond _ _ refused ends

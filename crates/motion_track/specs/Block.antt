@@ -1,4 +1,6 @@
--- The moves of a block, by the kind of its code.
+-- The moves of a block, by the kind of its code. The moves of cycles (G90, G92, G94) are in
+-- turn_cycles.
+-- block_values, run_table, turn_cycles and two_path use these words.
 use Rattle.std.specs.Prelude.{◌≡◌, ℕ, Bool, true, false, ◌||◌, if◌then◌else◌, List, [], ◌∷◌, All, is_some, IfSome, Result, Ok}
 use Rattle.code_tables.specs.declared.kind.CodeKind.{CodeKind}
 use Rattle.code_tables.specs.declared.kind.CodeKind.TheVariants.{Rapid, Feed, ArcCw, ArcCcw, Thread, Home, Machine}
@@ -17,12 +19,15 @@ use Rattle.motion_track.specs.Centre.{centre_of, IsLengthWithin}
 use Rattle.motion_track.specs.Circle.{arc_of}
 use Rattle.motion_track.specs.Home.{home_moves}
 
--- no length of a block is longer than that
+-- no length of a block is longer than that, in 0.001 mm
 pub record IsBlockWithin (far : ℕ) (block : BlockMotion) : Type 0 where
+  -- where the block starts, and the shift of its work coordinates,
   pub start : IsWithin far block.start
   pub shift : IsWithin far block.shift
+  -- its words of X, U and Z, W,
   pub x : IsAxisWithin far block.x
   pub z : IsAxisWithin far block.z
+  -- and I, K and R, all in 0.001 mm
   pub i : IsLengthWithin far block.i
   pub k : IsLengthWithin far block.k
   pub r : IsLengthWithin far block.r

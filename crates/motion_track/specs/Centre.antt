@@ -1,3 +1,5 @@
+-- The centre of an arc, as I and K or as R gives it.
+-- block_values, two_path and zone_area use these words.
 use Rattle.std.specs.Prelude.{ℕ, ◌≤◌, ℤ, pos, unsigned_abs, Option, Some, None, IfSome, unwrap_or}
 use Rattle.nc_moves.specs.declared.motion.Centre.{Centre}
 use Rattle.nc_moves.specs.declared.motion.Centre.TheVariants.{Offset, Radius}
@@ -14,7 +16,7 @@ abbrev pub IsCentreWithin : ℕ → Centre → Type 0
 IsCentreWithin far (Offset i k) = (unsigned_abs i ≤ far) × (unsigned_abs k ≤ far)
 IsCentreWithin far (Radius r) = unsigned_abs r ≤ far
 
--- the centre, if there is one, is so
+-- the centre, if there is one, has no larger length
 abbrev pub IsGivenWithin : ℕ → Option Centre → Type 0
 IsGivenWithin far None = Unit {0}
 IsGivenWithin far (Some centre) = IsCentreWithin far centre

@@ -1,3 +1,5 @@
+-- Arcs, and when the end of one lies on its circle, in 0.0005 mm.
+-- two_path and zone_area use these words.
 use Rattle.std.specs.Prelude.{ℕ, ◌+◌, ◌-◌, ◌*◌, ◌≤◌, max, min, Bool, ◌&&◌, nat_lt, if◌then◌else◌, ℤ, pos, ◌+ℤ◌, ◌-ℤ◌, ◌*ℤ◌, unsigned_abs, Option, Some, None, Result, Err}
 use Rattle.nc_number.specs.declared.point.Point.{Point}
 use Rattle.nc_moves.specs.declared.motion.Move.{Move}
@@ -18,11 +20,11 @@ IsNear far p = (unsigned_abs p.across ≤ far) × (unsigned_abs p.along ≤ far)
 abbrev pub place_of : Point → Place
 place_of p = record { across = p.x; along = pos 2 *ℤ p.z }
 
--- the centre of an arc, from its start
+-- the centre of an arc, from its start and I and K in 0.001 mm
 abbrev pub centre_from : Place → ℤ → ℤ → Place
 centre_from start i k = record { across = start.across +ℤ pos 2 *ℤ i; along = start.along +ℤ pos 2 *ℤ k }
 
--- the square of the distance of two places
+-- the square of the distance of two places, in units of 0.0005 mm
 abbrev pub square_between : Place → Place → ℕ
 square_between a b =
     let across = unsigned_abs (a.across -ℤ b.across) in
@@ -51,7 +53,7 @@ misses at to (Radius r) =
     let diameter = 4 * unsigned_abs r in
     nat_lt (diameter * diameter) (square_between (place_of at) (place_of to))
 
--- the arc, or alarm 43, else 42, else 44
+-- the arc; else alarm 43 without a centre, 42 if its end is not on the circle, 44 if the feed is 0
 abbrev pub arc_of : Point → Point → Bool → Option Centre → ℤ → Bool → Result Move MotionFault
 arc_of at to clockwise None feed per_rev = Err (fault NoCentre)
 arc_of at to clockwise (Some centre) feed per_rev =

@@ -1,3 +1,5 @@
+-- The way home (G28): to the intermediate point, and then home along the named axes.
+-- For this crate alone.
 use Rattle.std.specs.Prelude.{Bool, if◌then◌else◌, List, [], ◌∷◌}
 use Rattle.nc_number.specs.declared.point.Point.{Point}
 use Rattle.nc_moves.specs.declared.motion.Move.{Move}

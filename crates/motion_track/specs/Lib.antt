@@ -1,3 +1,5 @@
+-- The words in which contracts speak of the moves of a block. Other crates cite Block, Within,
+-- Target, Cut, Centre, Circle and Faults.
 pub mod Block
 pub mod Within
 pub mod Target

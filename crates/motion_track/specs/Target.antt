@@ -1,3 +1,5 @@
+-- Where the axis words of a block lead, in 0.001 mm, X a diameter.
+-- turn_cycles and two_path use these words.
 use Rattle.std.specs.Prelude.{if◌then◌else◌, ℤ, ◌+ℤ◌, Result, Ok, Err}
 use Rattle.nc_number.specs.declared.point.Point.{Point}
 use Rattle.nc_number.specs.Position.{is_position}
@@ -13,7 +15,7 @@ part_of at shift Keep = at
 part_of at shift (To programmed) = programmed +ℤ shift
 part_of at shift (By way) = at +ℤ way
 
--- where two axis words lead
+-- where two axis words lead, also out of the travel
 abbrev pub reached : Point → Point → Axis → Axis → Point
 reached at shift x z = record { x = part_of at.x shift.x x; z = part_of at.z shift.z z }
 

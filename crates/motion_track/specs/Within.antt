@@ -1,4 +1,5 @@
--- How far the moves of a block reach.
+-- How far the moves of a block reach. A bound for the numbers of the machine, in 0.001 mm.
+-- block_values, path_state, turn_cycles, two_path, zone_area and zone_check use these words.
 use Rattle.std.specs.Prelude.{ℕ, List, All, Option, Some, None, IfSome}
 use Rattle.nc_number.specs.Position.{IsPosition}
 use Rattle.nc_moves.specs.declared.motion.Move.{Move}
@@ -23,6 +24,6 @@ centre_in (Aux m) = None
 abbrev pub IsMoveWithin : ℕ → Move → Type 0
 IsMoveWithin far move = IfSome (end_of move) IsPosition × IsGivenWithin far (centre_in move)
 
--- each of the moves is so
+-- each of the moves ends at a position, and has no larger I, K or R
 abbrev pub AreMovesWithin : ℕ → List Move → Type 0
 AreMovesWithin far moves = All (IsMoveWithin far) moves

@@ -1,4 +1,5 @@
-//! The moves of a block.
+//! The moves of a block. The moves of cycles (G90, G92, G94) are in turn_cycles.
+//! block_values and turn_cycles use what it exports.
 ghost use Rattle.std.specs.Prelude.{◌≡◌, ◌≤◌, [], ◌∷◌, length, IfOk};
 ghost use Rattle.nc_number.specs.Position.{IsPosition};
 ghost use Rattle.motion_track.specs.Block.{IsBlockWithin, AllEnd, KeepsUnnamed, moves_due, moves_of};
@@ -105,6 +106,7 @@ impl BlockMotion {
         target(self.start, self.shift, self.x, self.z)
     }
 
+    /// An arc to where the axis words lead, round the centre of I, K and R; or its alarm.
     fn arc(&self, clockwise: bool) -> Result<Move, MotionFault>
         requires { IsBlockWithin LONGEST self.now }
         ensures { result ≡ arc_in clockwise self.now }
@@ -153,6 +155,7 @@ fn moves_due(kind: CodeKind, block: &BlockMotion) -> Result<MoveList, MotionFaul
     }
 }
 
+/// A list of this move.
 fn one(what: Move) -> MoveList
     ensures { result ≡ what ∷ [] }
 {

@@ -1,4 +1,4 @@
-//! The centre of an arc, from I, K and R.
+//! The centre of an arc, from I, K and R. R goes before I and K.
 ghost use Rattle.std.specs.Prelude.{◌≡◌, ◌↔◌, ℕ, IsNone};
 ghost use Rattle.motion_track.specs.Centre.{centre_of, IsLengthWithin, IsGivenWithin};
 

@@ -1,4 +1,5 @@
-//! Arcs, and whether they end on their circle.
+//! Arcs, and whether they end on their circle. Where an arc ends is in targets.rt, and its centre
+//! in centre.rt.
 ghost use Rattle.std.specs.Prelude.{◌≡◌, ◌≤◌, true, false, ℤ, ◌*◌, unsigned_abs};
 ghost use Rattle.nc_number.specs.declared.point.Point.{Point};
 ghost use Rattle.nc_moves.specs.declared.motion.Centre.TheVariants.{Offset};
@@ -19,7 +20,9 @@ const TOLERANCE: u128 = 20;
 /// A place of the plane in 0.0005 mm, in which the number of a diameter is that of its radius.
 #[derive(Drop)]
 struct Place {
+    /// Across the axis of the spindle: a diameter in 0.001 mm is a radius in 0.0005 mm.
     across: i64,
+    /// Along it, in 0.0005 mm.
     along: i64,
 }
 
@@ -96,6 +99,7 @@ fn is_past_tolerance(far: u128, near: u128) -> bool
     }
 }
 
+/// The place of a point. Its diameter in 0.001 mm is the radius in 0.0005 mm.
 fn place_of(point: &Point) -> Place
     requires { IsWithin LONGEST point.now }
     ensures place { result ≡ place_of point.now }
@@ -107,6 +111,7 @@ fn place_of(point: &Point) -> Place
     }
 }
 
+/// The centre, from the start and I and K in 0.001 mm.
 fn centre_from(start: &Place, i: i64, k: i64) -> Place
     requires start { IsNear 200000000000000 start.now }
     requires i { unsigned_abs i ≤ LONGEST }
@@ -120,6 +125,7 @@ fn centre_from(start: &Place, i: i64, k: i64) -> Place
     }
 }
 
+/// The square of the distance of two places, in 0.0005 mm.
 fn square_between(a: &Place, b: &Place) -> u128
     requires a { IsNear 400000000000000 a.now }
     requires b { IsNear 400000000000000 b.now }
@@ -129,6 +135,7 @@ fn square_between(a: &Place, b: &Place) -> u128
     squared(a.across.abs_diff(b.across)) + squared(a.along.abs_diff(b.along))
 }
 
+/// The square of a distance, in 0.0005 mm.
 #[tactic(auto, using(crate::proofs::Places::square_bound))]
 fn squared(distance: u64) -> u128
     requires { distance ≤ 800000000000000 }

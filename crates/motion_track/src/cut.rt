@@ -1,4 +1,5 @@
-//! Straight cuts.
+//! Straight cuts: lines (G01) and threads (G32).
+//! turn_cycles uses what it exports.
 ghost use Rattle.std.specs.Prelude.{◌≡◌};
 ghost use Rattle.nc_number.specs.Arithmetic.{is_zero};
 ghost use Rattle.motion_track.specs.Cut.{line_of, thread_of};

@@ -1,4 +1,5 @@
-//! Why there is no move.
+//! Why there is no move. An alarm by its number; the causes are in nc_number.
+//! block_values and turn_cycles use what it exports.
 ghost use Rattle.std.specs.Prelude.{◌≡◌};
 
 use nc_number::Cause;
@@ -8,6 +9,7 @@ use thiserror::Error;
 #[derive(Clone, Copy, Debug, PartialEq, Eq, Error)]
 #[error("motion alarm {number}")]
 pub struct MotionFault {
+    /// The number of the alarm.
     pub number: u8,
 }
 

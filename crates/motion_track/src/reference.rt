@@ -1,4 +1,4 @@
-//! The way home.
+//! The way home (G28): to the intermediate point, then home.
 ghost use Rattle.std.specs.Prelude.{◌≡◌};
 ghost use Rattle.motion_track.specs.Home.{named, home_moves};
 

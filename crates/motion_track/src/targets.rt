@@ -1,4 +1,5 @@
-//! Where a move ends.
+//! Where a move ends, in 0.001 mm, X a diameter.
+//! block_values, path_state, turn_cycles, two_path, zone_area and zone_check use what it exports.
 ghost use Rattle.std.specs.Prelude.{◌≡◌, ◌≤◌, unsigned_abs, IfOk};
 ghost use Rattle.nc_number.specs.Position.{IsWithin, IsPosition};
 ghost use Rattle.nc_number.specs.Axes.{IsAxisWithin};
@@ -44,6 +45,8 @@ fn reached(at: &Point, shift: &Point, x: Axis, z: Axis) -> Point
     }
 }
 
+/// Where an axis word leads, in 0.001 mm: an absolute word from the shift, an incremental one from
+/// where the turret stands.
 fn part(at: i64, shift: i64, axis: Axis) -> i64
     requires at { unsigned_abs at ≤ LONGEST }
     requires shift { unsigned_abs shift ≤ LONGEST }

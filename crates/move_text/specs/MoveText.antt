@@ -1,4 +1,6 @@
 -- How a place is printed, and a move with the line of the tape whose block made it.
+-- move_list, trace_list, turret_lines and lathe_top cite this. Lengths and numbers are written as
+-- text_pieces says.
 use Rattle.std.specs.Prelude.{ℕ, Bool, if◌then◌else◌, List, ◌++◌, ℤ, codes, decimal}
 use Rattle.nc_number.specs.declared.point.Point.{Point}
 use Rattle.nc_number.specs.Printed.{value_text, length_text, last_digits}
@@ -17,6 +19,7 @@ centre_text (Radius r) = codes " R" ++ length_text r
 unfoldable pub feed_text : ℤ → Bool → List ℕ
 feed_text feed per_rev = codes " F" ++ value_text feed ++ (if per_rev then codes " rev" else codes " min")
 
+-- a move: its kind, where it leads, and its feed or its number
 unfoldable pub move_text : Move → List ℕ
 move_text (Rapid to) = codes "rapid" ++ point_text to
 move_text (Feed to feed per_rev) = codes "feed" ++ point_text to ++ feed_text feed per_rev

@@ -1,4 +1,6 @@
 //! How a place and a move are printed, each as a line.
+//! A piece holds at most 512 bytes; the numbers in the clauses are the room that a text may take.
+//! move_list, trace_list and turret_lines print with these.
 ghost use Rattle.std.specs.Prelude.{◌≡◌, ◌+◌, ◌≤◌, [], ◌++◌, length};
 ghost use Rattle.move_text.specs.MoveText.{centre_text, feed_text, line_text, move_text, placed_text};
 
@@ -6,7 +8,8 @@ use nc_moves::{Centre, Move};
 use nc_number::{Point, Value};
 use text_pieces::Piece;
 
-/// The centre of an arc from its start, or its radius.
+/// Adds the centre of an arc from its start, or its radius, in mm. 52 bytes hold two letters, their
+/// blanks and two lengths.
 #[tactic(auto, unfolding(crate::specs::MoveText::centre_text))]
 fn add_centre(piece: &mut Piece, centre: Centre)
     requires { length piece.old + 52 ≤ 512 }
@@ -27,7 +30,7 @@ fn add_centre(piece: &mut Piece, centre: Centre)
     }
 }
 
-/// A feed, per revolution or per minute.
+/// Adds a feed, per revolution or per minute.
 #[tactic(auto, unfolding(crate::specs::MoveText::feed_text))]
 fn add_feed(piece: &mut Piece, feed: Value, per_rev: bool)
     requires { length piece.old + 30 ≤ 512 }
@@ -39,7 +42,7 @@ fn add_feed(piece: &mut Piece, feed: Value, per_rev: bool)
     piece.add(if per_rev { b" rev" } else { b" min" });
 }
 
-/// A move.
+/// Adds a move. The longest is an arc.
 #[tactic(auto, unfolding(crate::specs::MoveText::move_text))]
 fn add_move(piece: &mut Piece, what: &Move)
     requires { length piece.old + 140 ≤ 512 }

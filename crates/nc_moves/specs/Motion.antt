@@ -1,4 +1,5 @@
--- What a move leaves behind.
+-- Where a turret stands after a move. The other moves leave it where it is.
+-- block_values, motion_track, zone_area and zone_check take it.
 use Rattle.std.specs.Prelude.{Option, Some, None}
 use Rattle.nc_number.specs.declared.point.Point.{Point}
 use Rattle.nc_moves.specs.declared.motion.Move.{Move}

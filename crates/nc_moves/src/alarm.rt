@@ -1,9 +1,11 @@
-//! The alarm of a path.
+//! The alarm that ended a path. Its numbers are those of nc_number.
+//! 5 other crates use it.
 use nc_number::{Path, Value};
 
 /// The alarm that ended a path.
 #[derive(Clone, Copy, Debug, PartialEq, Eq)]
 pub struct Alarm {
+    /// The path that it ended.
     pub path: Path,
     /// The line of the block that raised it.
     pub line: u32,

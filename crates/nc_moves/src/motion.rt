@@ -1,4 +1,5 @@
-//! What a block asks a turret to do, and the moves of one block.
+//! What a block asks a turret to do, and the moves of one block, at most eight. What makes them is
+//! in motion_track.
 ghost use Rattle.std.specs.Prelude.{◌≡◌, ◌+◌, ◌<◌, ◌≤◌, [], ◌∷◌, ◌++◌, length};
 ghost use Rattle.nc_moves.specs.Motion.{end_of};
 
@@ -68,7 +69,7 @@ pub enum Move {
 }
 
 impl Move {
-    /// Where the turret stands after the move, in machine coordinates. Nothing where the move goes
+    /// Where the turret stands after the move, in machine coordinates. None if the move goes
     /// nowhere: a rest, a speed, a limit, a tool, an auxiliary code.
     pub fn end(&self) -> Option<Point>
         ensures { result ≡ end_of self.now }
@@ -102,6 +103,7 @@ impl Default for Move {
 /// The moves of a block in order, at most eight. It takes no memory.
 #[derive(Debug, Drop)]
 pub struct MoveList {
+    /// The moves, in order.
     moves: ArrayVec<Move, MOVES_PER_BLOCK>,
 }
 
@@ -139,7 +141,7 @@ impl MoveList {
         self.moves.clear();
     }
 
-    /// Adds a move behind the others.
+    /// Adds a move after the others.
     pub fn push(&mut self, what: Move)
         requires { length self.old < 8 }
         ensures { self.new ≡ self.old ++ what ∷ [] }
@@ -147,7 +149,7 @@ impl MoveList {
         self.moves.push(what);
     }
 
-    /// Adds moves behind the others, in their order. The list must have room for all of them.
+    /// Adds moves after the others, in their order. The list must have room for all of them.
     pub fn append(&mut self, more: &[Move])
         requires { length self.old + length more.now ≤ 8 }
         ensures { self.new ≡ self.old ++ more.now }
@@ -168,7 +170,9 @@ impl MoveList {
 /// The moves of the block at a line of the tape.
 #[derive(Debug, Drop)]
 pub struct Moves {
+    /// The line of the block in the tape, counted from 1.
     pub line: u32,
+    /// Its moves.
     pub list: MoveList,
 }
 

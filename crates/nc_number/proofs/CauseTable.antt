@@ -1,4 +1,5 @@
--- Each row of the table of causes has a number of its own.
+-- Each row of the table of causes has a number of its own. Crates that compare numbers of refusals
+-- or alarms take the facts at the end.
 use Rattle.std.proofs.Common.{◌≡◌, ◌≢◌, ℕ, Option, Some, None, IfSome, IsNone, All, Contains, lit<, refl, ap, sym, ◌∙◌}
 use Rattle.std.proofs.lemmas.List.Elements.{All-contains}
 use Rattle.nc_number.specs.declared.cause.Cause.{Cause}
@@ -62,9 +63,11 @@ every_row Cut = ((51, lit< tt, refl), refl)
 every_row JournalFull = ((52, lit< tt, refl), refl)
 every_row BadSetting = ((53, lit< tt, refl), refl)
 
+-- each cause has a row in the table
 pub cause_is_listed : (cause : Cause) → Contains every_cause cause
 cause_is_listed cause = (every_row cause).0
 
+-- two causes with the same number are the same cause
 pub number_has_one_cause : (a b : Cause) → cause_number a ≡ cause_number b → a ≡ b
 number_has_one_cause a b same =
     let both : ◌≡◌ {A = Option Cause} (Some a) (Some b) = sym (every_row a).1 ∙ ap cause_of same ∙ (every_row b).1 in cc

@@ -1,4 +1,4 @@
--- Runs of decimal digits, and the numbers that they write.
+-- Runs of decimal digits, and the numbers that they write. tape_relation takes some facts too.
 use Rattle.std.proofs.Common.{◌≡◌, ◌==◌, ℕ, ◌+◌, ◌-◌, ◌*◌, ◌^◌, ◌<◌, ◌≤◌, true, false, not, List, [], ◌∷◌, length, get_or, take, drop, refl, ap, length-drop, ◌∙◌, sym, subst, inl, inr, arith, rules, suc}
 use Rattle.std.specs.List.{position_or_len}
 use Rattle.std.specs.Char.{digit_value, is_ascii_digit}
@@ -17,9 +17,11 @@ use Rattle.nc_number.specs.Literals.{all_digits, significant, size_of_parts}
 pub digits_model : IsNumeralModel (λ ds. all_digits ds ≡ true) (digits_value 10)
 digits_model = numerals_by_value _ (search rules)
 
+-- each byte of a run of digits is one from 48 to 57: the characters 0 to 9
 pub digit_byte : (ds : List ℕ) (i : ℕ) → all_digits ds ≡ true → i < length ds → (48 ≤ get_or ds i 0) × (get_or ds i 0 ≤ 57)
 digit_byte ds i digits within = digit_at ds i (digits_model.to ds digits) within
 
+-- the weight of a digit is its byte less 48
 pub digit_value_is : (c : ℕ) → 48 ≤ c → c ≤ 57 → digit_value c ≡ c - 48
 digit_value_is c low high = grind (arith, common_steps)
 
@@ -30,9 +32,11 @@ value_more ds i digits within =
     let weight = digit_value_is (get_or ds i 0) byte.0 byte.1 in
     digits_value_more 10 ds i within ∙ ap (λ d. digits_value 10 (take i ds) * 10 + d) weight
 
+-- k digits write a number below 10 ^ k
 pub value_below : (ds : List ℕ) → all_digits ds ≡ true → digits_value 10 ds < 10 ^ length ds
 value_below ds digits = digits_value-lt 10 ds (digits_model.to ds digits)
 
+-- the first digits of at most k digits write a number below 10 ^ k
 pub part_below : (ds : List ℕ) (i k : ℕ) → all_digits ds ≡ true → length ds ≤ k → digits_value 10 (take i ds) < 10 ^ k
 part_below ds i k digits short =
     let whole = value_below ds digits in
@@ -53,10 +57,12 @@ value-significant (d ∷ ds) = elim (cases_eq d 48) [
   | inr other ↦ (let test : (d == 48) ≡ false = ne_eqb d 48 other in rw test refl)
 ]
 
+-- digits without some at the front are digits
 pub all_digits-drop : (ds : List ℕ) (k : ℕ) → all_digits ds ≡ true → all_digits (drop k ds) ≡ true
 all_digits-drop ds k digits =
     list_all-from_AllPass is_ascii_digit (drop k ds) (All-drop (λ c. is_ascii_digit c ≡ true) k ds (AllPass-from_list_all is_ascii_digit ds digits))
 
+-- digits without the zeros at the front are digits
 pub all_digits-significant : (ds : List ℕ) → all_digits ds ≡ true → all_digits (significant ds) ≡ true
 all_digits-significant ds digits = all_digits-drop ds (position_or_len (λ d. not (d == 48)) ds) digits
 
@@ -80,5 +86,6 @@ size_below whole fraction whole_digits whole_short fraction_digits fraction_shor
     let power : 10 ^ length whole ≤ 10 ^ 8 = pow-le-pow_right ten whole_short in
     omega arith
 
+-- without the zeros at the front there are no more digits than before
 pub length-significant-le : (ds : List ℕ) → length (significant ds) ≤ length ds
 length-significant-le ds = omega (arith, length-drop (position_or_len (λ d. not (d == 48)) ds) ds)

@@ -1,4 +1,5 @@
 -- The last digits of a number, and what is left of them without the zeros at their end.
+-- tape_relation takes some facts too.
 use Rattle.std.proofs.Common.{◌≡◌, ◌&&◌, ◌<◌, ◌≤◌, ◌+◌, ◌-◌, ◌*◌, ◌/◌, ◌%◌, ◌^◌, ℕ, zero, suc, Bool, true, false, cond, List, [], ◌∷◌, length, refl, ◌∙◌, arith, length-append}
 use Rattle.std.specs.List.{list_all}
 use Rattle.std.specs.Char.{digit_value, is_ascii_digit}
@@ -11,14 +12,17 @@ use Rattle.nc_number.specs.Literals.{all_digits}
 use Rattle.nc_number.specs.Printed.{last_digits, is_zero_digit, without_trailing_zeros}
 use Rattle.nc_number.proofs.DecimalDigits.{digit_value_is}
 
+-- the last k digits are k bytes
 pub length-last : (k n : ℕ) → length (last_digits k n) ≡ k
 length-last zero n = refl
 length-last (suc k) n =
     length-append (last_digits k (n / 10)) ((48 + n % 10) ∷ []) ∙ rw (length-last k (n / 10)) (omega arith)
 
+-- 48 and a number below 10 is the byte of a digit
 pub last_byte : (n : ℕ) → is_ascii_digit (48 + n % 10) ≡ true
 last_byte n = and_from _ _ (le-leb 48 (48 + n % 10) (omega arith)) (le-leb (48 + n % 10) 57 (omega arith))
 
+-- the last k digits are digits
 pub all_digits-last : (k n : ℕ) → all_digits (last_digits k n) ≡ true
 all_digits-last zero n = refl
 all_digits-last (suc k) n =
@@ -36,6 +40,7 @@ value-last (suc k) n small =
 
 -- ---- without the zeros at the end
 
+-- without the zeros at the end there are no more digits than before
 pub length-trim-le : (ds : List ℕ) → length (without_trailing_zeros ds) ≤ length ds
 length-trim-le [] = omega arith
 length-trim-le (d ∷ ds) = go (is_zero_digit d && list_all is_zero_digit ds) (length-trim-le ds)
@@ -44,6 +49,7 @@ length-trim-le (d ∷ ds) = go (is_zero_digit d && list_all is_zero_digit ds) (l
     go true shorter = omega arith
     go false shorter = omega arith
 
+-- digits without the zeros at the end are digits
 pub all_digits-trim : (ds : List ℕ) → all_digits ds ≡ true → all_digits (without_trailing_zeros ds) ≡ true
 all_digits-trim [] digits = refl
 all_digits-trim (d ∷ ds) digits =
@@ -53,6 +59,7 @@ all_digits-trim (d ∷ ds) digits =
     go true digit rest = refl
     go false digit rest = and_from _ _ digit rest
 
+-- after a number n, zeros alone write n times a power of ten
 pub value_of_zeros : (ds : List ℕ) (n : ℕ) → list_all is_zero_digit ds ≡ true → digits_value_after 10 n ds ≡ n * 10 ^ length ds
 value_of_zeros [] n zeros = omega arith
 value_of_zeros (d ∷ ds) n zeros =

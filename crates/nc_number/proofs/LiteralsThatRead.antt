@@ -30,6 +30,7 @@ reads_as text literal reads = go (has_too_many_digits text) refl reads
     go true many is = cc
     go false few is = let same : read ≡ literal = cc in (few, ap (λ l. l.value) (sym same), ap (λ l. l.point) (sym same))
 
+-- a literal that reads is in the range of a value, 99,999,999.999999 either way
 pub literal_in_range : (text : List ℕ) (literal : Literal) → IsLiteral text → word_literal text ≡ Ok literal → InRange literal.value
 literal_in_range text literal is reads =
     let told = reads_as text literal reads in
@@ -48,6 +49,7 @@ multiple_nearest n d positive multiple = go (nat_le d (2 * (n % d))) refl
     go true half = let more = leb-true _ _ half in absurd (omega arith)
     go false less = omega arith
 
+-- a whole number of units is its nearest quotient by a unit, times a unit
 multiple_quotient : (a : ℤ) → unsigned_abs a % 1000000 ≡ 0 → nearest_quotient a (pos 1000000) *ℤ pos 1000000 ≡ a
 multiple_quotient a multiple =
     let near = nearest (unsigned_abs a) 1000000 in
@@ -65,6 +67,7 @@ no_fraction text is point_free =
     go None nothing = refl
     go (Some digits) nothing = cc
 
+-- a literal without a point is as many units as it counts thousandths
 pub literal_without_point : (text : List ℕ) (literal : Literal) → IsLiteral text → word_literal text ≡ Ok literal → literal.point ≡ false
     → literal.value ≡ thousandths_of literal *ℤ pos 1000000
 literal_without_point text literal is reads point_free =

@@ -43,21 +43,26 @@ nearest_is_greatest n d m positive = go (nat_le d (2 * (n % d))) refl
           | inr below ↦ below
         ]
 
+-- a number with a sign has the size that it had without
 pub size_with_sign : (minus : Bool) (n : ℕ) → unsigned_abs (with_sign minus n) ≡ n
 size_with_sign false n = refl
 size_with_sign true n = omega (arith, ints)
 
+-- a count is not negative
 pub negative_pos : (n : ℕ) → is_negative (pos n) ≡ false
 negative_pos n = le-ltb n 0 (omega arith)
 
+-- a whole number is its size with its sign
 pub signed_size : (a : ℤ) → with_sign (is_negative a) (unsigned_abs a) ≡ a
 signed_size (pos n) = rw (negative_pos n) refl
 signed_size (negsuc n) = refl
 
+-- a count with a minus is negative, unless it is 0
 pub negative_neg : (n : ℕ) → neg_ℤ (pos n) ≢ pos 0 → is_negative (neg_ℤ (pos n)) ≡ true
 negative_neg zero nonzero = absurd (nonzero refl)
 negative_neg (suc n) nonzero = refl
 
+-- a minus of a factor is a minus of the product
 pub neg_times : (n m : ℕ) → neg_ℤ (pos n) *ℤ pos m ≡ neg_ℤ (pos (n * m))
 neg_times zero m = let none : 0 * m ≡ 0 = omega arith in rw none refl
 neg_times (suc n) m = negsuc-*ℤ-pos n m
@@ -70,19 +75,23 @@ signed_times false n (negsuc m) =
     *ℤ-negsuc (neg_ℤ (pos n)) m ∙ ap neg_ℤ (neg_times n (suc m)) ∙ neg_ℤ-neg_ℤ (pos (n * suc m))
 signed_times true n (negsuc m) = pos-*ℤ-negsuc n m
 
+-- two numbers with one sign are as far apart as without it
 pub signed_distance : (s : Bool) (x y : ℕ) → unsigned_abs (with_sign s x -ℤ with_sign s y) ≡ abs_diff x y
 signed_distance false x y = omega (arith, ints)
 signed_distance true x y = omega (arith, ints)
 
+-- the sizes of two numbers are no farther apart than the numbers
 pub distance_of_sizes : (x y : ℤ) → abs_diff (unsigned_abs x) (unsigned_abs y) ≤ unsigned_abs (x -ℤ y)
 distance_of_sizes x y = omega (arith, ints)
 
+-- the size of a number that isn't 0 is above 0
 pub positive_size : (b : ℤ) → b ≢ pos 0 → 0 < unsigned_abs b
 positive_size b nonzero = elim (cases_lt 0 (unsigned_abs b)) [
   | inl positive ↦ positive
   | inr none ↦ (let zero_is : b ≡ pos 0 = omega (arith, ints) in absurd (nonzero zero_is))
 ]
 
+-- how far a nearest multiple is from a: as far as the sizes say
 pub quotient_distance : (a b : ℤ) → unsigned_abs (a -ℤ nearest_quotient a b *ℤ b) ≡ abs_diff (unsigned_abs a) (nearest (unsigned_abs a) (unsigned_abs b) * unsigned_abs b)
 quotient_distance a b =
     let near = nearest (unsigned_abs a) (unsigned_abs b) in
@@ -90,10 +99,12 @@ quotient_distance a b =
     ∙ ap (λ z. unsigned_abs (z -ℤ with_sign (is_negative a) (near * unsigned_abs b))) (sym (signed_size a))
     ∙ signed_distance (is_negative a) (unsigned_abs a) (near * unsigned_abs b)
 
+-- any multiple is at least as far from a as the sizes say
 pub multiple_distance : (a b k : ℤ) → abs_diff (unsigned_abs a) (unsigned_abs k * unsigned_abs b) ≤ unsigned_abs (a -ℤ k *ℤ b)
 multiple_distance a b k =
     subst (λ n. abs_diff (unsigned_abs a) n ≤ unsigned_abs (a -ℤ k *ℤ b)) (unsigned_abs-mul k b) (distance_of_sizes a (k *ℤ b))
 
+-- no multiple of b is nearer to a than the nearest quotient's
 pub quotient_is_near : (a b k : ℤ) → b ≢ pos 0 → unsigned_abs (a -ℤ nearest_quotient a b *ℤ b) ≤ unsigned_abs (a -ℤ k *ℤ b)
 quotient_is_near a b k nonzero =
     let near = nearest_is_near (unsigned_abs a) (unsigned_abs b) (unsigned_abs k) (positive_size b nonzero) in
@@ -101,6 +112,7 @@ quotient_is_near a b k nonzero =
     let is = quotient_distance a b in
     rw is (omega arith)
 
+-- a multiple that is as near as the nearest quotient's is not of a greater factor
 pub quotient_is_far_from_zero : (a b k : ℤ) → b ≢ pos 0 → unsigned_abs (a -ℤ k *ℤ b) ≡ unsigned_abs (a -ℤ nearest_quotient a b *ℤ b) → unsigned_abs k ≤ unsigned_abs (nearest_quotient a b)
 quotient_is_far_from_zero a b k nonzero tie =
     let multiple = multiple_distance a b k in

@@ -1,4 +1,4 @@
--- Facts of points that the proofs of every crate need.
+-- Facts of points. motion_track, rough_cycle and zone_area take them.
 use Rattle.std.proofs.Common.{◌≡◌, true, ℤ, ap, ◌∙◌, arith}
 use Rattle.std.proofs.lemmas.Bool.Decides.{nat_tests}
 use Rattle.nc_number.specs.declared.point.Point.{Point}

@@ -1,4 +1,5 @@
--- What is printed reads back as the same number.
+-- What is printed reads back as the same number: values with up to six decimals, lengths with
+-- three.
 use Rattle.std.proofs.Common.{◌≡◌, ◌==◌, ◌<◌, ◌≤◌, ◌-◌, ◌*◌, ◌/◌, ◌%◌, ◌^◌, ℕ, ℤ, pos, negsuc, ◌*ℤ◌, Bool, true, false, cond, List, [], ◌∷◌, append_assoc, length, Option, Some, None, is_some, Ok, refl, ap, sym, ◌∙◌, arith}
 use Rattle.std.specs.Prelude.{unsigned_abs, decimal}
 use Rattle.std.specs.Int.{is_negative}
@@ -17,13 +18,16 @@ use Rattle.nc_number.proofs.Spellings.{parts_of_written}
 use Rattle.std.proofs.Math.IntN.{pos-*ℤ-pos, negsuc-*ℤ-pos}
 use Rattle.nc_number.proofs.NearestQuotient.{signed_size, negative_pos}
 
+-- the sign that is printed: a minus below 0, else none
 abbrev pub printed_sign : Bool → Sign
 printed_sign minus = cond minus Minus Bare
 
+-- the bytes that are printed for a sign are those of the grammar
 pub printed_sign_bytes : (minus : Bool) → sign_text minus ≡ sign_bytes (printed_sign minus)
 printed_sign_bytes true = refl
 printed_sign_bytes false = refl
 
+-- a minus is printed exactly below 0
 pub printed_minus : (minus : Bool) → is_minus (printed_sign minus) ≡ minus
 printed_minus true = refl
 printed_minus false = refl
@@ -39,9 +43,11 @@ word_of_parts text sign whole fraction parts short_whole short_fraction =
 
 -- ---- values
 
+-- the digits that are printed behind the point, if the fraction isn't 0
 abbrev pub printed_fraction : ℕ → Option (List ℕ)
 printed_fraction millionths = cond (millionths == 0) None (Some (without_trailing_zeros (last_digits 6 millionths)))
 
+-- the fraction's text is a point and these digits, or nothing
 pub printed_fraction_bytes : (millionths : ℕ) → fraction_text millionths ≡ point_bytes (printed_fraction millionths)
 printed_fraction_bytes millionths = go (millionths == 0)
   where
@@ -51,10 +57,14 @@ printed_fraction_bytes millionths = go (millionths == 0)
 
 -- the digits behind the point are digits, at most 6, and write the fraction
 pub record IsFraction (digits : List ℕ) (millionths : ℕ) : Type 0 where
+  -- there are digits alone
   pub digits_alone : all_digits digits ≡ true
+  -- at most six
   pub short : length digits ≤ 6
+  -- with zeros up to six they write the fraction's millionths
   pub value : digits_value 10 digits * 10 ^ (6 - length digits) ≡ millionths
 
+-- six digits without the zeros at the end still write the fraction
 pub trimmed_is_fraction : (millionths : ℕ) → millionths < 1000000 → IsFraction (without_trailing_zeros (last_digits 6 millionths)) millionths
 trimmed_is_fraction millionths small =
     let six = length-last 6 millionths in
@@ -65,6 +75,7 @@ trimmed_is_fraction millionths small =
           ∙ sym (value-trim (last_digits 6 millionths) 0) ∙ value-last 6 millionths small;
     }
 
+-- the digits that are printed write the fraction
 pub printed_is_fraction : (millionths : ℕ) → millionths < 1000000 → IsFraction (digits_behind (printed_fraction millionths)) millionths
 printed_is_fraction millionths small = go (millionths == 0) refl
   where
@@ -72,6 +83,7 @@ printed_is_fraction millionths small = go (millionths == 0) refl
     go true is = record { digits_alone = refl; short = omega arith; value = sym (eqb-true millionths 0 is) }
     go false is = trimmed_is_fraction millionths small
 
+-- what is printed of a value is spelled as the grammar of literals says
 pub value_is_written : (a : ℤ) → InRange a
     → IsWritten (value_text a) (printed_sign (is_negative a)) (decimal (unsigned_abs a / 1000000)) (printed_fraction (unsigned_abs a % 1000000))
 value_is_written a range =
@@ -85,12 +97,15 @@ value_is_written a range =
       some_digit = (let first = decimal_nonempty (unsigned_abs a / 1000000) small in omega arith);
     }
 
+-- what is printed of a value is a literal
 pub value_is_literal : (a : ℤ) → InRange a → IsLiteral (value_text a)
 value_is_literal a range = (parts_of_written _ _ _ _ (value_is_written a range)).literal
 
+-- a minus is printed exactly for a value below 0
 pub value_minus : (a : ℤ) → InRange a → has_minus (value_text a) ≡ is_negative a
 value_minus a range = (parts_of_written _ _ _ _ (value_is_written a range)).minus_is ∙ printed_minus (is_negative a)
 
+-- what is printed of a value reads as that value
 pub value_reads_back : (a : ℤ) → InRange a → word_literal (value_text a) ≡ Ok (record { value = a; point = has_point (value_text a) })
 value_reads_back a range =
     let parts = parts_of_written _ _ _ _ (value_is_written a range) in
@@ -104,6 +119,7 @@ value_reads_back a range =
 
 -- ---- lengths
 
+-- what is printed of a length is spelled as the grammar of literals says
 pub length_is_written : (a : ℤ) → unsigned_abs a ≤ 2 ^ 63
     → IsWritten (length_text a) (printed_sign (is_negative a)) (decimal (unsigned_abs a / 1000)) (Some (last_digits 3 (unsigned_abs a % 1000)))
 length_is_written a range =
@@ -116,13 +132,16 @@ length_is_written a range =
       some_digit = (let first = decimal_nonempty (unsigned_abs a / 1000) small in omega arith);
     }
 
+-- a minus is printed exactly for a length below 0
 pub length_minus : (a : ℤ) → unsigned_abs a ≤ 2 ^ 63 → has_minus (length_text a) ≡ is_negative a
 length_minus a range = (parts_of_written _ _ _ _ (length_is_written a range)).minus_is ∙ printed_minus (is_negative a)
 
+-- an increment of 0.001 is 1000 millionths, with the sign kept
 pub thousandfold : (a : ℤ) → with_sign (is_negative a) (unsigned_abs a * 1000) ≡ a *ℤ pos 1000
 thousandfold (pos n) = rw (negative_pos n) (sym (pos-*ℤ-pos n 1000))
 thousandfold (negsuc n) = sym (negsuc-*ℤ-pos n 1000)
 
+-- what is printed of a length reads as that many increments, with a point
 pub length_reads_back : (a : ℤ) → unsigned_abs a ≤ 99999999999 → word_literal (length_text a) ≡ Ok (record { value = a *ℤ pos 1000; point = true })
 length_reads_back a range =
     let small : unsigned_abs a / 1000 < 2 ^ 64 = omega arith in

@@ -1,4 +1,4 @@
--- The greatest number whose square is at most another.
+-- The greatest number whose square is at most another. motion_track and zone_area take facts too.
 use Rattle.std.proofs.Common.{◌≡◌, ◌<◌, ◌≤◌, ◌*◌, ◌+◌, ℕ, zero, suc, Bool, true, false, cond, refl, arith, inl, inr}
 use Rattle.std.specs.Prelude.{nat_le}
 use Rattle.std.proofs.lemmas.Bool.{cases_lt, leb-true, leb-false}
@@ -6,6 +6,7 @@ use Rattle.std.proofs.lemmas.Nat.{mul-le}
 use Rattle.std.proofs.Math.Nat.{le-mul_of_pos_right}
 use Rattle.nc_number.specs.Arithmetic.{greatest_root, square_root}
 
+-- the square of a root is at most the number
 pub root_squares : (n most : ℕ) → greatest_root n most * greatest_root n most ≤ n
 unfolding greatest_root
 root_squares n zero = omega arith
@@ -16,6 +17,7 @@ root_squares n (suc most) = go (nat_le (suc most * suc most) n) refl (root_squar
     go true is below = leb-true _ _ is
     go false is below = below
 
+-- no greater number, up to `most`, has a square that is at most n
 pub root_is_greatest : (n most k : ℕ) → k ≤ most → k * k ≤ n → k ≤ greatest_root n most
 unfolding greatest_root
 root_is_greatest n zero k within square = within
@@ -54,6 +56,7 @@ root_below s n square small = elim (cases_lt s 10000000000000) [
   | inr more ↦ (let squares = mul-le _ _ _ _ more more in absurd (omega arith))
 ]
 
+-- the square of the next number is above n
 pub root_next : (n : ℕ) → n < (square_root n + 1) * (square_root n + 1)
 root_next n = elim (cases_lt n ((square_root n + 1) * (square_root n + 1))) [
   | inl past ↦ past

@@ -1,4 +1,5 @@
--- A literal is what the grammar spells, and its parts are those of the spelling.
+-- A literal is what the grammar spells (specs/Spelling.antt), and its parts are those of the
+-- spelling. tape_relation takes some facts too.
 use Rattle.std.proofs.Common.{◌≡◌, ◌==◌, ◌≤◌, ℕ, Bool, true, false, cond, List, [], ◌∷◌, ◌++◌, length, drop, get_or, refl, ap, sym, subst, ◌∙◌, arith, inl, inr, Option, Some, None, is_some, nat_lt}
 use Rattle.std.specs.List.{list_any, position_or_len, before_first, after_first}
 use Rattle.std.specs.Char.{is_ascii_digit}
@@ -15,13 +16,16 @@ use Rattle.nc_number.proofs.DecimalDigits.{digit_byte}
 pub digit_range : (d : ℕ) → is_ascii_digit d ≡ true → (48 ≤ d) × (d ≤ 57)
 digit_range d digit = let one : all_digits (d ∷ []) ≡ true = and_from _ _ digit refl in digit_byte (d ∷ []) 0 one (omega arith)
 
+-- a digit is not a point
 pub digit_no_point : (d : ℕ) → is_ascii_digit d ≡ true → is_point d ≡ false
 digit_no_point d digit = let range = digit_range d digit in ne_eqb d 46 (λ is. absurd (omega arith))
 
+-- a digit is not a sign
 pub digit_no_sign : (d : ℕ) → is_ascii_digit d ≡ true → is_sign d ≡ false
 digit_no_sign d digit = let range = digit_range d digit in
     or_from _ _ (ne_eqb d 43 (λ is. absurd (omega arith))) (ne_eqb d 45 (λ is. absurd (omega arith)))
 
+-- a digit is not a minus (byte 45)
 pub digit_no_minus : (d : ℕ) → is_ascii_digit d ≡ true → (d == 45) ≡ false
 digit_no_minus d digit = let range = digit_range d digit in ne_eqb d 45 (λ is. absurd (omega arith))
 
@@ -33,10 +37,12 @@ point_place (d ∷ ds) fraction digits =
     let parts = and_parts _ _ digits in
     rw (digit_no_point d parts.0, point_place ds fraction parts.1) (omega arith)
 
+-- before the first point stand the digits of the whole part
 pub before_point : (whole : List ℕ) (fraction : Option (List ℕ)) → all_digits whole ≡ true → before_first is_point (whole ++ point_bytes fraction) ≡ whole
 before_point whole fraction digits =
     rw (point_place whole fraction digits) (take-append_seam whole (point_bytes fraction))
 
+-- behind the first point stand the digits of the fraction
 pub after_point : (whole : List ℕ) (fraction : Option (List ℕ)) → all_digits whole ≡ true → after_first is_point (whole ++ point_bytes fraction) ≡ digits_behind fraction
 after_point whole fraction digits =
     rw (point_place whole fraction digits) (drop-append-add whole (point_bytes fraction) 1 ∙ behind fraction)
@@ -51,16 +57,19 @@ body_unsigned [] None digits = refl
 body_unsigned [] (Some fraction) digits = refl
 body_unsigned (d ∷ ds) fraction digits = rw (digit_no_sign d (and_parts _ _ digits).0) refl
 
+-- what stands behind the sign begins with no minus
 pub body_no_minus : (whole : List ℕ) (fraction : Option (List ℕ)) → all_digits whole ≡ true → has_minus (whole ++ point_bytes fraction) ≡ false
 body_no_minus [] None digits = refl
 body_no_minus [] (Some fraction) digits = refl
 body_no_minus (d ∷ ds) fraction digits = digit_no_minus d (and_parts _ _ digits).0
 
+-- digits hold no point
 pub digits_no_point : (ds : List ℕ) → all_digits ds ≡ true → list_any is_point ds ≡ false
 digits_no_point [] digits = refl
 digits_no_point (d ∷ ds) digits =
     let parts = and_parts _ _ digits in or_from _ _ (digit_no_point d parts.0) (digits_no_point ds parts.1)
 
+-- what stands behind the sign has a point exactly if the spelling has one
 pub body_point : (whole : List ℕ) (fraction : Option (List ℕ)) → all_digits whole ≡ true → list_any is_point (whole ++ point_bytes fraction) ≡ is_some fraction
 body_point whole fraction digits =
     list_any-append is_point whole (point_bytes fraction) ∙ rw (digits_no_point whole digits) (behind fraction)
@@ -75,16 +84,19 @@ written_body Bare whole fraction digits = body_unsigned whole fraction digits
 written_body Plus whole fraction digits = refl
 written_body Minus whole fraction digits = refl
 
+-- a text begins with a minus exactly if its spelling does
 pub written_minus : (sign : Sign) (whole : List ℕ) (fraction : Option (List ℕ)) → all_digits whole ≡ true → has_minus (sign_bytes sign ++ (whole ++ point_bytes fraction)) ≡ is_minus sign
 written_minus Bare whole fraction digits = body_no_minus whole fraction digits
 written_minus Plus whole fraction digits = refl
 written_minus Minus whole fraction digits = refl
 
+-- a text has a point exactly if its spelling does
 pub written_point : (sign : Sign) (whole : List ℕ) (fraction : Option (List ℕ)) → all_digits whole ≡ true → has_point (sign_bytes sign ++ (whole ++ point_bytes fraction)) ≡ is_some fraction
 written_point Bare whole fraction digits = body_point whole fraction digits
 written_point Plus whole fraction digits = body_point whole fraction digits
 written_point Minus whole fraction digits = body_point whole fraction digits
 
+-- the parts of a text that is spelled so are those of the spelling
 pub parts_of_written : (text : List ℕ) (sign : Sign) (whole : List ℕ) (fraction : Option (List ℕ)) → IsWritten text sign whole fraction → HasParts text sign whole fraction
 parts_of_written text sign whole fraction written =
     let body : behind_sign text ≡ whole ++ point_bytes fraction = ap behind_sign written.bytes ∙ written_body sign whole fraction written.whole_digits in
@@ -103,6 +115,7 @@ abbrev pub sign_of : List ℕ → Sign
 sign_of [] = Bare
 sign_of (b ∷ bs) = cond (b == 43) Plus (cond (b == 45) Minus Bare)
 
+-- a text is its sign and what stands behind it
 pub signed_body : (text : List ℕ) → text ≡ sign_bytes (sign_of text) ++ behind_sign text
 signed_body [] = refl
 signed_body (b ∷ bs) =
@@ -119,6 +132,7 @@ signed_body (b ∷ bs) =
 abbrev pub fraction_of : List ℕ → Option (List ℕ)
 fraction_of body = cond (nat_lt (position_or_len is_point body) (length body)) (Some (after_first is_point body)) None
 
+-- what stands behind the sign is the whole part, and a point with a fraction if there is one
 pub body_parts : (body : List ℕ) → body ≡ before_first is_point body ++ point_bytes (fraction_of body)
 body_parts body = go (nat_lt (position_or_len is_point body) (length body)) refl
   where
@@ -130,6 +144,7 @@ body_parts body = go (nat_lt (position_or_len is_point body) (length body)) refl
         subst (λ b. body ≡ before_first is_point body ++ b ∷ after_first is_point body) byte (split_at_first is_point body 0 within)
     go false is = sym (append-nil (before_first is_point body) ∙ take_all _ body (ltb-false _ _ is))
 
+-- the digits of the fraction are what stands behind the point
 pub body_fraction : (body : List ℕ) → digits_behind (fraction_of body) ≡ after_first is_point body
 body_fraction body = go (nat_lt (position_or_len is_point body) (length body)) refl
   where
@@ -138,6 +153,7 @@ body_fraction body = go (nat_lt (position_or_len is_point body) (length body)) r
     go true is = refl
     go false is = let past = ltb-false _ _ is in sym (drop_all _ body (omega arith))
 
+-- each literal is spelled by its sign, its whole part and its fraction
 pub written_literal : (text : List ℕ) → IsLiteral text → IsWritten text (sign_of text) (whole_part text) (fraction_of (behind_sign text))
 written_literal text literal =
     let parts = and_parts _ _ literal in

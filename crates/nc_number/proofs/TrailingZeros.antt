@@ -6,11 +6,13 @@ use Rattle.std.proofs.lemmas.Bool.{ne_eqb, and_right, and_left}
 use Rattle.std.proofs.Math.Bool.{and-true}
 use Rattle.nc_number.specs.Printed.{is_zero_digit, without_trailing_zeros}
 
+-- a zero at the end makes no difference to the digits without the zeros at their end
 pub trim-zero : (xs : List ℕ) → without_trailing_zeros (xs ++ 48 ∷ []) ≡ without_trailing_zeros xs
 trim-zero [] = refl
 trim-zero (x ∷ xs) =
     rw (list_all-append is_zero_digit xs (48 ∷ []), and-true (list_all is_zero_digit xs), trim-zero xs) refl
 
+-- digits that end with another digit than 0 stay as they are
 pub trim-digit : (xs : List ℕ) (d : ℕ) → d ≢ 48 → without_trailing_zeros (xs ++ d ∷ []) ≡ xs ++ d ∷ []
 trim-digit [] d other = rw (ne_eqb d 48 other) refl
 trim-digit (x ∷ xs) d other =
@@ -20,9 +22,10 @@ trim-digit (x ∷ xs) d other =
     let all : (is_zero_digit x && list_all is_zero_digit (xs ++ d ∷ [])) ≡ false = and_right (is_zero_digit x) _ digits in
     rw (all, trim-digit xs d other) refl
 
--- the two steps of a trim from the end
+-- one step of the code's trim: a last zero is left out
 pub trims_zero : (xs front : List ℕ) (d : ℕ) → xs ≡ front ++ d ∷ [] → d ≡ 48 → without_trailing_zeros front ≡ without_trailing_zeros xs
 trims_zero xs front d is zero_digit = rw (is, zero_digit) (sym (trim-zero front))
 
+-- its last step: a last digit that isn't 0 stays
 pub keeps_digit : (xs front : List ℕ) (d : ℕ) → xs ≡ front ++ d ∷ [] → d ≢ 48 → xs ≡ without_trailing_zeros xs
 keeps_digit xs front d is other = rw is (sym (trim-digit front d other))

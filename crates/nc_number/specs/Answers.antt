@@ -1,4 +1,5 @@
--- A call answers what its definition answers, unless memory ran out.
+-- A call answers what its definition answers, unless memory ran out. Each crate whose calls take
+-- memory says so by these words.
 use Rattle.std.specs.Prelude.{◌≡◌, Result, Ok, Err}
 use Rattle.nc_number.specs.declared.fault.Failing.{Failing}
 use Rattle.nc_number.specs.declared.fault.Failing.TheVariants.{Fault, NoMemory}
@@ -13,9 +14,10 @@ abbrev pub GivesBy : {X Y F E : Type 0} → (X → Y) → (F → E) → Result X
 GivesBy view cause (Ok x) due = due ≡ Ok (view x)
 GivesBy view cause (Err error) due = FailsBy cause error due
 
--- the same where the definition sees the whole fault
+-- the definition fails with the call's fault, and sees all of it
 abbrev pub Fails : {Y E : Type 0} → Failing E → Result Y E → Type 0
 Fails error due = FailsBy (λ fault. fault) error due
 
+-- the definition answers what the call answers, and sees all of the call's fault
 abbrev pub Gives : {X Y E : Type 0} → (X → Y) → Result X (Failing E) → Result Y E → Type 0
 Gives view result due = GivesBy view (λ fault. fault) result due

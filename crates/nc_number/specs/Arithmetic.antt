@@ -1,4 +1,6 @@
--- The arithmetic of values, as mathematics on whole counts of millionths.
+-- The arithmetic of values, as mathematics on whole counts of millionths. A value is such a count
+-- in the range of Range.antt; the functions of src/arithmetic.rt, bits.rt and rounding.rt compute
+-- these.
 use Rattle.std.specs.Prelude.{ℕ, zero, suc, ◌+◌, ◌*◌, ◌/◌, ◌%◌, Bool, not, ◌==◌, ◌&&◌, nat_le, if◌then◌else◌, ℤ, pos, ◌+ℤ◌, ◌-ℤ◌, ◌*ℤ◌, unsigned_abs, int_div, int_rem, bit_and, bit_or, bit_xor, Option, Some, None, Result, Ok, Err}
 use Rattle.std.specs.Int.{is_negative, div_ceil}
 use Rattle.nc_number.specs.declared.fault.NumberFault.{NumberFault}
@@ -10,6 +12,7 @@ use Rattle.nc_number.specs.Range.{is_in_range}
 abbrev pub checked : ℤ → Result ℤ NumberFault
 checked z = if is_in_range z then Ok z else Err Overflow
 
+-- the number is 0
 abbrev pub is_zero : ℤ → Bool
 is_zero z = unsigned_abs z == 0
 
@@ -21,15 +24,19 @@ nearest n d = if nat_le d (2 * (n % d)) then n / d + 1 else n / d
 abbrev pub nearest_quotient : ℤ → ℤ → ℤ
 nearest_quotient a b = with_sign (differ (is_negative a) (is_negative b)) (nearest (unsigned_abs a) (unsigned_abs b))
 
+-- the sum, or Overflow
 abbrev pub sum_of : ℤ → ℤ → Result ℤ NumberFault
 sum_of a b = checked (a +ℤ b)
 
+-- the difference, or Overflow
 abbrev pub difference_of : ℤ → ℤ → Result ℤ NumberFault
 difference_of a b = checked (a -ℤ b)
 
+-- the product, rounded to the nearest millionth, or Overflow
 abbrev pub product_of : ℤ → ℤ → Result ℤ NumberFault
 product_of a b = checked (nearest_quotient (a *ℤ b) (pos 1000000))
 
+-- the quotient, rounded to the nearest millionth; ZeroDivide if b is 0, or Overflow
 abbrev pub quotient_of : ℤ → ℤ → Result ℤ NumberFault
 quotient_of a b = if is_zero b then Err ZeroDivide else checked (nearest_quotient (a *ℤ pos 1000000) b)
 
@@ -50,12 +57,15 @@ abbrev pub on_bits : (ℕ → ℕ → ℕ) → ℤ → ℤ → Result ℤ Number
 on_bits operation a b =
     if has_bits a && has_bits b then checked (pos (operation (units a) (units b) * 1000000)) else Err NotWhole
 
+-- the bits that both numbers have
 abbrev pub and_of : ℤ → ℤ → Result ℤ NumberFault
 and_of a b = on_bits bit_and a b
 
+-- the bits that one of the numbers or both have
 abbrev pub or_of : ℤ → ℤ → Result ℤ NumberFault
 or_of a b = on_bits bit_or a b
 
+-- the bits that one of the numbers has, and not both
 abbrev pub xor_of : ℤ → ℤ → Result ℤ NumberFault
 xor_of a b = on_bits bit_xor a b
 
@@ -68,9 +78,11 @@ greatest_root n (suc most) = if nat_le (suc most * suc most) n then suc most els
 abbrev pub square_root : ℕ → ℕ
 square_root n = greatest_root n n
 
+-- the square root, cut to the millionth; NegativeRoot below 0
 abbrev pub root_of : ℤ → Result ℤ NumberFault
 root_of a = if is_negative a then Err NegativeRoot else Ok (pos (square_root (unsigned_abs a * 1000000)))
 
+-- the nearest whole number of units, halves away from zero, or Overflow
 abbrev pub rounded : ℤ → Result ℤ NumberFault
 rounded a = checked (nearest_quotient a (pos 1000000) *ℤ pos 1000000)
 
@@ -90,10 +102,11 @@ increments_of a = nearest_quotient a (pos 1000)
 abbrev pub value_of : ℤ → Option ℤ
 value_of z = if is_in_range z then Some z else None
 
--- the value of so many whole units, and of so many increments of 0.001
+-- the value of so many whole units, if it is in the range
 abbrev pub value_of_units : ℤ → Option ℤ
 value_of_units n = value_of (n *ℤ pos 1000000)
 
+-- the value of so many increments of 0.001, if it is in the range
 abbrev pub value_of_increments : ℤ → Option ℤ
 value_of_increments n = value_of (n *ℤ pos 1000)
 

@@ -1,4 +1,4 @@
--- What a block says of an axis.
+-- What a block says of an axis: nothing, an absolute length or a way, in 0.001 mm.
 use Rattle.std.specs.Prelude.{ℕ, ◌≤◌, Bool, true, false, ℤ, unsigned_abs, Option, Some, None}
 use Rattle.nc_number.specs.declared.axis.Axis.{Axis}
 use Rattle.nc_number.specs.declared.axis.Axis.TheVariants.{Keep, To, By}

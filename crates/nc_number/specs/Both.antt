@@ -1,3 +1,4 @@
+-- One thing for each path, such as its tape, its place or its turret.
 use Rattle.nc_number.specs.declared.path.Path.{Path}
 use Rattle.nc_number.specs.declared.path.Path.TheVariants.{One, Two}
 use Rattle.nc_number.specs.declared.both.Both.{Both}

@@ -1,10 +1,12 @@
--- The numbers and the printed names of refusals, alarms and faults of the journal.
+-- The table of causes: numbers and printed names of refusals, alarms and faults of the journal.
+-- When each is raised stands with the variants in src/cause.rt; docs/ERRORS.md explains them.
 use Rattle.std.specs.Prelude.{ℕ, ◌==◌, List, [], ◌∷◌, Option, find, codes}
 use Rattle.nc_number.specs.declared.cause.Cause.{Cause}
 use Rattle.nc_number.specs.declared.fault.NumberFault.{NumberFault}
 use Rattle.nc_number.specs.declared.fault.NumberFault.TheVariants as fault
 use Rattle.nc_number.specs.declared.cause.Cause.TheVariants.{Overflow, ZeroDivide, NegativeRoot, NotWhole, TooManyDigits, BadCharacter, NoNumber, OpenComment, NoProgramNumber, NoEnd, LineTooLong, TooManyBlocks, TapeTooLong, BadExpression, TooManyBrackets, BadCondition, UnknownFunction, BadLoopNumber, TooManyVariables, VariableRange, Protected, TooDeep, MacroAlarm, OffsetNumber, PositionRange, ArcRadius, NoCentre, FeedZero, NoSequence, NoProgram, LoopMismatch, IntoLoop, NotFixed, UnknownCode, WaitNotAlone, WaitPaths, TwoM, ProgramTwice, BadCall, AxisTwice, RanOff, WordRange, BranchAtWait, WaitTooDeep, TooManyLabels, WaitMismatch, WaitDiffers, BadRecord, DiskFault, NoRun, RunThere, Cut, JournalFull, BadSetting}
 
+-- the number of an alarm or a refusal, as it is printed and stored
 abbrev pub cause_number : Cause → ℕ
 cause_number Overflow = 1
 cause_number ZeroDivide = 2
@@ -61,6 +63,7 @@ cause_number Cut = 84
 cause_number JournalFull = 85
 cause_number BadSetting = 90
 
+-- the name that is printed beside the number
 abbrev pub cause_name : Cause → List ℕ
 cause_name Overflow = codes "Overflow"
 cause_name ZeroDivide = codes "ZeroDivide"
@@ -117,6 +120,7 @@ cause_name Cut = codes "Cut"
 cause_name JournalFull = codes "JournalFull"
 cause_name BadSetting = codes "BadSetting"
 
+-- the rows of the table, by their numbers
 abbrev pub every_cause : List Cause
 every_cause =
     Overflow ∷ ZeroDivide ∷ NegativeRoot ∷ NotWhole ∷ TooManyDigits ∷ BadCharacter ∷ NoNumber ∷ OpenComment ∷

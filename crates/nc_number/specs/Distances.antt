@@ -1,4 +1,4 @@
--- Where lengths lie, one beside another.
+-- Where lengths lie, one beside another. rough_cycle and zone_area cite it.
 use Rattle.std.specs.Prelude.{ℕ, ◌⊎◌, ℤ, ◌-ℤ◌, ◌≤ℤ◌, unsigned_abs}
 
 -- how far two lengths are apart

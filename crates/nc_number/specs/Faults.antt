@@ -1,3 +1,4 @@
+-- Counts of the faults of a device of the outside: they only rise.
 use Rattle.std.specs.Prelude.{ℕ, ◌+◌, ◌-◌, ◌^◌, ◌≤◌, min}
 
 -- a count of faults behind one more, which stays at the greatest that it can be

@@ -1,3 +1,4 @@
+-- The words of contracts that every crate shares. None is for this crate alone.
 pub mod Answers
 pub mod Arithmetic
 pub mod Axes

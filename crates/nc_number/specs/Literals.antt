@@ -1,5 +1,5 @@
 -- A literal of the tape is an optional sign, digits, and optionally a point and digits, with a
--- digit in all.
+-- digit in all. Here is when a text is one and what it means; Spelling.antt has the grammar.
 use Rattle.std.specs.Prelude.{ℕ, ◌+◌, ◌-◌, ◌*◌, ◌^◌, Bool, false, not, ◌==◌, ◌&&◌, ◌||◌, nat_lt, if◌then◌else◌, List, [], ◌∷◌, length, drop, ℤ, IsTrue, Option, Some, None, Result, Ok, Err}
 use Rattle.std.specs.Char.{is_ascii_digit}
 use Rattle.std.specs.List.{list_any, list_all, position_or_len, before_first, after_first}
@@ -9,9 +9,11 @@ use Rattle.nc_number.specs.declared.fault.NumberFault.{NumberFault}
 use Rattle.nc_number.specs.declared.fault.NumberFault.TheVariants.{TooManyDigits}
 use Rattle.nc_number.specs.declared.literal.Literal.{Literal}
 
+-- 46 is the point
 abbrev pub is_point : ℕ → Bool
 is_point b = b == 46
 
+-- 43 is the plus and 45 the minus
 abbrev pub is_sign : ℕ → Bool
 is_sign b = b == 43 || b == 45
 
@@ -20,28 +22,34 @@ abbrev pub behind_sign : List ℕ → List ℕ
 behind_sign [] = []
 behind_sign (b ∷ bs) = if is_sign b then bs else b ∷ bs
 
+-- the text begins with a minus
 abbrev pub has_minus : List ℕ → Bool
 has_minus [] = false
 has_minus (b ∷ bs) = b == 45
 
+-- there is a point in the text
 abbrev pub has_point : List ℕ → Bool
 has_point text = list_any is_point text
 
--- the digits before the point, and those behind it
+-- the digits before the point
 abbrev pub whole_part : List ℕ → List ℕ
 whole_part text = before_first is_point (behind_sign text)
 
+-- the digits behind the point, or none
 abbrev pub fraction_part : List ℕ → List ℕ
 fraction_part text = after_first is_point (behind_sign text)
 
+-- each byte is a digit
 abbrev pub all_digits : List ℕ → Bool
 all_digits bytes = list_all is_ascii_digit bytes
 
+-- the text is a literal, as a test
 abbrev pub is_literal : List ℕ → Bool
 is_literal text =
     (all_digits (whole_part text) && all_digits (fraction_part text))
     && nat_lt 0 (length (whole_part text) + length (fraction_part text))
 
+-- the text is a literal
 abbrev pub IsLiteral : List ℕ → Type 0
 IsLiteral text = IsTrue (is_literal text)
 

@@ -1,7 +1,8 @@
 -- Steps that may have no value, one behind the other: `do` over options. And numbers that may be
--- missing.
+-- missing. For steps that may fail see Results.antt.
 use Rattle.std.specs.Prelude.{ℕ, Bool, false, ◌==◌, min, Option, Some, None, option_and_then}
 
+-- the second step goes on with the first one's value, if there is one
 infixl 10 ◌>>=◌
 abbrev pub ◌>>=◌ : {A B : Type 0} → Option A → (A → Option B) → Option B
 o >>= f = option_and_then f o

@@ -1,4 +1,5 @@
--- How values and lengths are printed.
+-- How values and lengths are printed, as bytes: 45 is the minus, 46 the point, 48 the digit 0. The
+-- texts of move_text, text_pieces and others are made of these.
 use Rattle.std.specs.Prelude.{ℕ, zero, suc, ◌+◌, ◌/◌, ◌%◌, Bool, ◌==◌, ◌&&◌, if◌then◌else◌, List, [], ◌∷◌, ◌++◌, ℤ, unsigned_abs, decimal}
 use Rattle.std.specs.Fmt.{sign_text}
 use Rattle.std.specs.Int.{is_negative}
@@ -9,6 +10,7 @@ abbrev pub last_digits : ℕ → ℕ → List ℕ
 last_digits zero n = []
 last_digits (suc k) n = last_digits k (n / 10) ++ (48 + n % 10) ∷ []
 
+-- 48 is the digit 0
 abbrev pub is_zero_digit : ℕ → Bool
 is_zero_digit d = d == 48
 

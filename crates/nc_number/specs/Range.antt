@@ -1,8 +1,10 @@
+-- The range of a value, in millionths. run_records keeps it too.
 use Rattle.std.specs.Prelude.{ℤ, Bool, ◌≤◌, nat_le, unsigned_abs}
 
 -- a count of millionths that is a value: at most 99,999,999.999999 either way
 abbrev pub InRange : ℤ → Type 0
 InRange micro = unsigned_abs micro ≤ 99999999999999
 
+-- the test of that
 abbrev pub is_in_range : ℤ → Bool
 is_in_range micro = nat_le (unsigned_abs micro) 99999999999999

@@ -1,3 +1,5 @@
+-- Lists of rising numbers, such as the lines of a tape's blocks. The crates of tapes and their
+-- order cite it.
 use Rattle.std.specs.Prelude.{ℕ, ◌<◌, List, [], ◌∷◌}
 
 -- the numbers rise, and all are above n

@@ -1,3 +1,4 @@
+-- What a variable (#1, #100 ..) counts as in arithmetic.
 use Rattle.std.specs.Prelude.{ℤ, pos}
 use Rattle.nc_number.specs.declared.value.Var.{Var}
 use Rattle.nc_number.specs.declared.value.Var.TheVariants.{Vacant, Is}

@@ -60,12 +60,14 @@ pub struct Failed;
 pub struct NoMemory;
 
 impl From<AllocError> for NoMemory {
+    /// Memory ran out while it was reserved.
     fn from(_e: AllocError) -> Self {
         NoMemory
     }
 }
 
 impl<T: Drop> From<AllocFailed<T>> for NoMemory {
+    /// Memory ran out while a thing was stored; the thing is dropped.
     fn from(_e: AllocFailed<T>) -> Self {
         NoMemory
     }
@@ -87,6 +89,7 @@ impl<E> From<NoMemory> for Failing<E> {
 
     ghost from_gives = { λ _ e. e ≡ memory };
 
+    /// Memory ran out in a call that has faults of its own.
     fn from(_e: NoMemory) -> Self {
         Failing::NoMemory
     }
@@ -98,6 +101,7 @@ impl<E> From<AllocError> for Failing<E> {
 
     ghost from_gives = { λ _ e. e ≡ memory };
 
+    /// The same, where memory was reserved.
     fn from(_e: AllocError) -> Self {
         Failing::NoMemory
     }
@@ -109,6 +113,7 @@ impl<E, T: Drop> From<AllocFailed<T>> for Failing<E> {
 
     ghost from_gives = { λ _ e. e ≡ memory };
 
+    /// The same, where a thing was stored; the thing is dropped.
     fn from(_e: AllocFailed<T>) -> Self {
         Failing::NoMemory
     }

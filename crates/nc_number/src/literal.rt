@@ -1,4 +1,5 @@
-//! The literals of a tape.
+//! The literals of a tape: when a text is one, what it writes, and what it counts for a length or a
+//! time.
 ghost use Rattle.std.specs.Prelude.{◌≡◌, ◌==◌, ◌^◌, ◌<◌, ◌≤◌, not, length, position, IsTrue, IfSome, unsigned_abs};
 ghost use Rattle.std.specs.List.{before_first, after_first};
 ghost use Rattle.std.specs.Str.Parse.{digits_value};
@@ -63,10 +64,13 @@ impl Literal {
     }
 }
 
+/// Digits before the point, without the zeros at the front.
 const WHOLE_DIGITS: usize = 8;
 
+/// Digits behind the point.
 const FRACTION_DIGITS: usize = 6;
 
+/// Millionths in a unit.
 const MILLION: u64 = 1_000_000;
 
 /// The text without the sign that it may begin with.

@@ -5,8 +5,10 @@ ghost use Rattle.nc_number.specs.Arithmetic.{nearest, nearest_quotient, rounded,
 use crate::fault::NumberFault;
 use crate::value::Value;
 
+/// Millionths in a unit.
 pub(crate) const MICRO_IN_UNIT: i128 = 1_000_000;
 
+/// Millionths in an increment of 0.001.
 pub(crate) const MICRO_IN_INCREMENT: i128 = 1_000;
 
 /// The whole number nearest to a quotient, halves upwards.

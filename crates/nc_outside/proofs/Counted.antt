@@ -1,4 +1,5 @@
--- The count of faults of a turret in memory: what it was, a planned fault raises it.
+-- The count of faults of a turret in memory goes up by a planned fault.
+-- `refuses` and `settle` (src/memory_turret.rt) rest on it.
 use Rattle.std.proofs.Common.{ℕ, ◌+◌, ◌-◌, ◌^◌, ◌<◌, arith, min}
 use Rattle.nc_outside.specs.Faults.{CountsFault}
 
@@ -6,6 +7,7 @@ use Rattle.nc_outside.specs.Faults.{CountsFault}
 abbrev pub in_all : ℕ → ℕ → ℕ → ℕ
 in_all planned past settles = min (min (planned + past) (2 ^ 64 - 1) + settles) (2 ^ 64 - 1)
 
+-- a call of `place` or `hand` that fails raises the count
 pub call_fails : (a b past settles : ℕ) (failed : Type 0) → failed → a < b → CountsFault (in_all a past settles) (in_all b past settles) failed
 call_fails a b past settles failed has less = record {
   later = grind arith;
@@ -13,6 +15,7 @@ call_fails a b past settles failed has less = record {
   kept = λ none. absurd (none has);
 }
 
+-- a settle that fails raises the count
 pub settle_fails : (planned past a b : ℕ) (failed : Type 0) → failed → a < b → CountsFault (in_all planned past a) (in_all planned past b) failed
 settle_fails planned past a b failed has less = record {
   later = grind arith;

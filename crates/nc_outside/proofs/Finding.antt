@@ -1,10 +1,11 @@
 -- A search through files, from a place on.
+-- `find` (src/memory_shelf.rt) rests on it.
 use Rattle.std.proofs.Common.{refl, ◌≡◌, ℕ, ◌+◌, ◌<◌, true, false, List, length, drop, get_or, Some, String, Vec, string_bytes, ◌∷◌, add-one, drop-cons}
 use Rattle.std.specs.Str.{bytes_eq}
 use Rattle.nc_outside.specs.Files.{file_named}
 use Rattle.nc_outside.specs.Kept.{files_of}
 
--- the file at i, and then those behind it
+-- the file at i, and then those after it
 at_place : {T : Type 0} (xs : List T) (i : ℕ) (x : T) → i < length xs → x ≡ get_or xs i x → drop i xs ≡ x ∷ drop (i + 1) xs
 at_place xs i x here is = rw (drop-cons xs i x, ← is, add-one) refl
 

@@ -1,5 +1,6 @@
 -- The calls of a stepper, in order: its steps with what they answered, its drains and its halts. A
 -- stepper may tell them or not.
+-- seat_table, path_worker and run_table say their steps by these.
 use Rattle.std.specs.Prelude.{◌≡◌, List, [], ◌∷◌, ◌++◌, Option, Some, None}
 use Rattle.nc_outside.specs.declared.lined_move.LinedMove.{LinedMove}
 use Rattle.nc_outside.specs.Lined.{lined}
@@ -26,7 +27,7 @@ moves_answered (Call.Step path answer ∷ calls) = moves_of answer ++ moves_answ
 moves_answered (Call.Drained path count ∷ calls) = moves_answered calls
 moves_answered (Call.Halt why ∷ calls) = moves_answered calls
 
--- what the last step among these calls answered, and `before` where there is none
+-- what the last step among these calls answered, and `before` if there is none
 abbrev pub last_answer_behind : Option Next → List Call → Option Next
 last_answer_behind before [] = before
 last_answer_behind before (Call.Step path answer ∷ calls) = last_answer_behind (Some answer) calls

@@ -1,4 +1,5 @@
 -- What a shelf holds: files, each a name and its bytes. A shelf may tell them or not.
+-- lathe_looks says what a command reads by it.
 use Rattle.std.specs.Prelude.{◌≡◌, ℕ, ◌<◌, List, [], ◌∷◌, ◌++◌, length, ⊤, IsSomeAnd}
 use Rattle.std.specs.Prelude.{Option, Some, None}
 use Rattle.std.specs.Str.{bytes_eq}
@@ -18,17 +19,17 @@ pub record ShelfState : Type 0 where
 abbrev pub file_named : List ℕ → Files → Option (List ℕ)
 file_named name files = lookup (bytes_eq name) files
 
--- under the name stand these bytes, where the files are told
+-- under the name stand these bytes, if the files are told
 abbrev pub Holds : Option Files → List ℕ → List ℕ → Type 0
 Holds None name bytes = ⊤
 Holds (Some files) name bytes = file_named name files ≡ Some bytes
 
--- there is no such name, where the files are told
+-- there is no such name, if the files are told
 abbrev pub Lacks : Option Files → List ℕ → Type 0
 Lacks None name = ⊤
 Lacks (Some files) name = file_named name files ≡ None
 
--- under the name stand more bytes than that, where the files are told
+-- under the name stand more bytes than that, if the files are told
 abbrev pub HoldsMore : Option Files → List ℕ → ℕ → Type 0
 HoldsMore None name max = ⊤
 HoldsMore (Some files) name max = IsSomeAnd (file_named name files) (λ bytes. max < length bytes)

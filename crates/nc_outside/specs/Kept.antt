@@ -1,4 +1,5 @@
--- What contracts see of the forms in memory.
+-- What contracts see of the forms in memory (src/memory_shelf.rt, vec_sink.rt, memory_turret.rt,
+-- list_stepper.rt), which tests use.
 use Rattle.std.specs.Prelude.{ℕ, ◌+◌, ◌-◌, ◌^◌, min, nat_le, Bool, ◌||◌, if◌then◌else◌, List, [], ◌∷◌, ◌++◌, length, map, Some, String, Vec, string_bytes}
 use Rattle.std.specs.Prelude.{slice_index_or}
 use Rattle.nc_outside.specs.declared.halt.Next.{Next}
@@ -21,6 +22,7 @@ pub record KeptFiles : Type 0 where
   pub asked : List (List ℕ)
   pub plan : PlanView
 
+-- what contracts see of such a shelf: it tells all
 abbrev pub shelf_of : KeptFiles → ShelfState
 shelf_of kept = record { files = Some kept.files; asked = Some kept.asked; faults = fault_count kept.plan }
 
@@ -29,6 +31,7 @@ pub record KeptBytes : Type 0 where
   pub bytes : List ℕ
   pub plan : PlanView
 
+-- what contracts see of such a sink: it tells all
 abbrev pub sink_of : KeptBytes → SinkState
 sink_of kept = record { written = Some kept.bytes; faults = fault_count kept.plan }
 
@@ -41,6 +44,8 @@ pub record KeptMoves : Type 0 where
   pub past : ℕ
   pub settling : PlanView
 
+-- what contracts see of such a turret: it tells all. Its faults are those of the plan, the calls
+-- without room and the settles, up to the last value of a u64.
 abbrev pub turret_of : KeptMoves → TurretState
 turret_of kept = record {
   received = Some (record { got = kept.got; calls = kept.plan.calls; settles = kept.settling.calls });
@@ -79,6 +84,6 @@ pub record KeptCalls : Type 0 where
   pub coming : List Next
   pub calls : List Call
 
--- what its next step answers: behind the list, that the path has finished
+-- what its next step answers: after the list, that the path has finished
 abbrev pub next_answer : KeptCalls → Next
 next_answer kept = slice_index_or kept.coming 0 Finished

@@ -1,4 +1,4 @@
--- What callers read.
+-- What callers read: the outside in general, and in Kept and Plan the forms in memory.
 pub mod Calls
 pub mod Faults
 pub mod Files

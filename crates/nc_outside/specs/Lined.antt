@@ -1,4 +1,6 @@
 -- The moves of a block, each with the line of the block.
+-- Reports, traces and turrets take moves in this form.
+-- 9 other crates take it.
 use Rattle.std.specs.Prelude.{ℕ, List, map}
 use Rattle.nc_moves.specs.declared.motion.Move.{Move}
 use Rattle.nc_moves.specs.declared.motion.Moves.{Moves}

@@ -1,4 +1,6 @@
 -- The plan of a form in memory: which of its calls, numbered from 1, are to fail.
+-- Kept uses it.
+-- For this crate alone.
 use Rattle.std.specs.Prelude.{◌≡◌, ℕ, ◌+◌, ◌^◌, ◌↔◌, Bool, true, ◌==◌, ◌&&◌, nat_lt, nat_le, List, count_by}
 use Rattle.std.specs.List.{list_any}
 use Rattle.nc_outside.specs.Faults.{CountsFault}
@@ -29,7 +31,7 @@ has_come calls number = nat_lt 0 number && nat_le number calls
 abbrev pub fault_count : PlanView → ℕ
 fault_count plan = count_by (has_come plan.calls) plan.failing
 
--- A call that goes by a plan fails exactly where the plan says so, and counts that fault.
+-- A call that goes by a plan fails exactly if the plan says so, and counts that fault.
 pub record FailsAsPlanned (old new : PlanView) (failed : Type 0) : Type 0 where
   pub planned : failed ↔ (fails_next old ≡ true)
   pub fault : CountsFault (fault_count old) (fault_count new) failed

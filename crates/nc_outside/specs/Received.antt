@@ -1,4 +1,5 @@
 -- What a turret got. A turret may tell it or not.
+-- drive_line, path_worker and turret_run say by it what a turret got.
 use Rattle.std.specs.Prelude.{◌≡◌, ℕ, zero, suc, List, [], ◌++◌, Option, Some, None}
 use Rattle.nc_outside.specs.declared.got.Got.{Got}
 use Rattle.nc_number.specs.Faults.{next}

@@ -1,7 +1,8 @@
-//! That a line of moves was drained.
+//! That a line of moves was drained. The lines themselves are in drive_line; run_table takes the
+//! proof.
 ghost use Rattle.std.specs.Prelude.{◌≡◌, ℕ};
 
-/// A line was drained behind so many moves: its turret was handed all of them, and stands still.
+/// A line was drained after so many moves: its turret was handed all of them, and stands still.
 /// Who makes lines makes a type of such proofs, of which only a drain of a line gives a value.
 pub trait Drain: Drop {
     /// How many moves were sent before the drain.

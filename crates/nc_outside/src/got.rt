@@ -1,4 +1,4 @@
-//! What a turret got.
+//! What a turret got: its place, or a move. turret_lines writes it as a line.
 use crate::LinedMove;
 use nc_number::Point;
 

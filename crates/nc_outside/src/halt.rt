@@ -1,4 +1,5 @@
-//! Why a run ends, and what a step of a path answers.
+//! Why a run ends, and what a step of a path answers. run_table and seat_table answer so,
+//! path_worker reads it.
 ghost use Rattle.std.specs.Prelude.{◌≡◌};
 
 use nc_moves::{Alarm, Moves};

@@ -1,11 +1,11 @@
-//! Laws of the lists of calls.
+//! Laws of the lists of calls. seat_table takes their lemmas (proofs/Listed.antt).
 ghost use Rattle.std.specs.Prelude.{◌≡◌, ◌++◌, List, Option};
 ghost use Rattle.nc_outside.specs.declared.halt.Next.{Next};
 ghost use Rattle.nc_outside.specs.declared.stepper.Call.{Call};
 ghost use Rattle.nc_outside.specs.Calls.{last_answer_behind, moves_answered};
 
-/// Laws, and no code: of calls behind others the answered moves stand behind those of the others,
-/// and the last answer is theirs, or that of the others where they have none.
+/// Of two lists of calls in a row, the moves answered are those of the first and then those of the
+/// second. The last answer is that of the second, or that of the first if the second has none.
 pub fn calls_add_up()
     ensures moves { (before behind : List Call)
         → moves_answered (before ++ behind) ≡ moves_answered before ++ moves_answered behind }

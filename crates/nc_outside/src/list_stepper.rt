@@ -1,4 +1,5 @@
-//! A stepper that answers a stated list.
+//! A stepper that answers a stated list, for tests of what is over a stepper. That of a run is in
+//! seat_table.
 ghost use Rattle.std.specs.Prelude.{◌≡◌, ◌<◌, [], ◌∷◌, ◌++◌, Some, drop, vec_len, vec_capacity};
 ghost use Rattle.nc_outside.specs.Kept.{next_answer};
 
@@ -9,12 +10,15 @@ use std::collections::VecDeque;
 use std::marker::Model;
 use std::sync::Wait;
 
-/// Answers a stated list, and behind it that the path has finished. It keeps its calls; where there
+/// Answers a stated list, and after it that the path has finished. It keeps its calls; if there
 /// is no memory for one more, that call does not return.
 #[derive(Drop)]
 pub struct ListStepper<'r, R> {
+    /// Waits for memory.
     rt: &'r R,
+    /// The answers that are still to come.
     coming: VecDeque<Next>,
+    /// The calls so far, in order.
     calls: Vec<Call>,
 }
 
@@ -46,7 +50,7 @@ impl<'r, R> ListStepper<'r, R> {
     }
 }
 
-/// Makes room for one call more. Where there is no memory for it, it does not return.
+/// Makes room for one call more. If there is no memory for it, it does not return.
 fn make_room<R: Wait>(rt: &R, calls: &mut Vec<Call>)
     ensures items { calls.new.items ≡ calls.old.items }
     ensures room { vec_len calls.new < vec_capacity calls.new }
@@ -77,6 +81,7 @@ impl<'r, R: Wait> Stepper for ListStepper<'r, R> {
 
     ghost origin = { λ _. tt };
 
+    /// The next answer of the list, or that the path has finished if none is left.
     fn step(&mut self, path: Path) -> Next
         ensures answer { result ≡ next_answer self.old }
         ensures new { self.new ≡ record {
@@ -90,6 +95,7 @@ impl<'r, R: Wait> Stepper for ListStepper<'r, R> {
         answer
     }
 
+    /// Keeps the halt among the calls.
     fn halt(&mut self, why: Halt)
         ensures new { self.new ≡ record self.old { calls = self.old.calls ++ Call.Halt why ∷ [] } }
     {
@@ -98,6 +104,7 @@ impl<'r, R: Wait> Stepper for ListStepper<'r, R> {
 }
 
 impl<'r, R: Wait, P: Drain> Drainable<P> for ListStepper<'r, R> {
+    /// Keeps the drain among the calls, with its count.
     fn drained(&mut self, path: Path, proof: P)
         ensures new { self.new ≡ record self.old { calls = self.old.calls ++ Call.Drained path (P.count proof) ∷ [] } }
     {

@@ -1,4 +1,4 @@
-//! A shelf in memory.
+//! A shelf in memory, for tests. The shelf of real files is in real_outside.
 ghost use Rattle.std.specs.Prelude.{◌≡◌, ◌≢◌, ℕ, ◌<◌, ◌≤◌, List, [], ◌∷◌, ◌++◌, length, Some, None, Err, OnOk, OnErr, IfOk, IsSomeAnd, IsErrOf, MatchOption};
 ghost use Rattle.nc_outside.specs.Files.{file_named};
 ghost use Rattle.nc_outside.specs.Kept.{files_of, shelf_of};
@@ -15,8 +15,11 @@ use std::marker::Model;
 /// in clauses alone.
 #[derive(Drop)]
 pub struct MemoryShelf {
+    /// The files, each with its name; of one name the first counts.
     files: Vec<(String, Vec<u8>)>,
+    /// The names that it was asked for.
     asked: Asked,
+    /// Which calls are to fail.
     plan: Plan,
 }
 
@@ -48,7 +51,7 @@ impl MemoryShelf {
     }
 }
 
-/// The bytes of the first file of that name.
+/// The bytes of the first file of that name, or none if there is none.
 fn find<'a>(files: &'a [(String, Vec<u8>)], name: &str) -> Option<&'a [u8]>
     ensures { MatchOption result (file_named name.now (files_of files.now) ≡ None)
         (λ bytes. file_named name.now (files_of files.now) ≡ Some bytes.now) }
@@ -61,7 +64,7 @@ fn find<'a>(files: &'a [(String, Vec<u8>)], name: &str) -> Option<&'a [u8]>
     None
 }
 
-/// Appends the bytes of the file of that name, where they are few enough.
+/// Appends the bytes of the file of that name, if they are few enough.
 fn read(
     files: &[(String, Vec<u8>)],
     name: &str,
@@ -89,10 +92,13 @@ fn read(
 impl Shelf for MemoryShelf {
     ghost state = { shelf_of };
 
+    /// How many of the planned faults have come.
     fn faults(&self) -> u64 {
         self.plan.faults()
     }
 
+    /// Fails as planned. `Absent` if there is no such file, `TooLong` if it has more than `max`
+    /// bytes, `NoMemory` if there is no memory for its bytes.
     fn fetch(&mut self, name: &str, into: &mut Vec<u8>, max: usize) -> Result<(), FetchFault>
         ensures plan { FailsAsPlanned self.old.plan self.new.plan (IsErrOf result FetchFault.Failed) }
         ensures new { self.new ≡ record self.old {

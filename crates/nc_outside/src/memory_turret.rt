@@ -1,4 +1,4 @@
-//! A turret in memory.
+//! A turret in memory, for tests. The turret that writes lines is in turret_lines.
 ghost use Rattle.std.specs.Prelude.{◌≡◌, [], ◌∷◌, IfOk, OnOk, OnErr, is_err, IsErr, IsTrue};
 ghost use Rattle.nc_outside.specs.Faults.{CountsFault};
 ghost use Rattle.nc_outside.specs.Kept.{after_handing, refuses_next, turret_of, when_counted, when_settled};
@@ -15,10 +15,15 @@ use std::marker::Model;
 /// settles that are to fail. A call that finds no room fails too. Its calls take no memory.
 #[derive(Drop)]
 pub struct MemoryTurret {
+    /// What it got, in order.
     got: Vec<Got>,
+    /// How many places and moves it has room for.
     room: usize,
+    /// Which calls of `place` and `hand` are to fail.
     plan: Plan,
+    /// How many other calls found no room.
     past: u64,
+    /// Which calls of `settle` are to fail.
     settling: Plan,
 }
 
@@ -90,7 +95,7 @@ impl MemoryTurret {
         self.got.as_slice()
     }
 
-    /// Counts a call, and says whether it fails.
+    /// Counts a call, and says whether it fails: its number is planned, or there is no room.
     fn refuses(&mut self) -> bool
         ensures fails { result ≡ refuses_next self.old }
         ensures new { self.new ≡ when_counted self.old }
@@ -106,7 +111,7 @@ impl MemoryTurret {
         true
     }
 
-    /// One call, which hands the turret this.
+    /// One call of `place` or `hand`: keeps what it got, unless the call fails.
     #[tactic(auto, unfolding(crate::specs::Received::counted_on))]
     fn receive(&mut self, what: Got) -> Result<(), Failed>
         ensures fails { is_err result ≡ refuses_next self.old }
@@ -130,6 +135,7 @@ impl MemoryTurret {
 impl Turret for MemoryTurret {
     ghost state = { turret_of };
 
+    /// How many calls and settles have failed, up to the last value of a u64.
     fn faults(&self) -> u64 {
         self.plan
             .faults()
@@ -137,6 +143,7 @@ impl Turret for MemoryTurret {
             .saturating_add(self.settling.faults())
     }
 
+    /// Fails as planned, or without room.
     fn place(&mut self, at: Point) -> Result<(), Failed>
         ensures fails { is_err result ≡ refuses_next self.old }
         ensures new { self.new ≡ after_handing (Got.Placed at) self.old }
@@ -147,6 +154,7 @@ impl Turret for MemoryTurret {
         self.receive(Got::Placed(at))
     }
 
+    /// Fails as planned, or without room.
     fn hand(&mut self, what: &LinedMove) -> Result<(), Failed>
         ensures fails { is_err result ≡ refuses_next self.old }
         ensures new { self.new ≡ after_handing (Got.Moved what.now) self.old }
@@ -157,6 +165,7 @@ impl Turret for MemoryTurret {
         self.receive(Got::Moved(*what))
     }
 
+    /// Fails as the second plan says.
     #[tactic(auto, unfolding(crate::specs::Received::counted_on))]
     fn settle(&mut self) -> Result<(), Failed>
         ensures fails { is_err result ≡ fails_next self.old.settling }

@@ -1,4 +1,5 @@
-//! The plan of a form in memory: which of its calls are to fail.
+//! The plan of a form in memory: which of its calls are to fail. Each form of this crate has one.
+//! For memory_shelf.rt, memory_turret.rt and vec_sink.rt of this crate.
 ghost use Rattle.std.specs.Prelude.{◌≡◌, ◌==◌, ◌<◌, ◌≤◌, ◌↔◌, false, IfOk, IsTrue, Contains};
 ghost use Rattle.std.specs.List.{list_any};
 ghost use Rattle.nc_outside.specs.Plan.{after_call, fails_next, fault_count, fresh_plan};
@@ -11,7 +12,9 @@ use std::marker::Model;
 /// number that is listed twice counts as two faults.
 #[derive(Debug, Drop)]
 pub struct Plan {
+    /// The numbers of the calls that are to fail.
     failing: Vec<u64>,
+    /// How many calls have been made.
     calls: u64,
 }
 
@@ -24,7 +27,7 @@ impl Model for Plan {
 }
 
 impl Plan {
-    /// No call has been made.
+    /// The plan of these calls, of which none has been made.
     pub fn new(alloc: Global, failing: &[u64]) -> Result<Self, NoMemory>
         ensures { IfOk result (λ plan. plan ≡ fresh_plan failing.now) }
     {

@@ -1,4 +1,5 @@
-//! Why a run ended.
+//! Why a run ended, and which of several causes is told. The statuses of the reasons are in
+//! lathe_calls.
 ghost use Rattle.std.specs.Prelude.{◌≡◌};
 ghost use Rattle.nc_outside.specs.Reasons.{end_or_bound, first_cause, reason_of};
 
@@ -50,7 +51,7 @@ impl Reason {
         }
     }
 
-    /// The reason of a run that ended so, if it did, where the turret of this path failed.
+    /// The first of the causes: a fault of the disk, the failed turret of this path, or this end.
     pub fn of_causes(end: Option<Reason>, turret: Option<Path>) -> Option<Reason>
         ensures { result ≡ first_cause end turret }
     {

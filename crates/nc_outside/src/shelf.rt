@@ -1,4 +1,5 @@
-//! Where tapes and other texts come from.
+//! Where tapes and other texts come from: the trait of named files.
+//! lathe_looks, lathe_top and real_outside use it.
 ghost use Rattle.std.specs.Prelude.{◌≡◌, ℕ, ◌≤◌, List, ◌++◌, length, OnOk, OnErr, IsErrOf};
 ghost use Rattle.nc_outside.specs.declared.shelf.FetchFault.TheVariants.{NoMemory};
 ghost use Rattle.nc_outside.specs.Faults.{CountsFault};
@@ -27,6 +28,7 @@ pub enum FetchFault {
 impl From<AllocError> for FetchFault {
     ghost from_gives = { λ _ fault. fault ≡ NoMemory };
 
+    /// No memory left is `NoMemory`.
     fn from(_: AllocError) -> Self {
         FetchFault::NoMemory
     }
@@ -34,7 +36,7 @@ impl From<AllocError> for FetchFault {
 
 /// Named files, to be read whole.
 pub trait Shelf {
-    /// What it holds and what it was asked for, where it tells that, and how often it has failed.
+    /// What it holds and what it was asked for, if it tells that, and how often it has failed.
     ghost state: { Self → ShelfState };
 
     /// How often the shelf has failed.

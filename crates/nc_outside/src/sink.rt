@@ -1,4 +1,5 @@
-//! Where reports go.
+//! Where reports go: the trait of an output.
+//! 10 other crates use it.
 ghost use Rattle.std.specs.Prelude.{◌≡◌, ℕ, take, OnOk, OnErr, IsErrOf};
 ghost use Rattle.nc_outside.specs.declared.sink.PutFault.TheVariants.{NoMemory};
 ghost use Rattle.nc_outside.specs.Faults.{CountsFault};
@@ -21,6 +22,7 @@ pub enum PutFault {
 impl From<AllocError> for PutFault {
     ghost from_gives = { λ _ fault. fault ≡ NoMemory };
 
+    /// No memory left is `NoMemory`.
     fn from(_: AllocError) -> Self {
         PutFault::NoMemory
     }
@@ -28,14 +30,14 @@ impl From<AllocError> for PutFault {
 
 /// Takes bytes, in order.
 pub trait Sink {
-    /// What was written, where it tells that, and how often it has failed.
+    /// What was written, if it tells that, and how often it has failed.
     ghost state: { Self → SinkState };
 
     /// How often the sink has failed.
     fn faults(&self) -> u64
         ensures { result ≡ (state self.now).faults };
 
-    /// Writes a piece behind what is there. After an error a part of the piece, from its start, may
+    /// Writes a piece after what is there. After an error a part of the piece, from its start, may
     /// be there.
     fn put(&mut self, piece: &[u8]) -> Result<(), PutFault>
         ensures ok { OnOk result (Writes (state self.old) (state self.new) piece.now) }

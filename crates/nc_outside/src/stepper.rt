@@ -1,4 +1,5 @@
-//! What stands between the worker of a path and the table that both paths share.
+//! What stands between the worker of a path and the table that both paths share. path_worker calls
+//! it, seat_table is it.
 ghost use Rattle.std.specs.Prelude.{◌≡◌, [], ◌∷◌, List, Option};
 
 use crate::{Drain, Halt, Next};
@@ -9,13 +10,13 @@ use nc_number::Path;
 pub enum Call {
     /// A step of the path, and what it answered.
     Step { path: Path, answer: Next },
-    /// The line of the path was drained behind so many moves.
+    /// The line of the path was drained after so many moves.
     Drained { path: Path, count: u64 },
     /// The run was halted.
     Halt(Halt),
 }
 
-/// Gives a path its steps. It means the list of its calls, in order, where it tells that.
+/// Gives a path its steps. It means the list of its calls, in order, if it tells that.
 pub trait Stepper {
     ghost use Rattle.nc_outside.specs.Calls.{IsCalled, IsOfTurret};
     ghost use Rattle.nc_outside.specs.declared.stepper.Call.{Call};
@@ -24,7 +25,7 @@ pub trait Stepper {
     /// What tells one stepper from another, as the table and the path that it belongs to.
     type Origin;
 
-    /// The calls that it had, each step with what it answered, where it tells that.
+    /// The calls that it had, each step with what it answered, if it tells that.
     ghost calls: { Self → Option (List Call) };
 
     /// Where it comes from, which no call changes.
@@ -47,7 +48,7 @@ pub trait Drainable<P: Drain>: Stepper {
     ghost use Rattle.nc_outside.specs.Calls.{IsCalled};
     ghost use Rattle.nc_outside.specs.declared.stepper.Call.TheVariants as Call;
 
-    /// The line of the path was drained behind the last moves that were answered to it.
+    /// The line of the path was drained after the last moves that were answered to it.
     fn drained(&mut self, path: Path, proof: P)
         ensures calls { IsCalled (Self.calls self.old) (Self.calls self.new) (Call.Drained path (P.count proof) ∷ []) }
         ensures origin { Self.origin self.new ≡ Self.origin self.old };

@@ -1,4 +1,5 @@
-//! What carries out the moves of a path.
+//! What makes the moves of a path: the trait of a turret. A machine builder writes one, see the
+//! crate `own_turret`.
 ghost use Rattle.std.specs.Prelude.{◌≡◌, [], ◌∷◌, IsErr, OnOk, OnErr};
 ghost use Rattle.nc_outside.specs.Faults.{CountsFault};
 
@@ -12,7 +13,7 @@ use nc_number::{Failed, Point};
 pub trait Turret: Drop {
     ghost use Rattle.nc_outside.specs.Received.{TurretState, Receives, Settles};
 
-    /// What it got, how many calls it has had and how often it was to settle, where it tells that,
+    /// What it got, how many calls it has had and how often it was to settle, if it tells that,
     /// and how often it has failed.
     ghost state: { Self → TurretState };
 

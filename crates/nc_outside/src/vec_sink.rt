@@ -1,4 +1,4 @@
-//! A sink in memory.
+//! A sink in memory, for tests. Standard output is in real_outside.
 ghost use Rattle.std.specs.Prelude.{◌≡◌, [], ◌++◌, is_ok, if◌then◌else◌, IfOk, IsErrOf};
 ghost use Rattle.nc_outside.specs.Kept.{sink_of};
 ghost use Rattle.nc_outside.specs.Plan.{FailsAsPlanned, after_call, fresh_plan};
@@ -12,7 +12,9 @@ use std::marker::Model;
 /// What was written, in memory, and the numbers of the calls that are to fail.
 #[derive(Drop)]
 pub struct VecSink {
+    /// What was written.
     bytes: Vec<u8>,
+    /// Which calls are to fail.
     plan: Plan,
 }
 
@@ -48,10 +50,12 @@ impl VecSink {
 impl Sink for VecSink {
     ghost state = { sink_of };
 
+    /// How many of the planned faults have come.
     fn faults(&self) -> u64 {
         self.plan.faults()
     }
 
+    /// Adds the piece, or fails as planned. `NoMemory` if there is no memory for it.
     fn put(&mut self, piece: &[u8]) -> Result<(), PutFault>
         ensures plan { FailsAsPlanned self.old.plan self.new.plan (IsErrOf result PutFault.Failed) }
         ensures new { self.new ≡ record {

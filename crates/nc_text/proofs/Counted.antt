@@ -1,4 +1,5 @@
 -- Bytes past the limit need no count.
+-- For Standing: a reader counts no further than it must.
 use Rattle.std.proofs.Common.{◌≡◌, ◌==◌, ℕ, ◌+◌, ◌<◌, ◌≤◌, Bool, true, false, cond, ltb, List, [], ◌∷◌, length, Option, Some, None, Result, Ok, Err, refl, sym, ap, ◌∙◌, arith}
 use Rattle.std.proofs.lemmas.Bool.{lt-ltb, le-ltb, ltb-true, ltb-false}
 use Rattle.nc_number.specs.declared.limits.TheConstants.{LONGEST_LINE, LONGEST_TAPE}
@@ -12,9 +13,11 @@ use Rattle.line_text.specs.Said.{line_says}
 use Rattle.nc_text.specs.Tape.{Before, is_past_end, next, percent_refusal, outer_refusal, said_refusal, unless_refused, with_said, after_said, after_percent, after_outer, begun, goes_on, in_leader, in_body, in_rest}
 use Rattle.nc_text.specs.Reading.{counted, kept_of, continued, line_continued}
 
+-- bytes may be counted before more come
 pub counted_more : (len more : ℕ) → counted (counted len + more) ≡ counted (len + more)
 counted_more len more = omega arith
 
+-- two numbers on the same side of a bound
 ltb_same : (k a b : ℕ) → (k < b → k < a) → (b ≤ k → a ≤ k) → ltb k a ≡ ltb k b
 ltb_same k a b above below = go (ltb k b) refl
   where
@@ -22,9 +25,11 @@ ltb_same k a b above below = go (ltb k b) refl
     go true e = lt-ltb k a (above (ltb-true k b e))
     go false e = le-ltb k a (below (ltb-false k b e))
 
+-- a counted line is too long exactly if the line is
 long_counted : (len : ℕ) → ltb LONGEST_LINE (counted len) ≡ ltb LONGEST_LINE len
 long_counted len = ltb_same LONGEST_LINE (counted len) len (λ (h : LONGEST_LINE < len). omega arith) (λ (h : len ≤ LONGEST_LINE). omega arith)
 
+-- and passes the end of a tape exactly if the line does
 past_counted : (before : Before) (len : ℕ) (ended : Bool) → is_past_end before (counted len) ended ≡ is_past_end before len ended
 past_counted before len true =
     let bytes = before.bytes in
@@ -33,6 +38,7 @@ past_counted before len false =
     let bytes = before.bytes in
     ltb_same LONGEST_TAPE (bytes + counted len) (bytes + len) (λ (h : LONGEST_TAPE < bytes + len). omega arith) (λ (h : bytes + len ≤ LONGEST_TAPE). omega arith)
 
+-- a line within the tape is counted exactly
 within_counted : (before : Before) (len : ℕ) (ended : Bool) → is_past_end before len ended ≡ false → counted len ≡ len
 within_counted before len true e = let bytes = before.bytes in let h = ltb-false LONGEST_TAPE (bytes + (len + 1)) e in omega arith
 within_counted before len false e = let bytes = before.bytes in let h = ltb-false LONGEST_TAPE (bytes + len) e in omega arith
@@ -46,23 +52,28 @@ unless_counted at before refusal len ended same within = ap (λ (r : Option Refu
     go None fits = ap (λ (n : ℕ). Ok (next at n ended)) (within_counted before len ended (fits refl))
     go (Some r) fits = refl
 
+-- a line outside the programs that is not refused is within the tape;
 outer_within : (past : Bool) → ◌≡◌ {A = Option Refusal} (cond past (Some TapeTooLong) None) None → past ≡ false
 outer_within true e = absurd cc
 outer_within false e = refl
 
+-- its count is enough
 outer_counted : (before : Before) (len : ℕ) (ended : Bool) → after_outer before (counted len) ended ≡ after_outer before len ended
 outer_counted before len ended =
     unless_counted before before (λ n. outer_refusal before n ended) len ended (rw (past_counted before len ended) refl) (outer_within (is_past_end before len ended))
 
+-- so is a `%` line;
 percent_within : (long past : Bool) → ◌≡◌ {A = Option Refusal} (cond long (Some LineTooLong) (cond past (Some TapeTooLong) None)) None → past ≡ false
 percent_within true past e = absurd cc
 percent_within false true e = absurd cc
 percent_within false false e = refl
 
+-- its count is enough
 percent_counted : (before : Before) (len : ℕ) (ended : Bool) → after_percent before (counted len) ended ≡ after_percent before len ended
 percent_counted before len ended =
     unless_counted before before (λ n. percent_refusal before n ended) len ended (rw (long_counted len, past_counted before len ended) refl) (percent_within (ltb LONGEST_LINE len) (is_past_end before len ended))
 
+-- so is a line of the programs;
 said_within : (early long many past range : Bool)
     → ◌≡◌ {A = Option Refusal} (cond early (Some NoProgramNumber) (cond long (Some LineTooLong) (cond many (Some TooManyBlocks) (cond past (Some TapeTooLong) (cond range (Some WordRange) None))))) None → past ≡ false
 said_within true long many past range e = absurd cc
@@ -71,6 +82,7 @@ said_within false false true past range e = absurd cc
 said_within false false false true range e = absurd cc
 said_within false false false false range e = refl
 
+-- its count is enough
 said_counted : (before : Before) (len : ℕ) (ended : Bool) (says : Result Said Refusal) → after_said before (counted len) ended says ≡ after_said before len ended says
 said_counted before len ended (Err refusal) = refl
 said_counted before len ended (Ok says) =

@@ -1,5 +1,6 @@
 -- Where a line has ended and nothing is refused, nothing is decided: two texts that may follow have
 -- different answers.
+-- For the proof of src/reader.rt: a reader refuses at once.
 use Rattle.std.proofs.Common.{◌≡◌, ◌==◌, ℕ, ◌+◌, ◌≤◌, Bool, true, false, cond, List, [], ◌∷◌, ◌++◌, length, None, Ok, Err, refl, sym, ap, ◌∙◌, append_assoc, lit≤, arith}
 use Rattle.std.proofs.Math.ListN.{replicate}
 use Rattle.std.specs.Option.{is_none}
@@ -22,50 +23,61 @@ use Rattle.nc_text.specs.Decided.{IsDecided}
 use Rattle.nc_text.proofs.LineEnds.{text_ends}
 use Rattle.nc_text.proofs.Standing.{state}
 
+-- the number of a refusal, and 0 of a tape
 abbrev number_of : Answer → ℕ
 number_of (Ok programs) = 0
 number_of (Err fault) = fault.number
 
+-- the byte is no line feed, 10
 abbrev InLine : ℕ → Type 0
 InLine b = (b == 10) ≡ false
 
--- a last line of so many bytes and one
+-- a last line of so many bytes and one; 88 is the letter X
 abbrev long : ℕ → List ℕ
 long n = 88 ∷ replicate n 88
 
+-- such a line
 abbrev long_line : ℕ → Line
 long_line n = record { bytes = long n; ended = false }
 
+-- that text is one such line
 long_is : (n : ℕ) → lines_of (long n) ≡ long_line n ∷ []
 long_is n = text_ends 88 (replicate n 88) (All-cons InLine 88 (replicate n 88) refl (All-replicate InLine n 88 refl))
 
+-- a line as long as a tape may be passes its end
 long_past : (before : Before) (n : ℕ) → LONGEST_TAPE ≤ n → is_past_end before (length (long n)) false ≡ true
 long_past before n above =
     let bytes = before.bytes in
     lt-ltb LONGEST_TAPE (bytes + length (long n)) (omega (arith, length-replicate {A = ℕ} n 88))
 
+-- after the tape it is refused for that
 rest_long : (before : Before) (n : ℕ) → LONGEST_TAPE ≤ n → in_rest (lines_of (long n)) before ≡ Err (fault_behind before TapeTooLong)
 rest_long before n above = ap (λ (lines : List Line). in_rest lines before) (long_is n) ∙ rw (long_past before n above) refl
 
+-- and before the tape too
 leader_long : (skips : ℕ) (before : Before) (n : ℕ) → LONGEST_TAPE ≤ n → in_leader skips (lines_of (long n)) before ≡ Err (fault_behind before TapeTooLong)
 leader_long skips before n above = ap (λ (lines : List Line). in_leader skips lines before) (long_is n) ∙ rw (long_past before n above) refl
 
+-- a line of one character that no line may have; 36 is the dollar sign
 bad_line : (skips : ℕ) → line_says skips (36 ∷ []) false ≡ Err BadCharacter
 unfolding line_says signs_of read_head read_block read_words
 bad_line skips = refl
 
+-- in the programs it is refused for that
 body_bad : (skips : ℕ) (before : Before) → in_body skips (lines_of (36 ∷ [])) before ≡ Err (fault_behind before BadCharacter)
 body_bad skips before = rw (bad_line skips) refl
 
--- the refusal at the end of a tape is none of a line
+-- the refusal at the end of a tape has another number than 17, a tape that is too long;
 rest_number : (none : Bool) (before : Before) (programs : List Program) → number_of (cond none (Err (no_program before)) (Ok programs)) ≡ 17 → ⊥
 rest_number true before programs e = omega arith
 rest_number false before programs e = omega arith
 
+-- and one without its end has another than 10, a bad character
 body_number : (none : Bool) (before : Before) → number_of (cond none (Err (no_program before)) (Err (record { number = refusal_number NoEnd; line = before.lines }))) ≡ 10 → ⊥
 body_number true before e = omega arith
 body_number false before e = omega arith
 
+-- where a line has ended, no refusal is given whatever follows
 undecided : (skips : ℕ) (stage : Stage) (before : Before) (fault : TextFault) (n : ℕ) → LONGEST_TAPE ≤ n → refusal_of stage ≡ None
     → ((more : List ℕ) → continued skips stage (lines_of more) before ≡ Err fault) → ⊥
 undecided skips stages.Leader before fault n above open-is decided =
@@ -111,6 +123,7 @@ one_fault skips bytes a b first other = let e : ◌≡◌ {A = Answer} (Err a) (
 pub refused_on : (skips : ℕ) (bytes piece : List ℕ) (fault : TextFault) → IsRefused skips bytes fault → IsRefused skips (bytes ++ piece) fault
 refused_on skips bytes piece fault refused = λ more. ap (tape_of skips) (append_assoc bytes piece more) ∙ refused (piece ++ more)
 
+-- what the ended lines decide, the text is refused for
 pub decided_refused : (skips : ℕ) (bytes : List ℕ) (fault : TextFault) → IsDecided skips bytes fault → IsRefused skips bytes fault
 decided_refused skips bytes fault decided = λ more.
     ap (λ (text : List ℕ). tape_of skips (text ++ more)) decided.bytes_are ∙ refused_on skips (decided.lines ++ 10 ∷ []) decided.rest fault decided.refused more

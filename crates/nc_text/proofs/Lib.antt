@@ -1,3 +1,4 @@
+-- The lemmas of this crate, each file by its subject.
 pub mod LineEnds
 pub mod Counted
 pub mod Standing

@@ -1,10 +1,12 @@
 -- Where lines end, and what the next byte makes of the present line.
+-- tape_relation takes `line_ends` and `text_ends`.
 use Rattle.std.proofs.Common.{◌≡◌, ◌==◌, ℕ, Bool, true, false, cond, not, ◌&&◌, List, [], ◌∷◌, ◌++◌, refl, ap}
 use Rattle.std.proofs.lemmas.List.Elements.{All-head, All-tail}
 use Rattle.nc_text.specs.Lines.{Line, IsOneLine, lines_of, onto_line}
 use Rattle.nc_text.specs.declared.stage.Stage.{Stage}
 use Rattle.nc_text.specs.Reading.{is_body, kept_of, more_kept}
 
+-- a byte that is no line feed is put before the first line of the rest
 in_line : (b : ℕ) (test : Bool) (bs : List ℕ) (rest : List Line) → test ≡ false → lines_of bs ≡ rest → cond test (record { bytes = []; ended = true } ∷ lines_of bs) (onto_line b (lines_of bs)) ≡ onto_line b rest
 in_line b true bs rest e later = absurd cc
 in_line b false bs rest e later = ap (onto_line b) later
@@ -21,9 +23,11 @@ text_ends b [] one = in_line b (b == 10) [] [] (All-head (λ (x : ℕ). (x == 10
 text_ends b (c ∷ line) one =
     in_line b (b == 10) (c ∷ line) _ (All-head (λ (x : ℕ). (x == 10) ≡ false) b (c ∷ line) one) (text_ends c line (All-tail (λ (x : ℕ). (x == 10) ≡ false) b (c ∷ line) one))
 
+-- no bytes
 abbrev nothing : List ℕ
 nothing = []
 
+-- and no choice between them
 nothing_either_way : (test : Bool) → cond test nothing nothing ≡ nothing
 nothing_either_way true = refl
 nothing_either_way false = refl

@@ -1,4 +1,6 @@
 -- A reader stands for the bytes that it was given.
+-- An invariant of each call: what `HasRead` says holds after each piece.
+-- For the proofs of src/feed.rt, src/step.rt and src/reader.rt.
 use Rattle.std.proofs.Common.{◌≡◌, ◌==◌, ℕ, ◌+◌, Bool, true, false, List, [], ◌∷◌, ◌++◌, length, take, refl, sym, ap, subst, ◌∙◌, append_assoc, arith}
 use Rattle.std.proofs.Math.Seq.{take-append_seam}
 use Rattle.std.proofs.lemmas.List.{length-append, append-nil, nil_from_length}
@@ -16,6 +18,7 @@ use Rattle.nc_text.specs.Reading.{State, refusal_of, kept_of, more_kept, counted
 use Rattle.nc_text.proofs.Counted.{counted_more, line_kept}
 use Rattle.nc_text.proofs.LineEnds.{line_ends, text_ends, kept_none, kept_more}
 
+-- what a reader keeps, by its five fields
 abbrev pub state : ℕ → Stage → List ℕ → ℕ → Before → State
 state skips stage kept len before = record { skips = skips; stage = stage; kept = kept; len = len; before = before }
 
@@ -61,17 +64,18 @@ line_goes_on s stage new-stage kept new-kept len new-len before piece one stage-
       ),
     )
 
--- the same, where a call says so
+-- a call that goes on with the present line has read its piece, if it says so
 pub piece_taken : {E : Type 0} (r : Result (Unit {0}) E) (s : ℕ) (stage new-stage : Stage) (kept new-kept : List ℕ) (len new-len : ℕ) (before : Before) (piece : List ℕ) → IsOneLine piece → new-stage ≡ stage → OnOk r (new-kept ≡ kept ++ more_kept stage kept piece) → OnOk r (new-len ≡ counted (len + length piece))
     → OnOk r ((skips : ℕ) (bytes : List ℕ) → HasRead (state s stage kept len before) skips bytes → HasRead (state s new-stage new-kept new-len before) skips (bytes ++ piece))
 piece_taken (Ok x) s stage new-stage kept new-kept len new-len before piece one stage-is kept-is len-is = line_goes_on s stage new-stage kept new-kept len new-len before piece one stage-is kept-is len-is
 piece_taken (Err e) s stage new-stage kept new-kept len new-len before piece one stage-is kept-is len-is = tt
 
--- what is kept and counted of a line is enough
+-- so a line may be read by what is kept of it
 line_stands : (s : ℕ) (stage : Stage) (kept : List ℕ) (len : ℕ) (before : Before) (line : List ℕ) (ended : Bool) → kept ≡ kept_of stage line → len ≡ counted (length line)
     → (lines : List Line) → continued s stage (record { bytes = line; ended = ended } ∷ lines) before ≡ line_continued s stage kept len ended lines before
 line_stands s stage kept len before line ended kept-is len-is lines = line_kept s stage line ended lines before ∙ (λ i. line_continued s stage (sym kept-is i) (sym len-is i) ended lines before)
 
+-- a line that ended, read by what was kept of it
 line_ended : (s : ℕ) (stage new-stage : Stage) (kept slice : List ℕ) (len : ℕ) (before new-before : Before) (line : List ℕ) (ended : Bool) → IsOpenLine stage kept len line → slice ≡ kept
     → ((lines : List Line) → line_continued s stage slice len ended lines before ≡ continued s new-stage lines new-before)
     → (lines : List Line) → continued s stage (record { bytes = line; ended = ended } ∷ lines) before ≡ continued s new-stage lines new-before
@@ -102,6 +106,7 @@ nothing_left stage fault text rest refused none skips before =
     let P : Stage → Type 0 = λ st. LeadsTo skips st before text st before rest in
     subst P (sym refused) (text, sym (append-nil text) ∙ ap (λ (t : List ℕ). text ++ t) (sym none), λ more. refl)
 
+-- what leads to a place that leads on leads on
 pub leads_on : (s : ℕ) (a b c : Stage) (x y z : Before) (first second third : List ℕ) → LeadsTo s a x first b y second → LeadsTo s b y second c z third → LeadsTo s a x first c z third
 leads_on s a b c x y z first second third p q = (
   p.0 ++ q.0,
@@ -150,6 +155,7 @@ pub nothing_given : (s : ℕ) (stage : Stage) (kept : List ℕ) (len : ℕ) (bef
 nothing_given s stage kept len before stage-is kept-is len-is whole =
     (refl, ([], record { is_line = no_bytes stage kept len kept-is len-is; front = []; bytes_are = refl; whole = λ more. whole more ∙ ap (λ (st : Stage). continued s st (lines_of more) before) (sym stage-is) }))
 
+-- a reader with a refusal stands at it
 pub refused_at : (stage : Stage) (fault : TextFault) → refusal_of stage ≡ Some fault → stage ≡ stages.Refused fault
 refused_at stages.Leader fault e = absurd cc
 refused_at stages.Body fault e = absurd cc

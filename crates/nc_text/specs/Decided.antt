@@ -1,4 +1,4 @@
--- What the lines that have ended decide.
+-- What the lines that have ended decide. For this crate alone.
 use Rattle.std.specs.Prelude.{◌≡◌, ℕ, List, [], ◌∷◌, ◌++◌, Result, Ok, Err}
 use Rattle.nc_number.specs.declared.fault.Failing.{Failing}
 use Rattle.nc_text.specs.declared.fault.TextFault.{TextFault}
@@ -7,7 +7,9 @@ use Rattle.nc_text.specs.Reading.{IsRefused, FaultIs}
 -- some first lines of the bytes have ended, and whatever follows their last line feed, the text is
 -- refused so
 pub record IsDecided (skips : ℕ) (bytes : List ℕ) (fault : TextFault) : Type 0 where
+  -- these lines, without the last line feed, 10
   pub lines : List ℕ
+  -- the bytes behind it
   pub rest : List ℕ
   pub bytes_are : bytes ≡ (lines ++ 10 ∷ []) ++ rest
   pub refused : IsRefused skips (lines ++ 10 ∷ []) fault

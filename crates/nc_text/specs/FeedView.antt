@@ -1,7 +1,9 @@
 -- What a reader keeps, as contracts see it.
+-- For this crate alone.
 use Rattle.nc_text.specs.declared.feed.Feed.{Feed}
 use Rattle.nc_text.specs.View.{before_of}
 use Rattle.nc_text.specs.Reading.{State}
 
+-- the state that the fields of a reader stand for
 abbrev pub state_of : Feed → State
 state_of feed = record { skips = feed.skips; stage = feed.line.stage; kept = feed.line.kept.items; len = feed.line.len; before = before_of feed.progress }

@@ -1,3 +1,5 @@
+-- The words in which contracts speak of a text and its tape. Lines, Tape and Shape are for all
+-- crates, the others for this one and its laws.
 pub mod Lines
 pub mod Tape
 pub mod Shape

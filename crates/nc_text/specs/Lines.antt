@@ -1,4 +1,5 @@
 -- A text as lines.
+-- open_forms, tape_expand, tape_relation and flow_laws cite this.
 use Rattle.std.specs.Prelude.{◌≡◌, All, ℕ, ◌+◌, Bool, true, false, ◌==◌, List, [], ◌∷◌, if◌then◌else◌}
 
 -- the bytes before a line feed, or before the end of the text
@@ -6,11 +7,12 @@ pub record Line : Type 0 where
   pub bytes : List ℕ
   pub ended : Bool
 
+-- these lines with one byte more before the first one
 abbrev pub onto_line : ℕ → List Line → List Line
 onto_line b [] = record { bytes = b ∷ []; ended = false } ∷ []
 onto_line b (line ∷ lines) = record { bytes = b ∷ line.bytes; ended = line.ended } ∷ lines
 
--- the lines of a text, each of which has a byte or a line feed
+-- the lines of a text, each of which has a byte or a line feed, 10
 abbrev pub lines_of : List ℕ → List Line
 lines_of [] = []
 lines_of (b ∷ bs) = if b == 10 then record { bytes = []; ended = true } ∷ lines_of bs else onto_line b (lines_of bs)
@@ -19,7 +21,7 @@ lines_of (b ∷ bs) = if b == 10 then record { bytes = []; ended = true } ∷ li
 abbrev pub IsOneLine : List ℕ → Type 0
 IsOneLine bytes = All (λ b. (b == 10) ≡ false) bytes
 
--- a line that begins with `%` begins or ends the tape
+-- a line that begins with `%`, 37, begins or ends the tape
 abbrev pub is_percent : List ℕ → Bool
 is_percent [] = false
 is_percent (b ∷ bs) = b == 37

@@ -1,4 +1,5 @@
 -- What was read up to a mark, and what was read since.
+-- Needed to go back when memory runs out. tape_relation cites this.
 use Rattle.std.specs.Prelude.{◌≡◌, ℕ, List, [], ◌∷◌, ◌++◌, length, take, Option, Some, None}
 use Rattle.std.specs.Option.{option_to_list}
 use Rattle.nc_text.specs.declared.tape.Block.{Block}
@@ -7,6 +8,7 @@ use Rattle.nc_text.specs.declared.mark.Mark.{Mark}
 use Rattle.nc_text.specs.Tape.{Before}
 use Rattle.nc_text.specs.ReadShape.{IsShaped}
 
+-- how many blocks the program that is being read has
 abbrev pub block_count : Option Program → Option ℕ
 block_count None = None
 block_count (Some program) = Some (length program.blocks)
@@ -20,6 +22,7 @@ pub record IsMarkOf (mark : Mark) (start : Before) : Type 0 where
   pub done_are : mark.done ≡ length start.done
   pub current_is : mark.current ≡ block_count start.current
 
+-- the program with so many of its first blocks
 abbrev pub first_blocks : ℕ → Option Program → Option Program
 first_blocks count None = None
 first_blocks count (Some program) = Some (record program { blocks = take count program.blocks })
@@ -29,6 +32,7 @@ abbrev pub cut_program : Option ℕ → Option Program → Option Program
 cut_program None program = None
 cut_program (Some count) program = first_blocks count program
 
+-- the first of these programs, if there is one
 abbrev pub first_of : List Program → Option Program
 first_of [] = None
 first_of (program ∷ programs) = Some program
@@ -54,6 +58,7 @@ Grows old new = (start : Before) → Follows start old → Follows start new
 
 -- what was read at the mark still stands, and had the shape of what is read
 pub record StoodAt (mark : Mark) (now : Before) : Type 0 where
+  -- what was read at the mark
   pub start : Before
   pub mark_is : IsMarkOf mark start
   pub follows : Follows start now

@@ -1,4 +1,5 @@
 -- The shape of what was read so far.
+-- A reader keeps it at each line; the shape of a whole tape is in Shape. flow_laws cites this.
 use Rattle.std.specs.Prelude.{ℕ, ◌<◌, ◌≤◌, List, [], ◌∷◌, ◌++◌, length, All, Option}
 use Rattle.std.specs.Coded.{×_prop, le_prop}
 use Rattle.std.proofs.Props.{props}
@@ -22,6 +23,7 @@ pub record IsReadShape (lines blocks : ℕ) (programs : List Program) : Type 0 w
   pub count : length (blocks_in programs) ≤ blocks
   pub shaped : All IsBlockShape (blocks_in programs)
 
+-- what was read so far has this shape
 abbrev pub IsShaped : Before → Type 0
 IsShaped before = IsReadShape before.lines before.blocks (before.done ++ option_to_list before.current)
 
@@ -35,5 +37,6 @@ IsBodyShape-prop : (most : ℕ) (sequence : Option ℕ) (body : Body) → IsProp
 IsBodyShape-prop most sequence (Words words) = hlevel props
 IsBodyShape-prop most sequence (Statement text) = hlevel props
 
+-- the shape of what was read has one proof at most
 pub IsReadShape-prop : (lines blocks : ℕ) (programs : List Program) → IsProp (IsReadShape lines blocks programs)
 IsReadShape-prop lines blocks programs = hlevel (props, RiseTo-prop, IsBodyShape-prop)

@@ -1,4 +1,5 @@
 -- A reader stands for the bytes that it was given, whatever pieces they came in.
+-- For this crate alone.
 use Rattle.std.specs.Prelude.{◌≡◌, ℕ, ◌+◌, Bool, true, false, not, ◌&&◌, ◌==◌, List, [], ◌∷◌, ◌++◌, length, take, min, Option, Some, None, Result, Ok, Err, if◌then◌else◌}
 use Rattle.nc_number.specs.declared.fault.Failing.{Failing}
 use Rattle.nc_number.specs.declared.fault.Failing.TheVariants.{Fault, NoMemory}
@@ -12,14 +13,18 @@ use Rattle.nc_text.specs.Tape.{Before, Answer, after_outer, after_percent, after
 
 -- what a reader keeps: where it stands, the present line and what was read before it
 pub record State : Type 0 where
+  -- bit n is skip switch n
   pub skips : ℕ
+  -- where in the tape it stands
   pub stage : Stage
   -- of the present line only what is needed
   pub kept : List ℕ
   -- how many bytes it has, as they are counted
   pub len : ℕ
+  -- what was read before the present line
   pub before : Before
 
+-- a reader stands between the two `%` lines
 abbrev pub is_body : Stage → Bool
 is_body stages.Leader = false
 is_body stages.Body = true
@@ -97,6 +102,7 @@ HasRefused state fault = state.stage ≡ stages.Refused fault
 abbrev pub IsRefused : ℕ → List ℕ → TextFault → Type 0
 IsRefused skips bytes fault = (more : List ℕ) → tape_of skips (bytes ++ more) ≡ Err fault
 
+-- the refusal of a call is so; out of memory says nothing
 abbrev pub FaultIs : Failing TextFault → (TextFault → Type 0) → Type 0
 FaultIs (Fault fault) P = P fault
 FaultIs NoMemory P = Unit {0}

@@ -1,6 +1,7 @@
 -- A tape: lines before the first that begins with `%`, that line, the lines of the programs, the
 -- next line that begins with `%`, and lines behind it. The answer is the programs, or the fault of
 -- least line, and on it of least number.
+-- The layers above cite `tape_of`; what a single line says is defined in line_text.
 use Rattle.std.specs.Prelude.{ℕ, ◌+◌, Bool, true, false, not, ◌&&◌, nat_lt, nat_le, List, [], ◌∷◌, ◌++◌, length, Option, Some, None, Result, Ok, Err, is_some, if◌then◌else◌}
 use Rattle.std.specs.Option.{option_to_list, is_none}
 use Rattle.nc_number.specs.declared.limits.TheConstants.{LONGEST_LINE, LONGEST_TAPE, MOST_BLOCKS}
@@ -18,18 +19,24 @@ use Rattle.line_text.specs.Said.{line_says}
 
 -- what stands before a line
 pub record Before : Type 0 where
+  -- how many lines there are
   pub lines : ℕ
+  -- and how many bytes they have, with their line feeds
   pub bytes : ℕ
   -- the number of the first line that begins with `%`
   pub percent : ℕ
+  -- how many blocks there are, of all programs
   pub blocks : ℕ
   -- the programs before the one that is being read
   pub done : List Program
+  -- the program that is being read, if an O number came
   pub current : Option Program
 
+-- before the first line
 abbrev pub nothing_read : Before
 nothing_read = record { lines = 0; bytes = 0; percent = 0; blocks = 0; done = []; current = None }
 
+-- all programs so far
 abbrev pub programs_of : Before → List Program
 programs_of before = before.done ++ option_to_list before.current
 
@@ -41,7 +48,7 @@ fault_behind before refusal = record { number = refusal_number refusal; line = b
 abbrev pub is_past_end : Before → ℕ → Bool → Bool
 is_past_end before len ended = nat_lt LONGEST_TAPE (before.bytes + size_of len ended)
 
--- with one line more
+-- what was read, with one line more counted
 abbrev pub next : Before → ℕ → Bool → Before
 next before len ended = record before { lines = before.lines + 1; bytes = before.bytes + size_of len ended }
 
@@ -54,11 +61,13 @@ percent_refusal before len ended =
 abbrev pub outer_refusal : Before → ℕ → Bool → Option Refusal
 outer_refusal before len ended = if is_past_end before len ended then Some TapeTooLong else None
 
+-- a line says a block
 abbrev pub is_block : Said → Bool
 is_block said.Nothing = false
 is_block (said.Program number) = false
 is_block (said.Block block) = true
 
+-- the O number, or each word of the block, is in its range
 abbrev pub is_said_in_range : Said → Bool
 is_said_in_range said.Nothing = true
 is_said_in_range (said.Program number) = is_some number
@@ -74,44 +83,54 @@ said_refusal before len ended said =
     else (if not (is_said_in_range said) then Some WordRange
     else None))))
 
+-- a program that begins at this line
 abbrev pub program_at : ℕ → ℕ → Program
 program_at line number = record { number = number; line = line; blocks = [] }
 
+-- a block of this line
 abbrev pub block_at : ℕ → SaidBlock → Block
 block_at line block = record { line = line; sequence = block.sequence; body = block.body }
 
+-- the program that is being read, with one block more
 abbrev pub with_block : Block → Option Program → Option Program
 with_block block None = None
 with_block block (Some program) = Some (record program { blocks = program.blocks ++ block ∷ [] })
 
+-- what was read, with a program that begins at the next line
 abbrev pub with_program : Before → ℕ → Before
 with_program before number = record before { done = programs_of before; current = Some (program_at (before.lines + 1) number) }
 
--- with what a line says
+-- what was read, with what a line says
 abbrev pub with_said : Before → Said → Before
 with_said before said.Nothing = before
 with_said before (said.Program None) = before
 with_said before (said.Program (Some number)) = with_program before number
 with_said before (said.Block block) = record before { blocks = before.blocks + 1; current = with_block (block_at (before.lines + 1) block) before.current }
 
+-- what was read, if nothing is refused
 abbrev pub unless_refused : Option Refusal → Before → Result Before Refusal
 unless_refused None before = Ok before
 unless_refused (Some refusal) before = Err refusal
 
+-- what was read after one line of the programs more, of this length, which says this by itself or
+-- is refused
 abbrev pub after_said : Before → ℕ → Bool → Result Said Refusal → Result Before Refusal
 after_said before len ended (Ok said) = unless_refused (said_refusal before len ended said) (next (with_said before said) len ended)
 after_said before len ended (Err refusal) = Err refusal
 
--- with one line of the programs more
+-- what was read after one line of the programs more, or its least refusal
 abbrev pub after_line : ℕ → Before → List ℕ → Bool → Result Before Refusal
 after_line skips before bytes ended = after_said before (length bytes) ended (line_says skips bytes ended)
 
+-- what was read after one `%` line more, or its least refusal
 abbrev pub after_percent : Before → ℕ → Bool → Result Before Refusal
 after_percent before len ended = unless_refused (percent_refusal before len ended) (next before len ended)
 
+-- what was read after one line more outside the `%` lines, or its least refusal
 abbrev pub after_outer : Before → ℕ → Bool → Result Before Refusal
 after_outer before len ended = unless_refused (outer_refusal before len ended) (next before len ended)
 
+-- what a text is: its programs, or its one refusal
 abbrev pub Answer : Type 0
 Answer = Result (List Program) TextFault
 
@@ -119,6 +138,7 @@ Answer = Result (List Program) TextFault
 abbrev pub no_program : Before → TextFault
 no_program before = record { number = refusal_number NoProgramNumber; line = before.percent }
 
+-- the answer at the end of a tape with both `%` lines
 abbrev pub finished : Before → Answer
 finished before = if is_none before.current then Err (no_program before) else Ok (programs_of before)
 
@@ -132,6 +152,7 @@ unfinished before =
 abbrev pub not_begun : Answer
 not_begun = Err (record { number = refusal_number NoProgramNumber; line = 1 })
 
+-- a refused line ends the reading, another one lets it go on
 abbrev pub goes_on : Before → Result Before Refusal → (Before → Answer) → Answer
 goes_on before (Ok after) rest = rest after
 goes_on before (Err refusal) rest = Err (fault_behind before refusal)

@@ -1,9 +1,11 @@
 -- What was read, as contracts see it.
+-- For this crate alone.
 use Rattle.std.specs.Prelude.{◌≡◌, Result, Ok, Err}
 use Rattle.line_text.specs.declared.refusal.Refusal.{Refusal}
 use Rattle.nc_text.specs.declared.progress.Progress.{Progress}
 use Rattle.nc_text.specs.Tape.{Before}
 
+-- what the fields of a reader's progress stand for
 abbrev pub before_of : Progress → Before
 before_of progress = record {
   lines = progress.lines;

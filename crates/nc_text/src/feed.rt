@@ -1,4 +1,5 @@
 //! What a reader keeps from one piece to the next.
+//! A [`Reader`](crate::Reader) is this with a public face; one line at a time is in step.rt.
 ghost use Rattle.std.specs.Prelude.{◌≡◌, ◌∷◌, [], ◌++◌, List, ℕ, IfOk, OnOk, OnErr};
 ghost use Rattle.nc_number.specs.Answers.{Gives};
 ghost use Rattle.nc_text.specs.Lines.{IsOneLine};
@@ -22,9 +23,13 @@ use std::alloc::Global;
 /// What a reader keeps.
 #[derive(Debug, Drop)]
 pub(crate) struct Feed {
+    /// Room for the reading of a line, which is used again and again.
     pub buffer: LineBuffer,
+    /// Bit n is skip switch n.
     pub skips: u16,
+    /// The present line.
     pub line: OpenLine,
+    /// What was read before it.
     pub progress: Progress,
 }
 
@@ -43,7 +48,7 @@ impl Feed {
         }
     }
 
-    /// Takes a piece of the text.
+    /// Takes a piece of the text. If memory runs out, all is as before.
     pub(crate) fn take(&mut self, piece: &[u8]) -> Result<(), NoMemory>
         ensures reads { OnOk result ((skips : ℕ) (bytes : List ℕ) → HasRead (state_of self.old) skips bytes
             → HasRead (state_of self.new) skips (bytes ++ piece.now)) }
@@ -55,7 +60,8 @@ impl Feed {
         }
     }
 
-    /// Takes the rest of the present line, its line feed and what stands behind that.
+    /// Takes the rest of the present line, its line feed and what comes after that. If memory runs
+    /// out, all is as before.
     fn take_lines(&mut self, front: &[u8], behind: &[u8]) -> Result<(), NoMemory>
         requires { IsOneLine front.now }
         ensures reads { OnOk result ((skips : ℕ) (bytes : List ℕ) → HasRead (state_of self.old) skips bytes
@@ -92,7 +98,7 @@ impl Feed {
         refusal_of(self.line.stage)
     }
 
-    /// Ends the text, and with it the present line.
+    /// Ends the text, and with it the present line. Errors: the one refusal of the text, or memory.
     pub(crate) fn finish(self) -> Result<Tape, Failing<TextFault>>
         ensures exact { (skips : ℕ) (bytes : List ℕ) → HasRead (state_of self) skips bytes
             → Gives (λ tape. tape) result (tape_of skips bytes) }
@@ -122,7 +128,8 @@ impl Feed {
     }
 }
 
-/// Ends a line, reads the lines behind it, and begins the one behind those.
+/// Ends the present line, reads the lines that end in `behind`, and gives the line that has begun
+/// after those. The only error is that memory runs out.
 fn line_behind(
     buffer: &mut LineBuffer,
     skips: u16,
@@ -151,7 +158,7 @@ fn line_behind(
     Ok(next)
 }
 
-/// What the text is where no line is left.
+/// The tape, or its refusal, if no line is left to read.
 fn conclude(stage: Stage, progress: Progress) -> Result<Tape, Failing<TextFault>>
     ensures exact { (skips : ℕ) → Gives (λ tape. tape) result (continued skips stage [] (before_of progress)) }
     ensures same { (fault : TextFault) → stage ≡ Stage.Refused fault → result ≡ Err (Failing.Fault fault) }
@@ -164,7 +171,7 @@ fn conclude(stage: Stage, progress: Progress) -> Result<Tape, Failing<TextFault>
     }
 }
 
-/// The refusal of a text without a `%` line.
+/// The refusal of a text without a `%` line: 13 at line 1.
 fn not_begun() -> TextFault
     ensures { result ≡ record { number = 13; line = 1 } }
 {

@@ -1,4 +1,4 @@
-//! Back to what was read at a mark, where memory ran out in a piece.
+//! Back to what was read at a mark, if memory ran out in a piece. The mark itself is in mark.rt.
 ghost use Rattle.std.specs.Prelude.{◌≡◌, ◌++◌, List, Some, length};
 ghost use Rattle.std.specs.Option.{option_to_list};
 ghost use Rattle.nc_text.specs.declared.tape.Program.{Program};
@@ -52,7 +52,7 @@ fn block_count(program: &Option<Program>) -> Option<usize>
     }
 }
 
-/// Makes the program behind so many the current one.
+/// Leaves the first `count` programs done, and makes the next one the current one again.
 fn reopen(done: &mut Vec<Program>, current: &mut Option<Program>, count: usize)
     ensures { (stood : List Program) (since : List Program) → length stood ≡ count → done.old.items ≡ stood ++ since →
         (done.new.items ≡ stood) × (current.new ≡ first_of (since ++ option_to_list current.old)) }
@@ -63,7 +63,7 @@ fn reopen(done: &mut Vec<Program>, current: &mut Option<Program>, count: usize)
     }
 }
 
-/// The program with its first blocks alone.
+/// The program with so many of its first blocks.
 fn with_first_blocks(program: Program, count: usize) -> Program
     ensures { Some result ≡ first_blocks count (Some program) }
 {
@@ -81,7 +81,7 @@ fn with_first_blocks(program: Program, count: usize) -> Program
     }
 }
 
-/// Leaves the first blocks of a program, or no program.
+/// Leaves the current program with its first blocks, or leaves no program.
 fn cut_program(program: &mut Option<Program>, blocks: Option<usize>)
     ensures { program.new ≡ cut_program blocks program.old }
 {

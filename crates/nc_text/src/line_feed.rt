@@ -1,4 +1,5 @@
 //! Where a line ends.
+//! For feed.rt and step.rt.
 ghost use Rattle.std.specs.Prelude.{◌≡◌, ◌<◌, ◌∷◌, ◌++◌, length, MatchOption, IfSome};
 ghost use Rattle.nc_text.specs.Lines.{IsOneLine};
 

@@ -1,4 +1,5 @@
-//! The line that is being read.
+//! The line that is being read: its length, and of its bytes those that are needed.
+//! For feed.rt and step.rt.
 ghost use Rattle.std.specs.Prelude.{◌≡◌, ◌≤◌, ◌<◌, ◌+◌, ◌++◌, [], List, ℕ, length, take, IfOk, OnOk, OnErr};
 ghost use Rattle.nc_number.specs.declared.limits.TheConstants.{LONGEST_TAPE};
 ghost use Rattle.nc_text.specs.Lines.{IsOneLine};
@@ -11,12 +12,13 @@ use std::alloc::Global;
 /// The bytes of a line are counted up to one more than a tape may have.
 const COUNTED: u32 = LONGEST_TAPE as u32 + 1;
 
-/// A line of the programs that is longer than this is answered as want of memory.
+/// A line of the programs with more bytes than this is answered as out of memory.
 const KEPT: usize = 4_294_967_294;
 
 /// The line that is being read.
 #[derive(Debug, Drop)]
 pub(crate) struct OpenLine {
+    /// Where in the tape the line stands.
     pub stage: Stage,
     /// Of its bytes only what is needed: all of a line of the programs, the first byte of any
     /// other.
@@ -42,7 +44,7 @@ impl OpenLine {
         }
     }
 
-    /// A line that begins with these bytes.
+    /// A line that begins with these bytes. The only error is that memory runs out.
     pub(crate) fn begin(alloc: Global, stage: Stage, bytes: &[u8]) -> Result<Self, NoMemory>
         requires { IsOneLine bytes.now }
         ensures { IfOk result (λ line. (line.stage ≡ stage)
@@ -53,7 +55,7 @@ impl OpenLine {
         Ok(line)
     }
 
-    /// Goes on with these bytes.
+    /// Goes on with these bytes. If memory runs out, the line is as before.
     pub(crate) fn extend(&mut self, bytes: &[u8]) -> Result<(), NoMemory>
         ensures stage { self.new.stage ≡ self.old.stage }
         ensures kept { OnOk result (self.new.kept.items
@@ -83,7 +85,7 @@ impl OpenLine {
     }
 }
 
-/// The length of a line that goes on with these bytes.
+/// The length of a line of this length with these bytes more, as it is counted.
 pub(crate) fn longer(len: u32, bytes: &[u8]) -> u32
     requires { len ≤ LONGEST_TAPE + 1 }
     ensures { result ≡ counted (len + length bytes.now) }
@@ -94,7 +96,7 @@ pub(crate) fn longer(len: u32, bytes: &[u8]) -> u32
     }
 }
 
-/// What is kept of a line that lies whole in a text.
+/// What is kept of a line that lies whole in a text. Too many bytes are answered as out of memory.
 pub(crate) fn kept_whole(stage: Stage, bytes: &[u8]) -> Result<&[u8], NoMemory>
     ensures value { IfOk result (λ kept. kept.now ≡ kept_of stage bytes.now) }
     ensures short { IfOk result (λ kept. length kept.now ≤ 4294967294) }
@@ -107,7 +109,7 @@ pub(crate) fn kept_whole(stage: Stage, bytes: &[u8]) -> Result<&[u8], NoMemory>
     Ok(kept)
 }
 
-/// What is kept of these bytes at the beginning of a line.
+/// What is kept of these bytes at the beginning of a line: all in the programs, else the first.
 fn kept_of(stage: Stage, bytes: &[u8]) -> &[u8]
     ensures value { result.now ≡ kept_of stage bytes.now }
     ensures short { length result.now ≤ length bytes.now }
@@ -124,7 +126,7 @@ fn kept_of(stage: Stage, bytes: &[u8]) -> &[u8]
     }
 }
 
-/// What is kept of these bytes where this is kept of the line before them.
+/// What is kept of these bytes, which follow those of which `kept` is kept.
 fn more_kept<'a>(stage: Stage, kept: &[u8], bytes: &'a [u8]) -> &'a [u8]
     ensures value { result.now ≡ more_kept stage kept.now bytes.now }
     ensures short { length result.now ≤ length bytes.now }

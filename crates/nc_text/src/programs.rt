@@ -1,4 +1,6 @@
 //! The programs of a tape while they are read: one more begins, or the last one grows.
+//! The only error is that memory runs out, and then all is as before.
+//! For progress.rt.
 ghost use Rattle.std.specs.Prelude.{◌≡◌, ◌++◌, Some, OnOk, OnErr};
 ghost use Rattle.std.specs.Option.{option_to_list};
 ghost use Rattle.nc_text.specs.Tape.{program_at, block_at, with_block};

@@ -1,4 +1,5 @@
-//! What was read of a tape so far.
+//! What was read of a tape so far, and what one line more does to it. Going back is in
+//! going_back.rt.
 ghost use Rattle.std.specs.Prelude.{◌≡◌, ◌<◌, ◌≤◌, ◌++◌, false, Ok, Err, OnOk, OnErr};
 ghost use Rattle.std.specs.Option.{option_to_list};
 ghost use Rattle.nc_text.specs.Lines.{size_of};
@@ -20,13 +21,17 @@ use std::alloc::{AllocError, Global};
 /// What was read before the present line.
 #[derive(Debug, Drop)]
 pub(crate) struct Progress {
+    /// How many lines were read.
     pub lines: u32,
+    /// How many bytes they had, with their line feeds; at most 4 MiB.
     pub bytes: u32,
     /// The number of the first line that begins with `%`.
     pub percent: u32,
+    /// How many blocks there are, of all programs; at most 20,000.
     pub blocks: u32,
     /// The programs before the one that is being read.
     pub done: Vec<Program>,
+    /// The program that is being read, if an O number came.
     pub current: Option<Program>,
     ghost few_lines: { lines ≤ bytes },
     ghost few_bytes: { bytes ≤ LONGEST_TAPE },
@@ -58,7 +63,7 @@ impl Progress {
         u64::from(self.bytes) + size_of(len, ended) > LONGEST_TAPE as u64
     }
 
-    /// The least refusal of a line that begins with `%`.
+    /// The least refusal of a line that begins with `%`: 15 if it is too long, 17 if the tape is.
     fn percent_refusal(&self, len: u32, ended: bool) -> Option<Refusal>
         ensures { result ≡ percent_refusal (before_of self.now) len ended }
     {
@@ -71,7 +76,8 @@ impl Progress {
         }
     }
 
-    /// The least refusal of a line outside the `%` lines.
+    /// The least refusal of a line before the first or after the second `%` line: the tape is too
+    /// long.
     fn outer_refusal(&self, len: u32, ended: bool) -> Option<Refusal>
         ensures { result ≡ outer_refusal (before_of self.now) len ended }
     {
@@ -82,7 +88,7 @@ impl Progress {
         }
     }
 
-    /// The least refusal of a line that is readable by itself.
+    /// The least refusal, in the order of their numbers, of a line that is readable by itself.
     fn said_refusal(&self, len: u32, ended: bool, said: &Said) -> Option<Refusal>
         ensures { result ≡ said_refusal (before_of self.now) len ended said.now }
     {
@@ -102,7 +108,7 @@ impl Progress {
         }
     }
 
-    /// Goes on behind a line.
+    /// Counts a line that says nothing more.
     fn pass(&mut self, len: u32, ended: bool)
         requires some { 0 < size_of len ended }
         requires fits { is_past_end (before_of self.old) len ended ≡ false }
@@ -119,7 +125,7 @@ impl Progress {
         self.percent = self.lines;
     }
 
-    /// Goes on behind a line that begins a program.
+    /// Counts a line that begins a program. If memory runs out, all is as before.
     fn pass_program(
         &mut self,
         alloc: Global,
@@ -140,7 +146,7 @@ impl Progress {
         Ok(())
     }
 
-    /// Goes on behind a line that says a block.
+    /// Counts a line that says a block. If memory runs out, all is as before.
     fn pass_block(&mut self, block: SaidBlock, len: u32, ended: bool) -> Result<(), AllocError>
         requires some { 0 < size_of len ended }
         requires fits { is_past_end (before_of self.old) len ended ≡ false }
@@ -158,7 +164,8 @@ impl Progress {
         Ok(())
     }
 
-    /// Takes a line before the first `%` line, or one behind the second.
+    /// Takes a line before the first `%` line, or one after the second. Error: the tape is too
+    /// long.
     pub(crate) fn pass_outer(&mut self, len: u32, ended: bool) -> Result<(), Refusal>
         requires { 0 < size_of len ended }
         ensures step { Passes result (before_of self.new) (after_outer (before_of self.old) len ended) }
@@ -171,7 +178,7 @@ impl Progress {
         Ok(())
     }
 
-    /// Takes a line that begins with `%`.
+    /// Takes a line that begins with `%`. Error: the line or the tape is too long.
     pub(crate) fn pass_percent(&mut self, len: u32, ended: bool) -> Result<(), Refusal>
         requires { 0 < size_of len ended }
         ensures step { Passes result (before_of self.new) (after_percent (before_of self.old) len ended) }
@@ -184,7 +191,8 @@ impl Progress {
         Ok(())
     }
 
-    /// Takes a line of the programs that is readable by itself.
+    /// Takes a line of the programs that is readable by itself. Errors: its least refusal, or
+    /// memory.
     pub(crate) fn pass_said(
         &mut self,
         alloc: Global,
@@ -209,7 +217,8 @@ impl Progress {
         Ok(())
     }
 
-    /// The refusal of a tape without a second `%` line.
+    /// The refusal of a tape without a second `%` line: 13 if it has no O number, else that its end
+    /// lacks.
     pub(crate) fn unfinished(&self) -> TextFault
         ensures { unfinished (before_of self.now) ≡ Err result }
     {
@@ -223,7 +232,7 @@ impl Progress {
         }
     }
 
-    /// The tape behind its second `%` line.
+    /// The tape after its second `%` line. Errors: it has no O number, or memory.
     pub(crate) fn finish(self) -> Result<Tape, Failing<TextFault>>
         ensures { Gives (λ tape. tape) result (finished (before_of self)) }
     {
@@ -246,7 +255,7 @@ impl Progress {
     }
 }
 
-/// The refusal of a tape without any O number.
+/// The refusal, 13, of a tape without any O number: at its first `%` line.
 fn no_program(percent: u32) -> TextFault
     ensures { result ≡ record { number = 13; line = percent } }
 {
@@ -267,7 +276,7 @@ fn size_of(len: u32, ended: bool) -> u64
     }
 }
 
-/// Only a block needs a program before it, and counts among those that a tape may have.
+/// Whether the line says a block. Only a block needs a program before it, and counts.
 fn is_block(said: &Said) -> bool
     ensures { result ≡ is_block said.now }
 {
@@ -278,7 +287,8 @@ fn is_block(said: &Said) -> bool
     }
 }
 
-/// A number out of its range is the last of the refusals, so it is kept till then.
+/// Whether each number of the line is in its range. This is the last of the refusals, so it is
+/// asked last.
 fn is_in_range(said: &Said) -> bool
     ensures { result ≡ is_said_in_range said.now }
 {

@@ -1,4 +1,6 @@
 //! A reader of tapes that come in pieces.
+//! The only way to a [`Tape`](crate::Tape). Its fields are in feed.rt.
+//! nc_verify and tape_expand read with it.
 ghost use Rattle.std.specs.Prelude.{◌≡◌, [], ◌++◌, ℕ, List, IfOk, IsOk, OnOk};
 ghost use Rattle.nc_number.specs.Answers.{Gives};
 ghost use Rattle.nc_text.specs.declared.fault.TextFault.{TextFault};
@@ -19,6 +21,7 @@ use std::marker::Model;
 /// present line; of the lines before the first and behind the second `%` line it keeps nothing.
 #[derive(Debug, Drop)]
 pub struct Reader {
+    /// What it keeps.
     feed: Feed,
 }
 

@@ -1,4 +1,5 @@
 //! Where in a tape a reader stands.
+//! What a line does at each stage is in step.rt.
 ghost use Rattle.std.specs.Prelude.{◌≡◌};
 ghost use Rattle.nc_text.specs.Reading.{is_body, refusal_of};
 
@@ -17,7 +18,7 @@ pub(crate) enum Stage {
     Refused(TextFault),
 }
 
-/// Only there lines are kept whole.
+/// Whether the reader stands in the programs. Only there lines are kept whole.
 pub(crate) fn is_body(stage: Stage) -> bool
     ensures { result ≡ is_body stage }
 {
@@ -29,7 +30,7 @@ pub(crate) fn is_body(stage: Stage) -> bool
     }
 }
 
-/// The refusal that stays, whatever follows.
+/// The refusal of the text, if it is refused. It stays, whatever follows.
 pub(crate) fn refusal_of(stage: Stage) -> Option<TextFault>
     ensures { result ≡ refusal_of stage }
 {

@@ -1,4 +1,5 @@
 //! One line more, at each stage of a tape.
+//! `len` counts the bytes of a line without its line feed; `ended` says that it has one.
 ghost use Rattle.std.specs.Prelude.{◌≡◌, ◌∷◌, ◌<◌, ◌-◌, ◌^◌, List, ℕ, true, length, ◌≤◌, IfOk, Ok};
 ghost use Rattle.nc_number.specs.Answers.{Gives};
 ghost use Rattle.nc_text.specs.Lines.{Line, IsOneLine, is_percent, size_of};
@@ -18,7 +19,7 @@ use crate::stage::Stage;
 use line_text::{LineBuffer, Refusal, read_line};
 use nc_number::{Failing, NoMemory};
 
-/// A line that begins with `%` begins or ends the tape.
+/// Whether a line begins with `%`, and so begins or ends the tape.
 pub(crate) fn is_percent(bytes: &[u8]) -> bool
     ensures { result ≡ is_percent bytes.now }
 {
@@ -28,7 +29,7 @@ pub(crate) fn is_percent(bytes: &[u8]) -> bool
     }
 }
 
-/// A refusal under the number that it is printed with.
+/// The refusal, by its number, of this line.
 fn fault_at(line: u32, refusal: Refusal) -> TextFault
     ensures { result ≡ record { number = refusal_number refusal; line = line } }
 {
@@ -36,7 +37,7 @@ fn fault_at(line: u32, refusal: Refusal) -> TextFault
     TextFault { number, line }
 }
 
-/// A line before the first `%` line, or that line.
+/// Where the reader stands after a line before the first `%` line, or after that line.
 fn leader_line(progress: &mut Progress, kept: &[u8], len: u32, ended: bool) -> Stage
     requires { 0 < size_of len ended }
     ensures step { (skips : ℕ) (lines : List Line) →
@@ -61,7 +62,7 @@ fn leader_line(progress: &mut Progress, kept: &[u8], len: u32, ended: bool) -> S
     }
 }
 
-/// A line behind the second `%` line.
+/// Where the reader stands after a line that follows the second `%` line.
 fn rest_line(progress: &mut Progress, len: u32, ended: bool) -> Stage
     requires { 0 < size_of len ended }
     ensures step { (lines : List Line) (skips : ℕ) →
@@ -76,7 +77,7 @@ fn rest_line(progress: &mut Progress, len: u32, ended: bool) -> Stage
     }
 }
 
-/// The second `%` line.
+/// Where the reader stands after the second `%` line.
 fn last_percent(progress: &mut Progress, len: u32, ended: bool) -> Stage
     requires { 0 < size_of len ended }
     ensures step { (lines : List Line) (skips : ℕ) →
@@ -91,7 +92,7 @@ fn last_percent(progress: &mut Progress, len: u32, ended: bool) -> Stage
     }
 }
 
-/// A line of the programs.
+/// Takes a line of the programs. Errors: its least refusal, or memory.
 fn program_line(
     progress: &mut Progress,
     buffer: &mut LineBuffer,
@@ -113,7 +114,8 @@ fn program_line(
     }
 }
 
-/// A line behind the first `%` line, up to the second.
+/// Where the reader stands after a line of the programs or the second `%` line. The only error is
+/// that memory runs out; so below.
 fn body_line(
     progress: &mut Progress,
     buffer: &mut LineBuffer,
@@ -186,7 +188,7 @@ fn behind_whole_line(
     behind_line(stage, progress, buffer, skips, kept, len, true)
 }
 
-/// What is left to read of a text: nothing where it is refused.
+/// What is left to read of a text: nothing if it is refused.
 fn left_to_read(stage: Stage, text: &[u8]) -> &[u8]
     ensures same { (skips : ℕ) (before : Before) → LeadsTo skips stage before text.now stage before result.now }
     ensures short { length result.now ≤ length text.now }

@@ -1,4 +1,5 @@
 //! A tape: its programs and their blocks.
+//! tape_flow reads what its blocks say.
 ghost use Rattle.std.specs.Prelude.{◌≡◌};
 
 use line_text::Body;
@@ -12,6 +13,7 @@ pub struct Block {
     pub line: u32,
     /// The number of its last N.
     pub sequence: Option<u32>,
+    /// Its words, or its statement.
     pub body: Body,
 }
 
@@ -25,6 +27,7 @@ pub struct Program {
     pub number: u32,
     /// The line of the O number, from 1.
     pub line: u32,
+    /// Its blocks, in the order of the text.
     pub blocks: BlockList,
 }
 

@@ -1,3 +1,5 @@
+-- Offsets that are set, and a point that may be one.
+-- block_values, named_vars and three more crates take words from here.
 use Rattle.std.specs.Prelude.{if◌then◌else◌, slice_set, ℤ, ◌+ℤ◌, Option, Some, None, Result, Ok, Err}
 use Rattle.nc_number.specs.declared.point.Point.{Point}
 use Rattle.nc_number.specs.Position.{is_position}
@@ -28,6 +30,7 @@ changed_part now Keep = now
 changed_part now (To length) = length
 changed_part now (By length) = now +ℤ length
 
+-- an offset with the words of both axes read
 abbrev pub changed_point : Point → Axis → Axis → Point
 changed_point now x z = record { x = changed_part now.x x; z = changed_part now.z z }
 

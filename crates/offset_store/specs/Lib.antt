@@ -1,3 +1,4 @@
+-- The words of the contracts of offset_store.
 pub mod Offsets
 pub mod Slots
 pub mod Changes

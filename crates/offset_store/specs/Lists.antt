@@ -1,3 +1,5 @@
+-- Lists of offsets, each at the place of its number.
+-- For this crate alone.
 use Rattle.std.specs.Prelude.{ℕ, List, slice_index_or}
 use Rattle.nc_number.specs.declared.point.Point.{Point}
 use Rattle.nc_number.specs.Position.{IsPosition, origin}

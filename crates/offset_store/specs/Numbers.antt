@@ -1,3 +1,5 @@
+-- The ranges of the numbers of offsets.
+-- run_records takes `is_between`, `tool_number` and `work_number`.
 use Rattle.std.specs.Prelude.{ℕ, Bool, not, ◌&&◌, nat_le, if◌then◌else◌, Option, Some, None, ℤ, unsigned_abs}
 use Rattle.std.specs.Int.{is_negative}
 use Rattle.nc_number.specs.declared.point.TheConstants.{TOOL_OFFSETS}

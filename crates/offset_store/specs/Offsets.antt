@@ -1,3 +1,5 @@
+-- The shift of the offsets in force, and an offset that G10 sets.
+-- block_values, nc_restart and path_state take words from here.
 use Rattle.std.specs.Prelude.{ℕ, ◌==◌, if◌then◌else◌, replicate, Option, Some, ℤ, ◌+ℤ◌}
 use Rattle.std.specs.Option.{option_map_or}
 use Rattle.nc_number.specs.declared.point.Point.{Point}
@@ -14,6 +16,7 @@ use Rattle.offset_store.specs.Table.{OffsetTable, offset_at}
 abbrev pub no_offsets : OffsetTable
 no_offsets = record { work = replicate 7 origin; geometry = replicate 65 origin; wear = replicate 65 origin }
 
+-- the sum of two points, in 0.001 mm
 abbrev pub plus : Point → Point → Point
 plus a b = record { x = a.x +ℤ b.x; z = a.z +ℤ b.z }
 

@@ -1,3 +1,5 @@
+-- Which offset a number names.
+-- block_values takes `slot_named` and two_path `slot_named` and `slot_of`.
 use Rattle.std.specs.Prelude.{◌-◌, if◌then◌else◌, Option, Some, None, Result, ok_or, ℤ, unsigned_abs}
 use Rattle.offset_store.specs.declared.fault.OffsetFault.{OffsetFault}
 use Rattle.std.specs.Option.{option_map}

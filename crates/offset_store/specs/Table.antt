@@ -1,3 +1,5 @@
+-- The offsets of a path, as contracts see them.
+-- block_values, move_list and four more crates take words from here.
 use Rattle.std.specs.Prelude.{◌≡◌, List, Option, Some, None, if◌then◌else◌}
 use Rattle.nc_number.specs.declared.point.Point.{Point}
 use Rattle.nc_number.specs.Position.{is_position, origin}

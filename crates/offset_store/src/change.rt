@@ -1,4 +1,5 @@
 //! An offset with a block's words read.
+//! For this crate alone.
 ghost use Rattle.std.specs.Prelude.{◌≡◌, ◌≤◌, if◌then◌else◌, nat_le, unsigned_abs, Some, None, IfOk};
 ghost use Rattle.nc_number.specs.Position.{IsPosition, travel};
 ghost use Rattle.offset_store.specs.Changes.{changed_part, changed_point, in_range};

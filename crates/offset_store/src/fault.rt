@@ -1,4 +1,5 @@
 //! Why an offset was not set.
+//! block_values, motion_vectors and five more crates use it.
 ghost use Rattle.std.specs.Prelude.{◌≡◌};
 
 use nc_number::Cause;
@@ -9,6 +10,7 @@ use thiserror::Error;
 #[derive(Clone, Copy, Debug, PartialEq, Eq, Error)]
 #[error("offset alarm {number}")]
 pub struct OffsetFault {
+    /// 40, no offset has the number; or 41, the point is past the range.
     pub number: u8,
 }
 

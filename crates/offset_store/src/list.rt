@@ -1,4 +1,5 @@
 //! Offsets by their numbers.
+//! For this crate alone.
 ghost use Rattle.std.specs.Prelude.{◌≡◌, ◌<◌, replicate, slice_set};
 ghost use Rattle.nc_number.specs.Position.{IsPosition, origin};
 ghost use Rattle.offset_store.specs.Lists.{offset_at};
@@ -6,6 +7,7 @@ ghost use Rattle.offset_store.specs.Lists.{offset_at};
 use nc_number::Point;
 use std::marker::Model;
 
+/// No offset at all.
 pub(crate) const ORIGIN: Point = Point { x: 0, z: 0 };
 
 /// Offsets, each at the place of its number, from 0 on. Each may be a position.

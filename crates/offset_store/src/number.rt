@@ -1,4 +1,5 @@
 //! The numbers of offsets.
+//! cell_settings, path_state and run_records use it.
 ghost use Rattle.std.specs.Prelude.{◌≡◌, ◌≤◌};
 ghost use Rattle.nc_number.specs.declared.point.TheConstants.{TOOL_OFFSETS};
 ghost use Rattle.offset_store.specs.declared.number.TheConstants.{LAST_WORK};

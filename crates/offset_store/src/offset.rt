@@ -1,4 +1,5 @@
 //! A point that may be an offset.
+//! edit_texts and run_records use it.
 ghost use Rattle.std.specs.Prelude.{◌≡◌};
 ghost use Rattle.nc_number.specs.Position.{IsPosition};
 

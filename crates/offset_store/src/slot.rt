@@ -1,4 +1,5 @@
 //! Where an offset stands.
+//! block_values, cell_settings and nine more crates use it.
 ghost use Rattle.std.specs.Prelude.{◌≡◌};
 ghost use Rattle.offset_store.specs.Slots.{work_slot, tool_slot};
 
@@ -12,8 +13,11 @@ const GEOMETRY: i64 = 10_000;
 /// One of the offsets of a path.
 #[derive(Clone, Copy, Debug, PartialEq, Eq)]
 pub enum Slot {
+    /// A work offset; number 0 is the external one.
     Work(WorkNumber),
+    /// The geometry of a tool offset.
     Geometry(ToolNumber),
+    /// The wear of a tool offset.
     Wear(ToolNumber),
 }
 

@@ -1,4 +1,5 @@
--- No move of G71 or G70 enters the contour.
+-- No move of G71 or G70 enters the contour: the law `no_move_enters_the_contour` (src/law.rt).
+-- First come facts of single points, then of moves, then of passes.
 use Rattle.std.proofs.Common.{◌≡◌, ℕ, zero, suc, ◌+◌, ◌*◌, ◌/◌, ◌<◌, ◌≤◌, Bool, true, false, not, ◌&&◌, ◌||◌, List, [], ◌∷◌, ◌++◌, map, ℤ, pos, ◌+ℤ◌, ◌-ℤ◌, ◌*ℤ◌, ◌≤ℤ◌, ◌<ℤ◌, refl, sym, subst, ◌∙◌, arith, cond}
 use Rattle.std.specs.Prelude.{int_lt, int_le}
 use Rattle.std.specs.Ordering.{int_eq}
@@ -18,6 +19,7 @@ use Rattle.rough_cycle.proofs.Orders.{not_le_is, is_le}
 use Rattle.rough_cycle.proofs.Products.{quotient_below, part_below}
 use Rattle.rough_cycle.specs.Moves.{IsOn, after, after_all, IsClear, AreClear}
 
+-- a Z at most two others is at most the lesser of them
 not_before_least : (z a b : ℤ) → z ≤ℤ a → z ≤ℤ b → z ≤ℤ int_min a b
 not_before_least z a b to_a to_b = go (int_lt b a)
   where
@@ -67,6 +69,7 @@ products_behind a l k m w near right =
     let far : l * k ≤ l * m = mul-le-mul_left l right in
     omega (arith, scaled, reached, far)
 
+-- a point at or after the place where a segment comes to its X is not below it
 not_below_behind : (p q at : Point) (x : ℤ) → p.x ≤ℤ x → x <ℤ q.x → x ≤ℤ at.x → (p.z -ℤ pos (distance p.z q.z * distance x p.x / distance q.x p.x)) ≤ℤ at.z → at.z ≤ℤ p.z → is_below p q at ≡ true → ⊥
 not_below_behind p q at x above below right behind high =
     let along : distance p.z q.z ≡ distance q.z p.z = omega (arith, ints) in
@@ -77,10 +80,12 @@ not_below_behind p q at x above below right behind high =
 
 -- which Z a segment holds
 
+-- a Z within a segment that descends lies between its ends' Z
 pub held : (p q : Point) (z : ℤ) → q.z ≤ℤ p.z → holds p q z ≡ true → (q.z ≤ℤ z) × (z ≤ℤ p.z)
 unfolding holds
 held p q z falls e = (grind (arith, ints), grind (arith, ints))
 
+-- a Z between the ends' Z is within the segment
 pub holds_between : (p q : Point) (z : ℤ) → q.z ≤ℤ z → z ≤ℤ p.z → holds p q z ≡ true
 unfolding holds
 holds_between p q z low high = rw (is_le q.z z low, is_le z p.z high) refl
@@ -108,6 +113,7 @@ step p q at points first rest = go (holds p q at.z) refl
     go true h s e = first h (both _ _ e).0
     go false h s e = rest h s e
 
+-- a point is not inside if no segment both holds its Z and is above it
 pub not_inside : (p : Point) (points : List Point) (at : Point) → (some_holds p points at.z ≡ true → is_below_each p points at ≡ true → ⊥) → is_inside_from p points at ≡ false
 not_inside p points at contrary = only_false (is_inside_from p points at) (λ e. let parts = both (some_holds p points at.z) (is_below_each p points at) e in contrary parts.0 parts.1)
 
@@ -116,6 +122,7 @@ last_is_high : (p : Point) (points : List Point) → Descends p points → p.x �
 last_is_high p [] falls = omega (arith, ints)
 last_is_high p (q ∷ points) (rises, falls, later) = let high = last_is_high q points later in omega (arith, ints)
 
+-- a point whose X is at least the contour's last is below no segment (right: of greater X)
 right_of_all : (p : Point) (points : List Point) (at : Point) → Descends p points → (last_of p points).x ≤ℤ at.x → some_holds p points at.z ≡ true → is_below_each p points at ≡ true → ⊥
 right_of_all p [] at falls right = λ s e. absurd (let wrong : false ≡ true = s in cc)
 right_of_all p (q ∷ points) at (rises, falls, later) right =
@@ -160,17 +167,19 @@ end_is_low x p (q ∷ points) (rises, falls, later) = go (int_le q.x x) (end_is_
 
 -- the allowances
 
+-- a contour that descends does so with its allowances
 moved_descends : (u w : ℕ) (p : Point) (points : List Point) → Descends p points → Descends (moved_point u w p) (moved u w points)
 moved_descends u w p [] falls = tt
 moved_descends u w p (q ∷ points) (rises, falls, later) = (omega (arith, ints), omega (arith, ints), moved_descends u w q points later)
 
+-- the last point with its allowances is the last of the contour with them
 last_moved : (u w : ℕ) (p : Point) (points : List Point) → last_of (moved_point u w p) (moved u w points) ≡ moved_point u w (last_of p points)
 last_moved u w p [] = refl
 last_moved u w p (q ∷ points) = last_moved u w q points
 
 -- moves
 
--- blocks behind blocks
+-- blocks after blocks
 clear_behind : (p : Point) (points : List Point) (from : Point) (xs ys : List PlainBlock) → AreClear p points from xs → AreClear p points (after_all from xs) ys → AreClear p points from (xs ++ ys)
 clear_behind p points from [] ys first rest = rest
 clear_behind p points from (x ∷ xs) ys (clear, first) rest = (clear, clear_behind p points (after from x) xs ys first rest)
@@ -206,6 +215,7 @@ along_contour f all p (q ∷ points) leads (rises, falls, later) = (
         let first = (both (not (holds p q at.z) || is_below p q at) _ e).0 in
         not_below_on p q at rises on (rw holds_it at first)
 
+-- blocks to each point of the contour lead to its last one
 ends_at_last : (p : Point) (points : List Point) → after_all p (map (straight_to true) points) ≡ last_of p points
 ends_at_last p [] = refl
 ends_at_last p (q ∷ points) = ends_at_last q points
@@ -227,6 +237,7 @@ contour_clear start p points from falls high right rise =
       ),
     )
 
+-- no move of G70 enters the contour
 pub finish_clear : (r : Rough) (start : Point) → IsForm r → IsFinishStart r start → AreClear r.first r.points start (finish_blocks r start)
 finish_clear r start form at_start =
     let falls = form.descends in
@@ -237,27 +248,35 @@ finish_clear r start form at_start =
 -- where a pass begins: at the start's Z, not left of the pass, and with a clear way to the
 -- contour's first Z
 record MayBegin (r : Rough) (k : ℕ) (from : Point) : Type 0 where
+  -- it is at the start's Z
   level : from.z ≡ r.start.z
+  -- its X is at least the pass's
   right : x_of_pass r k ≤ℤ from.x
+  -- and at least that of the contour's first point
   of_first : (first_moved r).x ≤ℤ from.x
+  -- the move from there along to the first point's Z is clear
   rise : IsClear (first_moved r) (points_moved r) from (after from (along_to false (first_moved r)))
 
 -- a point that is not left of a pass, and not before its end
 record IsPast (r : Rough) (k : ℕ) (at : Point) : Type 0 where
+  -- its X is at least the pass's
   right : x_of_pass r k ≤ℤ at.x
+  -- its Z is at least that of the pass's end
   behind : (pass_of r k).z ≤ℤ at.z
 
 -- the contour with its allowances, its last point left of the start
 form_descends : (r : Rough) → IsForm r → Descends (first_moved r) (points_moved r)
 form_descends r form = moved_descends r.across r.along r.first r.points form.descends
 
+-- the start's X is at least that of the contour's last point with its allowance
 form_high : (r : Rough) → IsForm r → (last_of (first_moved r) (points_moved r)).x ≤ℤ r.start.x
 form_high r form = rw (last_moved r.across r.along r.first r.points) form.high
 
+-- no move between two points past a pass enters the contour
 past_clear : (r : Rough) (k : ℕ) (from to : Point) → IsForm r → (first_moved r).x ≤ℤ x_of_pass r k → IsPast r k from → IsPast r k to → IsClear (first_moved r) (points_moved r) from to
 past_clear r k from to form above a b = move_behind (x_of_pass r k) (first_moved r) (points_moved r) from to (form_descends r form) above a.right b.right a.behind b.behind
 
--- the moves of a pass, and that the next may begin behind it
+-- the moves of a pass, and that the next may begin after it
 pass_clear : (r : Rough) (k : ℕ) (from : Point) (rest : List PlainBlock) → IsForm r → MayBegin r k from
     → is_made r (pass_of r k) ≡ true
     → ((next : Point) → MayBegin r (k + 1) next → AreClear (first_moved r) (points_moved r) next rest)
@@ -336,6 +355,7 @@ pass_clear r k from rest form begins made further = (
     next : MayBegin r (k + 1) back
     next = record { level = refl; right = omega (arith, ints); of_first = omega (arith, ints, over, out); rise = past_clear r k back top form over at_back at_top }
 
+-- no move of the passes from k on, and of the contour after them, enters it
 passes_clear : (r : Rough) (most k : ℕ) (from : Point) → IsForm r → MayBegin r k from
     → AreClear (first_moved r) (points_moved r) from (flat_map (pass_blocks r) (passes_from r k most) ++ contour_blocks r.start (first_moved r) (points_moved r))
 unfolding passes_from
@@ -348,6 +368,7 @@ passes_clear r (suc most) k from form begins = go (is_made r (pass_of r k)) refl
     go true made further = pass_clear r k from (flat_map (pass_blocks r) (passes_from r (k + 1) most) ++ contour_blocks r.start (first_moved r) (points_moved r)) form begins made further
     go false made further = contour_clear r.start (first_moved r) (points_moved r) from (form_descends r form) (form_high r form) begins.of_first begins.rise
 
+-- no move of G71 enters the contour with its allowances
 pub rough_clear : (r : Rough) (most : ℕ) → IsForm r → AreClear (first_moved r) (points_moved r) r.start (rough_blocks r most)
 rough_clear r most form =
     let falls = form_descends r form in

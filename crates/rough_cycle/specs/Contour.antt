@@ -1,4 +1,4 @@
--- A contour of lines: its first point, and the points behind it.
+-- A contour of lines: its first point, and the points after it. In 0.001 mm, X a diameter.
 use Rattle.std.specs.Prelude.{ℕ, List, [], ◌∷◌, map, pos, ◌+ℤ◌, ◌≤ℤ◌}
 use Rattle.nc_number.specs.declared.point.Point.{Point}
 
@@ -6,6 +6,7 @@ use Rattle.nc_number.specs.declared.point.Point.{Point}
 abbrev pub moved_point : ℕ → ℕ → Point → Point
 moved_point u w p = record { x = p.x +ℤ pos u; z = p.z +ℤ pos w }
 
+-- points with the finishing allowance
 abbrev pub moved : ℕ → ℕ → List Point → List Point
 moved u w points = map (moved_point u w) points
 
@@ -14,6 +15,7 @@ abbrev pub Descends : Point → List Point → Type 0
 Descends p [] = Unit {0}
 Descends p (q ∷ points) = (p.x ≤ℤ q.x) × (q.z ≤ℤ p.z) × Descends q points
 
+-- the last point of the contour
 abbrev pub last_of : Point → List Point → Point
 last_of p [] = p
 last_of p (q ∷ points) = last_of q points

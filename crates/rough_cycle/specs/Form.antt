@@ -1,9 +1,10 @@
--- A form as the code keeps it.
+-- A form as the code keeps it, and within which bounds it computes. cycle_form makes forms so.
 use Rattle.std.specs.Prelude.{◌≤◌, All, unsigned_abs}
 use Rattle.nc_number.specs.declared.point.Point.{Point}
 use Rattle.rough_cycle.specs.declared.form.RoughForm.{RoughForm}
 use Rattle.rough_cycle.specs.Roughing.{Rough}
 
+-- what the form says
 abbrev pub rough_of : RoughForm → Rough
 rough_of form = record {
   start = form.start;
@@ -21,13 +22,21 @@ IsWritten p = (unsigned_abs p.x ≤ 100000000000) × (unsigned_abs p.z ≤ 10000
 
 -- all lengths are those that a literal can write
 pub record IsNearForm (r : Rough) : Type 0 where
+  -- where the cycle starts
   pub start : IsWritten r.start
+  -- the depth of a cut, as a radius
   pub depth : r.depth ≤ 100000000000
+  -- how far a pass is left
   pub retreat : r.retreat ≤ 100000000000
+  -- the finishing allowance in X
   pub across : r.across ≤ 100000000000
+  -- the finishing allowance in Z
   pub along : r.along ≤ 100000000000
+  -- the first point of the contour
   pub first : IsWritten r.first
+  -- the points after it
   pub points : All IsWritten r.points
 
+-- the end of a pass is near enough that the code's sums fit 64 bits
 abbrev pub IsNearPass : Point → Type 0
 IsNearPass pass = (unsigned_abs pass.x ≤ 400000000000000) × (unsigned_abs pass.z ≤ 4000000000000)

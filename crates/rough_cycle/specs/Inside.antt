@@ -1,4 +1,5 @@
--- What lies inside a contour.
+-- What lies inside a contour: the part that may not be cut. A point is inside if each segment that
+-- its Z lies in is above it, and there is one.
 use Rattle.std.specs.Prelude.{◌≤◌, Bool, true, false, not, ◌&&◌, ◌||◌, List, [], ◌∷◌, ℤ, pos, ◌-ℤ◌, ◌*ℤ◌, unsigned_abs, int_lt, int_le, if◌then◌else◌}
 use Rattle.std.specs.Ordering.{int_eq}
 use Rattle.nc_number.specs.declared.point.Point.{Point}
@@ -20,17 +21,21 @@ is_below p q at =
     then int_lt at.x p.x && int_lt at.x q.x
     else is_below_line p q at
 
+-- some segment has the Z within its ends
 abbrev pub some_holds : Point → List Point → ℤ → Bool
 some_holds p [] z = false
 some_holds p (q ∷ points) z = holds p q z || some_holds q points z
 
+-- the point is below each segment that its Z lies in
 abbrev pub is_below_each : Point → List Point → Point → Bool
 is_below_each p [] at = true
 is_below_each p (q ∷ points) at = (not (holds p q at.z) || is_below p q at) && is_below_each q points at
 
+-- the point is inside the contour of this first point and those after it
 abbrev pub is_inside_from : Point → List Point → Point → Bool
 is_inside_from p points at = some_holds p points at.z && is_below_each p points at
 
+-- the point is inside a contour; one without a point has no inside
 abbrev pub is_inside : List Point → Point → Bool
 is_inside [] at = false
 is_inside (p ∷ points) at = is_inside_from p points at

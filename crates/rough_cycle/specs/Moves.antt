@@ -1,4 +1,4 @@
--- The moves of blocks, and the whole points on them.
+-- The moves of blocks, and the whole points on them: how the law of src/law.rt is said.
 use Rattle.std.specs.Prelude.{◌≡◌, ◌*◌, false, List, [], ◌∷◌, unwrap_or}
 use Rattle.nc_number.specs.declared.point.Point.{Point}
 use Rattle.nc_number.specs.Distances.{distance, IsBetween}
@@ -7,8 +7,11 @@ use Rattle.rough_cycle.specs.Inside.{is_inside_from}
 
 -- the point lies on the line from one point to another
 pub record IsOn (from to at : Point) : Type 0 where
+  -- in X it lies between them
   pub across : IsBetween from.x at.x to.x
+  -- in Z too
   pub along : IsBetween from.z at.z to.z
+  -- it lies as far across as along
   pub line : distance at.x from.x * distance to.z from.z ≡ distance to.x from.x * distance at.z from.z
 
 -- where a block leads

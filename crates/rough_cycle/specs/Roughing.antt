@@ -1,4 +1,5 @@
--- The passes of G71, and the blocks that G71 and G70 stand for.
+-- The passes of G71, and the blocks that G71 and G70 stand for. cycle_form says which forms there
+-- are; it and tape_expand write these blocks.
 use Rattle.std.specs.Prelude.{◌≡◌, ℕ, zero, suc, ◌+◌, ◌*◌, ◌/◌, ◌≤◌, Bool, true, false, ◌&&◌, List, [], ◌∷◌, ◌++◌, map, ℤ, pos, ◌+ℤ◌, ◌-ℤ◌, ◌≤ℤ◌, int_lt, int_le, Option, Some, None, if◌then◌else◌}
 use Rattle.std.specs.List.{flat_map}
 use Rattle.std.specs.Int.{int_min}
@@ -17,31 +18,46 @@ end_at x p (q ∷ points) =
 
 -- what a G71 form says: its start, the depth of a cut, the retreat, the allowances, and the contour
 pub record Rough : Type 0 where
+  -- where the cycle starts and ends
   pub start : Point
+  -- the depth of a cut, as a radius
   pub depth : ℕ
+  -- how far a pass is left
   pub retreat : ℕ
+  -- the finishing allowance in X
   pub across : ℕ
+  -- the finishing allowance in Z
   pub along : ℕ
+  -- the first point of the contour
   pub first : Point
+  -- the points after it
   pub points : List Point
 
--- the first point of the contour with its allowance, and those behind it
+-- the first point of the contour with its allowance, and those after it
 abbrev pub first_moved : Rough → Point
 first_moved r = moved_point r.across r.along r.first
 
+-- the points after the first, with their allowances
 abbrev pub points_moved : Rough → List Point
 points_moved r = moved r.across r.along r.points
 
+-- a form that may be written out
 pub record IsForm (r : Rough) : Type 0 where
+  -- a cut has a depth
   pub deep : 1 ≤ r.depth
+  -- the contour begins at the start's Z
   pub at_start : r.first.z ≡ r.start.z
+  -- along the contour X does not fall and Z does not rise
   pub descends : Descends r.first r.points
+  -- the start's X is at least that of the contour's end and the allowance
   pub high : ((last_of r.first r.points).x +ℤ pos r.across) ≤ℤ r.start.x
 
--- The X of a pass. A pass is the point at its end.
+-- the X of a pass: a depth is a radius, so each pass is two depths lower. A pass is the point at
+-- its end.
 abbrev pub x_of_pass : Rough → ℕ → ℤ
 x_of_pass r k = r.start.x -ℤ pos (2 * r.depth * k)
 
+-- the pass k: its X, and the end at which the contour comes to it
 abbrev pub pass_of : Rough → ℕ → Point
 pass_of r k = record { x = x_of_pass r k; z = end_at (x_of_pass r k) (first_moved r) (points_moved r) }
 
@@ -49,6 +65,7 @@ pass_of r k = record { x = x_of_pass r k; z = end_at (x_of_pass r k) (first_move
 abbrev pub is_made : Rough → Point → Bool
 is_made r pass = int_lt (first_moved r).x pass.x && int_lt pass.z r.start.z
 
+-- the pass k, if it is made
 abbrev pub made_at : Rough → ℕ → Option Point
 made_at r k = if is_made r (pass_of r k) then Some (pass_of r k) else None
 
@@ -58,12 +75,15 @@ passes_from r k zero = []
 passes_from r k (suc most) =
     if is_made r (pass_of r k) then pass_of r k ∷ passes_from r (k + 1) most else []
 
+-- a block that moves across alone, in X
 abbrev pub across_to : Bool → Point → PlainBlock
 across_to cuts p = record { cuts = cuts; x = Some p.x; z = None }
 
+-- a block that moves along alone, in Z
 abbrev pub along_to : Bool → Point → PlainBlock
 along_to cuts p = record { cuts = cuts; x = None; z = Some p.z }
 
+-- a block that moves both ways
 abbrev pub straight_to : Bool → Point → PlainBlock
 straight_to cuts p = record { cuts = cuts; x = Some p.x; z = Some p.z }
 
@@ -96,6 +116,9 @@ rough_blocks r most =
 abbrev pub finish_blocks : Rough → Point → List PlainBlock
 finish_blocks r start = contour_blocks start r.first r.points
 
+-- a start from which G70 enters nothing
 pub record IsFinishStart (r : Rough) (start : Point) : Type 0 where
+  -- its X is at least that of the contour's end
   pub high : (last_of r.first r.points).x ≤ℤ start.x
+  -- its Z is at least that of the contour's first point
   pub before : r.first.z ≤ℤ start.z

@@ -1,4 +1,4 @@
-//! What lies inside a contour of lines.
+//! What lies inside a contour of lines, and where a pass ends at it; in 0.001 mm, X a diameter.
 ghost use Rattle.std.specs.Prelude.{◌≡◌, ◌≤ℤ◌, ◌<ℤ◌, ◌<◌, ◌≤◌, ◌*◌, ◌/◌, ◌-ℤ◌, ◌*ℤ◌, pos, unsigned_abs, All};
 ghost use Rattle.nc_number.specs.Distances.{distance};
 ghost use Rattle.rough_cycle.specs.Inside.{holds, is_below, is_below_line, some_holds, is_below_each, is_inside, IsNear};
@@ -49,7 +49,7 @@ fn is_below_each(first: &Point, points: &[Point], at: &Point) -> bool
     true
 }
 
-/// The ends of a segment belong to it.
+/// Whether the Z lies within the segment, its ends included.
 #[tactic(auto, unfolding(crate::specs::Inside::holds))]
 fn holds(p: &Point, q: &Point, z: i64) -> bool
     ensures { result ≡ holds p.now q.now z }
@@ -57,7 +57,7 @@ fn holds(p: &Point, q: &Point, z: i64) -> bool
     (q.z <= z && z <= p.z) || (p.z <= z && z <= q.z)
 }
 
-/// Below a segment across is below both its ends.
+/// Whether the point is below the segment; below one across is below both its ends.
 #[tactic(auto, unfolding(crate::specs::Inside::is_below))]
 fn is_below(p: &Point, q: &Point, at: &Point) -> bool
     requires p { IsNear p.now }
@@ -72,7 +72,7 @@ fn is_below(p: &Point, q: &Point, at: &Point) -> bool
     }
 }
 
-/// Whether the point is below the line through two points, of which it lies between the Z.
+/// Whether the point is below the line through two points; its Z lies between theirs.
 fn is_below_line(p: &Point, q: &Point, at: &Point) -> bool
     requires p { IsNear p.now }
     requires q { IsNear q.now }
@@ -82,7 +82,7 @@ fn is_below_line(p: &Point, q: &Point, at: &Point) -> bool
     product(at.x - p.x, q.z.abs_diff(p.z)) < product(q.x - p.x, at.z.abs_diff(p.z))
 }
 
-/// Twice as wide as a length, so nothing is lost.
+/// The product of two lengths, exact: it is twice as wide as a length.
 #[tactic(auto, using(crate::proofs::Products::product_fits))]
 fn product(across: i64, along: u64) -> i128
     requires across { unsigned_abs across ≤ 2000000000000 }
@@ -92,7 +92,7 @@ fn product(across: i64, along: u64) -> i128
     i128::from(across) * i128::from(along)
 }
 
-/// The least Z at which a contour that descends has X at most `x`, rounded up.
+/// The least Z, rounded up, at which a contour that descends has X at most `x`.
 pub(crate) fn end_at(x: i64, first: &Point, points: &[Point]) -> i64
     requires x { first.now.x ≤ℤ x }
     requires first { IsNear first.now }

@@ -1,4 +1,4 @@
-//! A roughing cycle as plain blocks.
+//! G71 and G70 along lines as plain blocks: the passes, and then the contour.
 ghost use Rattle.std.specs.Prelude.{◌≡◌, ◌≤◌, ◌++◌, IfOk, IfSome, OnOk, unsigned_abs, All, true, map, [], ◌∷◌};
 ghost use Rattle.std.specs.List.{flat_map};
 ghost use Rattle.rough_cycle.specs.Contour.{moved_point, moved};
@@ -17,12 +17,19 @@ const TRIED: u32 = 1_001;
 /// What a G71 form says; lengths are in 0.001 mm.
 #[derive(Debug, Drop)]
 pub struct RoughForm {
+    /// Where the cycle starts and ends.
     pub start: Point,
+    /// The depth of a cut, as a radius.
     pub depth: u64,
+    /// How far a pass is left.
     pub retreat: u64,
+    /// The finishing allowance in X, a diameter.
     pub across: u64,
+    /// The finishing allowance in Z.
     pub along: u64,
+    /// The first point of the contour.
     pub first: Point,
+    /// The points after it.
     pub points: Vec<Point>,
 }
 
@@ -75,7 +82,7 @@ impl RoughForm {
         Ok(passes)
     }
 
-    /// A pass at or below the contour's first point, or one that cuts nothing, ends the passes.
+    /// The end of pass k. One at or below the contour's first point, or that cuts nothing, is none.
     fn pass_at(&self, first: &Point, points: &[Point], k: u32) -> Option<Point>
         requires near { IsNearForm (rough_of self.now) }
         requires first { first.now ≡ first_moved (rough_of self.now) }
@@ -98,7 +105,8 @@ impl RoughForm {
         }
     }
 
-    /// X counts diameters, and a depth is a radius: each pass is two depths lower.
+    /// The X of pass k: it counts diameters and a depth is a radius, so each pass is two depths
+    /// lower.
     fn x_of_pass(&self, k: u32) -> i64
         requires near { IsNearForm (rough_of self.now) }
         requires k { k ≤ 1001 }
@@ -108,7 +116,7 @@ impl RoughForm {
         self.start.x - (2 * self.depth * u64::from(k)) as i64
     }
 
-    /// Off the cut of a pass.
+    /// Where a pass is left to: off its cut by the retreat, but no farther than the start's Z.
     fn off(&self, pass: &Point) -> Point
         requires near { IsNearForm (rough_of self.now) }
         requires pass { IsNearPass pass.now }
@@ -125,7 +133,7 @@ impl RoughForm {
         }
     }
 
-    /// The blocks of the passes, in turn.
+    /// Puts the blocks of the passes, in turn.
     fn push_passes(&self, passes: &[Point], blocks: &mut Vec<PlainBlock>) -> Result<(), AllocError>
         requires near { IsNearForm (rough_of self.now) }
         requires passes { All IsNearPass passes.now }
@@ -138,7 +146,7 @@ impl RoughForm {
         Ok(())
     }
 
-    /// To the pass, along it, off it, and back to the start's Z.
+    /// Puts the blocks to the pass, along it, off it, and back to the start's Z.
     fn push_pass(&self, pass: &Point, blocks: &mut Vec<PlainBlock>) -> Result<(), AllocError>
         requires near { IsNearForm (rough_of self.now) }
         requires pass { IsNearPass pass.now }
@@ -182,7 +190,7 @@ fn moved(alloc: Global, across: u64, along: u64, points: &[Point]) -> Result<Vec
     Ok(out)
 }
 
-/// To the contour, along it, and back to the start.
+/// Puts the blocks to the contour, along it, and back to the start.
 fn push_contour(
     start: &Point,
     first: &Point,
@@ -199,7 +207,7 @@ fn push_contour(
     Ok(())
 }
 
-/// The lines of a contour behind its first point.
+/// Puts a block to each point of a contour after its first.
 fn push_lines(points: &[Point], blocks: &mut Vec<PlainBlock>) -> Result<(), AllocError>
     ensures ok { OnOk result (blocks.new.items ≡ blocks.old.items ++ map (straight_to true) points.now) }
 {
@@ -242,7 +250,7 @@ fn straight_to(cuts: bool, point: &Point) -> PlainBlock
     }
 }
 
-/// One block more.
+/// Puts one block more.
 fn push(blocks: &mut Vec<PlainBlock>, block: PlainBlock) -> Result<(), AllocError>
     ensures ok { OnOk result (blocks.new.items ≡ blocks.old.items ++ block ∷ []) }
 {

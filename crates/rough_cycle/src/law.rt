@@ -1,4 +1,5 @@
-//! Laws of the passes.
+//! Laws of the passes; none of these calls does anything. cycle_form takes the first,
+//! docs/GUARANTEES.md names both.
 ghost use Rattle.std.specs.Prelude.{◌≡◌, ℕ, List, ◌∷◌, true, false, ℤ, ◌≤ℤ◌, ◌<ℤ◌};
 ghost use Rattle.rough_cycle.specs.Contour.{Descends};
 ghost use Rattle.rough_cycle.specs.Inside.{some_holds, is_below_each, is_inside_from};

@@ -1,4 +1,5 @@
-//! G71 and G70 over a line contour, as plain blocks.
+//! G71 and G70 over a line contour, as plain blocks. Which texts are such a form is in cycle_form.
+//! Its callers lean on the law that no move enters the contour.
 #![tactic(auto)]
 
 mod block;

@@ -14,14 +14,17 @@ use Rattle.tape_expand.specs.declared.fault.ExpandFault.{ExpandFault}
 use Rattle.tape_expand.specs.declared.fault.ExpandFault.TheVariants.{Unreadable, Cycle}
 use Rattle.tape_expand.specs.Expansion.{sized_by, sized_parts, of_cycles, of_tape, parts_in, written_out, AreClearParts}
 
+-- a text that is no tape fails for that,
 pub text_fails : (error : Failing TextFault) (fault : TextFault) (text : List ℕ) (tape : Result (List Program) TextFault) → error ≡ Fault fault → Fails error tape
     → of_tape text tape ≡ Err (Unreadable fault)
 text_fails error fault text tape is fails = ap (of_tape text) (subst (λ e. Fails e tape) is fails)
 
+-- and one with a bad cycle for the cycle
 pub cycle_fails : (error : Failing CycleFault) (fault : CycleFault) (parts : Result (List PartView) CycleFault) → error ≡ Fault fault → Fails error parts
     → of_cycles parts ≡ Err (Cycle fault)
 cycle_fails error fault parts is fails = ap of_cycles (subst (λ e. Fails e parts) is fails)
 
+-- parts that can't be had fail, whatever their size
 pub parts_fail : (n : ℕ) (due : Result (List PartView) CycleFault) (error : Failing CycleFault) → Fails error due → Fails error (sized_by n due)
 parts_fail n due (Fault f) e = ap (sized_by n) e
 parts_fail n due NoMemory e = tt
@@ -31,6 +34,7 @@ pub marked : (text : List ℕ) (marks items : List Bool) (tape : List Program) �
     → of_cycles (sized_parts marks tape) ≡ of_cycles (sized_parts (marks_of text) tape)
 marked text marks items tape is items_is = ap (λ m. of_cycles (sized_parts m tape)) (is ∙ items_is)
 
+-- what fails for one reason fails for the same reason said otherwise
 pub same_fails : (error : Failing ExpandFault) (due other : Result (List PartView) ExpandFault) → due ≡ other → Fails error due → Fails error other
 same_fails error due other is fails = subst (λ d. Fails error d) is fails
 
@@ -39,14 +43,17 @@ pub of_text : (text : List ℕ) (tape slice : List Program) → slice ≡ tape �
 unfolding parts_in
 of_text text tape slice is e = ap (of_tape text) e ∙ ap (λ t. of_cycles (sized_parts (marks_of text) t)) (sym is)
 
+-- a text that is no tape has no parts
 pub of_no_tape : (text : List ℕ) (error : Failing ExpandFault) → Fails error (of_tape text (tape_of 0 text)) → Fails error (parts_in text)
 unfolding parts_in
 of_no_tape text error fails = fails
 
+-- without parts nothing is written out
 pub nothing_written : (text : List ℕ) (due : Result (List PartView) ExpandFault) (error : Failing ExpandFault) → Fails error due → Fails error (written_out text due)
 nothing_written text due (Fault f) e = ap (written_out text) e
 nothing_written text due NoMemory e = tt
 
+-- parts that are sound are clear: their blocks never enter the contour
 pub clear_parts : (due : Result (List PartView) ExpandFault) (parts : List PartView) → due ≡ Ok parts → ((part : PartView) → IsSoundPart part → IsClearPart part)
     → All IsSoundPart parts → AreClearParts due
 clear_parts due parts is clear sound = subst AreClearParts (sym is) (All-weaker IsSoundPart IsClearPart clear parts sound)

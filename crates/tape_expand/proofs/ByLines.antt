@@ -11,37 +11,46 @@ left_out : (n : ℕ) (edits : List Edit) (b : ℕ) (lines : List Line) → is_du
 left_out n edits b [] due = rw due refl
 left_out n edits b (line ∷ lines) due = rw due refl
 
+-- a byte of a line that no edit names stays before the rest of the line
 kept : (n : ℕ) (edits : List Edit) (b : ℕ) (lines : List Line) → is_due n edits ≡ false → edited n edits (onto_line b lines) ≡ b ∷ edited n edits lines
 kept n edits b [] due = rw due refl
 kept n edits b (line ∷ lines) due = rw due refl
 
+-- byte 10 is the line feed
 line_feed : (b : ℕ) → (b == 10) ≡ true → b ≡ 10
 line_feed b end = grind (arith, nat_tests)
 
+-- a line feed ends an empty line,
 end_is : (b : ℕ) (bs : List ℕ) → (b == 10) ≡ true → lines_of (b ∷ bs) ≡ record { bytes = []; ended = true } ∷ lines_of bs
 end_is b bs end = rw end refl
 
+-- and another byte goes onto the line
 byte_is : (b : ℕ) (bs : List ℕ) → (b == 10) ≡ false → lines_of (b ∷ bs) ≡ onto_line b (lines_of bs)
 byte_is b bs other = rw other refl
 
+-- a line that an edit names gives way to the edit's bytes,
 named_end : (n : ℕ) (edits : List Edit) (lines : List Line) → is_due n edits ≡ true
     → edited n edits (record { bytes = []; ended = true } ∷ lines) ≡ first_new edits ++ edited (n + 1) (drop 1 edits) lines
 named_end n edits lines due = rw due refl
 
+-- and any other keeps its line feed
 other_end : (n : ℕ) (edits : List Edit) (lines : List Line) → is_due n edits ≡ false
     → edited n edits (record { bytes = []; ended = true } ∷ lines) ≡ 10 ∷ edited (n + 1) edits lines
 other_end n edits lines due = rw due refl
 
+-- byte by byte as well,
 other_feed : (n : ℕ) (edits : List Edit) (b : ℕ) (bs : List ℕ) → is_due n edits ≡ false → (b == 10) ≡ true
     → spliced n edits (b ∷ bs) ≡ b ∷ spliced (n + 1) edits bs
 unfolding spliced
 other_feed n edits b bs due end = rw (due, end) refl
 
+-- also within the line
 other_byte : (n : ℕ) (edits : List Edit) (b : ℕ) (bs : List ℕ) → is_due n edits ≡ false → (b == 10) ≡ false
     → spliced n edits (b ∷ bs) ≡ b ∷ spliced n edits bs
 unfolding spliced
 other_byte n edits b bs due other = rw (due, other) refl
 
+-- so one byte more is the same both ways,
 one_byte : (n : ℕ) (edits : List Edit) (b : ℕ) (bs : List ℕ) (is_named is_end : Bool) → is_due n edits ≡ is_named → (b == 10) ≡ is_end
     → spliced n edits bs ≡ edited n edits (lines_of bs)
     → spliced (n + 1) edits bs ≡ edited (n + 1) edits (lines_of bs)
@@ -58,9 +67,11 @@ one_byte n edits b bs false true due end here next behind =
 one_byte n edits b bs false false due end here next behind =
     other_byte n edits b bs due end ∙ ap (λ l. b ∷ l) here ∙ sym (kept n edits b (lines_of bs) due) ∙ ap (edited n edits) (sym (byte_is b bs end))
 
+-- and so is the whole text
 of_text : (text : List ℕ) (n : ℕ) (edits : List Edit) → spliced n edits text ≡ edited n edits (lines_of text)
 of_text [] n edits = none n edits
 of_text (b ∷ bs) n edits = one_byte n edits b bs (is_due n edits) (b == 10) refl refl (of_text bs n edits) (of_text bs (n + 1) edits) (of_text bs (n + 1) (drop 1 edits))
 
+-- a text with edits is the same byte by byte and line by line
 pub by_lines : (n : ℕ) (edits : List Edit) (text : List ℕ) → spliced n edits text ≡ edited n edits (lines_of text)
 by_lines n edits text = of_text text n edits

@@ -4,42 +4,52 @@ use Rattle.std.proofs.lemmas.List.{drop_more}
 use Rattle.tape_expand.specs.declared.edits.Edit.{Edit}
 use Rattle.tape_expand.specs.Splice.{spliced, is_due, first_new, line_behind}
 
+-- no byte is left
 pub none : (n : ℕ) (edits : List Edit) → spliced n edits [] ≡ []
 unfolding spliced
 none n edits = refl
 
+-- the line feed of a line that an edit names gives way to the edit's bytes,
 pub replaced : (n : ℕ) (edits : List Edit) (b : ℕ) (bytes : List ℕ) → is_due n edits ≡ true → (b == 10) ≡ true → spliced n edits (b ∷ bytes) ≡ first_new edits ++ spliced (n + 1) (drop 1 edits) bytes
 unfolding spliced
 replaced n edits b bytes due end = rw (due, end) refl
 
+-- and its other bytes go
 pub dropped : (n : ℕ) (edits : List Edit) (b : ℕ) (bytes : List ℕ) → is_due n edits ≡ true → (b == 10) ≡ false → spliced n edits (b ∷ bytes) ≡ spliced n edits bytes
 unfolding spliced
 dropped n edits b bytes due end = rw (due, end) refl
 
+-- a byte of any other line stays
 kept : (n : ℕ) (edits : List Edit) (b : ℕ) (bytes : List ℕ) → is_due n edits ≡ false → spliced n edits (b ∷ bytes) ≡ b ∷ spliced (line_behind n b) edits bytes
 unfolding spliced
 kept n edits b bytes due = rw due refl
 
+-- the bytes from one on are that one and those behind it
 rest_is : (text : List ℕ) (i b : ℕ) → b ≡ get_or text i 0 → i < length text → drop i text ≡ b ∷ drop (i + 1) text
 rest_is text i b is before = drop_more text i 0 before ∙ ap (λ c. c ∷ drop (i + 1) text) (sym is)
 
+-- at the end of the text all is written,
 pub at_end : (out all : List ℕ) (n : ℕ) (edits : List Edit) (rest : List ℕ) → rest ≡ [] → out ++ spliced n edits rest ≡ all → out ≡ all
 at_end out all n edits rest empty so_far = sym (append-nil out) ∙ ap (λ l. out ++ l) (sym (none n edits)) ∙ ap (λ l. out ++ spliced n edits l) (sym empty) ∙ so_far
 
+-- at a line feed that gives way it goes on with the next edit,
 pub at_line_end : (out new all : List ℕ) (n : ℕ) (edits : List Edit) (text : List ℕ) (i b : ℕ) → b ≡ get_or text i 0 → i < length text → out ++ spliced n edits (drop i text) ≡ all → is_due n edits ≡ true → (b == 10) ≡ true → new ≡ out ++ first_new edits → new ++ spliced (n + 1) (drop 1 edits) (drop (i + 1) text) ≡ all
 at_line_end out new all n edits text i b is before so_far due end new_is =
     ap (λ l. l ++ spliced (n + 1) (drop 1 edits) (drop (i + 1) text)) new_is ∙ append_assoc out (first_new edits) (spliced (n + 1) (drop 1 edits) (drop (i + 1) text))
     ∙ ap (λ l. out ++ l) (sym (replaced n edits b (drop (i + 1) text) due end)) ∙ ap (λ l. out ++ spliced n edits l) (sym (rest_is text i b is before)) ∙ so_far
 
+-- at a byte that goes nothing is written,
 pub at_dropped : (out all : List ℕ) (n : ℕ) (edits : List Edit) (text : List ℕ) (i b : ℕ) → b ≡ get_or text i 0 → i < length text → out ++ spliced n edits (drop i text) ≡ all → is_due n edits ≡ true → (b == 10) ≡ false → out ++ spliced n edits (drop (i + 1) text) ≡ all
 at_dropped out all n edits text i b is before so_far due end =
     ap (λ l. out ++ l) (sym (dropped n edits b (drop (i + 1) text) due end)) ∙ ap (λ l. out ++ spliced n edits l) (sym (rest_is text i b is before)) ∙ so_far
 
+-- and at any other the byte is
 pub at_kept : (out new all : List ℕ) (n : ℕ) (edits : List Edit) (text : List ℕ) (i b : ℕ) → b ≡ get_or text i 0 → i < length text → out ++ spliced n edits (drop i text) ≡ all → is_due n edits ≡ false → new ≡ out ++ b ∷ [] → new ++ spliced (line_behind n b) edits (drop (i + 1) text) ≡ all
 at_kept out new all n edits text i b is before so_far due new_is =
     ap (λ l. l ++ spliced (line_behind n b) edits (drop (i + 1) text)) new_is ∙ append_assoc out (b ∷ []) (spliced (line_behind n b) edits (drop (i + 1) text))
     ∙ ap (λ l. out ++ l) (sym (kept n edits b (drop (i + 1) text) due)) ∙ ap (λ l. out ++ spliced n edits l) (sym (rest_is text i b is before)) ∙ so_far
 
+-- a byte ends at most one line
 pub behind_is_near : (n b : ℕ) → line_behind n b ≤ n + 1
 behind_is_near n b = go (b == 10)
   where

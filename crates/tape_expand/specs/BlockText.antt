@@ -1,10 +1,13 @@
 -- How a block and the blocks of a part are printed.
+-- Bytes: 10 is the line feed, 32 the space, 70 the letter F, 88 X, 90 Z.
+-- For this crate alone.
 use Rattle.std.specs.Prelude.{ℕ, Bool, List, [], ◌∷◌, ◌++◌, ℤ, Option, Some, None, codes, if◌then◌else◌}
 use Rattle.std.specs.List.{flat_map}
 use Rattle.nc_number.specs.Printed.{length_text, value_text}
 use Rattle.rough_cycle.specs.declared.block.PlainBlock.{PlainBlock}
 use Rattle.cycle_form.specs.Parts.{PartView, part_blocks}
 
+-- the code of a block: G01 if it cuts, else G00
 abbrev pub code_text : Bool → List ℕ
 code_text cuts = if cuts then codes "G01" else codes "G00"
 
@@ -22,6 +25,7 @@ unfoldable pub block_text : ℤ → PlainBlock → List ℕ
 block_text feed block =
     code_text block.cuts ++ (axis_text 88 block.x ++ (axis_text 90 block.z ++ (feed_text block.cuts feed ++ 10 ∷ [])))
 
+-- blocks, a line each; feed is the feed of their cuts in 0.000001
 abbrev pub blocks_text : ℤ → List PlainBlock → List ℕ
 blocks_text feed blocks = flat_map (block_text feed) blocks
 

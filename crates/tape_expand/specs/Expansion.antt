@@ -1,4 +1,5 @@
 -- The tape of a text with its roughing cycles written out.
+-- lathe_looks takes `AreClearParts`, `expansion_of` and `parts_in`.
 use Rattle.std.specs.Prelude.{ℕ, ⊤, Bool, List, length, All, Result, Ok, Err}
 use Rattle.std.specs.List.{flat_map}
 use Rattle.nc_text.specs.declared.fault.TextFault.{TextFault}
@@ -16,10 +17,12 @@ use Rattle.tape_expand.specs.declared.fault.ExpandFault.TheVariants.{Unreadable,
 use Rattle.tape_expand.specs.Replaced.{edits_of}
 use Rattle.tape_expand.specs.Splice.{edited}
 
+-- the parts, if their tape is not too long
 abbrev pub fitting : List PartView → Result ⊤ CycleFault → Result (List PartView) CycleFault
 fitting parts (Ok done) = Ok parts
 fitting parts (Err fault) = Err fault
 
+-- so it is judged for parts that could be had
 abbrev pub sized_by : ℕ → Result (List PartView) CycleFault → Result (List PartView) CycleFault
 sized_by blocks (Ok parts) = fitting parts (sized blocks parts)
 sized_by blocks (Err fault) = Err fault
@@ -28,10 +31,12 @@ sized_by blocks (Err fault) = Err fault
 abbrev pub sized_parts : List Bool → List Program → Result (List PartView) CycleFault
 sized_parts marks tape = sized_by (length (blocks_in tape)) (parts_of marks tape)
 
+-- the parts, or the refusal of a cycle
 abbrev pub of_cycles : Result (List PartView) CycleFault → Result (List PartView) ExpandFault
 of_cycles (Ok parts) = Ok parts
 of_cycles (Err fault) = Err (Cycle fault)
 
+-- the parts of a tape, or the refusal of a text that is none
 abbrev pub of_tape : List ℕ → Result (List Program) TextFault → Result (List PartView) ExpandFault
 of_tape text (Ok tape) = of_cycles (sized_parts (marks_of text) tape)
 of_tape text (Err fault) = Err (Unreadable fault)
@@ -41,6 +46,7 @@ of_tape text (Err fault) = Err (Unreadable fault)
 unfoldable pub parts_in : List ℕ → Result (List PartView) ExpandFault
 parts_in text = of_tape text (tape_of 0 text)
 
+-- the text with the blocks of the parts, or its refusal
 abbrev pub written_out : List ℕ → Result (List PartView) ExpandFault → Result (List ℕ) ExpandFault
 written_out text (Ok parts) = Ok (edited 1 (flat_map edits_of parts) (lines_of text))
 written_out text (Err fault) = Err fault

@@ -1,3 +1,5 @@
+-- The words of the contracts of tape_expand. Expansion and Faults are what lathe_looks reads; the
+-- others say how the text is made.
 pub mod Faults
 pub mod BlockText
 pub mod Splice

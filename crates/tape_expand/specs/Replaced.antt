@@ -1,4 +1,5 @@
 -- Which lines of a text give way to the parts of a tape.
+-- For this crate alone.
 use Rattle.std.specs.Prelude.{ℕ, List, [], ◌∷◌, map}
 use Rattle.cycle_form.specs.Parts.{PartView}
 use Rattle.tape_expand.specs.declared.edits.Edit.{Edit}

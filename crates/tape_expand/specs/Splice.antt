@@ -1,4 +1,6 @@
 -- A text in which some lines are replaced.
+-- Byte 10 is the line feed.
+-- For this crate alone.
 use Rattle.std.specs.Prelude.{ℕ, ◌+◌, Bool, false, ◌==◌, List, [], ◌∷◌, ◌++◌, drop, if◌then◌else◌}
 use Rattle.nc_text.specs.Lines.{Line}
 use Rattle.tape_expand.specs.declared.edits.Edit.{Edit}
@@ -8,6 +10,7 @@ abbrev pub is_due : ℕ → List Edit → Bool
 is_due n [] = false
 is_due n (edit ∷ edits) = n == edit.line
 
+-- what the first of the edits puts in
 abbrev pub first_new : List Edit → List ℕ
 first_new [] = []
 first_new (edit ∷ edits) = edit.new
@@ -29,6 +32,7 @@ edited n edits (line ∷ lines) =
     then new_for edits line ++ edited (n + 1) (drop 1 edits) lines
     else bytes_of line ++ edited (n + 1) edits lines
 
+-- the line behind a byte: the next one behind a line feed, byte 10
 abbrev pub line_behind : ℕ → ℕ → ℕ
 line_behind n b = if b == 10 then n + 1 else n
 

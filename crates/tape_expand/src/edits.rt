@@ -1,4 +1,5 @@
-//! Lines of a text, replaced.
+//! A text in which some lines give way to others. Which lines those are, part_text.rt says.
+//! For this crate alone.
 ghost use Rattle.std.specs.Prelude.{◌≡◌, ◌<◌, ◌^◌, ◌++◌, ◌∷◌, [], IfOk, OnOk, drop};
 ghost use Rattle.nc_text.specs.Lines.{lines_of};
 ghost use Rattle.tape_expand.specs.Splice.{edited, spliced, is_due, first_new, line_behind};
@@ -11,6 +12,7 @@ use std::alloc::{AllocError, Global};
 pub struct Edit {
     /// The line, from 1.
     pub line: u32,
+    /// The bytes that stand in its place, with a line feed; none where the line goes.
     pub new: ByteList,
 }
 

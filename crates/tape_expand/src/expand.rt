@@ -1,4 +1,6 @@
-//! A tape with its cycles written out.
+//! A tape with its cycles written out, or why it is refused: read, cut into parts (cycle_form),
+//! sized, and put together.
+//! lathe_looks and tests use it.
 ghost use Rattle.std.specs.Prelude.{◌≡◌, ◌≤◌, ℕ, List, Result, IfOk, All, length};
 ghost use Rattle.std.specs.List.{flat_map};
 ghost use Rattle.nc_number.specs.Answers.{Fails, Gives};
@@ -24,7 +26,7 @@ use nc_number::Failing;
 use nc_text::{Program, Reader, Tape, TextFault};
 use std::alloc::{AllocError, Global};
 
-/// No block is skipped: a form may not hang on a switch.
+/// No block is skipped: a form may not depend on a switch.
 fn read_tape(alloc: Global, text: &[u8]) -> Result<Tape, Failing<TextFault>>
     ensures { Gives (λ tape. tape) result (tape_of 0 text.now) }
 {

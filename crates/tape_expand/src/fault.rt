@@ -1,4 +1,5 @@
-//! Why a tape is not written out.
+//! Why a tape is not written out: it is no tape, or a cycle has a fault.
+//! lathe_looks, lathe_top and tests use it.
 use cycle_form::CycleFault;
 use nc_text::TextFault;
 use thiserror::Error;

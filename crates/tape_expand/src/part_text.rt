@@ -1,4 +1,5 @@
-//! The text of plain blocks.
+//! The text of the plain blocks of a part, and the lines that it replaces.
+//! For this crate alone.
 ghost use Rattle.std.specs.Prelude.{◌≡◌, ◌++◌, ◌∷◌, [], Some, IfOk, OnOk, map};
 ghost use Rattle.std.specs.List.{flat_map};
 ghost use Rattle.tape_expand.specs.BlockText.{code_text, axis_text, feed_text, block_text, blocks_text, part_text};
@@ -10,7 +11,7 @@ use nc_number::{ByteList, Value, length_text, text};
 use rough_cycle::PlainBlock;
 use std::alloc::{AllocError, Global};
 
-/// Each block names its own code, so no block hangs on the one before it.
+/// Each block names its own code, so no block depends on the one before it.
 fn code_text(cuts: bool) -> &'static [u8]
     ensures { result.now ≡ code_text cuts }
 {

@@ -6,19 +6,22 @@ use Rattle.std.proofs.lemmas.List.{append-nil, map-append}
 use Rattle.nc_number.specs.declared.path.Path.{Path}
 use Rattle.tape_maker.specs.MadeTape.{cut_line, cuts, end_lines, ended, head_lines, made_lines, made_tape, round_lines, rounds, text_of, variable_line, wait_line}
 
+-- the text of lines in two parts,
 pub text_of-append : (xs ys : List (List ℕ)) → text_of (xs ++ ys) ≡ text_of xs ++ text_of ys
 unfolding text_of
 text_of-append xs ys = flat_map-append ended xs ys
 
+-- of one line,
 pub text_of-one : (x : List ℕ) → text_of (x ∷ []) ≡ ended x
 unfolding text_of
 text_of-one x = append-nil (ended x)
 
+-- and of two lines
 pub text_of-two : (x y : List ℕ) → text_of (x ∷ y ∷ []) ≡ ended x ++ ended y
 unfolding text_of
 text_of-two x y = ap (λ t. ended x ++ t) (append-nil (ended y))
 
--- one more number at the end
+-- a range with one more number has it at its end
 range_more : (a n j : ℕ) → a + n ≡ j → range_with_len a (n + 1) ≡ range_with_len a n ++ j ∷ []
 range_more a zero j e = let same : a ≡ j = omega arith in rw same refl
 range_more a (suc n) j e =
@@ -26,6 +29,7 @@ range_more a (suc n) j e =
     let more = range_more (a + 1) n j (omega arith) in
     rw one (ap (λ xs. a ∷ xs) more)
 
+-- before the first line a text is as it was
 pub first_line : (f : ℕ → List ℕ) (before : List ℕ) → before ≡ before ++ text_of (map f (range_with_len 0 0))
 unfolding text_of
 first_line f before = sym (append-nil before)
@@ -38,7 +42,7 @@ line_more f before now after n so_far here =
     let e = range_more 0 n n (omega arith) in
     rw (e, map-append, text_of-append, text_of-one (f n), ← append_assoc, ← so_far) here
 
--- the lines of one more round
+-- the text behind one more round ends with its lines
 pub round_more : (f : ℕ → List (List ℕ)) (head : List (List ℕ)) (now after : List ℕ) (round : ℕ) → 1 ≤ round
     → now ≡ text_of (head ++ flat_map f (range_with_len 1 (round - 1))) → after ≡ now ++ text_of (f round)
     → after ≡ text_of (head ++ flat_map f (range_with_len 1 (round + 1 - 1)))
@@ -48,14 +52,17 @@ round_more f head now after round counted so_far here =
     let last : flat_map f (round ∷ []) ≡ f round = append-nil (f round) in
     rw (next, e, flat_map-append, last, ← append_assoc, text_of-append, ← so_far) here
 
+-- a round has 98 cuts,
 cuts_are : (n : ℕ) → n ≡ 98 → cuts ≡ range_with_len 0 n
 unfolding cuts
 cuts_are n e = rw e refl
 
+-- and a tape has 50 rounds
 rounds_are : (n : ℕ) → n ≡ 50 → rounds ≡ range_with_len 1 n
 unfolding rounds
 rounds_are n e = rw e refl
 
+-- the lines of a round: its cuts, its line on a variable, and its wait
 round_lines_are : (path : Path) (number round : ℕ)
     → round_lines path number round ≡ map (cut_line path number round) cuts ++ variable_line path round ∷ wait_line number round ∷ []
 unfolding round_lines
@@ -69,14 +76,17 @@ pub round_done : (path : Path) (number round : ℕ) (before now later : List ℕ
 round_done path number round before now later cut all so_far statement =
     rw (round_lines_are path number round, cuts_are cut all, text_of-append, text_of-two, ← append_assoc, ← append_assoc, ← so_far, statement) refl
 
+-- before the first round stand the lines of the head
 pub first_round : (f : ℕ → List (List ℕ)) → text_of (head_lines ++ flat_map f (range_with_len 1 0)) ≡ codes "%\nO0001\nG00 X200. Z100.\nG99 F0.2\n"
 unfolding head_lines text_of
 first_round f = refl
 
+-- the lines of the end, as a text
 end_text : text_of end_lines ≡ codes "M30\n%\n"
 unfolding end_lines text_of
 end_text = refl
 
+-- a made tape is the text of all its lines
 pub made_tape_is : (path : Path) (number : ℕ)
     → made_tape path number ≡ text_of (head_lines ++ flat_map (round_lines path number) rounds ++ end_lines)
 unfolding made_tape made_lines

@@ -1,4 +1,5 @@
-//! Made tapes.
+//! Made tapes, written line by line. The laws of their lines, waits and sizes are in laws.rt.
+//! lathe_top uses what it exports.
 ghost use Rattle.std.specs.Prelude.{◌≡◌, ◌≤◌, ◌++◌, IfOk, OnOk, length};
 ghost use Rattle.std.specs.Fmt.{decimal};
 ghost use Rattle.tape_maker.specs.MadeTape.{cut_depth, cut_diameter, cut_line, ended, made_tape, round_lines, text_of, variable_line, wait_line};
@@ -7,9 +8,10 @@ use itoa::Buffer;
 use nc_number::{NoMemory, Path};
 use std::alloc::Global;
 
-/// How many rounds a tape has, and how many cuts a round has.
+/// How many rounds a tape has.
 const ROUNDS: u32 = 50;
 
+/// How many cuts a round has.
 const CUTS: u32 = 98;
 
 /// No made tape has more bytes.

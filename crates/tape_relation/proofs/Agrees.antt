@@ -35,6 +35,7 @@ record Opened (skips : ℕ) (lines : List Line) (before : Before) : Type 0 where
   current_is : there.current ≡ before.current
   done_is : there.done ≡ before.done
 
+-- at the first `%` line the leader ends and the body begins,
 opened_first : (test : Bool) (skips : ℕ) (line : Line) (lines : List Line) (before : Before) → begins_percent line ≡ test → (test || has_percent lines) ≡ true
     → (has_percent lines ≡ true → Opened skips lines (next before (length line.bytes) line.ended)) → Opened skips (line ∷ lines) before
 opened_first true skips line lines before t e later = record {
@@ -63,15 +64,18 @@ opened_first false skips line lines before t e later =
       done_is = h.done_is;
     }
 
+-- and so it does wherever that line stands
 opened : (skips : ℕ) (lines : List Line) (before : Before) → has_percent lines ≡ true → Opened skips lines before
 opened skips [] before e = absurd cc
 opened skips (line ∷ lines) before e = opened_first (begins_percent line) skips line lines before refl e (opened skips lines (next before (length line.bytes) line.ended))
 
+-- a line of the leader begins no body,
 closed_first : (test : Bool) (skips : ℕ) (line : Line) (lines : List Line) (before : Before) → (test || has_percent lines) ≡ false → (has_percent lines ≡ false → leader_end skips lines (next before (length line.bytes) line.ended) ≡ not_begun)
     → cond test (body_end skips lines (begun (next before (length line.bytes) line.ended))) (leader_end skips lines (next before (length line.bytes) line.ended)) ≡ not_begun
 closed_first true skips line lines before e later = absurd cc
 closed_first false skips line lines before e later = later e
 
+-- and without a `%` line none begins
 no_opening : (skips : ℕ) (lines : List Line) (before : Before) → has_percent lines ≡ false → leader_end skips lines before ≡ not_begun
 no_opening skips [] before e = refl
 no_opening skips (line ∷ lines) before e = closed_first (begins_percent line) skips line lines before e (no_opening skips lines (next before (length line.bytes) line.ended))
@@ -81,6 +85,7 @@ abbrev Due : ℕ → List Line → Answer → Type 0
 Due skips lines (Ok tape) = IsTapeOf skips lines tape
 Due skips lines (Err fault) = IsFaultOf skips lines fault
 
+-- lines at which no condition holds have the answer of the reader,
 due : (skips : ℕ) (lines : List Line) (answer : Answer) → NoneHolds skips [] lines → answer ≡ leader_end skips lines nothing_read → Due skips lines answer
 due skips lines answer none e = at_percent (has_percent lines) refl
   where
@@ -152,17 +157,21 @@ due skips lines answer none e = at_percent (has_percent lines) refl
                 in
                 subst P (sym (e ∙ o.ends ∙ b.ends ∙ end)) is
 
+-- and so have lines with a first fault
 comes : (skips : ℕ) (lines : List Line) (answer : Answer) → Comes skips [] lines answer (leader_end skips lines nothing_read) → Due skips lines answer
 comes skips lines answer (inl (none, e)) = due skips lines answer none e
 comes skips lines answer (inr (fault, first, e)) = let P : Answer → Type 0 = Due skips lines in let is : IsFaultOf skips lines fault = inl first in subst P (sym e) is
 
+-- the reader's answer to a text is the one that is due to its lines
 reads : (skips : ℕ) (text : List ℕ) → Due skips (lines_of text) (tape_of skips text)
 unfolding tape_of
 reads skips text = comes skips (lines_of text) (in_leader skips (lines_of text) nothing_read) (text_comes skips (lines_of text))
 
+-- a tape that the reader gives is the tape of the relation,
 pub is_tape : (skips : ℕ) (text : List ℕ) (tape : List Program) → tape_of skips text ≡ Ok tape → IsTape skips text tape
 is_tape skips text tape e = let P : Answer → Type 0 = Due skips (lines_of text) in (lines_of text, own_lines text, subst P e (reads skips text))
 
+-- and a fault that it gives is the fault of the relation
 pub is_fault : (skips : ℕ) (text : List ℕ) (fault : TextFault) → tape_of skips text ≡ Err fault → IsFault skips text fault
 is_fault skips text fault e = let P : Answer → Type 0 = Due skips (lines_of text) in (lines_of text, own_lines text, subst P e (reads skips text))
 
@@ -170,19 +179,24 @@ is_fault skips text fault e = let P : Answer → Type 0 = Due skips (lines_of te
 tape_due : (skips : ℕ) (text : List ℕ) (tape : List Program) → IsTape skips text tape → IsTapeOf skips (lines_of text) tape
 tape_due skips text tape (lines, are, is) = let P : List Line → Type 0 = λ ls. IsTapeOf skips ls tape in subst P (sym (lines_are text lines are)) is
 
+-- the fault of a text is that of its lines
 fault_due : (skips : ℕ) (text : List ℕ) (fault : TextFault) → IsFault skips text fault → IsFaultOf skips (lines_of text) fault
 fault_due skips text fault (lines, are, is) = let P : List Line → Type 0 = λ ls. IsFaultOf skips ls fault in subst P (sym (lines_are text lines are)) is
 
+-- the tape of the relation is what is due,
 tape_only : (skips : ℕ) (lines : List Line) (answer : Answer) (tape : List Program) → Due skips lines answer → IsTapeOf skips lines tape → answer ≡ Ok tape
 tape_only skips lines (Ok other) tape given is = ap Ok (one_tape skips lines other tape given is)
 tape_only skips lines (Err fault) tape given is = absurd (not_both skips lines tape fault is given)
 
+-- and so is its fault
 fault_only : (skips : ℕ) (lines : List Line) (answer : Answer) (fault : TextFault) → Due skips lines answer → IsFaultOf skips lines fault → answer ≡ Err fault
 fault_only skips lines (Ok tape) fault given is = absurd (not_both skips lines tape fault given is)
 fault_only skips lines (Err other) fault given is = ap Err (one_fault skips lines other fault given is)
 
+-- the reader gives each tape of the relation,
 pub tape_is : (skips : ℕ) (text : List ℕ) (tape : List Program) → IsTape skips text tape → tape_of skips text ≡ Ok tape
 tape_is skips text tape is = tape_only skips (lines_of text) (tape_of skips text) tape (reads skips text) (tape_due skips text tape is)
 
+-- and each fault
 pub fault_is : (skips : ℕ) (text : List ℕ) (fault : TextFault) → IsFault skips text fault → tape_of skips text ≡ Err fault
 fault_is skips text fault is = fault_only skips (lines_of text) (tape_of skips text) fault (reads skips text) (fault_due skips text fault is)

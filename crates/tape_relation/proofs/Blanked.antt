@@ -18,11 +18,13 @@ use Rattle.tape_relation.proofs.Placeless.{same_text_says}
 use Rattle.tape_relation.proofs.LineByLine.{SayAlike, changed_says}
 use Rattle.tape_relation.proofs.OneLine.{line_in_place, last_in_place}
 
+-- a blank is taken out with the others
 packed_blank : (b : ℕ) (left right : List ℕ) → is_blank b ≡ true → packed (left ++ b ∷ right) ≡ packed (left ++ right)
 packed_blank b left right blank =
     filter-append (λ x. not (is_blank x)) left (b ∷ right) ∙ ap (λ (t : Bool). packed left ++ cond (not t) (b ∷ packed right) (packed right)) blank
     ∙ sym (filter-append (λ x. not (is_blank x)) left right)
 
+-- a blank is no carriage return, byte 13
 no_return : (b : ℕ) → is_blank b ≡ true → (b == 13) ≡ false
 no_return b blank = grind (arith, nat_tests)
 
@@ -32,6 +34,7 @@ record Last (line : List ℕ) : Type 0 where
   byte : ℕ
   is : line ≡ front ++ byte ∷ []
 
+-- a line with a byte has a last one
 last_of : (b : ℕ) (bs : List ℕ) → Last (b ∷ bs)
 last_of b [] = record { front = []; byte = b; is = refl }
 last_of b (c ∷ bs) = let behind = last_of c bs in record { front = b ∷ behind.front; byte = behind.byte; is = ap (λ (l : List ℕ). b ∷ l) behind.is }
@@ -47,6 +50,7 @@ last_stays b left front x blank =
     ∙ sym (either_packed (x == 13) (left ++ front) ((left ++ front) ++ x ∷ [])) ∙ ap packed (sym (last_pushed 13 (left ++ front) x))
     ∙ ap (λ (l : List ℕ). packed (without_last 13 l)) (append_assoc left front (x ∷ []))
 
+-- a carriage return at the end stays at the end
 return_blank : (b : ℕ) (left right : List ℕ) → is_blank b ≡ true → (right ≡ [] → without_last 13 left ≡ left) → packed (without_last 13 (left ++ b ∷ right)) ≡ packed (without_last 13 (left ++ right))
 return_blank b left [] blank last =
     ap packed (last_pushed 13 left b) ∙ ap (λ (t : Bool). packed (cond t left (left ++ b ∷ []))) (no_return b blank) ∙ packed_blank b left [] blank
@@ -55,13 +59,16 @@ return_blank b left (c ∷ right) blank last =
     let end = last_of c right in
     ap (λ (l : List ℕ). packed (without_last 13 (left ++ b ∷ l))) end.is ∙ last_stays b left end.front end.byte blank ∙ ap (λ (l : List ℕ). packed (without_last 13 (left ++ l))) (sym end.is)
 
+-- without blanks the lines with and without it are the same
 blank_packed : (b : ℕ) (left right : List ℕ) (ended : Bool) → is_blank b ≡ true → (right ≡ [] → without_last 13 left ≡ left) → packed (without_return (left ++ b ∷ right) ended) ≡ packed (without_return (left ++ right) ended)
 blank_packed b left right true blank last = return_blank b left right blank last
 blank_packed b left right false blank last = packed_blank b left right blank
 
+-- the same text read the other way round
 same_back : (a b : Scan) → IsSameText a b → IsSameText b a
 same_back a b same = record { bytes = sym same.bytes; unclosed = sym same.unclosed }
 
+-- so both lines say the same, but for the places of words
 blank_says : (skips b : ℕ) (left right : List ℕ) (ended : Bool) → is_blank b ≡ true → (right ≡ [] → without_last 13 left ≡ left)
     → changed_says without_place (line_says skips (left ++ b ∷ right) ended) ≡ changed_says without_place (line_says skips (left ++ right) ended)
 unfolding line_says
@@ -69,13 +76,16 @@ blank_says skips b left right ended blank last =
     same_text_says skips (signs_of (left ++ b ∷ right) ended) (signs_of (left ++ right) ended)
     (same_chain _ _ _ (signs_packed (left ++ b ∷ right) ended) (rw (blank_packed b left right ended blank last) (same_back _ _ (signs_packed (left ++ right) ended))))
 
+-- a blank is no `%`, byte 37
 no_percent : (b : ℕ) → is_blank b ≡ true → (b == 37) ≡ false
 no_percent b blank = grind (arith, nat_tests)
 
+-- and both lines begin with `%`, or neither does
 blank_percent : (b : ℕ) (left right : List ℕ) → is_blank b ≡ true → (left ≡ [] → is_percent right ≡ false) → is_percent (left ++ b ∷ right) ≡ is_percent (left ++ right)
 blank_percent b [] right blank first = no_percent b blank ∙ sym (first refl)
 blank_percent b (c ∷ left) right blank first = refl
 
+-- so they are alike, places aside
 blank_alike : (skips b : ℕ) (left right : List ℕ) (ended : Bool) → is_blank b ≡ true → MayHaveBlank left right → length (left ++ b ∷ right) ≤ 512
     → SayAlike skips without_place (record { bytes = left ++ b ∷ right; ended = ended }) (record { bytes = left ++ right; ended = ended })
 blank_alike skips b left right ended blank may short =
@@ -86,10 +96,12 @@ blank_alike skips b left right ended blank may short =
       long = le-ltb 512 (length (left ++ b ∷ right)) short ∙ sym (le-ltb 512 (length (left ++ right)) shorter);
     }
 
+-- what holds of each byte holds without one of them
 without : (P : ℕ → Type 0) (b : ℕ) (left right : List ℕ) → All P (left ++ b ∷ right) → All P (left ++ right)
 without P b [] right all = All-tail P b right all
 without P b (c ∷ left) right all = All-cons P c (left ++ right) (All-head P c (left ++ b ∷ right) all) (without P b left right (All-tail P c (left ++ b ∷ right) all))
 
+-- a blank in a line that others follow changes nothing but the places of words
 pub blank_put : (skips blank : ℕ) (front left right back : List ℕ) → is_blank blank ≡ true → MayHaveBlank left right → IsLine front (left ++ blank ∷ right) back
     → forget_places (tape_of skips (with_line front (left ++ blank ∷ right) back)) ≡ forget_places (tape_of skips (with_line front (left ++ right) back))
 blank_put skips b front left right back blank may is =
@@ -98,6 +110,7 @@ blank_put skips b front left right back blank may is =
     omega (arith, length-append front ((left ++ right) ++ 10 ∷ back), length-append (left ++ right) (10 ∷ back), length-append left right, length-append front ((left ++ b ∷ right) ++ 10 ∷ back), length-append (left ++ b ∷ right) (10 ∷ back), length-append left (b ∷ right)) in
     line_in_place skips without_place front (left ++ b ∷ right) (left ++ right) back is.whole is.one_line (without (λ (x : ℕ). (x == 10) ≡ false) b left right is.one_line) (blank_alike skips b left right true blank may is.short) fits shorter
 
+-- nor does one in the last line
 pub blank_put_last : (skips blank : ℕ) (front left right : List ℕ) → is_blank blank ≡ true → MayHaveBlank left right → IsLastLine front (left ++ blank ∷ right) → 0 < length (left ++ right)
     → forget_places (tape_of skips (front ++ (left ++ blank ∷ right))) ≡ forget_places (tape_of skips (front ++ (left ++ right)))
 blank_put_last skips b front left right blank may is some =

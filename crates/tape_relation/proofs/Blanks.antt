@@ -21,6 +21,7 @@ pub added : (test : Bool) (p q b : ℕ) (x y : Scan) → IsSameText x y → IsSa
 added true p q b x y same = record { bytes = ap (λ (bytes : List ℕ). to_ascii_uppercase b ∷ bytes) same.bytes; unclosed = same.unclosed }
 added false p q b x y same = same
 
+-- the same text as the same text is the same text
 pub same_chain : (x y z : Scan) → IsSameText x y → IsSameText y z → IsSameText x z
 same_chain x y z p q = record { bytes = p.bytes ∙ q.bytes; unclosed = p.unclosed ∙ q.unclosed }
 
@@ -29,6 +30,7 @@ moved : (line : List ℕ) (inside : Bool) (p q : ℕ) → IsSameText (scan_of li
 moved [] inside p q = record { bytes = refl; unclosed = refl }
 moved (b ∷ line) inside p q = added (not inside && not (is_blank b)) p q b _ _ (moved line (inside_behind inside b) (p + 1) (q + 1))
 
+-- a blank opens and closes no comment
 is_no_bracket : (b : ℕ) → is_blank b ≡ true → ((b == 40) ≡ false) × ((b == 41) ≡ false)
 is_no_bracket b blank = grind (arith, nat_tests)
 
@@ -45,12 +47,14 @@ blank_here b back false place blank =
 allowed_comment : (b : ℕ) → b ≡ 40 → is_allowed b ≡ true
 allowed_comment b e = rw e refl
 
+-- comments have no byte that is refused
 pub comments_allowed : (signs : List Sign) → list_all is_comment signs ≡ true → are_allowed signs ≡ true
 comments_allowed [] all = refl
 comments_allowed (sign ∷ signs) all =
     let parts = and_parts (is_comment sign) (list_all is_comment signs) all in
     ap (λ (t : Bool). t && are_allowed signs) (allowed_comment sign.byte (eqb-true _ _ parts.0)) ∙ comments_allowed signs parts.1
 
+-- behind nothing but comments nothing stands
 none_behind : (signs : List Sign) → list_all is_comment signs ≡ true → behind_comments signs ≡ []
 none_behind [] all = refl
 none_behind (sign ∷ signs) all =
@@ -58,6 +62,7 @@ none_behind (sign ∷ signs) all =
     let e : 1 + prefix_len is_comment signs ≡ suc (prefix_len is_comment signs) = omega arith in
     ap (λ (t : Bool). drop (cond t (1 + prefix_len is_comment signs) 0) (sign ∷ signs)) parts.0 ∙ ap (λ (n : ℕ). drop n (sign ∷ signs)) e ∙ none_behind signs parts.1
 
+-- a line of closed comments says nothing
 pub only_comments : (skips : ℕ) (line : List ℕ) (ended : Bool) → list_all is_comment (signs_of line ended).list ≡ true → (signs_of line ended).unclosed ≡ false → line_says skips line ended ≡ Ok said.Nothing
 unfolding line_says read_head
 only_comments skips line ended all closed =

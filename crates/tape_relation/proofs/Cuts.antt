@@ -21,6 +21,7 @@ use Rattle.tape_relation.proofs.LiteralBytes.{digits_pass, literal_pass}
 
 -- The signs of a value begin no word.
 
+-- the byte begins no word and opens and closes no bracket: no letter, no `[` (91), no `]` (93)
 abbrev is_plain : ℕ → Bool
 is_plain b = not (is_ascii_uppercase b) && (not (b == 91) && not (b == 93))
 
@@ -115,6 +116,7 @@ pass_signed (sign ∷ value) rest e = go (is_sign sign.byte) refl e
 
 -- A value as a whole.
 
+-- a value is passed without a letter in it, up to what stands behind it
 pub pass_value : (value rest : List Sign) → is_value (bytes_of value) ≡ true → Passes value rest
 pass_value value rest e = go (is_literal (bytes_of value)) refl e
   where
@@ -124,6 +126,7 @@ pass_value value rest e = go (is_literal (bytes_of value)) refl e
 
 -- Comments and letters.
 
+-- so are comments
 pub pass_comments : (comments rest : List Sign) → list_all is_comment comments ≡ true → Passes comments rest
 pass_comments [] rest e = refl
 pass_comments (sign ∷ comments) rest e =
@@ -131,6 +134,7 @@ pass_comments (sign ∷ comments) rest e =
     let P : ℕ → Type 0 = λ b. is_plain b ≡ true in
     pass_one sign comments rest (subst P (sym (eqb-true sign.byte 40 p.0)) refl) (pass_comments comments rest p.1)
 
+-- a letter outside brackets begins a group
 pub at_letter : (letter : Sign) (rest : List Sign) → is_ascii_uppercase letter.byte ≡ true → cut_at (letter ∷ rest) 0 ≡ add_to_cut true letter (cut_at rest 0)
 at_letter letter rest is = rw (depth_stays letter.byte is, is) refl
 
@@ -142,13 +146,16 @@ before_comments (sign ∷ value) comments none all =
     let p = or_parts (is_comment sign) (list_any is_comment value) none in
     let later = before_comments value comments p.1 all in rw p.0 (let z : 1 + position_or_len is_comment (value ++ comments) ≡ length (sign ∷ value) = omega arith in z)
 
+-- the value of a group is what stands before its comments
 value_before : (value comments : List Sign) → list_any is_comment value ≡ false → list_all is_comment comments ≡ true → value_part (value ++ comments) ≡ value
 value_before value comments none all = ap (λ (n : ℕ). take n (value ++ comments)) (before_comments value comments none all) ∙ take-append_seam value comments
 
+-- behind the value the comments are left
 pub drop_seam : (value comments : List Sign) → drop (length value) (value ++ comments) ≡ comments
 drop_seam [] comments = refl
 drop_seam (sign ∷ value) comments = drop_seam value comments
 
+-- the word of this letter with this value
 abbrev piece_with : Sign → List Sign → List Sign → Piece
 piece_with letter value part = record { letter = letter.byte; start = letter.place + 1; end = end_of (letter.place + 1) part; text = bytes_of part; whole = list_all is_comment (drop (length part) value) }
 
@@ -160,6 +167,7 @@ end_last : (place : ℕ) (front : List Sign) (last : Sign) → end_of place (fro
 end_last place [] last = refl
 end_last place (sign ∷ front) last = end_last (sign.place + 1) front last
 
+-- a word of the grammar is the one that the reader cuts,
 word_same : (letter : Sign) (value : List Sign) (word : Piece) → IsWord letter value word → word ≡ word_cut letter value
 word_same letter value word is =
     let end : is.last.place + 1 ≡ end_of (letter.place + 1) value = sym (ap (end_of (letter.place + 1)) is.value_is ∙ end_last (letter.place + 1) is.front is.last) in
@@ -173,6 +181,7 @@ has_end : (sign : Sign) (value : List Sign) → HasEnd (sign ∷ value)
 has_end sign [] = ([], sign, refl)
 has_end sign (next ∷ value) = let (front, last, is) = has_end next value in (sign ∷ front, last, ap (λ (ss : List Sign). sign ∷ ss) is)
 
+-- and a value that the reader takes makes a word of the grammar
 is_word : (letter : Sign) (value : List Sign) → is_value (bytes_of value) ≡ true → IsWord letter value (word_cut letter value)
 is_word letter [] e = absurd cc
 is_word letter (sign ∷ value) e =
@@ -184,6 +193,7 @@ is_word letter (sign ∷ value) e =
       word_is = ap (λ (n : ℕ). record { letter = letter.byte; start = letter.place + 1; end = n; text = bytes_of (sign ∷ value); whole = true }) end;
     }
 
+-- a group is its word, whatever comments stand behind it
 pub piece_is : (letter : Sign) (value comments : List Sign) → list_any is_comment value ≡ false → list_all is_comment comments ≡ true → piece_of (record { letter = letter; value = value ++ comments }) ≡ word_cut letter value
 piece_is letter value comments none all =
     ap (piece_with letter (value ++ comments)) (value_before value comments none all)
@@ -197,6 +207,7 @@ pub record Spelled (signs tail : List Sign) (words : List Piece) : Type 0 where
   pub words_are : map piece_of (cut_at (signs ++ tail) 0).groups ≡ words ++ map piece_of (cut_at tail 0).groups
   pub whole : list_all is_sound words ≡ true
 
+-- words of the grammar are cut into these groups
 pub spelled : (words : List Piece) (signs tail : List Sign) → AreWords signs words → (cut_at tail 0).lead ≡ [] → Spelled signs tail words
 spelled [] signs tail are none = record { lead_is = ap (λ (ss : List Sign). (cut_at (ss ++ tail) 0).lead) are ∙ none; words_are = ap (λ (ss : List Sign). map piece_of (cut_at (ss ++ tail) 0).groups) are; whole = refl }
 spelled (word ∷ words) signs tail (letter, value, comments, others, is, up, val, none, all, word-is, rest) no_lead =
@@ -221,6 +232,7 @@ spelled (word ∷ words) signs tail (letter, value, comments, others, is, up, va
 
 -- From the cut to the grammar.
 
+-- the signs of groups, one behind the other
 abbrev pub flat : List Group → List Sign
 flat [] = []
 flat (group ∷ groups) = group.letter ∷ (group.value ++ flat groups)
@@ -230,6 +242,7 @@ abbrev pub Letters : List Group → Type 0
 Letters [] = Unit {0}
 Letters (group ∷ groups) = (is_ascii_uppercase group.letter.byte ≡ true) × Letters groups
 
+-- each group begins with a letter
 pub cut_letters : (signs : List Sign) (depth : ℕ) → Letters (cut_at signs depth).groups
 cut_letters [] depth = tt
 cut_letters (sign ∷ signs) depth = go (begins_word depth sign.byte) refl (cut_letters signs (depth_behind depth sign.byte))
@@ -238,14 +251,17 @@ cut_letters (sign ∷ signs) depth = go (begins_word depth sign.byte) refl (cut_
     go true e later = ((both (depth == 0) (is_ascii_uppercase sign.byte) e).1, later)
     go false e later = later
 
+-- one sign more in front
 added_flat : (t : Bool) (sign : Sign) (signs : List Sign) (cut : Cut) → signs ≡ cut.lead ++ flat cut.groups → sign ∷ signs ≡ (add_to_cut t sign cut).lead ++ flat (add_to_cut t sign cut).groups
 added_flat true sign signs cut e = ap (λ (ss : List Sign). sign ∷ ss) e
 added_flat false sign signs cut e = ap (λ (ss : List Sign). sign ∷ ss) e
 
+-- a cut leaves out no sign
 pub cut_flat : (signs : List Sign) (depth : ℕ) → signs ≡ (cut_at signs depth).lead ++ flat (cut_at signs depth).groups
 cut_flat [] depth = refl
 cut_flat (sign ∷ signs) depth = added_flat (begins_word depth sign.byte) sign signs (cut_at signs (depth_behind depth sign.byte)) (cut_flat signs (depth_behind depth sign.byte))
 
+-- a list is its front and its rest
 pub split_at : (n : ℕ) (value : List Sign) → value ≡ take n value ++ drop n value
 split_at zero value = refl
 split_at (suc n) [] = refl
@@ -264,6 +280,7 @@ take_len zero value = refl
 take_len (suc n) [] = refl
 take_len (suc n) (sign ∷ value) = take_len n value
 
+-- groups whose words are whole spell these words
 pub spells : (groups : List Group) → Letters groups → list_all is_sound (map piece_of groups) ≡ true → AreWords (flat groups) (map piece_of groups)
 spells [] letters sound = refl
 spells (group ∷ groups) letters sound =
@@ -298,12 +315,14 @@ lead_len (sign ∷ signs) depth = go (begins_word depth sign.byte) (lead_len sig
     go true later = refl
     go false later = omega arith
 
+-- the words that a line spells are those into which it is cut,
 pub words_cut : (signs : List Sign) (words : List Piece) → AreWords signs words → IsCut signs words
 words_cut signs words are =
     let s = spelled words signs [] are refl in
     let signs-are : signs ≡ signs ++ [] = sym (append-nil signs) in
     record { at_letter = lead_len signs 0 ∙ ap (λ (ss : List Sign). length (cut_at ss 0).lead) signs-are ∙ ap length s.lead_is; words_are = ap pieces_of signs-are ∙ s.words_are ∙ append-nil words; whole = s.whole }
 
+-- and the other way round
 pub cut_words : (signs : List Sign) (words : List Piece) → IsCut signs words → AreWords signs words
 cut_words signs words is =
     let lead : (cut_at signs 0).lead ≡ [] = nil_from_length (cut_at signs 0).lead (sym (lead_len signs 0) ∙ is.at_letter) in

@@ -29,6 +29,7 @@ pub record IsBehind (front : List Line) : Type 0 where
   pub opened : has_percent front ≡ true
   pub not_closed : is_closed front ≡ false
 
+-- behind a line that begins with no `%` the next one still stands between the `%` lines
 behind_next : (front : List Line) (line : Line) → IsBehind front → begins_percent line ≡ false → IsBehind (front ++ line ∷ [])
 behind_next front line is other = record {
   opened = has_more front (line ∷ []) is.opened;
@@ -40,6 +41,7 @@ abbrev pub ended_by : Bool → List Program → ℕ → Answer
 ended_by true tape last = Ok tape
 ended_by false tape last = Err (fault_at NoEnd last)
 
+-- how a text ends depends on whether it is closed, on its programs and on its last line
 ended_same : (closed : Bool) (a b : List Program) (m n : ℕ) → a ≡ b → m ≡ n → ended_by closed a m ≡ ended_by closed b n
 ended_same closed a b m n e f = ap (λ (ps : List Program). ended_by closed ps m) e ∙ ap (ended_by closed b) f
 
@@ -255,6 +257,7 @@ module _ (skips : ℕ) where
   starts_first false lines front line before t is none e nothing (said.Block block) at later =
       absurd (none_here skips front lines line none NoProgramNumber (((has_more front (line ∷ []) is.opened, is.not_closed), t), block_found skips line (ap is_block at), silent_found skips (behind_percent front) nothing))
 
+  -- the programs that the reader finds from a line on are those that the lines say
   pub starts : (lines front : List Line) (before : Before) → IsBehind front → NoneHolds skips front lines → before.current ≡ None → list_any (says_something skips) (behind_percent front) ≡ false → Begins lines before ⊎ SaysNone lines before
   starts [] front before is none e nothing = inr (record { body_is = refl; ends = rw e refl })
   starts (line ∷ lines) front before is none e nothing =

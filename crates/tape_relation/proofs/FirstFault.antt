@@ -26,12 +26,14 @@ use Rattle.tape_relation.proofs.LeastNumber.{order, first_of, Tells, tells_least
 use Rattle.tape_relation.proofs.Places.{none_left, none_more, fault_here, fault_later}
 use Rattle.tape_relation.proofs.Steps.{Stands, Inside, outer_test, outer_tells, percent_test, percent_tells, body_test, body_tells, body_step, counts_here}
 
+-- what a line says changes neither the number of lines
 said_lines : (before : Before) (s : Said) → (with_said before s).lines ≡ before.lines
 said_lines before said.Nothing = refl
 said_lines before (said.Program None) = refl
 said_lines before (said.Program (Some number)) = refl
 said_lines before (said.Block block) = refl
 
+-- nor that of bytes
 said_bytes : (before : Before) (s : Said) → (with_said before s).bytes ≡ before.bytes
 said_bytes before said.Nothing = refl
 said_bytes before (said.Program None) = refl
@@ -44,6 +46,7 @@ module _ (skips : ℕ) where
   body_end [] before = unfinished before
   body_end (line ∷ lines) before = cond (begins_percent line) (finished before) (body_end lines (next (with_said before (says skips line)) (length line.bytes) line.ended))
 
+  -- what the reader answers from a line before the first `%` line on
   abbrev pub leader_end : List Line → Before → Answer
   leader_end [] before = not_begun
   leader_end (line ∷ lines) before =
@@ -191,6 +194,7 @@ module _ (skips : ℕ) where
       one_step front lines line before after (outer_test before line) (in_leader skips lines) (leader_end lines after) stands.lines_are tells (first_of (outer_test before line) order) refl
       (λ none. later (stands_next front line before before stands refl refl (tells_none skips front line (outer_test before line) tells none TapeTooLong)) leader)
 
+  -- it answers the first fault of these lines, or what it makes of them without one
   pub leader_comes : (lines front : List Line) (before : Before) → Stands front before → has_percent front ≡ false → before.blocks ≡ 0 → before.current ≡ None → Comes front lines (in_leader skips lines before) (leader_end lines before)
   leader_comes [] front before stands closed no_blocks no_program = inl (none_left skips front, refl)
   leader_comes (line ∷ lines) front before stands closed no_blocks no_program =

@@ -1,4 +1,5 @@
 -- A line that the reader takes is a sentence of the grammar.
+-- Each lemma in `_found` makes the sentence of the grammar from one stage of the reader.
 use Rattle.std.proofs.Common.{◌≡◌, ◌==◌, ℕ, suc, ◌+◌, ◌-◌, ◌<◌, ◌≤◌, Bool, true, false, cond, not, ◌&&◌, ◌||◌, List, [], ◌∷◌, ◌++◌, length, Option, Some, None, refl, sym, subst, append-nil, arith}
 use Rattle.std.specs.Prelude.{nat_lt, nat_le, is_some}
 use Rattle.std.specs.List.{list_all, prefix_len}
@@ -20,9 +21,11 @@ use Rattle.tape_relation.proofs.Statements.{statement_found}
 use Rattle.tape_relation.proofs.Heads.{behind_first, comments_before, comments_split, comments_all}
 use Rattle.tape_relation.proofs.Sentences.{all_prefix}
 
+-- the signs are some sentence by this grammar
 abbrev Found : (List Sign → Sentence → Type 0) → List Sign → Type 0
 Found Is signs = (sentence : Sentence) × Is signs sentence
 
+-- a numbered statement is a block of the grammar,
 numbered_found : (skip : Option ℕ) (signs : List Sign) → is_numbered signs ≡ true → Found (IsBlock skip) signs
 numbered_found skip [] e = absurd cc
 numbered_found skip (letter ∷ signs) e =
@@ -51,6 +54,7 @@ no_skip : (skip : Option ℕ) → is_some skip ≡ false → skip ≡ None
 no_skip None e = refl
 no_skip (Some n) e = absurd cc
 
+-- so are words,
 words_found : (skip : Option ℕ) (signs : List Sign) (words : List Piece) → AreWords signs words → stands_alone (is_some skip) words ≡ true → Found (IsBlock skip) signs
 words_found skip signs words are is-alone = go (has_program_word words) refl
   where
@@ -67,6 +71,7 @@ words_found skip signs words are is-alone = go (has_program_word words) refl
         literal word are o true lit = (ProgramNumber word.text, program signs word are o (literal_found word.text lit))
         literal word are o false lit = (WordBlock (word ∷ []), computed signs word are o (no_literal_found word.text lit))
 
+-- what is cut into whole words,
 cut_found : (skip : Option ℕ) (signs : List Sign) → (cond (value_len signs 0 == 0) (read_pieces (is_some skip) (pieces_of signs)) unreadable).broken ≡ false → Found (IsBlock skip) signs
 cut_found skip signs e = go (value_len signs 0 == 0) refl e
   where
@@ -77,6 +82,7 @@ cut_found skip signs e = go (value_len signs 0 == 0) refl e
         words_found skip signs (pieces_of signs) (cut_words signs (pieces_of signs) cut) (not_false (stands_alone (is_some skip) (pieces_of signs)) p.1)
     go false z h = absurd cc
 
+-- and each block that the reader takes
 block_found : (skip : Option ℕ) (signs : List Sign) → (read_block (is_some skip) signs).broken ≡ false → Found (IsBlock skip) signs
 unfolding read_block read_words
 block_found skip signs e = go (is_numbered signs) refl (is_statement (sentence_of signs)) refl e
@@ -88,15 +94,18 @@ block_found skip signs e = go (is_numbered signs) refl (is_statement (sentence_o
 
 -- With what stands before the block.
 
+-- signs are some sentence behind a skip sign or none
 abbrev pub IsFound : List Sign → Type 0
 IsFound signs = (skip : Option ℕ) × (sentence : Sentence) × IsSentence signs skip sentence
 
+-- a block behind comments and a skip sign is a sentence
 behind_head : (before head signs : List Sign) (skip : Option ℕ) → list_all is_comment before ≡ true → IsSkip head skip → 0 < length (head ++ behind_comments signs) → (read_block (is_some skip) (behind_comments signs)).broken ≡ false → IsFound (before ++ (head ++ signs))
 behind_head before head signs skip all is-skip some e =
     let found = block_found skip (behind_comments signs) e in
     let P : List Sign → Type 0 = λ ss. IsSentence (before ++ (head ++ ss)) skip found.0 in
     (skip, found.0, subst P (sym (comments_split signs)) (block before head (comments_before signs) (behind_comments signs) skip found.0 all is-skip (comments_all signs) some found.1))
 
+-- a switch is a digit from 1 to 9; 48 is the digit 0
 pub digit_is : (b : ℕ) → is_switch b ≡ true → (b ≡ 48 + (b - 48)) × ((1 ≤ b - 48) × (b - 48 ≤ 9))
 digit_is b is =
     let p = both (nat_le 49 b) (nat_le b 57) is in
@@ -109,6 +118,7 @@ digit_is b is =
     to : nat_le b 57 ≡ true → b ≤ 57
     to h = grind (arith, nat_tests)
 
+-- so is what stands behind comments
 found_behind : (before behind : List Sign) → list_all is_comment before ≡ true → ((sign : Sign) (rest : List Sign) → behind ≡ sign ∷ rest → is_comment sign ≡ false) → (read_head behind).broken ≡ false → IsFound (before ++ behind)
 unfolding read_head
 found_behind before [] all first e = let P : List Sign → Type 0 = λ ss. IsSentence ss None NoBlock in (None, NoBlock, subst P (sym (append-nil before)) (blank before all))
@@ -129,6 +139,7 @@ found_behind before (sign ∷ rest) all first e = go (sign.byte == 47) refl e
             at true f h = let p = digit_is d.byte f in behind_head before (sign ∷ (d ∷ [])) more (Some (d.byte - 48)) all (named sign d (d.byte - 48) (eqb-true sign.byte 47 s) p.0 p.1.0 p.1.1) (omega arith) h
             at false f h = behind_head before (sign ∷ []) (d ∷ more) (Some 1) all (alone sign (eqb-true sign.byte 47 s)) (omega arith) h
 
+-- what the reader takes for a sentence is one
 pub sentence_found : (signs : List Sign) → (read_head (behind_comments signs)).broken ≡ false → IsFound signs
 sentence_found signs e =
     let P : List Sign → Type 0 = IsFound in

@@ -7,17 +7,21 @@ use Rattle.std.proofs.lemmas.Grind.{flat_map-append}
 use Rattle.nc_text.specs.Lines.{Line, size_of}
 use Rattle.tape_relation.specs.Parts.{written, size, begins_percent, has_percent, behind_percent}
 
+-- a `%` line among the first is one among all
 pub has_more : (front more : List Line) → has_percent front ≡ true → has_percent (front ++ more) ≡ true
 has_more front more e = list_any-append begins_percent front more ∙ ap (λ (t : Bool). t || has_percent more) e
 
+-- one more line may be the first `%` line
 pub has_last : (front : List Line) (line : Line) → has_percent front ≡ false → has_percent (front ++ line ∷ []) ≡ (begins_percent line || false)
 has_last front line e = list_any-append begins_percent front (line ∷ []) ∙ ap (λ (t : Bool). t || (begins_percent line || false)) e
 
+-- lines behind the first `%` line, one line at a time
 behind_first : (test : Bool) (front more : List Line) → (test || has_percent front) ≡ true → (has_percent front ≡ true → behind_percent (front ++ more) ≡ behind_percent front ++ more)
     → cond test (front ++ more) (behind_percent (front ++ more)) ≡ cond test front (behind_percent front) ++ more
 behind_first true front more e later = refl
 behind_first false front more e later = later e
 
+-- more lines stand behind it too
 pub behind_more : (front more : List Line) → has_percent front ≡ true → behind_percent (front ++ more) ≡ behind_percent front ++ more
 behind_more [] more e = absurd cc
 behind_more (line ∷ front) more e = behind_first (begins_percent line) front more e (behind_more front more)
@@ -26,6 +30,7 @@ none_first : (test : Bool) (front : List Line) → (test || has_percent front) �
 none_first true front e later = absurd cc
 none_first false front e later = later e
 
+-- without it nothing stands behind it,
 pub behind_none : (front : List Line) → has_percent front ≡ false → behind_percent front ≡ []
 behind_none [] e = refl
 behind_none (line ∷ front) e = none_first (begins_percent line) front e (behind_none front)
@@ -39,14 +44,17 @@ nothing_behind : (test : Bool) (nothing : List Line) → nothing ≡ [] → cond
 nothing_behind true nothing e = e
 nothing_behind false nothing e = e
 
+-- nor when the last line is the first such line
 pub behind_last : (front : List Line) (line : Line) → has_percent front ≡ false → behind_percent (front ++ line ∷ []) ≡ []
 behind_last [] line e = nothing_behind (begins_percent line) [] refl
 behind_last (first ∷ front) line e = opened_first (begins_percent first) front line e (behind_last front line)
 
+-- a line in the text has its bytes and its line feed
 written_size : (bytes : List ℕ) (ended : Bool) → length (written (record { bytes = bytes; ended = ended })) ≡ size_of (length bytes) ended
 written_size bytes true = length-append bytes (10 ∷ [])
 written_size bytes false = let e : length (bytes ++ []) ≡ length bytes + 0 = length-append bytes [] in omega arith
 
+-- one line more has its bytes more
 pub size_last : (front : List Line) (line : Line) → size (front ++ line ∷ []) ≡ size front + size_of (length line.bytes) line.ended
 size_last front line =
     let all : size (front ++ line ∷ []) ≡ length (flat_map written front ++ flat_map written (line ∷ [])) = ap length (flat_map-append written front (line ∷ [])) in
@@ -55,5 +63,6 @@ size_last front line =
     let own : length (written line) ≡ size_of (length line.bytes) line.ended = written_size line.bytes line.ended in
     omega arith
 
+-- and is one more
 pub length_last : (front : List Line) (line : Line) → length (front ++ line ∷ []) ≡ length front + 1
 length_last front line = length-append front (line ∷ [])

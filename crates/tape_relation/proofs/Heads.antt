@@ -21,12 +21,15 @@ use Rattle.tape_relation.proofs.Statements.{first_is, no_statement, words_before
 
 -- Comments.
 
+-- a comment is passed,
 pub behind_comment : (sign : Sign) (signs : List Sign) → is_comment sign ≡ true → behind_comments (sign ∷ signs) ≡ behind_comments signs
 behind_comment sign signs is = let one : 1 + prefix_len is_comment signs ≡ suc (prefix_len is_comment signs) = omega arith in rw (is, one) refl
 
+-- another sign is not
 pub behind_other : (sign : Sign) (signs : List Sign) → is_comment sign ≡ false → behind_comments (sign ∷ signs) ≡ sign ∷ signs
 behind_other sign signs is = rw is refl
 
+-- and several comments are
 pub behind_more : (comments signs : List Sign) → list_all is_comment comments ≡ true → behind_comments (comments ++ signs) ≡ behind_comments signs
 behind_more [] signs all = refl
 behind_more (sign ∷ comments) signs all = let p = both (is_comment sign) (list_all is_comment comments) all in behind_comment sign (comments ++ signs) p.0 ∙ behind_more comments signs p.1
@@ -35,9 +38,11 @@ behind_more (sign ∷ comments) signs all = let p = both (is_comment sign) (list
 abbrev pub comments_before : List Sign → List Sign
 comments_before signs = take (prefix_len is_comment signs) signs
 
+-- signs are the comments before, and what stands behind them
 pub comments_split : (signs : List Sign) → signs ≡ comments_before signs ++ behind_comments signs
 comments_split signs = split_at (prefix_len is_comment signs) signs
 
+-- what stands before are comments
 pub comments_all : (signs : List Sign) → list_all is_comment (comments_before signs) ≡ true
 comments_all [] = refl
 comments_all (sign ∷ signs) = go (is_comment sign) refl (comments_all signs)
@@ -46,6 +51,7 @@ comments_all (sign ∷ signs) = go (is_comment sign) refl (comments_all signs)
     go true e later = let one : 1 + prefix_len is_comment signs ≡ suc (prefix_len is_comment signs) = omega arith in rw one (rw e later)
     go false e later = refl
 
+-- and what stands behind begins with none
 pub behind_first : (signs : List Sign) (sign : Sign) (rest : List Sign) → behind_comments signs ≡ sign ∷ rest → is_comment sign ≡ false
 behind_first [] sign rest e = absurd cc
 behind_first (s ∷ signs) sign rest e = go (is_comment s) refl (behind_first signs sign rest)
@@ -54,15 +60,18 @@ behind_first (s ∷ signs) sign rest e = go (is_comment s) refl (behind_first si
     go true f later = later (sym (behind_comment s signs f) ∙ e)
     go false f later = let same : s ∷ signs ≡ sign ∷ rest = sym (behind_other s signs f) ∙ e in let head : s ≡ sign = cc in sym (ap is_comment head) ∙ f
 
+-- comments before a sentence leave its text as it is
 pub sentence_comments : (comments signs : List Sign) → list_all is_comment comments ≡ true → sentence_of (comments ++ signs) ≡ sentence_of signs
 sentence_comments [] signs all = refl
 sentence_comments (sign ∷ comments) signs all = let p = both (is_comment sign) (list_all is_comment comments) all in rw p.0 (sentence_comments comments signs p.1)
 
+-- so it is read behind them
 pub sentence_behind : (signs : List Sign) → sentence_of (behind_comments signs) ≡ sentence_of signs
 sentence_behind signs = sym (ap sentence_of (comments_split signs) ∙ sentence_comments (comments_before signs) (behind_comments signs) (comments_all signs))
 
 -- What goes on a number, and what ends it.
 
+-- the byte may stand in a literal: a digit, the point or a sign
 abbrev pub number_byte : ℕ → Bool
 number_byte b = is_ascii_digit b || b == 46 || b == 43 || b == 45
 
@@ -75,6 +84,7 @@ point_byte b is = let P : ℕ → Type 0 = λ c. number_byte c ≡ true in subst
 sign_byte : (b : ℕ) → is_sign b ≡ true → number_byte b ≡ true
 sign_byte b is = grind (arith, nat_tests)
 
+-- a literal has no other bytes
 pub literal_bytes : (text : List ℕ) → is_literal text ≡ true → list_all number_byte text ≡ true
 literal_bytes text is = literal_pass number_byte digit_byte point_byte sign_byte text is
 
@@ -95,21 +105,27 @@ number_len (digit ∷ number) signs all stops =
     let later = number_len number signs p.1 stops in
     rw p.0 (let z : 1 + prefix_len is_number_sign (number ++ signs) ≡ length (digit ∷ number) = omega arith in z)
 
+-- the literal behind N is all up to the first sign that can't go on it,
 pub part_is : (number signs : List Sign) → list_all is_number_sign number ≡ true → Stops signs → number_part (number ++ signs) ≡ number
 part_is number signs all stops = ap (λ (n : ℕ). take n (number ++ signs)) (number_len number signs all stops) ∙ take-append_seam number signs
 
+-- and what stands behind it is the rest
 pub behind_is : (number signs : List Sign) → list_all is_number_sign number ≡ true → Stops signs → behind_number (number ++ signs) ≡ signs
 behind_is number signs all stops = ap (λ (n : ℕ). drop n (number ++ signs)) (number_len number signs all stops) ∙ drop_seam number signs
 
+-- the signs of a literal may all stand in one
 pub literal_signs : (number : List Sign) → is_literal (bytes_of number) ≡ true → list_all is_number_sign number ≡ true
 literal_signs number is = all_signs number (literal_bytes (bytes_of number) is)
 
+-- a comment ends a literal
 pub comment_stops : (sign : Sign) → is_comment sign ≡ true → is_number_sign sign ≡ false
 comment_stops sign is = let P : ℕ → Type 0 = λ b. number_byte b ≡ false in subst P (sym (eqb-true sign.byte 40 is)) refl
 
+-- so does a letter
 pub letter_byte : (b : ℕ) → is_ascii_uppercase b ≡ true → number_byte b ≡ false
 letter_byte b is = grind (arith, nat_tests)
 
+-- so does a statement,
 pub statement_stops : (signs : List Sign) → IsStatement (text_of signs) → Stops signs
 statement_stops [] is = absurd (no_statement is)
 statement_stops (sign ∷ signs) is = go (is_comment sign) refl
@@ -121,6 +137,7 @@ statement_stops (sign ∷ signs) is = go (is_comment sign) refl
         let text : text_of (sign ∷ signs) ≡ sign.byte ∷ text_of signs = rw e refl in
         let N : ℕ → Type 0 = λ b. number_byte b ≡ false in first_is N sign.byte (text_of signs) refl refl refl refl refl refl (subst P text is)
 
+-- and so do words behind comments
 pub words_stop : (comments signs tail : List Sign) (words : List Piece) → list_all is_comment comments ≡ true → AreWords signs words → Stops tail → Stops (comments ++ (signs ++ tail))
 words_stop [] signs tail [] all is stops = let P : List Sign → Type 0 = λ ss. Stops (ss ++ tail) in subst P (sym is) stops
 words_stop [] signs tail (word ∷ words) all (letter, value, more, others, is, up, val, none, every, word-is, rest) stops = let P : List Sign → Type 0 = λ ss. Stops (ss ++ tail) in subst P (sym is) (letter_byte letter.byte up)
@@ -135,6 +152,7 @@ reference_byte b text e = go (b == 35) refl e
     go true is h = let P : ℕ → Type 0 = λ c. number_byte c ≡ false in subst P (sym (eqb-true b 35 is)) refl
     go false is h = let P : ℕ → Type 0 = λ c. number_byte c ≡ false in subst P (sym (eqb-true b 91 (both (b == 91) (closes text 1) h).0)) refl
 
+-- a variable or an expression is no literal
 reference_part : (value signs : List Sign) → is_reference (behind_sign (bytes_of value)) ≡ true → is_literal (bytes_of (number_part (value ++ signs))) ≡ false
 reference_part [] signs e = absurd cc
 reference_part (sign ∷ value) signs e = go (is_sign sign.byte) refl e
@@ -168,10 +186,12 @@ numbered_before signs tail word words (letter, value, comments, others, is, up, 
         ap (λ (t : Bool). t && is_statement (sentence_of (behind_number (value ++ (comments ++ (others ++ tail))))))
         (and_false (letter.byte == 78) (is_literal (bytes_of (number_part (value ++ (comments ++ (others ++ tail)))))) (reference_part value (comments ++ (others ++ tail)) reference))
 
+-- words are no numbered statement
 pub numbered_unlike : (signs : List Sign) (words : List Piece) → AreWords signs words → is_numbered signs ≡ false
 numbered_unlike signs [] is = ap is_numbered is
 numbered_unlike signs (word ∷ words) are = ap is_numbered (sym (append-nil signs)) ∙ numbered_before signs [] word words are refl tt
 
+-- N, a literal and a statement are one
 pub numbered_read : (letter : Sign) (number signs : List Sign) → (letter.byte == 78) ≡ true → is_literal (bytes_of number) ≡ true → IsStatement (text_of signs) → is_numbered (letter ∷ (number ++ signs)) ≡ true
 numbered_read letter number signs n lit is =
     let all = literal_signs number lit in

@@ -17,6 +17,7 @@ pub by_last : (P : List ℕ → Type 0) → ((xs : List ℕ) (x : ℕ) → P xs 
 by_last P push [] xs p = subst P (sym (append-nil xs)) p
 by_last P push (y ∷ ys) xs p = subst P (append_assoc xs (y ∷ []) ys) (by_last P push ys (xs ++ y ∷ []) (push xs y p))
 
+-- the last byte is taken off if it is this one
 pub last_pushed : (k : ℕ) (xs : List ℕ) (x : ℕ) → without_last k (xs ++ x ∷ []) ≡ cond (x == k) xs (xs ++ x ∷ [])
 last_pushed k xs x =
     let before : length (xs ++ x ∷ []) - 1 ≡ length xs = omega (arith, length_push xs x) in
@@ -24,15 +25,18 @@ last_pushed k xs x =
     ∙ ap (λ (b : ℕ). cond (b == k) (take (length xs) (xs ++ x ∷ [])) (xs ++ x ∷ [])) (get_or_push xs x 0 (length xs) refl)
     ∙ ap (λ (l : List ℕ). cond (x == k) l (xs ++ x ∷ [])) (take_at xs (x ∷ []) (length xs) refl)
 
+-- one blank more at the end
 suffix_pushed : (xs : List ℕ) (x : ℕ) → suffix_len is_blank (xs ++ x ∷ []) ≡ cond (is_blank x) (1 + suffix_len is_blank xs) 0
 suffix_pushed xs x = ap (prefix_len is_blank) (reverse-append xs (x ∷ []))
 
+-- a blank at the end is trimmed,
 pub trimmed_blank : (xs : List ℕ) (x : ℕ) → is_blank x ≡ true → without_blanks (xs ++ x ∷ []) ≡ without_blanks xs
 trimmed_blank xs x blank =
     let count : suffix_len is_blank (xs ++ x ∷ []) ≡ 1 + suffix_len is_blank xs = suffix_pushed xs x ∙ ap (λ (t : Bool). cond t (1 + suffix_len is_blank xs) 0) blank in
     let long : length (xs ++ x ∷ []) - suffix_len is_blank (xs ++ x ∷ []) ≡ length xs - suffix_len is_blank xs = omega (arith, length_push xs x) in
     ap (λ (n : ℕ). take n (xs ++ x ∷ [])) long ∙ take-append-le (length xs - suffix_len is_blank xs) xs (x ∷ []) (omega arith)
 
+-- another byte is not
 pub trimmed_other : (xs : List ℕ) (x : ℕ) → is_blank x ≡ false → without_blanks (xs ++ x ∷ []) ≡ xs ++ x ∷ []
 trimmed_other xs x other =
     let count : suffix_len is_blank (xs ++ x ∷ []) ≡ 0 = suffix_pushed xs x ∙ ap (λ (t : Bool). cond t (1 + suffix_len is_blank xs) 0) other in
@@ -95,6 +99,7 @@ blanks_left xs = by_last BlanksLeft (λ front x before. go front x before (is_bl
 
 -- What stands at the end of a line is ignored.
 
+-- the carriage return at the end of a line, byte 13, or nothing
 abbrev at_end : Bool → List ℕ
 at_end true = 13 ∷ []
 at_end false = []
@@ -103,6 +108,7 @@ at_end false = []
 abbrev Ends : Bool → Bool → Type 0
 Ends ended last = last ≡ true → ended ≡ true
 
+-- behind the end of a block stand only blanks
 spaces_end : (ended last : Bool) (blanks : List ℕ) → Ends ended last → list_all is_blank blanks ≡ true → are_spaces ended (blanks ++ at_end last) ≡ true
 spaces_end ended false [] ends all = refl
 spaces_end ended true [] ends all = rw (ends refl) refl
@@ -137,6 +143,7 @@ return_inside : (inside : Bool) → inside_behind inside 13 ≡ inside
 return_inside true = refl
 return_inside false = refl
 
+-- blanks at the end give no sign
 nothing_on : (ended last : Bool) (blanks : List ℕ) (inside : Bool) (place : ℕ) → Ends ended last → list_all is_blank blanks ≡ true → signs_on ended (blanks ++ at_end last) inside place ≡ record { list = []; unclosed = inside }
 nothing_on ended false [] inside place ends all = refl
 nothing_on ended true [] inside place ends all = passed ended 13 [] inside place (rw (ends refl) refl) (return_inside inside)
@@ -156,6 +163,7 @@ tail_on ended false last blanks inside place ends all = nothing_on ended last bl
 
 -- What stands before it is ignored only where it is a blank.
 
+-- the signs of a line are those of what is left of it
 content_on : (ended : Bool) (tail : List ℕ) → ((inside : Bool) (place : ℕ) → signs_on ended tail inside place ≡ record { list = []; unclosed = inside }) → (content : List ℕ)
     → ((front : List ℕ) (b : ℕ) (back : List ℕ) → content ≡ front ++ b ∷ back → is_ignored ended b (back ++ tail) ≡ is_blank b) → (inside : Bool) (place : ℕ) → signs_on ended (content ++ tail) inside place ≡ scan_of content inside place
 content_on ended tail none [] same inside place = none inside place
@@ -253,9 +261,11 @@ module _ (ended stop last : Bool) (content blanks : List ℕ) where
                   ap (λ (t : List ℕ). content ++ t) p.2 ∙ append-nil content ∙ whole ∙ ap (λ (c : ℕ). (front ++ b ∷ before) ++ c ∷ []) p.0
                   in at_last (front ++ b ∷ before) ends last refl p.2 p.1
 
+  -- the signs of a line are those of what is left of it
   pub content_signs : IsContent → signs_on ended (content ++ tail_of stop blanks last) false 0 ≡ scan_of content false 0
   content_signs is = content_on ended (tail_of stop blanks last) (λ inside place. tail_on ended stop last blanks inside place is.ends is.blank) content (only_blanks is) false 0
 
+-- so they are when a `;` or a carriage return ends it
 signs_before : (ended last : Bool) (bytes line : List ℕ) → bytes ≡ line ++ at_end last → Ends ended last → (last ≡ false → ended ≡ true → EndsOther (λ b. b == 13) bytes)
     → signs_on ended bytes false 0 ≡ scan_of (without_last 59 (without_blanks line)) false 0
 signs_before ended last bytes line is ends no_return = go (blanks_left line) (last_left 59 refl (without_blanks line))
@@ -276,6 +286,7 @@ signs_before ended last bytes line is ends no_return = go (blanks_left line) (la
         let content : IsContent ended true last c blanks = record { ends = ends; blank = all; no_blank = λ s. absurd cc; no_stop = λ s. absurd cc; no_return = λ l e. subst P whole (no_return l e) } in
         ap (λ (l : List ℕ). signs_on ended l false 0) whole ∙ content_signs ended true last c blanks content
 
+-- what is read of a line are the signs of its bytes that count
 pub signs_are : (ended : Bool) (bytes : List ℕ) → signs_on ended bytes false 0 ≡ signs_of bytes ended
 unfolding signs_of
 signs_are false bytes = signs_before false false bytes bytes (sym (append-nil bytes)) (λ bad. absurd cc) (λ l bad. absurd cc)

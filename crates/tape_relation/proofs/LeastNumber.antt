@@ -8,6 +8,7 @@ use Rattle.line_text.specs.Refusals.{refusal_number}
 use Rattle.nc_text.specs.Lines.{Line}
 use Rattle.tape_relation.specs.Conditions.{Holds, IsLeast}
 
+-- the refusals by their numbers
 abbrev pub order : List Refusal
 order = TooManyDigits ∷ BadCharacter ∷ NoNumber ∷ OpenComment ∷ NoProgramNumber ∷ NoEnd ∷ LineTooLong ∷ TooManyBlocks ∷ TapeTooLong ∷ WordRange ∷ []
 
@@ -16,18 +17,22 @@ abbrev pub first_of : (Refusal → Bool) → List Refusal → Option Refusal
 first_of test [] = None
 first_of test (r ∷ rs) = cond (test r) (Some r) (first_of test rs)
 
+-- the refusal is one of these
 abbrev In : Refusal → List Refusal → Type 0
 In s [] = ⊥
 In s (r ∷ rs) = (s ≡ r) ⊎ In s rs
 
+-- each has this number or a greater one
 abbrev all_from : ℕ → List Refusal → Bool
 all_from n [] = true
 all_from n (r ∷ rs) = leb n (refusal_number r) && all_from n rs
 
+-- the numbers rise
 abbrev rise : List Refusal → Bool
 rise [] = true
 rise (r ∷ rs) = all_from (refusal_number r) rs && rise rs
 
+-- one of these has this number or a greater one
 from_here : (n : ℕ) (rs : List Refusal) (s : Refusal) → all_from n rs ≡ true → In s rs → n ≤ refusal_number s
 from_here n [] s all is = absurd is
 from_here n (r ∷ rs) s all (inl e) =
@@ -49,6 +54,7 @@ least_later : (test : Refusal → Bool) (found r : Refusal) (rs : List Refusal) 
 least_later test found r rs off later s (inl e) holds = let bad : true ≡ false = sym holds ∙ ap test e ∙ off in absurd cc
 least_later test found r rs off later s (inr is) holds = later s is holds
 
+-- the first refusal in the order that the test passes is the least one
 found_by : (test : Refusal → Bool) (rs : List Refusal) (r : Refusal) → rise rs ≡ true → first_of test rs ≡ Some r → IsFound test rs r
 found_by test [] r up e = absurd cc
 found_by test (x ∷ rs) r up e = go (test x) refl e (found_by test rs r (both (all_from (refusal_number x) rs) (rise rs) up).1)
@@ -60,6 +66,7 @@ found_by test (x ∷ rs) r up e = go (test x) refl e (found_by test rs r (both (
         subst (IsFound test (x ∷ rs)) same here
     go false is found later = let p = later found in (p.0, least_later test r x rs is p.1)
 
+-- if none is found none passes
 none_by : (test : Refusal → Bool) (rs : List Refusal) → first_of test rs ≡ None → (s : Refusal) → In s rs → test s ≡ true → ⊥
 none_by test [] e s is holds = is
 none_by test (x ∷ rs) e s is holds = go (test x) refl e is (none_by test rs)
@@ -69,6 +76,7 @@ none_by test (x ∷ rs) e s is holds = go (test x) refl e is (none_by test rs)
     go false at found (inl same) later = let bad : true ≡ false = sym holds ∙ ap test same ∙ at in absurd cc
     go false at found (inr m) later = later found s m holds
 
+-- every refusal is in the order
 each_in : (s : Refusal) → In s order
 each_in TooManyDigits = inl refl
 each_in BadCharacter = inr (inl refl)
@@ -86,9 +94,11 @@ pub record Tells (skips : ℕ) (front : List Line) (line : Line) (test : Refusal
   pub told : (r : Refusal) → Holds skips front line r → test r ≡ true
   pub holds : (r : Refusal) → test r ≡ true → Holds skips front line r
 
+-- the first that is found is the least whose condition holds
 pub tells_least : (skips : ℕ) (front : List Line) (line : Line) (test : Refusal → Bool) (r : Refusal) → Tells skips front line test → first_of test order ≡ Some r → IsLeast skips front line r
 tells_least skips front line test r tells e =
     let p = found_by test order r refl e in (tells.holds r p.0, λ other holds. p.1 other (each_in other) (tells.told other holds))
 
+-- and if none is found no condition holds
 pub tells_none : (skips : ℕ) (front : List Line) (line : Line) (test : Refusal → Bool) → Tells skips front line test → first_of test order ≡ None → (r : Refusal) → Holds skips front line r → ⊥
 tells_none skips front line test tells e r holds = none_by test order e r (each_in r) (tells.told r holds)

@@ -1,3 +1,4 @@
+-- The lemmas of this crate, each file by its subject. No other crate takes any.
 pub mod LiteralParts
 pub mod Values
 pub mod LiteralBytes

@@ -23,16 +23,19 @@ pub data Row : Type 0 where
   Both : Line → Line → Row
   Alone : Line → Row
 
+-- the lines of the first text
 abbrev pub firsts : List Row → List Line
 firsts [] = []
 firsts (Both x y ∷ rows) = x ∷ firsts rows
 firsts (Alone y ∷ rows) = firsts rows
 
+-- the lines of the second text
 abbrev pub seconds : List Row → List Line
 seconds [] = []
 seconds (Both x y ∷ rows) = y ∷ seconds rows
 seconds (Alone y ∷ rows) = y ∷ seconds rows
 
+-- the bytes of a line with its line feed
 abbrev pub line_size : Line → ℕ
 line_size line = size_of (length line.bytes) line.ended
 
@@ -41,11 +44,13 @@ abbrev pub size_all : List Line → ℕ
 size_all [] = 0
 size_all (line ∷ lines) = line_size line + size_all lines
 
+-- what a line says with its words changed
 abbrev pub changed_said : (Word → Word) → Said → Said
 changed_said w said.Nothing = said.Nothing
 changed_said w (said.Program number) = said.Program number
 changed_said w (said.Block block) = said.Block (record block { body = changed_body w block.body })
 
+-- the same of a line that may be refused
 abbrev pub changed_says : (Word → Word) → Result Said Refusal → Result Said Refusal
 changed_says w (Ok says) = Ok (changed_said w says)
 changed_says w (Err refusal) = Err refusal
@@ -88,9 +93,11 @@ range_same w said.Nothing = refl
 range_same w (said.Program number) = refl
 range_same w (said.Block block) = refl
 
+-- an answer with this number, at this line
 abbrev refused : ℕ → ℕ → Answer
 refused number line = Err (record { number = number; line = line })
 
+-- an answer with these programs
 abbrev taped : List Program → Answer
 taped programs = Ok programs
 
@@ -102,9 +109,11 @@ not_past b d y ys e fits = ap (λ (k : ℕ). ltb 4194304 (k + line_size y)) e �
 rest_alone : (b : Before) (y : Line) (ys : List Line) → is_past_end b (length y.bytes) y.ended ≡ false → in_rest (y ∷ ys) b ≡ in_rest ys (next b (length y.bytes) y.ended)
 rest_alone b y ys past = rw past refl
 
+-- a line of the second text that says nothing leaves the body as it is,
 body_alone : (skips : ℕ) (b : Before) (y : Line) (ys : List Line) → SaysNothing skips y → is_past_end b (length y.bytes) y.ended ≡ false → in_body skips (y ∷ ys) b ≡ in_body skips ys (next b (length y.bytes) y.ended)
 body_alone skips b y ys nothing past = rw (nothing.percent, nothing.says, nothing.long, past) refl
 
+-- and so does one before the first `%` line
 leader_alone : (skips : ℕ) (b : Before) (y : Line) (ys : List Line) → SaysNothing skips y → is_past_end b (length y.bytes) y.ended ≡ false → in_leader skips (y ∷ ys) b ≡ in_leader skips ys (next b (length y.bytes) y.ended)
 leader_alone skips b y ys nothing past = rw (nothing.percent, past) refl
 

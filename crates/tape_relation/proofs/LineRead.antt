@@ -13,9 +13,11 @@ use Rattle.line_text.specs.Said.{is_skipped, read_head}
 use Rattle.tape_relation.specs.Edited.{line_switch}
 use Rattle.nc_text.specs.Tape.{is_block, is_said_in_range}
 
+-- the signs of a line, and whether it ends in a comment
 abbrev pub scan : Line → Scan
 scan line = signs_of line.bytes line.ended
 
+-- what is read of a line behind comments
 abbrev pub reading : Line → Reading
 reading line = read_head (behind_comments (scan line).list)
 
@@ -27,9 +29,11 @@ is_off skips line = is_skipped skips (line_switch line.bytes line.ended)
 abbrev pub says : ℕ → Line → Said
 says skips line = cond (is_off skips line || (reading line).broken) said.Nothing (reading line).said
 
+-- the line says a block
 abbrev pub says_block : ℕ → Line → Bool
 says_block skips line = is_block (says skips line)
 
+-- it is an O number
 abbrev pub is_program : Said → Bool
 is_program said.Nothing = false
 is_program (said.Program number) = true
@@ -39,6 +43,7 @@ is_program (said.Block block) = false
 abbrev pub says_program : ℕ → Line → Bool
 says_program skips line = is_program (says skips line)
 
+-- it is a block or an O number
 abbrev pub is_something : Said → Bool
 is_something said.Nothing = false
 is_something (said.Program number) = true
@@ -48,6 +53,7 @@ is_something (said.Block block) = true
 abbrev pub says_something : ℕ → Line → Bool
 says_something skips line = is_something (says skips line)
 
+-- the numbers that the line says are in range
 abbrev pub says_in_range : ℕ → Line → Bool
 says_in_range skips line = is_said_in_range (says skips line)
 

@@ -1,4 +1,6 @@
 -- What a line says by the grammar is what the reader takes from it.
+-- Lemmas in `_read` go from the relation to the reader, those in `_found` from the reader to the
+-- relation.
 use Rattle.std.proofs.Common.{◌≡◌, ◌==◌, ℕ, Bool, true, false, not, ◌&&◌, ◌||◌, List, [], ◌∷◌, ◌++◌, length, filter, Option, Some, None, ◌⊎◌, inl, inr, refl, sym, ap, subst, ◌∙◌, arith}
 use Rattle.std.specs.Prelude.{All, is_some}
 use Rattle.std.specs.List.{list_all, list_any}
@@ -28,17 +30,21 @@ use Rattle.tape_relation.proofs.LineRead.{scan, reading, is_off, says, says_bloc
 
 -- A line that is a sentence is read as it, and a line that is read is one.
 
+-- a switch is set by the reader as by the relation
 pub same_off : (skips : ℕ) (skip : Option ℕ) → is_skipped skips skip ≡ own.is_off skips skip
 same_off skips None = refl
 same_off skips (Some switch) = refl
 
+-- a line of the grammar is read as its sentence
 line_read : (line : Line) (skip : Option ℕ) (sentence : Sentence) → IsLine line skip sentence → IsRead (behind_comments (scan line).list) skip sentence
 line_read line skip sentence (signs, are, is) =
     let P : List Sign → Type 0 = λ ss. IsRead (behind_comments ss) skip sentence in subst P (sym (signs_same line signs are)) (sentence_read signs skip sentence is)
 
+-- a line that is not broken has a sentence
 line_found : (line : Line) → (reading line).broken ≡ false → (skip : Option ℕ) × (sentence : Sentence) × IsLine line skip sentence
 line_found line e = let found = sentence_found (scan line).list e in (found.0, found.1, ((scan line).list, the_signs line, found.2))
 
+-- a line without a sentence is broken for the reader,
 pub broken_read : (line : Line) → IsBroken line → (reading line).broken ≡ true
 broken_read line broken = go (reading line).broken refl
   where
@@ -46,18 +52,22 @@ broken_read line broken = go (reading line).broken refl
     go true e = e
     go false e = let found = line_found line e in absurd (broken found.0 found.1 found.2)
 
+-- and the other way round
 pub broken_found : (line : Line) → (reading line).broken ≡ true → IsBroken line
 broken_found line e skip sentence is = let bad : true ≡ false = sym e ∙ (line_read line skip sentence is).reads.sound in absurd cc
 
+-- what a line says by the relation the reader takes from it
 pub says_read : (skips : ℕ) (line : Line) (sentence : Sentence) → Says skips line sentence → says skips line ≡ said_of sentence
 says_read skips line sentence (skip, is, on) =
     let r = line_read line skip sentence is in
     let off : is_off skips line ≡ false = ap (is_skipped skips) r.switch_is ∙ same_off skips skip ∙ on in
     rw (off, r.reads.sound) r.reads.says
 
+-- the line says nothing to the reader, or it says a sentence by the relation
 abbrev pub Told : ℕ → Line → Type 0
 Told skips line = (says skips line ≡ said.Nothing) ⊎ ((sentence : Sentence) × Says skips line sentence)
 
+-- each line does the one or the other
 pub told : (skips : ℕ) (line : Line) → Told skips line
 told skips line = go (is_off skips line) refl (reading line).broken refl
   where
@@ -69,6 +79,7 @@ told skips line = go (is_off skips line) refl (reading line).broken refl
         let r = line_read line found.0 found.1 found.2 in
         inr (found.1, (found.0, found.2, sym (ap (is_skipped skips) r.switch_is ∙ same_off skips found.0) ∙ e))
 
+-- the numbers of a sentence that is said are literals
 pub says_literals : (skips : ℕ) (line : Line) (sentence : Sentence) → Says skips line sentence → HasLiterals sentence
 says_literals skips line sentence (skip, (signs, are, is), on) = sentence_literals signs skip sentence is
 
@@ -81,9 +92,11 @@ same_block (WordBlock words) = refl
 same_block (StatementBlock None text) = refl
 same_block (StatementBlock (Some number) text) = refl
 
+-- a line that says a block says one to the reader,
 pub block_read : (skips : ℕ) (line : Line) → SaysBlock skips line → says_block skips line ≡ true
 block_read skips line (sentence, is, e) = ap tape.is_block (says_read skips line sentence is) ∙ same_block sentence ∙ e
 
+-- and the other way round
 pub block_found : (skips : ℕ) (line : Line) → says_block skips line ≡ true → SaysBlock skips line
 block_found skips line e = go (told skips line)
   where
@@ -91,9 +104,11 @@ block_found skips line e = go (told skips line)
     go (inl none) = let bad : true ≡ false = sym e ∙ ap tape.is_block none in absurd cc
     go (inr (sentence, is)) = (sentence, is, sym (same_block sentence) ∙ sym (ap tape.is_block (says_read skips line sentence is)) ∙ e)
 
+-- so it is with an O number,
 pub program_read : (skips : ℕ) (line : Line) → SaysProgram skips line → says_program skips line ≡ true
 program_read skips line (text, is) = ap is_program (says_read skips line (ProgramNumber text) is)
 
+-- and the other way round
 pub program_found : (skips : ℕ) (line : Line) → says_program skips line ≡ true → SaysProgram skips line
 program_found skips line e = go (told skips line)
   where
@@ -148,15 +163,19 @@ of_none P test read (line ∷ lines) e =
     let p = or_parts (test line) (list_any test lines) e in
     All-cons (λ (l : Line). P l → ⊥) line lines (λ is. let bad : true ≡ false = sym (read line is) ∙ p.0 in absurd cc) (of_none P test read lines p.1)
 
+-- lines that say nothing say nothing to the reader,
 pub silent_read : (skips : ℕ) (lines : List Line) → SayNothing skips lines → list_any (says_something skips) lines ≡ false
 silent_read skips lines all = none_of (SaysSomething skips) (says_something skips) (something_found skips) lines all
 
+-- and the other way round
 pub silent_found : (skips : ℕ) (lines : List Line) → list_any (says_something skips) lines ≡ false → SayNothing skips lines
 silent_found skips lines e = of_none (SaysSomething skips) (says_something skips) (something_read skips) lines e
 
+-- lines without an O number have none for the reader,
 pub no_program_read : (skips : ℕ) (lines : List Line) → All (λ line. SaysProgram skips line → ⊥) lines → list_any (says_program skips) lines ≡ false
 no_program_read skips lines all = none_of (SaysProgram skips) (says_program skips) (program_found skips) lines all
 
+-- and the other way round
 pub no_program_found : (skips : ℕ) (lines : List Line) → list_any (says_program skips) lines ≡ false → All (λ line. SaysProgram skips line → ⊥) lines
 no_program_found skips lines e = of_none (SaysProgram skips) (says_program skips) (program_read skips) lines e
 
@@ -170,11 +189,13 @@ not_block skips line out = go (says_block skips line) refl
     go true e = absurd (out (block_found skips line e))
     go false e = e
 
+-- the number of blocks is the reader's,
 pub blocks_read : (skips : ℕ) (lines : List Line) (n : ℕ) → SayBlocks skips lines n → n ≡ length (filter (says_block skips) lines)
 blocks_read skips [] n e = e
 blocks_read skips (line ∷ lines) n (inl (is, (m, e, later))) = let count = blocks_read skips lines m later in rw (block_read skips line is) (omega arith)
 blocks_read skips (line ∷ lines) n (inr (out, later)) = rw (not_block skips line out) (blocks_read skips lines n later)
 
+-- and the other way round
 pub blocks_found : (skips : ℕ) (lines : List Line) → SayBlocks skips lines (length (filter (says_block skips) lines))
 blocks_found skips [] = refl
 blocks_found skips (line ∷ lines) = go (says_block skips line) refl (blocks_found skips lines)
@@ -185,9 +206,11 @@ blocks_found skips (line ∷ lines) = go (says_block skips line) refl (blocks_fo
 
 -- The ranges.
 
+-- a word that is a sequence number is one for the reader,
 pub numbering_read : (word : Piece) → IsNumbering word → is_sequence word ≡ true
 numbering_read word (n, lit) = rw (eq-eqb word.letter 78 n, literal_read word.text lit) refl
 
+-- and the other way round
 pub numbering_found : (word : Piece) → is_sequence word ≡ true → IsNumbering word
 numbering_found word e = let p = both (word.letter == 78) (is_literal word.text) e in (eqb-true word.letter 78 p.0, literal_found word.text p.1)
 
@@ -222,9 +245,11 @@ leaves_found (WordBlock words) e = lacks_word words e
 leaves_found (StatementBlock None text) e = absurd cc
 leaves_found (StatementBlock (Some number) text) e = λ n is. lacks_found 0 99999 number e n (sequence_number number n is)
 
+-- a line with a number out of its range is refused for it,
 pub range_read : (skips : ℕ) (line : Line) → IsOutOfRange skips line → says_in_range skips line ≡ false
 range_read skips line (sentence, is, leaves) = ap tape.is_said_in_range (says_read skips line sentence is) ∙ leaves_read sentence (says_literals skips line sentence is) leaves
 
+-- and the other way round
 pub range_found : (skips : ℕ) (line : Line) → says_in_range skips line ≡ false → IsOutOfRange skips line
 range_found skips line e = go (told skips line)
   where

@@ -8,6 +8,7 @@ use Rattle.nc_text.specs.Lines.{Line, IsOneLine, lines_of, onto_line}
 use Rattle.nc_text.proofs.LineEnds.{line_ends, text_ends}
 use Rattle.tape_relation.specs.Parts.{written, AreEnded, AreLines}
 
+-- the bytes of a line have no line feed
 abbrev IsOne : Line → Type 0
 IsOne line = IsOneLine line.bytes
 
@@ -22,6 +23,7 @@ inner_line : (bytes more : List ℕ) (ended : Bool) → IsOneLine bytes → ende
 inner_line bytes more true one e = ap lines_of (append_assoc bytes (10 ∷ []) more) ∙ line_ends bytes more one
 inner_line bytes more false one e = absurd cc
 
+-- lines that are written out are read as these lines
 lines_written : (lines : List Line) → All IsOne lines → AreEnded lines → lines_of (flat_map written lines) ≡ lines
 lines_written [] one ended = refl
 lines_written (line ∷ []) one ended = last_line line.bytes line.ended (All-head IsOne line [] one) ended
@@ -29,14 +31,17 @@ lines_written (line ∷ next ∷ lines) one ended =
     inner_line line.bytes (flat_map written (next ∷ lines)) line.ended (All-head IsOne line (next ∷ lines) one) ended.0
     ∙ ap (λ (others : List Line). line ∷ others) (lines_written (next ∷ lines) (All-tail IsOne line (next ∷ lines) one) ended.1)
 
+-- the lines of the relation are those that the reader has
 pub lines_are : (text : List ℕ) (lines : List Line) → AreLines text lines → lines_of text ≡ lines
 lines_are text lines is = ap lines_of is.text_is ∙ lines_written lines is.one_line is.ended
 
 -- From the text to its lines.
 
+-- a line without a byte, with its line feed
 abbrev empty_line : Line
 empty_line = record { bytes = []; ended = true }
 
+-- a line feed, byte 10, before a text is an empty line more
 line_first : (bs : List ℕ) (lines : List Line) → AreLines bs lines → AreLines (10 ∷ bs) (empty_line ∷ lines)
 line_first bs lines is = record {
   text_is = ap (λ (text : List ℕ). 10 ∷ text) is.text_is;
@@ -52,6 +57,7 @@ longer : (b : ℕ) (line : Line) (lines : List Line) → AreEnded (line ∷ line
 longer b line [] e = λ no_feed. omega arith
 longer b line (next ∷ lines) e = e
 
+-- any other byte goes onto the first line
 byte_first : (b : ℕ) (bs : List ℕ) (lines : List Line) → (b == 10) ≡ false → AreLines bs lines → AreLines (b ∷ bs) (onto_line b lines)
 byte_first b bs [] e is = record {
   text_is = ap (λ (text : List ℕ). b ∷ text) is.text_is;
@@ -71,9 +77,11 @@ next_byte true b bs lines e is =
     subst P (sym same) (line_first bs lines is)
 next_byte false b bs lines e is = byte_first b bs lines e is
 
+-- the reader's lines are lines of the text,
 pub own_lines : (text : List ℕ) → AreLines text (lines_of text)
 own_lines [] = record { text_is = refl; one_line = All-nil IsOne; ended = tt }
 own_lines (b ∷ bs) = next_byte (b == 10) b bs (lines_of bs) refl (own_lines bs)
 
+-- and so are lines that are the same
 pub are_lines : (text : List ℕ) (lines : List Line) → lines_of text ≡ lines → AreLines text lines
 are_lines text lines e = let P : List Line → Type 0 = AreLines text in subst P e (own_lines text)

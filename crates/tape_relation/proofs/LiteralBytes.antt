@@ -7,6 +7,7 @@ use Rattle.nc_number.proofs.Bools.{both}
 
 -- a test that digits, the point and the signs pass
 module _ (test : ℕ → Bool) (digit : (b : ℕ) → is_ascii_digit b ≡ true → test b ≡ true) (point : (b : ℕ) → is_point b ≡ true → test b ≡ true) (sign : (b : ℕ) → is_sign b ≡ true → test b ≡ true) where
+  -- what holds of each digit holds of digits
   pub digits_pass : (text : List ℕ) → list_all is_ascii_digit text ≡ true → list_all test text ≡ true
   digits_pass [] e = refl
   digits_pass (b ∷ text) e = let p = both (is_ascii_digit b) (list_all is_ascii_digit text) e in rw (digit b p.0) (digits_pass text p.1)
@@ -34,6 +35,7 @@ module _ (test : ℕ → Bool) (digit : (b : ℕ) → is_ascii_digit b ≡ true 
       go true is h = rw (sign b is) h
       go false is h = h
 
+  -- and what holds also of signs and points holds of a literal
   pub literal_pass : (text : List ℕ) → is_literal text ≡ true → list_all test text ≡ true
   literal_pass text e =
       let p = both (list_all is_ascii_digit (whole_part text) && list_all is_ascii_digit (fraction_part text)) _ e in

@@ -14,22 +14,27 @@ use Rattle.tape_relation.specs.Numbers.{IsSign, IsWritten, IsLiteral, HasTooMany
 
 -- Digits, a point and digits, as a literal has them.
 
+-- a point is no digit
 pub point_no_digit : (b : ℕ) → is_point b ≡ true → is_ascii_digit b ≡ false
 point_no_digit b is = grind (arith, nat_tests)
 
+-- the digits before the point and those behind it
 abbrev pub Parts : List ℕ → List ℕ → List ℕ → Type 0
 Parts text whole fraction = (before_first is_point text ≡ whole) × (after_first is_point text ≡ fraction)
 
+-- one byte more in front
 pub parts_on : (b : ℕ) (text whole fraction : List ℕ) → is_point b ≡ false → Parts text whole fraction → Parts (b ∷ text) (b ∷ whole) fraction
 parts_on b text whole fraction off (w, f) =
     let one : 1 + position_or_len is_point text ≡ suc (position_or_len is_point text) = omega arith in
     let two : suc (position_or_len is_point text) + 1 ≡ suc (position_or_len is_point text + 1) = omega arith in
     (rw (off, one) (ap (λ (bs : List ℕ). b ∷ bs) w), rw (off, one) (rw two f))
 
+-- digits alone have no fraction
 pub parts_digits : (whole : List ℕ) → list_all is_ascii_digit whole ≡ true → Parts whole whole []
 parts_digits [] all = (refl, refl)
 parts_digits (b ∷ whole) all = let p = both (is_ascii_digit b) (list_all is_ascii_digit whole) all in parts_on b whole whole [] (digit_no_point b p.0) (parts_digits whole p.1)
 
+-- with a point the rest is the fraction
 pub parts_point : (b : ℕ) (whole fraction : List ℕ) → is_point b ≡ true → list_all is_ascii_digit whole ≡ true → Parts (whole ++ b ∷ fraction) whole fraction
 parts_point b [] fraction is all = (rw is refl, rw is refl)
 parts_point b (d ∷ whole) fraction is all = let p = both (is_ascii_digit d) (list_all is_ascii_digit whole) all in parts_on d (whole ++ b ∷ fraction) whole fraction (digit_no_point d p.0) (parts_point b whole fraction is p.1)
@@ -38,6 +43,7 @@ parts_point b (d ∷ whole) fraction is all = let p = both (is_ascii_digit d) (l
 abbrev pub Split : List ℕ → Type 0
 Split text = ((before_first is_point text ≡ text) × (after_first is_point text ≡ [])) ⊎ ((b : ℕ) × (is_point b ≡ true) × (text ≡ before_first is_point text ++ b ∷ after_first is_point text))
 
+-- each text is without a point, or has a first one
 pub split : (text : List ℕ) → Split text
 split [] = inl (refl, refl)
 split (b ∷ text) = go (is_point b) refl (split text)
@@ -53,6 +59,7 @@ split (b ∷ text) = go (is_point b) refl (split text)
 abbrev pub HasSign : List ℕ → Type 0
 HasSign text = (sign : List ℕ) × (text ≡ sign ++ behind_sign text) × IsSign sign
 
+-- each text begins with a sign, or with none
 pub signed : (text : List ℕ) → HasSign text
 signed [] = ([], refl, inl refl)
 signed (b ∷ text) = go (b == 43) refl (b == 45) refl
@@ -69,6 +76,7 @@ abbrev pub is_minus : List ℕ → Bool
 is_minus [] = false
 is_minus (b ∷ text) = b == 45
 
+-- the text begins with no sign
 abbrev NoSign : List ℕ → Type 0
 NoSign [] = Unit {0}
 NoSign (b ∷ text) = is_sign b ≡ false
@@ -96,6 +104,7 @@ pub record HasParts (text sign whole fraction : List ℕ) : Type 0 where
   pub fraction_is : fraction_part text ≡ fraction
   pub minus_is : has_minus text ≡ is_minus sign
 
+-- a literal as it is written has these parts for the reader
 pub written_parts : (text sign whole fraction : List ℕ) → IsWritten text sign whole fraction → HasParts text sign whole fraction
 written_parts text sign whole fraction w = go w.text_is
   where
@@ -117,10 +126,12 @@ some_digit n some = grind (arith, nat_tests)
 digit_some : (n : ℕ) → nat_lt 0 n ≡ true → 0 < n
 digit_some n some = grind (arith, nat_tests)
 
+-- a literal of the grammar is one for the reader
 pub literal_read : (text : List ℕ) → IsLiteral text → is_literal text ≡ true
 literal_read text (sign, whole, fraction, w) =
     let p = written_parts text sign whole fraction w in rw (p.whole_is, p.fraction_is, w.whole_are, w.fraction_are, some_digit (length whole + length fraction) w.some) refl
 
+-- a literal for the reader is written of its parts,
 pub written : (text : List ℕ) → is_literal text ≡ true → (sign : List ℕ) × IsWritten text sign (whole_part text) (fraction_part text)
 written text is =
     let p = both (list_all is_ascii_digit (whole_part text) && list_all is_ascii_digit (fraction_part text)) (nat_lt 0 (length (whole_part text) + length (fraction_part text))) is in
@@ -132,9 +143,11 @@ written text is =
     go sign is (inl (w, f)) = inl (is ∙ ap (λ (bs : List ℕ). sign ++ bs) (sym w), f)
     go sign is (inr (b, point, all)) = inr (is ∙ ap (λ (bs : List ℕ). sign ++ bs) all ∙ ap (λ (k : ℕ). sign ++ (whole_part text ++ k ∷ fraction_part text)) (eqb-true b 46 point))
 
+-- so it is one of the grammar
 pub literal_found : (text : List ℕ) → is_literal text ≡ true → IsLiteral text
 literal_found text is = let w = written text is in (w.0, whole_part text, fraction_part text, w.1)
 
+-- what is no literal is none for the reader,
 pub no_literal_read : (text : List ℕ) → (IsLiteral text → ⊥) → is_literal text ≡ false
 no_literal_read text out = go (is_literal text) refl
   where
@@ -142,11 +155,13 @@ no_literal_read text out = go (is_literal text) refl
     go true e = absurd (out (literal_found text e))
     go false e = e
 
+-- and the other way round
 pub no_literal_found : (text : List ℕ) → is_literal text ≡ false → IsLiteral text → ⊥
 no_literal_found text e is = let bad : true ≡ false = sym (literal_read text is) ∙ e in absurd cc
 
 -- Too many digits.
 
+-- more digits have no fewer that count
 pub significant_more : (whole more : List ℕ) → length (significant whole) ≤ length (significant (whole ++ more))
 significant_more [] more = omega arith
 significant_more (d ∷ whole) more = go (d == 48) refl (significant_more whole more)
@@ -183,6 +198,7 @@ rest_significant (d ∷ whole) n long = go (d == 48) refl long (rest_significant
         digit_before d whole n (later (rw (e, one) at h))
     go false e h later = let all : n < length (d ∷ whole) = rw e at h in ([], d, whole, refl, e, omega arith)
 
+-- a literal of too many digits has too many for the reader,
 pub many_read : (text sign whole fraction : List ℕ) → IsWritten text sign whole fraction → HasTooMany whole fraction → has_too_many_digits text ≡ true
 many_read text sign whole fraction w many = let p = written_parts text sign whole fraction w in rw (p.whole_is, p.fraction_is) (go many)
   where
@@ -197,6 +213,7 @@ many_read text sign whole fraction w many = let p = written_parts text sign whol
         rw (lt_true 8 (length (significant whole)) (omega arith)) refl
     go (inr more) = right (nat_lt 8 (length (significant whole))) (nat_lt 6 (length fraction)) (lt_true 6 (length fraction) more)
 
+-- and the other way round
 pub many_found : (text : List ℕ) → has_too_many_digits text ≡ true → HasTooMany (whole_part text) (fraction_part text)
 many_found text e = go (nat_lt 8 (length (significant (whole_part text)))) refl (nat_lt 6 (length (fraction_part text))) refl e
   where

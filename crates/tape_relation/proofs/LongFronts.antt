@@ -16,6 +16,7 @@ use Rattle.tape_relation.proofs.LiteralParts.{point_no_digit, Parts, parts_digit
 abbrev digits_of : List ℕ → List ℕ
 digits_of text = take (digits_len text) text
 
+-- what stands behind the digits at the head
 abbrev behind_digits : List ℕ → List ℕ
 behind_digits text = drop (digits_len text) text
 
@@ -50,6 +51,7 @@ abbrev point_part : List ℕ → List ℕ
 point_part [] = []
 point_part (b ∷ text) = cond (b == 46) (b ∷ digits_of text) []
 
+-- the digits behind a point at the head
 abbrev fraction_of : List ℕ → List ℕ
 fraction_of [] = []
 fraction_of (b ∷ text) = cond (b == 46) (digits_of text) []
@@ -93,6 +95,7 @@ parts_of text = go (behind_digits text)
 abbrev lit : List ℕ → List ℕ → Bool
 lit whole fraction = (list_all is_ascii_digit whole && list_all is_ascii_digit fraction) && nat_lt 0 (length whole + length fraction)
 
+-- there are too many digits: more than 8 that count, or more than 6 behind the point
 abbrev big : List ℕ → List ℕ → Bool
 big whole fraction = nat_lt 8 (length (significant whole)) || nat_lt 6 (length fraction)
 
@@ -200,6 +203,7 @@ sign_before (b ∷ number) rest is-lit = go (is_sign b) refl
     go true e = rw e refl
     go false e = rw e refl
 
+-- a text that begins with a literal of too many digits has a long front for the reader,
 pub front_read : (text : List ℕ) → BeginsLong text → has_long_front text ≡ true
 front_read text (number, rest, is, (sign, w, f, number-is, many)) =
     let lit-is : is_literal number ≡ true = literal_read number (sign, w, f, number-is) in
@@ -207,6 +211,7 @@ front_read text (number, rest, is, (sign, w, f, number-is, many)) =
     let u : behind_sign (number_front text) ≡ unsigned_of (behind_sign number ++ rest) = front_unsigned text ∙ ap (λ (bs : List ℕ). unsigned_of (behind_sign bs)) is ∙ ap unsigned_of (sign_before number rest lit-is) in
     ap (λ (bs : List ℕ). lit (before_first is_point bs) (after_first is_point bs) && big (before_first is_point bs) (after_first is_point bs)) u ∙ unsigned_long (behind_sign number) rest lit-is over
 
+-- and the other way round
 pub front_found : (text : List ℕ) → has_long_front text ≡ true → BeginsLong text
 front_found text e =
     let n : ℕ = sign_len text + unsigned_len (drop (sign_len text) text) in

@@ -1,4 +1,6 @@
 -- A number of too many digits by the grammar is one for the reader.
+-- Lemmas in `_read` go from the grammar to the reader, those in `_found` from the reader to the
+-- grammar.
 use Rattle.std.proofs.Common.{◌≡◌, ◌==◌, ℕ, suc, ◌+◌, ◌-◌, Bool, true, false, cond, ◌&&◌, ◌||◌, List, [], ◌∷◌, ◌++◌, length, map, take, drop, Option, Some, None, ◌⊎◌, inl, inr, refl, sym, ap, subst, ◌∙◌, append-nil, append_assoc, arith}
 use Rattle.std.specs.Prelude.{is_some}
 use Rattle.std.specs.Char.{is_ascii_uppercase}
@@ -98,6 +100,7 @@ no_statement_here letter rest is =
     ap is_statement text ∙ not_statement (letter.byte ∷ sentence_of rest)
     (λ s. let wrong : true ≡ false = sym (numbering_is O letter.byte refl refl is) ∙ first_is N letter.byte (sentence_of rest) refl refl refl refl refl refl s in absurd cc)
 
+-- one of the words up to the first broken one has too many digits
 abbrev long_pieces : List Piece → Bool
 long_pieces pieces = list_any is_long (take (prefix_len is_sound pieces + 1) pieces)
 
@@ -179,6 +182,7 @@ long_signs skips signs l =
       ap (λ (ss : List Sign). is_skipped skips (switch_of ss)) whole ∙ ap (is_skipped skips) p.0 ∙ same_off skips l.skip ∙ l.on,
     )
 
+-- a line with such a number is long for the reader, and not skipped,
 pub long_read : (skips : ℕ) (line : Line) → HasLongNumber skips line → ((reading line).long ≡ true) × (is_off skips line ≡ false)
 long_read skips line (signs, are, is) =
     let P : List Sign → Type 0 = λ ss. ((read_head (behind_comments ss)).long ≡ true) × (is_skipped skips (switch_of (behind_comments ss)) ≡ false) in
@@ -320,6 +324,7 @@ long_behind_comments skips before (sign ∷ rest) all e on = go (sign.byte == 47
             at true f h on = let p = digit_is d.byte f in behind_head skips before (sign ∷ (d ∷ [])) more (Some (d.byte - 48)) all (named sign d (d.byte - 48) (eqb-true sign.byte 47 s) p.0 p.1.0 p.1.1) on h
             at false f h on = behind_head skips before (sign ∷ []) (d ∷ more) (Some 1) all (alone sign (eqb-true sign.byte 47 s)) on h
 
+-- and the other way round
 pub long_found : (skips : ℕ) (line : Line) → (reading line).long ≡ true → is_off skips line ≡ false → HasLongNumber skips line
 long_found skips line e on =
     let signs : List Sign = (scan line).list in

@@ -15,6 +15,7 @@ use Rattle.tape_relation.specs.Conditions.{IsLeast, NoneHolds}
 use Rattle.tape_relation.specs.Relation.{fault_at, IsFirstFault, LacksProgram, LacksEnd, IsFaultOf, IsTapeOf}
 use Rattle.std.proofs.lemmas.List.Folds.{list_any-append}
 
+-- the first line passes the test, or there is no line
 abbrev starts_with : (Line → Bool) → List Line → Bool
 starts_with test [] = true
 starts_with test (line ∷ lines) = test line
@@ -35,11 +36,13 @@ one_cut test (x ∷ a) b (y ∷ c) d e p q r s =
     let later = one_cut test a b c d rest (neither (test x) (list_any test a) p).1 (neither (test y) (list_any test c) q).1 r s in
     let first = later.0 in (cc, later.1)
 
+-- lines of programs begin with an O number,
 programs_start : (skips n : ℕ) (lines : List Line) (programs : List Program) → SayPrograms skips n lines programs → starts_with (says_program skips) lines ≡ true
 programs_start skips n [] programs are = refl
 programs_start skips n (line ∷ lines) [] are = absurd cc
 programs_start skips n (line ∷ lines) (program ∷ programs) are = let is = are.3 in let head : line ≡ are.0 = cc in ap (says_program skips) head ∙ ap is_program are.4
 
+-- so they begin with a line that says something
 something_starts : (skips n : ℕ) (lines : List Line) (programs : List Program) → SayPrograms skips n lines programs → starts_with (says_something skips) lines ≡ true
 something_starts skips n [] programs are = refl
 something_starts skips n (line ∷ lines) [] are = absurd cc
@@ -64,6 +67,7 @@ one_list skips n lines (x ∷ a) (y ∷ b) p q =
     let Q : List Line → Type 0 = λ others. SayPrograms skips (n + 1 + length p.1) others b in
     let rest = one_list skips (n + 1 + length p.1) p.2 a b p.8 (subst Q (sym cut.1) (subst P (sym cut.0) q.8)) in cc
 
+-- lines have one tape
 pub one_tape : (skips : ℕ) (lines : List Line) (a b : List Program) → IsTapeOf skips lines a → IsTapeOf skips lines b → a ≡ b
 one_tape skips lines a b p q =
     let start : ℕ = length (before_percent lines) + 1 in
@@ -89,6 +93,7 @@ places [] (y ∷ g) b c l m e = let same : l ≡ y = cc in inr (inl (g, ap (λ (
 places (x ∷ f) [] b c l m e = let same : x ≡ m = cc in inr (inr (f, ap (λ (z : Line). z ∷ f) same))
 places (x ∷ f) (y ∷ g) b c l m e = let same : x ≡ y = cc in let rest : f ++ l ∷ b ≡ g ++ m ∷ c = cc in further x y f g l m same (places f g b c l m rest)
 
+-- and one first fault,
 one_first : (skips : ℕ) (lines : List Line) (a b : TextFault) → IsFirstFault skips [] lines a → IsFirstFault skips [] lines b → a ≡ b
 one_first skips lines a b p q = go (places p.before q.before p.behind q.behind p.line q.line (sym p.lines_are ∙ q.lines_are))
   where
@@ -104,27 +109,32 @@ one_first skips lines a b p q = go (places p.before q.before p.behind q.behind p
     go (inr (inl (k, e))) = absurd (q.none_before p.before k p.line p.refusal e p.least.0)
     go (inr (inr (k, e))) = absurd (p.none_before q.before k q.line q.refusal e q.least.0)
 
+-- which they don't have if no condition holds
 first_not_none : (skips : ℕ) (lines : List Line) (fault : TextFault) → IsFirstFault skips [] lines fault → NoneHolds skips [] lines → ⊥
 first_not_none skips lines fault first none = none first.before first.behind first.line first.refusal first.lines_are first.least.0
 
+-- they lack a program or an end in one way
 one_end : (skips : ℕ) (lines : List Line) (a b : TextFault) → LacksProgram skips lines a ⊎ LacksEnd skips lines a → LacksProgram skips lines b ⊎ LacksEnd skips lines b → a ≡ b
 one_end skips lines a b (inl p) (inl q) = p.1 ∙ sym q.1
 one_end skips lines a b (inl p) (inr q) = absurd (q.0 p.0)
 one_end skips lines a b (inr p) (inl q) = absurd (p.0 q.0)
 one_end skips lines a b (inr p) (inr q) = p.2 ∙ sym q.2
 
+-- so they have one fault,
 pub one_fault : (skips : ℕ) (lines : List Line) (a b : TextFault) → IsFaultOf skips lines a → IsFaultOf skips lines b → a ≡ b
 one_fault skips lines a b (inl p) (inl q) = one_first skips lines a b p q
 one_fault skips lines a b (inl p) (inr q) = absurd (first_not_none skips lines a p q.0)
 one_fault skips lines a b (inr p) (inl q) = absurd (first_not_none skips lines b q p.0)
 one_fault skips lines a b (inr p) (inr q) = one_end skips lines a b p.1 q.1
 
+-- lines of a program say something,
 some_said : (skips n : ℕ) (lines : List Line) (programs : List Program) → 0 < length programs → SayPrograms skips n lines programs → list_any (says_something skips) lines ≡ true
 some_said skips n lines [] some are = absurd (omega arith)
 some_said skips n [] (program ∷ programs) some are = let is = are.3 in absurd cc
 some_said skips n (line ∷ lines) (program ∷ programs) some are =
     let is = are.3 in let head : line ≡ are.0 = cc in let said-is : says_something skips line ≡ true = ap (says_something skips) head ∙ ap is_something are.4 in rw said-is refl
 
+-- also behind lines that say nothing
 pub body_said : (skips n : ℕ) (lines quiet others : List Line) (programs : List Program) → 0 < length programs → lines ≡ quiet ++ others → SayPrograms skips n others programs → list_any (says_something skips) lines ≡ true
 body_said skips n lines quiet others programs some is are =
     ap (list_any (says_something skips)) is ∙ list_any-append (says_something skips) quiet others ∙ either (list_any (says_something skips) quiet) (list_any (says_something skips) others) (some_said skips n others programs some are)
@@ -133,6 +143,7 @@ body_said skips n lines quiet others programs some is are =
     either true b e = refl
     either false b e = e
 
+-- and never both a tape and a fault
 pub not_both : (skips : ℕ) (lines : List Line) (tape : List Program) (fault : TextFault) → IsTapeOf skips lines tape → IsFaultOf skips lines fault → ⊥
 not_both skips lines tape fault is (inl first) = first_not_none skips lines fault first is.none_holds
 not_both skips lines tape fault is (inr (none, inl lacks)) =

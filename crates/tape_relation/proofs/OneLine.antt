@@ -16,9 +16,11 @@ use Rattle.nc_text.specs.Tape.{Answer, in_leader, nothing_read, tape_of}
 use Rattle.tape_relation.proofs.LineByLine.{Row, Both, Alone, firsts, seconds, size_all, Rows, SayAlike, SaysNothing, changed_says, same_answer}
 use Rattle.tape_relation.proofs.WholeLines.{size_of_lines, lines_split, lines_around, lines_before_last}
 
+-- a line number, unchanged
 abbrev same_line : ℕ → ℕ
 same_line line = line
 
+-- a word, unchanged
 abbrev same_word : Word → Word
 same_word word = word
 
@@ -34,6 +36,7 @@ programs_unchanged : (programs : List Program) → map (changed_program same_lin
 programs_unchanged [] = refl
 programs_unchanged (program ∷ programs) = λ i. record program { blocks = blocks_unchanged program.blocks i } ∷ programs_unchanged programs i
 
+-- an answer with these programs
 abbrev taped : List Program → Answer
 taped programs = Ok programs
 
@@ -48,6 +51,7 @@ zip_rows [] ys = []
 zip_rows (x ∷ xs) [] = []
 zip_rows (x ∷ xs) (y ∷ ys) = Both x y ∷ zip_rows xs ys
 
+-- two lists of lines as one list of rows
 record AreZipped (skips : ℕ) (xs ys : List Line) : Type 0 where
   firsts_are : firsts (zip_rows xs ys) ≡ xs
   seconds_are : seconds (zip_rows xs ys) ≡ ys
@@ -78,6 +82,7 @@ texts_alike skips f g w a b rows first second zero_same top alike fits_a fits_b 
     ap (λ (ls : List Line). changed f w (in_leader skips ls nothing_read)) (sym first) ∙ same_answer skips f g w rows zero_same top alike (omega arith) (omega arith)
     ∙ ap (λ (ls : List Line). changed g w (in_leader skips ls nothing_read)) second
 
+-- texts whose lines are alike have the same answer
 pub lines_alike : (skips : ℕ) (a b : List ℕ) → Fits a → Fits b → AllZip (IsAlike skips) (lines_of a) (lines_of b) → tape_of skips a ≡ tape_of skips b
 lines_alike skips a b fits_a fits_b alike =
     let z = zipped skips (lines_of a) (lines_of b) alike in
@@ -105,12 +110,15 @@ rows_front skips f g w (line ∷ lines) m n rows numbers behind = (
   rows_front skips f g w lines (m + 1) (n + 1) rows (λ i j k small p q. numbers i j (k + 1) (omega arith) (omega arith) (omega arith)) (λ i j p q. behind i j (omega arith) (omega arith)),
 )
 
+-- a line with its line feed
 abbrev ended : List ℕ → Line
 ended line = record { bytes = line; ended = true }
 
+-- a line without one
 abbrev last : List ℕ → Line
 last line = record { bytes = line; ended = false }
 
+-- the lines of a text around one line
 around_is : (front line back : List ℕ) → are_whole front ≡ true → IsOneLine line → lines_of front ++ (ended line ∷ (lines_of back ++ [])) ≡ lines_of (front ++ (line ++ 10 ∷ back))
 around_is front line back whole one = ap (λ (ls : List Line). lines_of front ++ (ended line ∷ ls)) (append-nil (lines_of back)) ∙ sym (lines_around front line back whole one)
 
@@ -144,6 +152,7 @@ line_in_place skips w front x y back whole one_x one_y alike fits_x fits_y =
     (λ i j p q. (ap (λ (n : ℕ). n + 1) (p ∙ sym q), alike, rows_front skips same_line same_line w (lines_of back) (i + 1) (j + 1) [] (λ m n k small s t. omega arith) (λ m n s t. omega arith))))
     fits_x fits_y
 
+-- a line in place of one that is alike leaves the answer
 pub alike_in_place : (skips : ℕ) (front x y back : List ℕ) → are_whole front ≡ true → IsOneLine x → IsOneLine y → IsAlike skips (record { bytes = x; ended = true }) (record { bytes = y; ended = true })
     → Fits (front ++ (x ++ 10 ∷ back)) → Fits (front ++ (y ++ 10 ∷ back)) → tape_of skips (front ++ (x ++ 10 ∷ back)) ≡ tape_of skips (front ++ (y ++ 10 ∷ back))
 alike_in_place skips front x y back whole one_x one_y alike fits_x fits_y =
@@ -179,6 +188,7 @@ line_taken_out skips front line back whole some one nothing fits =
     (λ i j p q. (nothing, rows_front skips same_line (lower before) same_word (lines_of back) i (j + 1) [] (λ m n k small s t. lower_more before m n (omega arith) (omega arith)) (λ m n s t. lower_more before m n (omega arith) (omega arith)))))
     shorter fits
 
+-- a last line that says nothing may be taken out
 pub last_taken_out : (skips : ℕ) (front line : List ℕ) → are_whole front ≡ true → 0 < length front → IsOneLine line → 0 < length line → SaysNothing skips (record { bytes = line; ended = false })
     → Fits (front ++ line) → tape_of skips front ≡ lowered (length (lines_of front)) (tape_of skips (front ++ line))
 last_taken_out skips front line whole some one some_line nothing fits =

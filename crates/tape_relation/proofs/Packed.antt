@@ -15,6 +15,7 @@ packed_here : (test : Bool) (b : ℕ) (bs : List ℕ) (inside : Bool) (place : �
 packed_here true b bs inside place blank later = same_chain _ _ _ (blank_here b bs inside place blank) (later inside place)
 packed_here false b bs inside place blank later = added (not inside && not (is_blank b)) place place b _ _ (later (inside_behind inside b) (place + 1))
 
+-- without its blanks a line has the same signs, places aside
 scan_packed : (line : List ℕ) (inside : Bool) (place : ℕ) → IsSameText (scan_of line inside place) (scan_of (packed line) inside place)
 scan_packed [] inside place = record { bytes = refl; unclosed = refl }
 scan_packed (b ∷ bs) inside place = packed_here (is_blank b) b bs inside place refl (scan_packed bs)
@@ -22,6 +23,7 @@ scan_packed (b ∷ bs) inside place = packed_here (is_blank b) b bs inside place
 packed_pushed : (test : Bool) (xs : List ℕ) (x : ℕ) → is_blank x ≡ test → packed (xs ++ x ∷ []) ≡ packed xs ++ cond (not test) (x ∷ []) []
 packed_pushed test xs x e = filter-append (λ b. not (is_blank b)) xs (x ∷ []) ∙ ap (λ (t : Bool). packed xs ++ cond (not t) (x ∷ []) []) e
 
+-- a choice of two texts without their blanks
 pub either_packed : (test : Bool) (a b : List ℕ) → packed (cond test a b) ≡ cond test (packed a) (packed b)
 either_packed true a b = refl
 either_packed false a b = refl
@@ -40,6 +42,7 @@ ends_pushed xs x before = go (is_blank x) refl
         ap (λ (l : List ℕ). packed (without_last 59 l)) (trimmed_other xs x other) ∙ ap packed (last_pushed 59 xs x) ∙ either_packed (x == 59) xs (xs ++ x ∷ [])
         ∙ ap (λ (l : List ℕ). cond (x == 59) (packed xs) l) (packed_pushed false xs x other) ∙ sym (last_pushed 59 (packed xs) x) ∙ ap (without_last 59) (sym (packed_pushed false xs x other))
 
+-- what is left of a line without its blanks
 content_packed : (line : List ℕ) (ended : Bool) → packed (content_of line ended) ≡ without_last 59 (packed (without_return line ended))
 content_packed line ended = by_last Ends ends_pushed (without_return line ended) [] refl
 

@@ -1,5 +1,7 @@
 -- What a line says depends on the bytes of its signs; only the places of its words depend on
 -- theirs.
+-- Each lemma whose name ends in `_bare` says that one step of the reader gives the same with signs
+-- or words whose places are 0.
 use Rattle.std.proofs.Common.{◌≡◌, ◌==◌, ℕ, ◌+◌, Bool, true, false, cond, not, ◌&&◌, List, [], ◌∷◌, length, map, take, drop, Option, None, refl, sym, ap, ◌∙◌}
 use Rattle.std.specs.Prelude.{filter}
 use Rattle.std.specs.Option.{is_some}
@@ -30,12 +32,15 @@ use Rattle.tape_relation.proofs.Mapped.{either_map, prefix_same, any_same, filte
 abbrev unplaced : Sign → Sign
 unplaced sign = record { place = 0; byte = sign.byte }
 
+-- signs without their places
 abbrev bare : List Sign → List Sign
 bare signs = map unplaced signs
 
+-- a word without its place
 abbrev bare_piece : Piece → Piece
 bare_piece piece = record piece { start = 0; end = 0 }
 
+-- what was read, without the places of words
 abbrev bare_reading : Reading → Reading
 bare_reading reading = record reading { said = changed_said without_place reading.said }
 
@@ -95,6 +100,7 @@ read_statement_bare signs = rw (sentence_bare signs) refl
 abbrev bare_group : Group → Group
 bare_group group = record { letter = unplaced group.letter; value = bare group.value }
 
+-- a cut into words without their places
 abbrev bare_cut : Cut → Cut
 bare_cut cut = record { lead = bare cut.lead; groups = map bare_group cut.groups }
 

@@ -1,4 +1,6 @@
 -- The programs of the relation are those that the reader's lines say.
+-- Lemmas in `_read` go from the relation to the reader, those in `_found` from the reader to the
+-- relation.
 use Rattle.std.proofs.Common.{◌≡◌, ◌==◌, ℕ, ◌+◌, Bool, true, false, cond, List, [], ◌∷◌, ◌++◌, length, Option, Some, None, ◌⊎◌, inl, inr, refl, sym, ap, subst, ◌∙◌}
 use Rattle.std.specs.Prelude.{is_some}
 use Rattle.std.specs.List.{list_all, list_any}
@@ -41,11 +43,13 @@ not_numbering word out = go (is_sequence word) refl
     go true e = absurd (out (numbering_found word e))
     go false e = e
 
+-- words without a sequence number have none for the reader,
 no_number_read : (words : List Piece) → HasNoNumber words → list_any is_sequence words ≡ false
 no_number_read [] all = refl
 no_number_read (word ∷ words) all =
     rw (not_numbering word (All-head (λ (w : Piece). IsNumbering w → ⊥) word words all)) (no_number_read words (All-tail (λ (w : Piece). IsNumbering w → ⊥) word words all))
 
+-- and the other way round
 no_number_found : (words : List Piece) → list_any is_sequence words ≡ false → HasNoNumber words
 no_number_found [] off = All-nil (λ (w : Piece). IsNumbering w → ⊥)
 no_number_found (word ∷ words) off =
@@ -59,6 +63,7 @@ sequence_none : (words : List Piece) (before : Option ℕ) → list_any is_seque
 sequence_none [] before off = refl
 sequence_none (word ∷ words) before off = let p = or_parts (is_sequence word) (list_any is_sequence words) off in rw p.0 (sequence_none words before p.1)
 
+-- the last sequence number is the one that the reader takes,
 sequence_read : (words : List Piece) (number : Option (List ℕ)) (sequence : Option ℕ) → IsLastNumber words number → IsSequence number sequence → sequence_from None words ≡ sequence
 sequence_read words None sequence off is = sequence_none words None (no_number_read words off) ∙ sym is
 sequence_read words (Some text) sequence (front, word, back, is, numbering, text-is, off) (n, sequence-is, number) =
@@ -97,6 +102,7 @@ last_or (word ∷ words) before all =
         let inside : is_some (number_in 0 99999 word.text) ≡ true = rw e at range in
         let found = has_found 0 99999 word.text (both (word.letter == 78) (is_literal word.text) e).1 inside in inr ([], word, words, refl, e, off, (found.0, same ∙ rw e found.1, (found.2.0, found.2.2)))
 
+-- and the other way round
 sequence_found : (words : List Piece) → list_all is_in_range words ≡ true → (number : Option (List ℕ)) × IsLastNumber words number × IsSequence number (sequence_from None words)
 sequence_found words all = go (last_or words None all)
   where
@@ -143,6 +149,7 @@ no_block_on skips number line out = go (says skips line) refl
     go (said.Program n) e = refl
     go (said.Block block) e = absurd (out (block_found skips line (ap tape.is_block e)))
 
+-- the blocks of lines are those that the reader has,
 blocks_are : (skips before : ℕ) (lines : List Line) (blocks : List Block) → AreBlocks skips before lines blocks → blocks ≡ blocks_on skips before lines
 blocks_are skips before [] blocks is = is
 blocks_are skips before (line ∷ lines) blocks (inl (block, later, is, here, rest)) =
@@ -174,6 +181,7 @@ here_found skips number line range = go (told skips line)
             let found = has_found 0 99999 digits lit inside in
             inl (record { line = number; sequence = number_in 0 99999 digits; body = Statement text }, ap (block_on number) e, (StatementBlock (Some digits) text, is, ((found.0, found.1, (found.2.0, found.2.2)), refl), refl))
 
+-- and the other way round
 blocks_made : (skips before : ℕ) (lines : List Line) → list_all (says_in_range skips) lines ≡ true → AreBlocks skips before lines (blocks_on skips before lines)
 blocks_made skips before [] all = refl
 blocks_made skips before (line ∷ lines) all =
@@ -202,11 +210,13 @@ number_says skips line n e = go (told skips line)
         by (StatementBlock None text) is lit h = absurd cc
         by (StatementBlock (Some digits) text) is lit h = absurd cc
 
+-- programs of the relation are what the lines say to the reader,
 pub programs_read : (skips before : ℕ) (lines : List Line) (programs : List Program) → ArePrograms skips before lines programs → SayPrograms skips before lines programs
 programs_read skips before lines [] is = is
 programs_read skips before lines (program ∷ programs) (head, own, others, is, number, line-is, off, blocks, rest) =
     (head, own, others, is, number_said skips head program.number number, line-is, no_program_read skips own off, blocks_are skips (before + 1) own program.blocks blocks, programs_read skips (before + 1 + length own) others programs rest)
 
+-- and the other way round
 pub programs_found : (skips before : ℕ) (lines : List Line) (programs : List Program) → list_all (says_in_range skips) lines ≡ true → SayPrograms skips before lines programs → ArePrograms skips before lines programs
 programs_found skips before lines [] range is = is
 programs_found skips before lines (program ∷ programs) range (head, own, others, is, number, line-is, off, blocks, rest) =

@@ -73,6 +73,7 @@ few_read text sign whole fraction w few = go (has_too_many_digits text) refl
         absurd (few (subst Q (written_parts text sign whole fraction w).fraction_is (subst P (written_parts text sign whole fraction w).whole_is (many_found text e))))
     go false e = e
 
+-- a literal that writes a whole number has it as its value,
 pub writes_read : (text : List ℕ) (n : ℕ) → Writes text n → Valued text n
 writes_read text n w =
     let few = few_read text w.sign w.whole w.fraction w.written w.few in
@@ -125,6 +126,7 @@ none_scaled : (f k : ℕ) → 0 < k → f * k ≡ 0 → f ≡ 0
 none_scaled zero k some e = refl
 none_scaled (suc f) k some e = let more : suc f * k ≡ k + f * k = omega arith in absurd (omega arith)
 
+-- and the other way round
 pub writes_found : (text : List ℕ) (n : ℕ) → is_literal text ≡ true → Valued text n → Writes text n
 writes_found text n is (literal, read, value) = go (has_too_many_digits text) refl read
   where
@@ -179,6 +181,7 @@ writes_found text n is (literal, read, value) = go (has_too_many_digits text) re
 abbrev pub IsNumber : ℕ → ℕ → List ℕ → ℕ → Type 0
 IsNumber low high text n = Writes text n × (low ≤ n) × (n ≤ high)
 
+-- a number in its range is the one that the reader takes,
 pub number_read : (low high : ℕ) (text : List ℕ) (n : ℕ) → IsNumber low high text n → number_in low high text ≡ Some n
 unfolding number_in
 number_read low high text n (writes, from, to) =
@@ -201,6 +204,7 @@ in_range_found low high (Some (pos m)) n e = go (nat_le low m) refl (nat_le m hi
     go true p false q h = absurd cc
     go false p b q h = absurd cc
 
+-- and the other way round
 pub number_found : (low high : ℕ) (text : List ℕ) (n : ℕ) → is_literal text ≡ true → number_in low high text ≡ Some n → IsNumber low high text n
 unfolding number_in
 number_found low high text n lit e = go (word_literal text) refl e
@@ -217,9 +221,11 @@ lacks_read low high text lit lacks = go (number_in low high text) refl
     go (Some n) e = absurd (lacks n (number_found low high text n lit e))
     go None e = ap is_some e
 
+-- if the reader takes none there is none,
 pub lacks_found : (low high : ℕ) (text : List ℕ) → is_some (number_in low high text) ≡ false → (n : ℕ) → IsNumber low high text n → ⊥
 lacks_found low high text e n is = let bad : true ≡ false = sym (ap is_some (number_read low high text n is)) ∙ e in absurd cc
 
+-- and if it takes one there is one
 pub has_found : (low high : ℕ) (text : List ℕ) → is_literal text ≡ true → is_some (number_in low high text) ≡ true → (n : ℕ) × (number_in low high text ≡ Some n) × IsNumber low high text n
 has_found low high text lit e = go (number_in low high text) refl e
   where
@@ -229,8 +235,10 @@ has_found low high text lit e = go (number_in low high text) refl e
 
 -- Sequence numbers and O numbers.
 
+-- a sequence number is a number from 0 to 99,999
 pub sequence_number : (text : List ℕ) (n : ℕ) → IsSequenceNumber text n → IsNumber 0 99999 text n
 sequence_number text n (writes, to) = (writes, omega arith, to)
 
+-- and what is none is no such number
 pub lacks_sequence : (text : List ℕ) → LacksSequenceNumber text → (n : ℕ) → IsNumber 0 99999 text n → ⊥
 lacks_sequence text lacks n (writes, from, to) = lacks n (writes, to)

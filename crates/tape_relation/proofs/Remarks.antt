@@ -24,6 +24,7 @@ module _ (ended : Bool) where
 
   -- The signs of a line are those that the grammar says.
 
+  -- signs of the relation are those that the reader has,
   pub signs_read : (place : ℕ) (bytes : List ℕ) (signs : List Sign) → AreSigns ended place bytes signs → (signs_on ended bytes false place).list ≡ signs
   signs_read _ _ _ (nothing place) = refl
   signs_read _ _ _ (ignored place b bytes signs is rest) = rw is (go (b == 40) refl (signs_read (place + 1) bytes signs rest))
@@ -86,6 +87,7 @@ module _ (ended : Bool) where
   reads [] = (λ place. nothing place, λ place. inl (refl, refl))
   reads (b ∷ bytes) = let later = reads bytes in (outside_reads b bytes later, within_reads b bytes later)
 
+  -- and the other way round
   pub signs_found : (bytes : List ℕ) (place : ℕ) → AreSigns ended place bytes (signs_on ended bytes false place).list
   signs_found bytes = (reads bytes).0
 
@@ -209,6 +211,7 @@ module _ (ended : Bool) where
       in
       keeps true place 40 (signs_on ended ((text ++ 41 ∷ bytes) ++ back) true (place + 1)) (subst T (sym whole) (stays T keeps bytes out back here ((place + 1) + (length text + 1))))
 
+-- a sign that is refused stays among the signs
 bad_kept : (a : Bool) (place b : ℕ) (scan : Scan) → are_allowed scan.list ≡ false → are_allowed (add_sign a place b scan).list ≡ false
 bad_kept true place b scan h = go (is_allowed (to_ascii_uppercase b)) h
   where
@@ -217,10 +220,12 @@ bad_kept true place b scan h = go (is_allowed (to_ascii_uppercase b)) h
     go false h = refl
 bad_kept false place b scan h = h
 
+-- a comment that is open at the end stays open
 late_kept : (a : Bool) (place b : ℕ) (scan : Scan) → scan.unclosed ≡ true → (add_sign a place b scan).unclosed ≡ true
 late_kept true place b scan h = h
 late_kept false place b scan h = h
 
+-- what is no character opens no comment, byte 40
 not_bracket : (b : ℕ) → is_character (to_ascii_uppercase b) ≡ false → (b == 40) ≡ false
 not_bracket b h = go (b == 40) refl
   where
@@ -230,31 +235,37 @@ not_bracket b h = go (b == 40) refl
 
 -- A line has a bad character where the reader finds one, and ends in a comment where it finds that.
 
+-- a line with a byte that is no character has a sign that is refused,
 pub bad_read : (line : Line) → HasBadCharacter line → are_allowed (signs_of line.bytes line.ended).list ≡ false
 bad_read line (front, b, back, is, out, other, counts) =
     let here : (place : ℕ) → are_allowed (signs_on line.ended (b ∷ back) false place).list ≡ false = λ place. rw (counts, not_bracket b other, sym (character_allowed line.ended (to_ascii_uppercase b)), other) refl in
     sym (ap (λ (s : Scan). are_allowed s.list) (signs_are line.ended line.bytes)) ∙ ap (λ (l : List ℕ). are_allowed (signs_on line.ended l false 0).list) is
     ∙ stays line.ended (λ s. are_allowed s.list ≡ false) bad_kept front out (b ∷ back) here 0
 
+-- and the other way round
 pub bad_found : (line : Line) → are_allowed (signs_of line.bytes line.ended).list ≡ false → HasBadCharacter line
 bad_found line h = go ((finds_bad line.ended line.bytes).0 0 (ap (λ (s : Scan). are_allowed s.list) (signs_are line.ended line.bytes) ∙ h))
   where
     go : Behind line.ended (IsBadHere line.ended) line.bytes → HasBadCharacter line
     go (front, back, is, out, (b, behind, back-is, other, counts)) = (front, b, behind, is ∙ ap (λ (l : List ℕ). front ++ l) back-is, out, other, counts)
 
+-- a line that ends in a comment ends in one for the reader,
 pub open_read : (line : Line) → EndsInComment line → (signs_of line.bytes line.ended).unclosed ≡ true
 open_read line (front, text, is, out, r) =
     sym (ap (λ (s : Scan). s.unclosed) (signs_are line.ended line.bytes)) ∙ ap (λ (l : List ℕ). (signs_on line.ended l false 0).unclosed) is
     ∙ stays line.ended (λ s. s.unclosed ≡ true) late_kept front out (40 ∷ text) (λ place. ap (λ (s : Scan). s.unclosed) (open_remark line.ended text (place + 1) r)) 0
 
+-- and the other way round
 pub open_found : (line : Line) → (signs_of line.bytes line.ended).unclosed ≡ true → EndsInComment line
 open_found line h = go ((finds_open line.ended line.bytes).0 0 (ap (λ (s : Scan). s.unclosed) (signs_are line.ended line.bytes) ∙ h))
   where
     go : Behind line.ended (IsOpenHere line.ended) line.bytes → EndsInComment line
     go (front, back, is, out, (text, back-is, r)) = (front, text, is ∙ ap (λ (l : List ℕ). front ++ l) back-is, out, r)
 
+-- the reader's signs are the signs of the line,
 pub the_signs : (line : Line) → AreSigns line.ended 0 line.bytes (signs_of line.bytes line.ended).list
 the_signs line = let P : Scan → Type 0 = λ s. AreSigns line.ended 0 line.bytes s.list in subst P (signs_are line.ended line.bytes) (signs_found line.ended line.bytes 0)
 
+-- and there are no others
 pub signs_same : (line : Line) (signs : List Sign) → AreSigns line.ended 0 line.bytes signs → (signs_of line.bytes line.ended).list ≡ signs
 signs_same line signs are = sym (ap (λ (s : Scan). s.list) (signs_are line.ended line.bytes)) ∙ signs_read line.ended 0 line.bytes signs are

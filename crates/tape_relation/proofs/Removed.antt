@@ -24,6 +24,7 @@ use Rattle.tape_relation.proofs.Packed.{packed, signs_packed}
 use Rattle.tape_relation.proofs.LineByLine.{SaysNothing}
 use Rattle.tape_relation.proofs.OneLine.{alike_in_place, line_taken_out, last_taken_out}
 
+-- the text begins with `%`, byte 37
 abbrev Begins : List ℕ → Type 0
 Begins line = (rest : List ℕ) × (line ≡ 37 ∷ rest)
 
@@ -49,6 +50,7 @@ percent_bad bs ended =
     sym (list_all-map is_allowed (λ (sign : Sign). sign.byte) (signs_of (37 ∷ bs) ended).list)
     ∙ ap (list_all is_allowed) (IsSameText.bytes (signs_packed (37 ∷ bs) ended) ∙ ap (λ (l : List ℕ). bytes_of (scan_of l false 0).list) text)
 
+-- a line that begins with `%` can't be read between the `%` lines
 percent_refused : (skips : ℕ) (bs : List ℕ) (ended : Bool) (says : Said) → line_says skips (37 ∷ bs) ended ≡ Ok says → ⊥
 unfolding line_says
 percent_refused skips bs ended says e =
@@ -68,6 +70,7 @@ not_percent skips (b ∷ bs) ended says e = go (b == 37) refl
     go true is = absurd (percent_refused skips bs ended says (ap (λ (x : ℕ). line_says skips (x ∷ bs) ended) (sym (eqb-true b 37 is)) ∙ e))
     go false is = is
 
+-- a line that is read as nothing says nothing
 nothing : (skips : ℕ) (line : List ℕ) (ended : Bool) → length line ≤ 512 → line_says skips line ended ≡ Ok said.Nothing → SaysNothing skips (record { bytes = line; ended = ended })
 nothing skips line ended short says = record { says = says; percent = not_percent skips line ended said.Nothing says; long = le-ltb 512 (length line) short }
 
@@ -94,11 +97,13 @@ taken_out skips front line back is some says = line_taken_out skips front line b
 pub last_out : (skips : ℕ) (front line : List ℕ) → IsLastLine front line → 0 < length front → line_says skips line false ≡ Ok said.Nothing → tape_of skips front ≡ lowered (length (lines_of front)) (tape_of skips (front ++ line))
 last_out skips front line is some says = last_taken_out skips front line is.whole some is.one_line is.some (nothing skips line false is.short says) is.fits
 
+-- an empty line behind others may be taken out: the later lines have a number less
 pub empty_taken_out : (skips : ℕ) (front back : List ℕ) → are_whole front ≡ true → 0 < length front → Fits (front ++ 10 ∷ back) → tape_of skips (front ++ back) ≡ lowered (length (lines_of front)) (tape_of skips (front ++ 10 ∷ back))
 empty_taken_out skips front back whole some fits =
     let short : 0 ≤ 512 = omega arith in
     taken_out skips front [] back (record { whole = whole; one_line = no_feed; short = short; fits = fits }) some (no_line_says_nothing skips)
 
+-- the line can be read, and says this
 abbrev readable : Said → Result Said Refusal
 readable says = Ok says
 

@@ -1,4 +1,5 @@
 -- A carriage return before each line feed changes nothing.
+-- Byte 13 is the carriage return.
 use Rattle.std.proofs.Common.{◌≡◌, ◌==◌, ℕ, ◌+◌, ◌-◌, ◌<◌, ◌≤◌, Bool, true, false, cond, List, [], ◌∷◌, ◌++◌, length, map, take, refl, sym, ap, ◌∙◌, length-append, arith}
 use Rattle.std.specs.Prelude.{All}
 use Rattle.std.specs.List.{AllZip}
@@ -15,6 +16,7 @@ use Rattle.nc_text.specs.Tape.{tape_of}
 use Rattle.tape_relation.proofs.SkippedLines.{return_ignored}
 use Rattle.tape_relation.proofs.OneLine.{lines_alike, alike_in_place}
 
+-- a line with a carriage return before its line feed
 abbrev returned : Line → Line
 returned line = record { bytes = cond line.ended (line.bytes ++ 13 ∷ []) line.bytes; ended = line.ended }
 
@@ -26,6 +28,7 @@ onto_returned b (line ∷ lines) = go line.ended
     go true = refl
     go false = refl
 
+-- the lines of the text with carriage returns
 lines_returned : (text : List ℕ) → lines_of (with_returns text) ≡ map returned (lines_of text)
 lines_returned [] = refl
 lines_returned (b ∷ text) = go (b == 10) refl (lines_returned text)
@@ -65,6 +68,7 @@ percent_returned : (line : List ℕ) → is_percent (line ++ 13 ∷ []) ≡ is_p
 percent_returned [] = refl
 percent_returned (b ∷ bs) = refl
 
+-- a line with it is like one without it
 line_alike : (skips : ℕ) (ended : Bool) (line : List ℕ) → EndsWithoutReturn line → length line < 512 → IsAlike skips (record { bytes = cond ended (line ++ 13 ∷ []) line; ended = ended }) (record { bytes = line; ended = ended })
 line_alike skips true line other room =
     let longer : length (line ++ 13 ∷ []) ≤ 512 = omega (arith, length-append line (13 ∷ [])) in
@@ -72,6 +76,7 @@ line_alike skips true line other room =
     record { says = λ _. return_ignored skips line ∙ unreturned_says skips line other; percent = percent_returned line; long = le-ltb 512 (length (line ++ 13 ∷ [])) longer ∙ sym (le-ltb 512 (length line) short) }
 line_alike skips false line other room = record { says = λ _. refl; percent = refl; long = refl }
 
+-- and so are all lines
 all_alike : (skips : ℕ) (lines : List Line) → Each (λ (b : ℕ). (b == 13) ≡ false) lines → All (λ (line : Line). length line.bytes < 512) lines → AllZip (IsAlike skips) (map returned lines) lines
 all_alike skips [] none room = tt
 all_alike skips (line ∷ lines) none room = (
@@ -87,6 +92,7 @@ longer (b ∷ text) = go (b == 10) (longer text)
     go true later = omega arith
     go false later = omega arith
 
+-- so the tape is the same
 pub returns_ignored : (skips : ℕ) (text : List ℕ) → HasNoReturn text → HaveRoom text → Fits (with_returns text) → tape_of skips (with_returns text) ≡ tape_of skips text
 returns_ignored skips text none room fits =
     let shorter : Fits text = omega (arith, longer text) in

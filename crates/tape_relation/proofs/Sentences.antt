@@ -33,6 +33,7 @@ said_of (WordBlock words) = said.Block (record { sequence = sequence_from None w
 said_of (StatementBlock None text) = said.Block (record { sequence = None; in_range = true; body = Statement text })
 said_of (StatementBlock (Some number) text) = said.Block (record { sequence = number_in 0 99999 number; in_range = is_some (number_in 0 99999 number); body = Statement text })
 
+-- what is read is sound, and says this sentence
 pub record ReadsAs (reading : Reading) (sentence : Sentence) : Type 0 where
   pub sound : reading.broken ≡ false
   pub says : reading.said ≡ said_of sentence
@@ -45,6 +46,7 @@ prefix_all (word ∷ words) all =
     let p = both (is_sound word) (list_all is_sound words) all in
     let later = prefix_all words p.1 in rw p.0 (let z : 1 + prefix_len is_sound words ≡ length (word ∷ words) = omega arith in z)
 
+-- if no word comes behind the first broken one all are sound
 pub all_prefix : (words : List Piece) → nat_lt (prefix_len is_sound words) (length words) ≡ false → list_all is_sound words ≡ true
 all_prefix [] e = refl
 all_prefix (word ∷ words) e = go (is_sound word) refl e (all_prefix words)
@@ -136,9 +138,11 @@ pub record First (signs : List Sign) : Type 0 where
 letter_no_slash : (b : ℕ) → is_ascii_uppercase b ≡ true → (b == 47) ≡ false
 letter_no_slash b is = grind (arith, nat_tests)
 
+-- a letter is no switch
 pub letter_no_switch : (b : ℕ) → is_ascii_uppercase b ≡ true → is_switch b ≡ false
 letter_no_switch b is = grind (arith, nat_tests)
 
+-- signs that begin with a letter begin with no comment and no skip sign
 pub first_letter : (sign : Sign) (rest : List Sign) → is_ascii_uppercase sign.byte ≡ true → First (sign ∷ rest)
 first_letter sign rest up = record { sign = sign; rest = rest; signs_are = refl; no_slash = letter_no_slash sign.byte up; no_switch = letter_no_switch sign.byte up; no_comment = letter_no_comment sign.byte up }
 
@@ -198,6 +202,7 @@ no_digit_behind (sign ∷ between) signs all off = comment_no_digit sign (both (
 
 -- Behind the comments before it, a sentence is read as what it is.
 
+-- behind a skip sign of this switch, or none, the reader reads this sentence
 pub record IsRead (signs : List Sign) (skip : Option ℕ) (sentence : Sentence) : Type 0 where
   pub switch_is : switch_of signs ≡ skip
   pub reads : ReadsAs (read_head signs) sentence
@@ -258,6 +263,7 @@ sentence_behind_comments head between rest skip sentence is-skip all some is =
     let P : Reading → Type 0 = λ r. ReadsAs r sentence in
     record { switch_is = p.0; reads = subst P (sym p.1) (block_read skip rest sentence is) }
 
+-- a sentence of the grammar is read as it is
 pub sentence_read : (signs : List Sign) (skip : Option ℕ) (sentence : Sentence) → IsSentence signs skip sentence → IsRead (behind_comments signs) skip sentence
 unfolding read_head
 sentence_read _ _ _ (blank comments all) =
@@ -284,6 +290,7 @@ block_literals _ _ _ (worded skip signs words are off) = tt
 block_literals _ _ _ (stated skip signs is) = tt
 block_literals _ _ _ (numbered skip letter number signs n lit is) = literal_read (bytes_of number) lit
 
+-- its numbers are literals
 pub sentence_literals : (signs : List Sign) (skip : Option ℕ) (sentence : Sentence) → IsSentence signs skip sentence → HasLiterals sentence
 sentence_literals _ _ _ (blank comments all) = tt
 sentence_literals _ _ _ (block before head between rest skip sentence all-before is-skip all-between some is) = block_literals skip rest sentence is

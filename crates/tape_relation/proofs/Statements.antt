@@ -34,6 +34,7 @@ begins_found (b ∷ word) (c ∷ text) e =
     let p = both (nat_eq b c) (pointwise nat_eq word (take (length word) text)) e in
     let later = begins_found word text p.1 in (later.0, ap (λ (k : ℕ). k ∷ text) (sym (eqb-true b c p.0)) ∙ ap (λ (t : List ℕ). b ∷ t) later.1)
 
+-- a statement of the grammar is one for the reader,
 pub statement_read : (text : List ℕ) → IsStatement text → is_statement text ≡ true
 statement_read text is = go is
   where
@@ -45,6 +46,7 @@ statement_read text is = go is
     go (inr (inr (inr (inr (inl h))))) = or_right (starts_with nat_eq text (codes "#") || starts_with nat_eq text (codes "IF") || starts_with nat_eq text (codes "WHILE")) _ (or_left (starts_with nat_eq text (codes "GOTO") || starts_with nat_eq text (codes "DO")) _ (or_right (starts_with nat_eq text (codes "GOTO")) _ (begins_read (codes "DO") text h)))
     go (inr (inr (inr (inr (inr h))))) = or_right (starts_with nat_eq text (codes "#") || starts_with nat_eq text (codes "IF") || starts_with nat_eq text (codes "WHILE")) _ (or_right (starts_with nat_eq text (codes "GOTO") || starts_with nat_eq text (codes "DO")) _ (begins_read (codes "END") text h))
 
+-- and the other way round
 pub statement_found : (text : List ℕ) → is_statement text ≡ true → IsStatement text
 statement_found text e = go (starts_with nat_eq text (codes "#")) refl (starts_with nat_eq text (codes "IF")) refl (starts_with nat_eq text (codes "WHILE")) refl (starts_with nat_eq text (codes "GOTO")) refl (starts_with nat_eq text (codes "DO")) refl (starts_with nat_eq text (codes "END")) refl e
   where
@@ -70,6 +72,7 @@ first_is P b text hash i w g d e is = go is
     go (inr (inr (inr (inr (inl (rest, is)))))) = let same : b ≡ 68 = cc in subst P (sym same) d
     go (inr (inr (inr (inr (inr (rest, is)))))) = let same : b ≡ 69 = cc in subst P (sym same) e
 
+-- nothing is no statement
 pub no_statement : IsStatement [] → ⊥
 no_statement (inl (rest, is)) = absurd cc
 no_statement (inr (inl (rest, is))) = absurd cc
@@ -78,6 +81,7 @@ no_statement (inr (inr (inr (inl (rest, is))))) = absurd cc
 no_statement (inr (inr (inr (inr (inl (rest, is)))))) = absurd cc
 no_statement (inr (inr (inr (inr (inr (rest, is)))))) = absurd cc
 
+-- the first byte is no letter, or the second one is a letter too
 abbrev letter_or : ℕ → ℕ → Bool
 letter_or first second = not (is_ascii_uppercase first) || is_ascii_uppercase second
 
@@ -100,9 +104,11 @@ value_first sign value e = go (is_ascii_uppercase sign.byte) refl (ap (λ (c : C
     go true u h = let bad : ◌≡◌ {A = List Sign} [] (sign ∷ (value ++ [])) = rw u at h in absurd cc
     go false u h = u
 
+-- a letter opens no comment
 pub letter_no_comment : (b : ℕ) → is_ascii_uppercase b ≡ true → (b == 40) ≡ false
 letter_no_comment b is = grind (arith, nat_tests)
 
+-- what is no statement is none for the reader
 pub not_statement : (text : List ℕ) → (IsStatement text → ⊥) → is_statement text ≡ false
 not_statement text no-one = go (is_statement text) refl
   where
@@ -129,5 +135,6 @@ words_before signs tail (word ∷ words) (letter, v ∷ value, comments, others,
             let bad : letter_or letter.byte v.byte ≡ false = rw (up, value_first v value (is_a_value (bytes_of (v ∷ value)) val)) refl in
             let worse : true ≡ false = sym second ∙ bad in absurd cc
 
+-- words are no statement
 pub words_unlike : (signs : List Sign) (words : List Piece) → AreWords signs words → is_statement (sentence_of signs) ≡ false
 words_unlike signs words are = ap (λ (ss : List Sign). is_statement (sentence_of ss)) (sym (append-nil signs)) ∙ words_before signs [] words are refl

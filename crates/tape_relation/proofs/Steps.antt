@@ -35,9 +35,11 @@ pub record Inside (skips : ℕ) (front : List Line) (before : Before) : Type 0 w
   pub blocks_are : before.blocks ≡ length (filter (says_block skips) (behind_percent front))
   pub none_is : is_none before.current ≡ not (list_any (says_something skips) (behind_percent front))
 
+-- with this line the text is past the longest tape
 abbrev past : Before → Line → Bool
 past before line = is_past_end before (length line.bytes) line.ended
 
+-- then the condition of a tape that is too long holds,
 past_holds : (skips : ℕ) (front : List Line) (line : Line) (before : Before) → Stands front before → past before line ≡ true → Holds skips front line TapeTooLong
 past_holds skips front line before stands e =
     let more = size_last front line in
@@ -45,6 +47,7 @@ past_holds skips front line before stands e =
     let same = stands.bytes_are in
     (stands.few, omega arith)
 
+-- and the other way round
 past_told : (skips : ℕ) (front : List Line) (line : Line) (before : Before) → Stands front before → Holds skips front line TapeTooLong → past before line ≡ true
 past_told skips front line before stands h =
     let more = size_last front line in
@@ -65,6 +68,7 @@ outer_test before line LineTooLong = false
 outer_test before line TooManyBlocks = false
 outer_test before line WordRange = false
 
+-- what is asked at a line outside the body tells which conditions hold there
 pub outer_tells : (skips : ℕ) (front : List Line) (line : Line) (before : Before) → Stands front before → (Counts front line → ⊥) → Tells skips front line (outer_test before line)
 outer_tells skips front line before stands out = record { told = told; holds = holds }
   where
@@ -108,6 +112,7 @@ percent_test before line WordRange = false
 in_body_not : (front : List Line) (line : Line) → begins_percent line ≡ true → IsInBody front line → ⊥
 in_body_not front line is h = let bad : true ≡ false = sym is ∙ h.1 in absurd cc
 
+-- so does what is asked at a `%` line
 pub percent_tells : (skips : ℕ) (front : List Line) (line : Line) (before : Before) → Stands front before → Counts front line → begins_percent line ≡ true → Tells skips front line (percent_test before line)
 percent_tells skips front line before stands counts is = record { told = told; holds = holds }
   where
@@ -151,9 +156,11 @@ body_test skips before line WordRange = not (is_said_in_range (says skips line))
 not_is : (a : Bool) → a ≡ false → not a ≡ true
 not_is a e = rw e refl
 
+-- a line of the body counts
 pub counts_here : (skips : ℕ) (front : List Line) (line : Line) (before : Before) → Inside skips front before → Counts front line
 counts_here skips front line before inside = (has_more front (line ∷ []) inside.opened, inside.not_closed)
 
+-- so does what is asked at a line of the body
 pub body_tells : (skips : ℕ) (front : List Line) (line : Line) (before : Before) → Stands front before → Inside skips front before → begins_percent line ≡ false → Tells skips front line (body_test skips before line)
 body_tells skips front line before stands inside is = record { told = told; holds = holds }
   where
@@ -215,6 +222,7 @@ judged_step skipped allowed unclosed read before len ended test what said-is t5 
     go false true false false true e = rw e refl
     go false true false false false e = rw e refl
 
+-- at a line of the body the reader answers the first refusal in the order, or goes on
 pub body_step : (skips : ℕ) (before : Before) (line : Line) → after_line skips before line.bytes line.ended ≡ unless_refused (first_of (body_test skips before line) order) (next (with_said before (says skips line)) (length line.bytes) line.ended)
 unfolding line_says
 body_step skips before line =

@@ -1,4 +1,6 @@
 -- Lower case reads as upper case.
+-- Each lemma whose name ends in `_up` says that one step of the reader gives the same in upper
+-- case.
 use Rattle.std.proofs.Common.{◌≡◌, ◌==◌, ℕ, zero, suc, ◌+◌, ◌-◌, ◌<◌, Bool, true, false, cond, not, ◌&&◌, ◌||◌, List, [], ◌∷◌, ◌++◌, length, map, take, get_or, refl, sym, ap, ◌∙◌, arith}
 use Rattle.std.specs.Prelude.{reverse}
 use Rattle.std.specs.Char.{to_ascii_uppercase}
@@ -11,6 +13,7 @@ use Rattle.line_text.specs.Said.{line_says, judged_signs}
 use Rattle.nc_text.specs.Tape.{Before, goes_on, after_said, after_outer, after_percent, in_rest, in_body, in_leader, begun, nothing_read, tape_of}
 use Rattle.tape_relation.proofs.Mapped.{either_map, prefix_same}
 
+-- a byte in upper case
 abbrev up : ℕ → ℕ
 up b = to_ascii_uppercase b
 
@@ -32,6 +35,7 @@ up_added : (test : Bool) (place b : ℕ) (scan : Scan) → add_sign test place (
 up_added true place b scan = rw (up_up b) refl
 up_added false place b scan = refl
 
+-- a line has the same signs,
 scan_up : (line : List ℕ) (inside : Bool) (place : ℕ) → scan_of (map up line) inside place ≡ scan_of line inside place
 scan_up [] inside place = refl
 scan_up (b ∷ line) inside place =
@@ -71,11 +75,13 @@ content_up line ended =
     ap (λ (l : List ℕ). without_last 59 (without_blanks l)) (return_up line ended) ∙ ap (without_last 59) (blanks_up (without_return line ended))
     ∙ last_up 59 (without_blanks (without_return line ended)) (omega arith)
 
+-- so it says the same,
 says_up : (skips : ℕ) (line : List ℕ) (ended : Bool) → line_says skips (map up line) ended ≡ line_says skips line ended
 unfolding line_says signs_of
 says_up skips line ended =
     (λ i. judged_signs skips (scan_of (content_up line ended i) false 0)) ∙ ap (judged_signs skips) (scan_up (content_of line ended) false 0)
 
+-- a line in upper case
 abbrev up_line : Line → Line
 up_line line = record { bytes = map up line.bytes; ended = line.ended }
 
@@ -83,6 +89,7 @@ onto_up : (b : ℕ) (lines : List Line) → onto_line (up b) (map up_line lines)
 onto_up b [] = refl
 onto_up b (line ∷ lines) = refl
 
+-- and so do all lines of the text
 lines_up : (text : List ℕ) → lines_of (map up text) ≡ map up_line (lines_of text)
 lines_up [] = refl
 lines_up (b ∷ text) =

@@ -48,6 +48,7 @@ no_front : (depth : ℕ) → 0 < depth → (front back : List ℕ) → ◌≡◌
 no_front depth some [] back e = omega arith
 no_front depth some (b ∷ front) back e = absurd cc
 
+-- a text whose bracket is closed at its end is balanced within it,
 closed : (text : List ℕ) (depth : ℕ) → 0 < depth → closes text depth ≡ true → IsClosing depth text
 closed [] depth some e = absurd cc
 closed (b ∷ text) depth some e = go (b == 91) refl (b == 93) refl (depth == 1) refl e (closed text (depth + 1)) (closed text (depth - 1)) (closed text depth)
@@ -71,6 +72,7 @@ closed (b ∷ text) depth some e = go (b == 91) refl (b == 93) refl (depth == 1)
         not_one d some off = grind arith
     go false e91 false e93 one e1 h more less same = extend b depth depth text false false e91 e93 some refl (same some h)
 
+-- and the other way round; 91 is `[`, 93 is `]`
 closing : (inner : List ℕ) (depth : ℕ) → 0 < depth → times 91 inner + depth ≡ times 93 inner + 1 → ((front back : List ℕ) → inner ≡ front ++ back → times 93 front < times 91 front + depth) → closes (inner ++ 93 ∷ []) depth ≡ true
 closing [] depth some same open_first = let one : depth ≡ 1 = omega arith in rw (eq-eqb depth 1 one) refl
 closing (b ∷ inner) depth some same open_first = go (b == 91) refl (b == 93) refl (depth == 1) refl (closing inner (depth + 1)) (closing inner (depth - 1)) (closing inner depth)
@@ -144,6 +146,7 @@ reference (b ∷ text) e = go (b == 35) refl e
         let p = both (b == 91) (closes text 1) h in
         let x : b ≡ 91 = eqb-true b 91 p.0 in let P : ℕ → Type 0 = λ k. IsBracketed (k ∷ text) in inr (subst P (sym x) (bracketed text p.1))
 
+-- what the reader takes for a value is one of the grammar,
 pub value_is : (text : List ℕ) → is_value text ≡ true → IsValue text
 value_is text e = go (is_literal text) refl e
   where
@@ -169,6 +172,7 @@ is_a_reference (b ∷ text) (inr bracket) =
     let P : ℕ → Type 0 = λ k. (is_reference (k ∷ text) ≡ true) × (behind_sign (k ∷ text) ≡ k ∷ text) in
     let here : (is_reference (91 ∷ text) ≡ true) × (behind_sign (91 ∷ text) ≡ 91 ∷ text) = (p.1, refl) in subst P (sym p.0) here
 
+-- and the other way round
 pub is_a_value : (text : List ℕ) → IsValue text → is_value text ≡ true
 is_a_value text (inl is) = rw (literal_read text is) refl
 is_a_value text (inr (sign, rest, is, s, r)) =

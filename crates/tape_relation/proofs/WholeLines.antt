@@ -6,6 +6,7 @@ use Rattle.tape_relation.specs.Edited.{are_whole}
 use Rattle.tape_relation.proofs.LineByLine.{size_all}
 use Rattle.nc_text.proofs.LineEnds.{line_ends, text_ends}
 
+-- a line without a byte, with its line feed
 abbrev empty_line : Line
 empty_line = record { bytes = []; ended = true }
 
@@ -13,6 +14,7 @@ size_suc : (n : ℕ) (ended : Bool) → size_of (suc n) ended ≡ suc (size_of n
 size_suc n true = omega arith
 size_suc n false = refl
 
+-- one byte more in the text is one byte more in its lines
 size_onto : (b : ℕ) (lines : List Line) → size_all (onto_line b lines) ≡ suc (size_all lines)
 size_onto b [] = refl
 size_onto b (line ∷ lines) =
@@ -44,6 +46,7 @@ lines_split (b ∷ front) back whole = split_first (b == 10) b (lines_of front) 
 pub lines_around : (front line back : List ℕ) → are_whole front ≡ true → IsOneLine line → lines_of (front ++ (line ++ 10 ∷ back)) ≡ lines_of front ++ (record { bytes = line; ended = true } ∷ lines_of back)
 lines_around front line back whole one = lines_split front (line ++ 10 ∷ back) whole ∙ ap (λ (ls : List Line). lines_of front ++ ls) (line_ends line back one)
 
+-- a last line without a line feed is one line
 one_left : (line : List ℕ) → IsOneLine line → 0 < length line → lines_of line ≡ record { bytes = line; ended = false } ∷ []
 one_left [] one some = absurd (omega (arith, some))
 one_left (b ∷ line) one some = text_ends b line one

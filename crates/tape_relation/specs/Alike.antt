@@ -1,4 +1,5 @@
 -- Lines that say the same.
+-- For this crate alone.
 use Rattle.std.specs.Prelude.{◌≡◌, ℕ, ◌≤◌, false, nat_lt, List, length}
 use Rattle.nc_number.specs.declared.limits.TheConstants.{LONGEST_LINE, LONGEST_TAPE}
 use Rattle.nc_text.specs.Lines.{Line, is_percent}

@@ -1,4 +1,5 @@
 -- An answer with other line numbers or other words.
+-- For this crate alone.
 use Rattle.std.specs.Prelude.{ℕ, ◌-◌, nat_lt, map, Ok, Err, if◌then◌else◌}
 use Rattle.line_text.specs.declared.body.Word.{Word}
 use Rattle.line_text.specs.declared.body.Body.{Body}
@@ -7,13 +8,16 @@ use Rattle.nc_text.specs.declared.tape.Block.{Block}
 use Rattle.nc_text.specs.declared.tape.Program.{Program}
 use Rattle.nc_text.specs.Tape.{Answer}
 
+-- words with each word changed; a statement stays
 abbrev pub changed_body : (Word → Word) → Body → Body
 changed_body word (Words words) = Words (map word words)
 changed_body word (Statement text) = Statement text
 
+-- a block with its line number and its words changed
 abbrev pub changed_block : (ℕ → ℕ) → (Word → Word) → Block → Block
 changed_block line word block = record block { line = line block.line; body = changed_body word block.body }
 
+-- a program with the same of its blocks
 abbrev pub changed_program : (ℕ → ℕ) → (Word → Word) → Program → Program
 changed_program line word program = record program { line = line program.line; blocks = map (changed_block line word) program.blocks }
 
@@ -30,6 +34,7 @@ lower before line = if nat_lt before line then line - 1 else line
 abbrev pub lowered : ℕ → Answer → Answer
 lowered before answer = changed (lower before) (λ word. word) answer
 
+-- a word without its place in the line
 abbrev pub without_place : Word → Word
 without_place word = record word { start = 0; end = 0 }
 

@@ -1,5 +1,8 @@
 -- The bytes of a line: which are ignored, which are characters, which stand in comments, and the
 -- line's signs.
+-- Bytes: 9 is the tab, 10 the line feed, 13 the carriage return, 32 the space, 40 `(`, 41 `)`, 59
+-- `;`.
+-- For this crate alone.
 use Rattle.std.specs.Prelude.{◌≡◌, ℕ, ◌+◌, Bool, true, false, ◌&&◌, ◌||◌, ◌==◌, List, [], ◌∷◌, ◌++◌, length, map, codes}
 use Rattle.std.specs.Char.{is_ascii_digit, is_ascii_uppercase, to_ascii_uppercase}
 use Rattle.std.specs.List.{list_any}
@@ -53,9 +56,11 @@ EndsInComment line = (front : List ℕ) × (text : List ℕ) × (line.bytes ≡ 
 abbrev pub is_comment : Sign → Bool
 is_comment sign = sign.byte == 40
 
+-- the bytes of signs
 abbrev pub bytes_of : List Sign → List ℕ
 bytes_of signs = map (λ sign. sign.byte) signs
 
+-- the sign of a byte at a place of its line, from 0
 abbrev pub sign_at : ℕ → ℕ → Sign
 sign_at place b = record { place = place; byte = b }
 

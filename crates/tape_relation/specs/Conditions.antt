@@ -1,5 +1,6 @@
 -- The conditions under which a line is refused. Each looks for itself at all lines before it; none
 -- asks for another.
+-- For this crate alone.
 use Rattle.std.specs.Prelude.{◌≡◌, ℕ, ◌+◌, ◌<◌, ◌≤◌, ◌⊎◌, true, false, List, [], ◌∷◌, ◌++◌, length, All}
 use Rattle.line_text.specs.declared.refusal.Refusal.{Refusal}
 use Rattle.line_text.specs.declared.refusal.Refusal.TheVariants.{TooManyDigits, BadCharacter, NoNumber, OpenComment, NoProgramNumber, NoEnd, LineTooLong, TooManyBlocks, TapeTooLong, WordRange}
@@ -13,9 +14,11 @@ use Rattle.tape_relation.specs.LineAlone.{SaysBlock, SaysSomething, HasLongNumbe
 abbrev pub longest_line : ℕ
 longest_line = 512
 
+-- in bytes: 4 MiB
 abbrev pub longest_tape : ℕ
 longest_tape = 4194304
 
+-- the blocks of all programs of a tape
 abbrev pub most_blocks : ℕ
 most_blocks = 20000
 

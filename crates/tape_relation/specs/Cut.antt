@@ -1,4 +1,5 @@
 -- The words into which the reader cuts a line, for the law that they are those of the grammar.
+-- For this crate alone.
 use Rattle.std.specs.Prelude.{◌≡◌, true, List}
 use Rattle.std.specs.List.{list_all}
 use Rattle.line_text.specs.declared.sign.Sign.{Sign}

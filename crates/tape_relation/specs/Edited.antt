@@ -1,4 +1,6 @@
 -- One line of a text, and what may be put into a text.
+-- Bytes: 10 is the line feed, 13 the carriage return.
+-- For this crate alone.
 use Rattle.std.specs.Prelude.{◌≡◌, ℕ, ◌<◌, ◌≤◌, Bool, true, false, ◌==◌, List, [], ◌∷◌, ◌++◌, length, All, Option, Ok, if◌then◌else◌}
 use Rattle.std.specs.List.{list_all}
 use Rattle.nc_number.specs.declared.limits.TheConstants.{LONGEST_LINE}

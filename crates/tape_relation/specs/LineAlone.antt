@@ -1,4 +1,6 @@
 -- What a line between the `%` lines says, and what is wrong with it, whatever stands before it.
+-- Bytes: 78 is the letter N, 79 the letter O.
+-- For this crate alone.
 use Rattle.std.specs.Prelude.{◌≡◌, ℕ, ◌/◌, ◌%◌, ◌^◌, ◌⊎◌, ◌==◌, Bool, true, false, List, ◌∷◌, ◌++◌, Option, Some, None}
 use Rattle.std.specs.List.{list_all}
 use Rattle.line_text.specs.declared.sign.Sign.{Sign}
@@ -18,12 +20,14 @@ is_off skips (Some switch) = (skips / 2 ^ switch) % 2 == 1
 abbrev pub Says : ℕ → Line → Sentence → Type 0
 Says skips line sentence = (skip : Option ℕ) × IsLine line skip sentence × (is_off skips skip ≡ false)
 
+-- the sentence is a block: words or a statement
 abbrev pub is_block : Sentence → Bool
 is_block NoBlock = false
 is_block (ProgramNumber text) = false
 is_block (WordBlock words) = true
 is_block (StatementBlock number text) = true
 
+-- the line says a block
 abbrev pub SaysBlock : ℕ → Line → Type 0
 SaysBlock skips line = (sentence : Sentence) × Says skips line sentence × (is_block sentence ≡ true)
 
@@ -66,6 +70,7 @@ IsBroken line = (skip : Option ℕ) (sentence : Sentence) → IsLine line skip s
 abbrev pub IsNumbering : Piece → Type 0
 IsNumbering word = (word.letter ≡ 78) × IsLiteral word.text
 
+-- the literal is no sequence number
 abbrev pub LacksSequenceNumber : List ℕ → Type 0
 LacksSequenceNumber text = (n : ℕ) → IsSequenceNumber text n → ⊥
 

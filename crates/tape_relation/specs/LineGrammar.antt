@@ -1,5 +1,7 @@
 -- What a line is, as a grammar over its signs: comments, the skip sign, comments, and a statement
 -- or words.
+-- Bytes: 47 is `/`, 48 the digit 0, 78 the letter N, 79 the letter O.
+-- For this crate alone.
 use Rattle.std.specs.Prelude.{◌≡◌, ℕ, ◌+◌, ◌<◌, ◌≤◌, ◌==◌, ◌⊎◌, Bool, true, false, not, List, [], ◌∷◌, ◌++◌, length, filter, codes, Option, Some, None}
 use Rattle.std.specs.List.{list_all, list_any}
 use Rattle.line_text.specs.declared.sign.Sign.{Sign}
@@ -28,6 +30,7 @@ pub data IsSkip : List Sign → Option ℕ → Type 0 where
 abbrev pub text_of : List Sign → List ℕ
 text_of signs = bytes_of (filter (λ sign. not (is_comment sign)) signs)
 
+-- the text begins with this word
 abbrev pub Begins : List ℕ → List ℕ → Type 0
 Begins word text = (rest : List ℕ) × (text ≡ word ++ rest)
 
@@ -37,6 +40,7 @@ IsStatement text =
     Begins (codes "#") text ⊎ (Begins (codes "IF") text ⊎ (Begins (codes "WHILE") text
     ⊎ (Begins (codes "GOTO") text ⊎ (Begins (codes "DO") text ⊎ Begins (codes "END") text))))
 
+-- one of the words is an O word; 79 is the letter O
 abbrev pub has_program_word : List Piece → Bool
 has_program_word words = list_any (λ word. word.letter == 79) words
 
@@ -63,6 +67,7 @@ pub data IsSentence : List Sign → Option ℕ → Sentence → Type 0 where
       → 0 < length (head ++ rest) → IsBlock skip rest sentence
       → IsSentence (before ++ (head ++ (between ++ rest))) skip sentence
 
+-- the line is this sentence, behind a skip sign of this switch or none
 abbrev pub IsLine : Line → Option ℕ → Sentence → Type 0
 IsLine line skip sentence = (signs : List Sign) × AreSigns line.ended 0 line.bytes signs
     × IsSentence signs skip sentence

@@ -1,5 +1,7 @@
 -- The numbers of a line: literals, those of too many digits, and the ranges of sequence numbers and
 -- O numbers.
+-- Bytes: 43 is `+`, 45 `-`, 46 the point, 48 the digit 0.
+-- For this crate alone.
 use Rattle.std.specs.Prelude.{◌≡◌, ℕ, ◌+◌, ◌<◌, ◌≤◌, ◌==◌, ◌⊎◌, true, false, List, [], ◌∷◌, ◌++◌, length}
 use Rattle.std.specs.Char.{is_ascii_digit}
 use Rattle.std.specs.List.{list_all}
@@ -18,6 +20,7 @@ pub record IsWritten (text sign whole fraction : List ℕ) : Type 0 where
   pub some : 0 < length whole + length fraction
   pub text_is : ((text ≡ sign ++ whole) × (fraction ≡ [])) ⊎ (text ≡ sign ++ (whole ++ 46 ∷ fraction))
 
+-- a literal, whatever its parts
 abbrev pub IsLiteral : List ℕ → Type 0
 IsLiteral text = (sign : List ℕ) × (whole : List ℕ) × (fraction : List ℕ) × IsWritten text sign whole fraction
 
@@ -37,9 +40,11 @@ pub record Writes (text : List ℕ) (n : ℕ) : Type 0 where
   pub zeros : list_all (λ digit. digit == 48) fraction ≡ true
   pub minus : sign ≡ 45 ∷ [] → n ≡ 0
 
+-- the literal is a sequence number, 0 to 99,999
 abbrev pub IsSequenceNumber : List ℕ → ℕ → Type 0
 IsSequenceNumber text n = Writes text n × (n ≤ 99999)
 
+-- the literal is an O number, 1 to 9,999
 abbrev pub IsProgramNumber : List ℕ → ℕ → Type 0
 IsProgramNumber text n = Writes text n × (1 ≤ n) × (n ≤ 9999)
 

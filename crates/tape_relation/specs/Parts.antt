@@ -1,5 +1,7 @@
 -- The parts of a tape's text: lines before the first that begins with `%`, the lines of the
 -- programs, and the lines from the next on that begins with `%`.
+-- Byte 10 is the line feed.
+-- For this crate alone.
 use Rattle.std.specs.Prelude.{◌≡◌, ℕ, ◌+◌, ◌<◌, ◌==◌, Bool, true, false, List, [], ◌∷◌, ◌++◌, length, All, if◌then◌else◌}
 use Rattle.std.specs.List.{list_any, flat_map}
 use Rattle.nc_text.specs.Lines.{Line}
@@ -18,6 +20,7 @@ AreEnded [] = Unit {0}
 AreEnded (line ∷ []) = line.ended ≡ false → 0 < length line.bytes
 AreEnded (line ∷ next ∷ lines) = (line.ended ≡ true) × AreEnded (next ∷ lines)
 
+-- no byte is a line feed, which is 10
 abbrev pub HasNoFeed : List ℕ → Type 0
 HasNoFeed bytes = All (λ b. (b == 10) ≡ false) bytes
 
@@ -27,13 +30,16 @@ pub record AreLines (text : List ℕ) (lines : List Line) : Type 0 where
   pub one_line : All (λ line. HasNoFeed line.bytes) lines
   pub ended : AreEnded lines
 
+-- the line begins with `%`, byte 37
 abbrev pub is_percent : List ℕ → Bool
 is_percent [] = false
 is_percent (b ∷ bytes) = b == 37
 
+-- the same of a line
 abbrev pub begins_percent : Line → Bool
 begins_percent line = is_percent line.bytes
 
+-- some line begins with `%`
 abbrev pub has_percent : List Line → Bool
 has_percent lines = list_any begins_percent lines
 

@@ -1,4 +1,5 @@
 -- The programs of a tape: its lines cut at the O numbers.
+-- For this crate alone.
 use Rattle.std.specs.Prelude.{◌≡◌, ℕ, ◌+◌, ◌⊎◌, List, [], ◌∷◌, ◌++◌, length, All, Option, Some, None}
 use Rattle.line_text.specs.declared.piece.Piece.{Piece}
 use Rattle.nc_text.specs.declared.tape.Block.{Block}
@@ -11,6 +12,7 @@ use Rattle.tape_relation.specs.Numbers.{IsSequenceNumber, IsProgramNumber}
 use Rattle.tape_relation.specs.LineGrammar.{Sentence, NoBlock, ProgramNumber, WordBlock, StatementBlock}
 use Rattle.tape_relation.specs.LineAlone.{Says, SaysBlock, SaysProgram, IsNumbering}
 
+-- none of the words is a sequence number
 abbrev pub HasNoNumber : List Piece → Type 0
 HasNoNumber words = All (λ word. IsNumbering word → ⊥) words
 
@@ -20,10 +22,12 @@ IsLastNumber words None = HasNoNumber words
 IsLastNumber words (Some text) = (front : List Piece) × (word : Piece) × (back : List Piece)
     × (words ≡ front ++ word ∷ back) × IsNumbering word × (text ≡ word.text) × HasNoNumber back
 
+-- the block has this sequence number, or has none
 abbrev pub IsSequence : Option (List ℕ) → Option ℕ → Type 0
 IsSequence None sequence = sequence ≡ None
 IsSequence (Some text) sequence = (n : ℕ) × (sequence ≡ Some n) × IsSequenceNumber text n
 
+-- a word of the grammar as a word of the tape
 abbrev pub word_of : Piece → Word
 word_of word = record { letter = word.letter; start = word.start; end = word.end; text = word.text }
 
@@ -54,6 +58,7 @@ AreBlocks skips before (line ∷ lines) blocks =
     × AreBlocks skips (before + 1) lines later)
     ⊎ ((SaysBlock skips line → ⊥) × AreBlocks skips (before + 1) lines blocks)
 
+-- the line says this O number
 abbrev pub SaysNumber : ℕ → Line → ℕ → Type 0
 SaysNumber skips line n = (text : List ℕ) × Says skips line (ProgramNumber text) × IsProgramNumber text n
 

@@ -1,4 +1,5 @@
 -- The tape of a text, and the one fault of a text that is no tape, without any reader.
+-- For this crate alone.
 use Rattle.std.specs.Prelude.{◌≡◌, ℕ, ◌+◌, ◌<◌, ◌⊎◌, true, false, List, [], ◌∷◌, ◌++◌, length}
 use Rattle.nc_text.specs.declared.fault.TextFault.{TextFault}
 use Rattle.line_text.specs.declared.refusal.Refusal.{Refusal}
@@ -10,6 +11,7 @@ use Rattle.tape_relation.specs.Parts.{AreLines, before_percent, body_of, is_clos
 use Rattle.tape_relation.specs.Conditions.{SayNothing, IsLeast, NoneHolds}
 use Rattle.tape_relation.specs.Programs.{ArePrograms}
 
+-- the refusal, told of this line
 abbrev pub fault_at : Refusal → ℕ → TextFault
 fault_at refusal line = record { number = refusal_number refusal; line = line }
 
@@ -56,5 +58,6 @@ pub record IsTapeOf (skips : ℕ) (lines : List Line) (tape : List Program) : Ty
 abbrev pub IsTape : ℕ → List ℕ → List Program → Type 0
 IsTape skips text tape = (lines : List Line) × AreLines text lines × IsTapeOf skips lines tape
 
+-- the fault of a text
 abbrev pub IsFault : ℕ → List ℕ → TextFault → Type 0
 IsFault skips text fault = (lines : List Line) × AreLines text lines × IsFaultOf skips lines fault

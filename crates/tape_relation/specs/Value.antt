@@ -1,5 +1,7 @@
 -- What may stand behind an address letter, as a grammar: no depth is counted and no bracket is
 -- matched with another.
+-- Bytes: 35 is `#`, 91 `[`, 93 `]`.
+-- For this crate alone.
 use Rattle.std.specs.Prelude.{◌≡◌, ℕ, ◌+◌, ◌≤◌, ◌<◌, ◌==◌, ◌⊎◌, true, List, [], ◌∷◌, ◌++◌, length, if◌then◌else◌}
 use Rattle.std.specs.Char.{is_ascii_digit}
 use Rattle.std.specs.List.{list_all}

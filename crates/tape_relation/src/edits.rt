@@ -1,4 +1,5 @@
 //! Laws of edits: what changes of a text leave of its tape, in the words of a part programmer.
+//! These laws are for readers: no other crate calls them.
 
 ghost use Rattle.std.specs.Prelude.{◌≡◌, ◌∷◌, [], ◌++◌, true, false, map, List, ℕ, ◌<◌, Ok, length};
 ghost use Rattle.std.specs.Char.{to_ascii_uppercase};

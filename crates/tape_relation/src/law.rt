@@ -1,4 +1,5 @@
 //! The law that ties the definition of reading to the relation.
+//! These laws are for readers: no other crate calls them.
 
 ghost use Rattle.std.specs.Prelude.{◌≡◌, ◌↔◌, ℕ, true, List, Ok, Err};
 ghost use Rattle.nc_text.specs.declared.tape.Program.{Program};

@@ -1,1 +1,2 @@
+-- The lemmas of this crate, each file by its subject. No other crate uses them.
 mod NameRoom

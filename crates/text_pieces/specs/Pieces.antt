@@ -1,4 +1,6 @@
 -- How numbers, points, codes, paths and the names of causes are printed.
+-- lathe_looks, move_list, move_text, nc_verify, race_report, trace_list and wait_verify use these
+-- words.
 use Rattle.std.specs.Prelude.{ℕ, if◌then◌else◌, List, [], ◌++◌, Option, Some, None, codes, decimal, nat_lt}
 use Rattle.nc_number.specs.declared.cause.Cause.{Cause}
 use Rattle.nc_number.specs.declared.path.Path.{Path}
@@ -24,6 +26,6 @@ point_text to = codes " X" ++ length_text to.x ++ codes " Z" ++ length_text to.z
 unfoldable pub code_text : ℕ → List ℕ
 code_text code = if nat_lt code 10 then codes "0" ++ decimal code else decimal code
 
--- a path by its number
+-- a path as "path" and its number
 unfoldable pub path_name : Path → List ℕ
 path_name path = codes "path " ++ decimal (number_of path)

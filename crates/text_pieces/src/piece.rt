@@ -1,4 +1,6 @@
-//! A piece of a text.
+//! A piece of a text. Up to 512 bytes in an array, for one call of a sink.
+//! lathe_looks, lathe_top, move_list, move_text, nc_verify, race_report, trace_list, turret_lines,
+//! wait_verify and zone_cell use what it exports.
 ghost use Rattle.std.specs.Prelude.{◌≡◌, ◌+◌, ◌≤◌, ◌%◌, [], ◌++◌, length, codes, decimal};
 ghost use Rattle.nc_number.specs.Printed.{last_digits, length_text, value_text};
 ghost use Rattle.text_pieces.specs.Pieces.{code_text, name_text, numbered, path_name, point_text};

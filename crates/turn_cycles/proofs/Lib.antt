@@ -1,1 +1,2 @@
+-- One file: the moves of a cycle stay within the range.
 pub mod Positions

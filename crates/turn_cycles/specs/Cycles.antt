@@ -1,3 +1,4 @@
+-- The four moves of a canned cycle. Where its cut ends is in End, a whole block in Pass.
 use Rattle.std.specs.Prelude.{Bool, List, [], ◌∷◌, ℤ, Result}
 use Rattle.nc_number.specs.declared.point.Point.{Point}
 use Rattle.nc_moves.specs.declared.motion.Move.{Move}

@@ -1,4 +1,5 @@
 -- Where a cycle ends its cut.
+-- Points are in machine coordinates, in 0.001 mm. The moves to there are in Cycles.
 use Rattle.std.specs.Prelude.{ℤ, ◌+ℤ◌, Option, unwrap_or, Result}
 use Rattle.nc_number.specs.declared.point.Point.{Point}
 use Rattle.nc_number.specs.declared.axis.Axis.{Axis}

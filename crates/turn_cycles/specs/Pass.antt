@@ -1,4 +1,5 @@
 -- The whole of a block with a cycle.
+-- block_values cites this.
 use Rattle.std.specs.Prelude.{if◌then◌else◌, [], Option, Some, None, Result, Ok}
 use Rattle.code_tables.specs.declared.kind.CodeKind.{CodeKind}
 use Rattle.code_tables.specs.declared.kind.CodeKind.TheVariants.{CycleTurn, CycleThread, CycleFace}

@@ -1,4 +1,5 @@
 //! A block with a cycle.
+//! block_values calls it for G90, G92 and G94. Lengths are in 0.001 mm.
 ghost use Rattle.std.specs.Prelude.{◌≡◌, ◌≤◌, length, IfOk, IfSome};
 ghost use Rattle.nc_number.specs.Position.{IsPosition};
 ghost use Rattle.motion_track.specs.Block.{IsBlockWithin};

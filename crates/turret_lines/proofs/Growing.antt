@@ -1,4 +1,5 @@
 -- What a sink tells when a line was put, or a part of one.
+-- `new`, `write` and `settle` (src/line_turret.rt) rest on it.
 use Rattle.std.proofs.Common.{◌≡◌, ℕ, List, [], ◌∷◌, ◌++◌, take, Option, Some, None, is_some, refl, sym, ap, ◌∙◌, arith}
 use Rattle.std.specs.List.{flat_map}
 use Rattle.std.specs.Option.{ForSome}
@@ -10,10 +11,12 @@ use Rattle.nc_number.specs.Faults.{next}
 use Rattle.nc_outside.specs.Received.{Received, counted_on}
 use Rattle.turret_lines.specs.Stream.{HasPart, got_text, stream_of}
 
+-- one thing more is one line more
 pub stream_push : (got : List Got) (what : Got) → stream_of (got ++ what ∷ []) ≡ stream_of got ++ got_text what
 unfolding stream_of
 stream_push got what = flat_map-append got_text got (what ∷ []) ∙ ap (λ t. flat_map got_text got ++ t) (append-nil (got_text what))
 
+-- a sink that tells on has the new line after the lines before
 told_more : (old new : Option (List ℕ)) (bytes lines : List ℕ) → is_some new ≡ is_some old → Appends old new bytes
     → ForSome old (λ b. b ≡ lines) → ForSome new (λ b. b ≡ lines ++ bytes)
 told_more None None bytes lines tells grew was b e = cc
@@ -45,14 +48,17 @@ part_more old new line size got what tells grew is was =
 
 -- the counts of a call, and of a settle
 
+-- turrets that got the same, by as many calls, are in one state
 pub same_received : (a b : List Got) (k l m n : ℕ) → a ≡ b → k ≡ l → m ≡ n
     → ◌≡◌ {A = Option Received} (Some (record { got = a; calls = k; settles = m })) (Some (record { got = b; calls = l; settles = n }))
 same_received a b k l m n e f g = rw (e, f, g) refl
 
+-- one call more on a count is the next number
 pub one_more : (was now : ℕ) → now ≡ next was → now ≡ counted_on was 1
 unfolding counted_on
 one_more was now e = e
 
+-- no call more leaves the count
 pub no_more : (was : ℕ) → was ≡ counted_on was 0
 unfolding counted_on
 no_more was = refl

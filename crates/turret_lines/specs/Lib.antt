@@ -1,1 +1,2 @@
+-- The lines of what a turret got.
 pub mod Stream

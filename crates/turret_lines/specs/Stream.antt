@@ -1,4 +1,5 @@
 -- The lines of what a turret got, and how far a sink has them.
+-- lathe_top and move_list take it.
 use Rattle.std.specs.Prelude.{◌≡◌, ℕ, List, [], ◌++◌, take, Option, Some, None}
 use Rattle.std.specs.List.{flat_map}
 use Rattle.std.specs.Option.{ForSome}
@@ -27,7 +28,7 @@ pub record HasPart (bytes : List ℕ) (got : List Got) : Type 0 where
   pub size : ℕ
   pub parted : bytes ≡ stream_of got ++ part_text next size
 
--- what a sink tells is the lines of what the turret got, and nothing else where the turret has not
+-- what a sink tells is the lines of what the turret got, and nothing else if the turret has not
 -- failed
 pub record HasStream (written : Option (List ℕ)) (got : List Got) (faults : ℕ) : Type 0 where
   pub whole : faults ≡ 0 → ForSome written (λ bytes. bytes ≡ stream_of got)

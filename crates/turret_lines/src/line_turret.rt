@@ -1,4 +1,5 @@
-//! A turret that writes a line for each thing that it gets.
+//! A turret that writes a line for each thing that it gets. twin_lathe puts it over a file or a
+//! named pipe.
 ghost use Rattle.std.specs.Prelude.{◌≡◌, [], ◌∷◌, OnOk, OnErr, IsErr};
 ghost use Rattle.std.specs.Option.{ForSome};
 ghost use Rattle.nc_outside.specs.Faults.{CountsFault};
@@ -19,10 +20,15 @@ use text_pieces::Piece;
 /// line, from its start. After that each further call fails, and writes nothing.
 #[derive(Drop)]
 pub struct LineTurret<K: Sink + Drop> {
+    /// Where the lines go.
     sink: K,
+    /// What it got, for clauses alone.
     told: Told,
+    /// How many calls of `place` and `hand` it has had.
     calls: u64,
+    /// How often it was to settle.
     settles: u64,
+    /// How many calls have failed.
     faults: u64,
     ghost whole: { faults ≡ 0 → ForSome (K.state sink).written (λ bytes. bytes ≡ stream_of told.got) },
     ghost parted: { ∥ ForSome (K.state sink).written (λ bytes. HasPart bytes told.got) ∥₁ },
@@ -51,7 +57,8 @@ impl<K: Sink + Drop> LineTurret<K> {
         &self.sink
     }
 
-    /// Writes the line of a thing that it got.
+    /// Writes the line of a thing that it got. After a call has failed each further one fails too,
+    /// and writes nothing.
     fn write(&mut self, line: &Piece, what: &Got) -> Result<(), Failed>
         requires { line.now ≡ got_text what.now }
         ensures ok { OnOk result (Receives (told_state self.old.told.got self.old.calls self.old.settles self.old.faults)
@@ -85,14 +92,17 @@ impl<K: Sink + Drop> LineTurret<K> {
 impl<K: Sink + Drop> Turret for LineTurret<K> {
     ghost state = { λ t. told_state t.told.got t.calls t.settles t.faults };
 
+    /// How many calls have failed, up to the last value of a u64.
     fn faults(&self) -> u64 {
         self.faults
     }
 
+    /// Writes the line of its place.
     fn place(&mut self, at: Point) -> Result<(), Failed> {
         self.write(&place_line(at), &Got::Placed(at))
     }
 
+    /// Writes the line of a move.
     fn hand(&mut self, what: &LinedMove) -> Result<(), Failed> {
         self.write(&move_line(what.line, &what.what), &Got::Moved(*what))
     }

@@ -1,4 +1,6 @@
-//! What a turret got, for clauses alone.
+//! What a turret got, for clauses alone: it has no bytes, so its two functions are proved by hand
+//! (proofs/told).
+//! For line_turret.rt of this crate.
 ghost use Rattle.std.specs.Prelude.{◌≡◌, List, [], ◌∷◌, ◌++◌};
 ghost use Rattle.std.specs.Borrow.{ftrue};
 ghost use Rattle.nc_outside.specs.declared.got.Got.{Got};

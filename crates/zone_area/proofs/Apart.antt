@@ -17,6 +17,7 @@ use Rattle.zone_area.proofs.Least.{area_holds}
 
 -- the frame of a path moves a point and an area alike
 
+-- along one axis, what lies between two lengths lies between them after a shift,
 shifted : (d : ℕ) (low high shift q : ℤ) → (pos d *ℤ low) ≤ℤ q → q ≤ℤ (pos d *ℤ high)
     → ((pos d *ℤ (low +ℤ shift)) ≤ℤ (q +ℤ pos d *ℤ shift)) × ((q +ℤ pos d *ℤ shift) ≤ℤ (pos d *ℤ (high +ℤ shift)))
 shifted d low high shift q l h =
@@ -24,6 +25,7 @@ shifted d low high shift q l h =
     let high_is = scaled_add d high shift in
     (omega (arith, ints, low_is, l), omega (arith, ints, high_is, h))
 
+-- also if the axis is mirrored
 across : (d : ℕ) (mirror : Bool) (low high shift q : ℤ) → (pos d *ℤ low) ≤ℤ q → q ≤ℤ (pos d *ℤ high)
     → ((pos d *ℤ (signed mirror (if mirror then high else low) +ℤ shift)) ≤ℤ (signed mirror q +ℤ pos d *ℤ shift))
     × ((signed mirror q +ℤ pos d *ℤ shift) ≤ℤ (pos d *ℤ (signed mirror (if mirror then low else high) +ℤ shift)))
@@ -33,12 +35,14 @@ across d true low high shift q l h =
     let high_is = scaled_neg d high in
     shifted d (neg_ℤ high) (neg_ℤ low) shift (neg_ℤ q) (rw high_is (omega (arith, ints, h))) (rw low_is (omega (arith, ints, l)))
 
+-- a point in an area lies in it as both lie in the cell
 in_cell : (d : ℕ) (frame : Frame) (area : Area) (q : Point) → IsInside d area q → IsInside d (area_in_cell frame area) (point_in_cell d frame q)
 in_cell d frame area q i =
     let x = across d frame.mirror area.low.x area.high.x frame.shift.x q.x i.left i.right in
     let z = shifted d area.low.z area.high.z frame.shift.z q.z i.below i.above in
     record { left = x.0; right = x.1; below = z.0; above = z.1 }
 
+-- a length that lies beyond another by more than the gap keeps what lies on its side as far apart
 beyond : (d : ℕ) (gap high low p q : ℤ) → 1 ≤ d → is_beyond gap high low ≡ true → p ≤ℤ (pos d *ℤ high) → (pos d *ℤ low) ≤ℤ q
     → (pos d *ℤ gap) <ℤ (q -ℤ p)
 beyond d gap high low p q some is ph lq =
@@ -47,12 +51,15 @@ beyond d gap high low p q some is ph lq =
     let less' : (pos d *ℤ high +ℤ pos d *ℤ gap) <ℤ (pos d *ℤ low) = rw sum at less in
     omega (arith, ints, less', ph, lq)
 
+-- a difference of more than the gap is a distance of more than it,
 second_beyond : (g p q : ℤ) → g <ℤ (q -ℤ p) → g <ℤ pos (distance p q)
 second_beyond g p q less = omega (arith, ints, less)
 
+-- whichever length is the greater one
 first_beyond : (g p q : ℤ) → g <ℤ (p -ℤ q) → g <ℤ pos (distance p q)
 first_beyond g p q less = omega (arith, ints, less)
 
+-- two points of clear areas differ by more than the gap in X or in Z
 pub clear_apart : (d : ℕ) (gap : Point) (a b : Area) (p q : Point) → 1 ≤ d → is_clear gap a b ≡ true → IsInside d a p → IsInside d b q → AreApart d gap p q
 clear_apart d gap a b p q some clear i j = elim (either _ _ clear) [
   | inl x ↦ (elim (either _ _ x) [
@@ -65,10 +72,12 @@ clear_apart d gap a b p q some clear i j = elim (either _ _ clear) [
   ])
 ]
 
+-- the area of moves, in the cell, holds what they may pass there
 pub cell_holds : (d : ℕ) (f : Frame) (at : Point) (moves : List Move) (q : Point) → MayPassSome d at moves q
     → IsInside d (area_in_cell f (area_of at moves)) (point_in_cell d f q)
 cell_holds d f at moves q passed = in_cell d f (area_of at moves) q (all_inside d (area_of at moves) at moves q (area_holds at moves) passed)
 
+-- so points that two segments may pass differ by more than the gap if their areas are clear
 pub segments_apart : (d : ℕ) (gap : Point) (f g : Frame) (at to : Point) (left right : List Move) (p q : Point) → 1 ≤ d
     → is_clear gap (area_in_cell f (area_of at left)) (area_in_cell g (area_of to right)) ≡ true
     → MayPassSome d at left p → MayPassSome d to right q

@@ -57,6 +57,7 @@ near d reach low high middle q l h within =
     let high_at : (pos d *ℤ middle +ℤ pos (d * reach)) ≤ℤ (pos d *ℤ high) = rw sum at high_is in
     (omega (arith, ints, low_at, within), omega (arith, ints, high_at, within))
 
+-- two factors change places
 twice : (d : ℕ) (z : ℤ) → pos d *ℤ (pos 2 *ℤ z) ≡ pos 2 *ℤ (pos d *ℤ z)
 twice d z =
     let e : pos 2 *ℤ z ≡ (z +ℤ z) = omega (arith, ints) in
@@ -76,12 +77,15 @@ near_twice d reach low high middle q l h within =
     let high_is = twice d high in
     (omega (arith, ints, left, low_is), omega (arith, ints, right, high_is))
 
+-- one of two squares is at most their sum,
 first_part : (a b n : ℕ) → a * a + b * b ≤ n → a * a ≤ n
 first_part a b n within = omega (arith, within)
 
+-- and so is the other
 second_part : (a b n : ℕ) → a * a + b * b ≤ n → b * b ≤ n
 second_part a b n within = omega (arith, within)
 
+-- a point no farther from the middle than the reach lies in the area around it
 around : (d square reach : ℕ) (area : Area) (middle q : Point) → square ≤ reach * reach → HoldsAround area middle reach
     → square_between (place_of (in_parts d middle)) (place_of q) ≤ d * d * square → IsInside d area q
 around d square reach area middle q reaches h within =
@@ -91,10 +95,12 @@ around d square reach area middle q reaches h within =
     let z = near_twice d reach area.low.z area.high.z middle.z q.z h.below h.above (reached d square reach _ reaches (second_part across along _ within)) in
     record { left = x.0; right = x.1; below = z.0; above = z.1 }
 
+-- the reach is at least as far as the arc may go
 square_reached : (at to : Point) (centre : Centre) → square_of at to centre ≤ reach_of at to centre * reach_of at to centre
 square_reached at to (Offset i k) = root_reaches (square_of at to (Offset i k))
 square_reached at to (Radius r) = omega arith
 
+-- what one move may pass lies in an area that holds its ends and its reach
 end_inside : (d : ℕ) (area : Area) (at : Point) (end : Option Point) (centre : Option Centre) (q : Point)
     → Holds area at → HoldsEnd area at end centre → MayPassTo d at end centre q → IsInside d area q
 end_inside d area at None centre q h m p = held d area at q h p
@@ -108,11 +114,13 @@ end_inside d area at (Some to) (Some centre) q h m p = elim p [
   | inr (inr near) ↦ around d (square_of at to centre) (reach_of at to centre) area (middle_of at centre) q (square_reached at to centre) m.1 near
 ]
 
+-- and the area holds the place behind the move
 end_held : (area : Area) (at : Point) (end : Option Point) (centre : Option Centre) → Holds area at → HoldsEnd area at end centre → Holds area (unwrap_or end at)
 end_held area at None centre h m = h
 end_held area at (Some to) None h m = m
 end_held area at (Some to) (Some centre) h m = m.0
 
+-- so what several moves may pass lies in an area that holds all of that
 pub all_inside : (d : ℕ) (area : Area) (at : Point) (moves : List Move) (q : Point) → HoldsAll area at moves → MayPassSome d at moves q → IsInside d area q
 all_inside d area at [] q h p = held d area at q h.0 p
 all_inside d area at (move ∷ moves) q h p = go p (λ rest. all_inside d area (place_after at move) moves q (end_held area at (end_of move) (centre_in move) h.0 h.1.0, h.1.1) rest)

@@ -6,6 +6,7 @@ use Rattle.nc_number.proofs.Roots.{root_le}
 use Rattle.zone_area.specs.Range.{far_squares}
 use Rattle.zone_area.specs.Roots.{least_root_below, least_root}
 
+-- the square of the root is at least the number,
 root_below_reaches : (n most : ℕ) → n ≤ most * most → n ≤ least_root_below n most * least_root_below n most
 unfolding least_root_below
 root_below_reaches n zero within = within
@@ -16,6 +17,7 @@ root_below_reaches n (suc most) within = go (nat_le n (most * most)) refl (root_
     go true is lower = lower (leb-true _ _ is)
     go false is lower = within
 
+-- and no lesser number has such a square
 root_below_is_least : (n most k : ℕ) → n ≤ k * k → least_root_below n most ≤ k
 unfolding least_root_below
 root_below_is_least n zero k square = omega arith
@@ -28,13 +30,16 @@ root_below_is_least n (suc most) k square = go (nat_le n (most * most)) refl (ro
       | inr more ↦ (let past = leb-false _ _ is in let squares : k * k ≤ most * most = mul-le-mul more more in absurd (omega arith))
     ]
 
+-- a number is at most its square
 self_square : (n : ℕ) → n ≤ n * n
 self_square zero = omega arith
 self_square (suc n) = le-mul_of_pos_right (suc n) (omega arith)
 
+-- the square of the root is at least the number,
 pub root_reaches : (n : ℕ) → n ≤ least_root n * least_root n
 root_reaches n = root_below_reaches n n (self_square n)
 
+-- and no lesser number has such a square
 pub root_is_least : (n k : ℕ) → n ≤ k * k → least_root n ≤ k
 root_is_least n k square = root_below_is_least n n k square
 
@@ -55,8 +60,10 @@ least_root_is n (suc k) reaches before =
 pub root_after : (n r : ℕ) → r * r < n → n < (r + 1) * (r + 1) → least_root n ≡ r + 1
 root_after n r low high = least_root_is n (r + 1) (omega arith) (λ k e. let same : k ≡ r = omega arith in rw same low)
 
+-- the root of a square is exact
 pub root_exact : (n r : ℕ) → r * r ≤ n → n ≤ r * r → least_root n ≡ r
 root_exact n r low high = least_root_is n r high (λ k e. let next : (k + 1) * (k + 1) ≤ n = (rw e at low) in omega arith)
 
+-- the root of a square within range is within range
 pub root_small : (n r : ℕ) → n ≤ far_squares → r * r ≤ n → r ≤ 990000000000000
 root_small n r small low = root_le r 990000000000000 (omega arith)

@@ -14,9 +14,11 @@ use Rattle.zone_area.specs.Passing.{middle_of}
 use Rattle.zone_area.specs.Area.{reach_of, lie_apart}
 use Rattle.zone_area.specs.Range.{far_apart, far_square, far_in_cell}
 
+-- the square of a distance within range is within range
 pub square_bound : (d : ℕ) → d ≤ far_apart → d * d ≤ far_square
 square_bound d le = let squares : d * d ≤ 700000000000000 * 700000000000000 = mul-le-mul le le in squares
 
+-- areas with the same four lengths are one
 pub same_area : (a b : Area) → a.low.x ≡ b.low.x → a.low.z ≡ b.low.z → a.high.x ≡ b.high.x → a.high.z ≡ b.high.z → a ≡ b
 same_area a b lx lz hx hz =
     let at : Point → Point → Area = λ p q. record { low = p; high = q } in
@@ -42,10 +44,12 @@ pub apart_stored : (r : Bool) (g l h k i : ℤ)
 apart_stored r g l h k i ng nl nh nk ni is =
     is ∙ rw (stored g g refl ng, stored l l refl nl, stored h h refl nh, stored k k refl nk, stored i i refl ni) refl
 
+-- the lesser of two lengths is what the code stores in 64 bits,
 pub lesser_stored : (r a b : ℤ) → unsigned_abs a ≤ far_in_cell → unsigned_abs b ≤ far_in_cell → unsigned_abs r ≤ far_in_cell
     → r ≡ int_min (to_z w64 (of_z w64 a)) (to_z w64 (of_z w64 b)) → to_z w64 (of_z w64 r) ≡ int_min a b
 lesser_stored r a b na nb nr is = stored r (int_min a b) (is ∙ rw (stored a a refl na, stored b b refl nb) refl) nr
 
+-- and so is the greater one
 pub greater_stored : (r a b : ℤ) → unsigned_abs a ≤ far_in_cell → unsigned_abs b ≤ far_in_cell → unsigned_abs r ≤ far_in_cell
     → r ≡ int_max (to_z w64 (of_z w64 a)) (to_z w64 (of_z w64 b)) → to_z w64 (of_z w64 r) ≡ int_max a b
 greater_stored r a b na nb nr is = stored r (int_max a b) (is ∙ rw (stored a a refl na, stored b b refl nb) refl) nr
@@ -56,9 +60,11 @@ middle_place at i k =
     let e : pos 2 *ℤ (at.z +ℤ k) ≡ (pos 2 *ℤ at.z +ℤ pos 2 *ℤ k) = omega (arith, ints) in
     ap (λ along. record { across = at.x +ℤ pos 2 *ℤ i; along = along }) e
 
+-- the distance of two lengths that are doubled is doubled
 pub doubled : (a b : ℤ) → unsigned_abs (pos 2 *ℤ a -ℤ pos 2 *ℤ b) ≡ 2 * unsigned_abs (a -ℤ b)
 doubled a b = omega (arith, ints)
 
+-- the square of a distance, as the code adds it up
 pub squares_between : (a b : Point) (across along s t : ℕ) → across ≡ unsigned_abs (a.x -ℤ b.x) → along ≡ unsigned_abs (a.z -ℤ b.z)
     → s ≡ across * across → t ≡ (2 * along) * (2 * along) → s + t ≡ square_between (place_of a) (place_of b)
 squares_between a b across along s t across_is along_is s_is t_is =
@@ -66,6 +72,7 @@ squares_between a b across along s t across_is along_is s_is t_is =
     ap (λ n. n + t) (s_is ∙ ap (λ n. n * n) across_is)
     ∙ ap (λ n. unsigned_abs (a.x -ℤ b.x) * unsigned_abs (a.x -ℤ b.x) + n) (t_is ∙ ap (λ n. n * n) twice)
 
+-- the reach of an arc, as the code finds it
 pub root_reached : (at to m : Point) (i k : ℤ) (p q most root : ℕ) → m ≡ middle_of at (Offset i k)
     → p ≡ square_between (place_of m) (place_of at) → q ≡ square_between (place_of m) (place_of to)
     → most ≡ max p q → root ≡ least_root most → root ≡ reach_of at to (Offset i k)

@@ -1,4 +1,5 @@
 -- The least area of whole counts that holds what moves may pass.
+-- zone_cell and zone_check take words from here.
 use Rattle.std.specs.Prelude.{ℕ, ◌+◌, ◌*◌, ◌/◌, Bool, ◌||◌, List, [], ◌∷◌, Option, Some, None, ℤ, pos, ◌+ℤ◌, ◌-ℤ◌, ◌*ℤ◌, ◌≤ℤ◌, int_lt, unsigned_abs, if◌then◌else◌}
 use Rattle.std.specs.Int.{int_min, int_max}
 use Rattle.nc_number.specs.declared.point.Point.{Point}
@@ -39,9 +40,11 @@ HoldsEnd area at None centre = Unit {0}
 HoldsEnd area at (Some to) None = Holds area to
 HoldsEnd area at (Some to) (Some centre) = Holds area to × HoldsAround area (middle_of at centre) (reach_of at to centre)
 
+-- the same of a move
 abbrev pub HoldsMove : Area → Point → Move → Type 0
 HoldsMove area at move = HoldsEnd area at (end_of move) (centre_in move)
 
+-- and of each of these moves, one after another
 abbrev pub HoldsMoves : Area → Point → List Move → Type 0
 HoldsMoves area at [] = Unit {0}
 HoldsMoves area at (move ∷ moves) = HoldsMove area at move × HoldsMoves area (place_after at move) moves
@@ -54,6 +57,7 @@ HoldsAll area at moves = Holds area at × HoldsMoves area at moves
 abbrev pub HoldsArea : Area → Area → Type 0
 HoldsArea area other = Holds area other.low × Holds area other.high
 
+-- the area of one point
 abbrev pub area_at : Point → Area
 area_at p = record { low = p; high = p }
 

@@ -1,4 +1,5 @@
 -- Roots, rounded up.
+-- For this crate alone.
 use Rattle.std.specs.Prelude.{ℕ, zero, suc, ◌*◌, nat_le, if◌then◌else◌}
 
 -- the least number up to `most` whose square is at least n, where that of `most` is

@@ -1,4 +1,5 @@
 //! What an arc may reach: a circle round its middle.
+//! For this crate alone.
 ghost use Rattle.std.specs.Prelude.{◌≡◌, ◌≤◌, ◌*◌};
 ghost use Rattle.nc_number.specs.Position.{IsPosition, IsWithin};
 ghost use Rattle.motion_track.specs.Centre.{IsCentreWithin};

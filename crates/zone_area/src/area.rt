@@ -1,4 +1,6 @@
-//! Rectangles.
+//! Rectangles in X and Z, in 0.001 mm, and the least one that holds two. How they lie in the cell
+//! is in frame.rt.
+//! zone_cell and tests use it.
 ghost use Rattle.std.specs.Prelude.{◌≡◌, ◌≤◌, unsigned_abs};
 ghost use Rattle.std.specs.Int.{int_min, int_max};
 ghost use Rattle.nc_number.specs.Position.{IsPosition};
@@ -10,7 +12,9 @@ use nc_number::Point;
 /// A rectangle of whole counts of 0.001 mm, its edges included; X is a diameter.
 #[derive(Clone, Copy, Debug, PartialEq, Eq)]
 pub struct Area {
+    /// The corner with the least X and the least Z, in 0.001 mm.
     pub low: Point,
+    /// The corner with the greatest X and the greatest Z.
     pub high: Point,
 }
 

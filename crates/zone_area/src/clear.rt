@@ -1,4 +1,5 @@
-//! Whether two areas are clear of each other.
+//! Whether two areas are clear: more than the gap apart in X or in Z.
+//! zone_cell uses it.
 ghost use Rattle.std.specs.Prelude.{◌≡◌, ◌≤◌, unsigned_abs};
 ghost use Rattle.nc_number.specs.Position.{travel, IsPosition};
 ghost use Rattle.zone_area.specs.Area.{is_beyond, lie_apart, is_clear};

@@ -1,4 +1,5 @@
 //! How the points of a path lie in the cell.
+//! zone_cell uses it.
 ghost use Rattle.std.specs.Prelude.{◌≡◌, ◌≤◌, ◌+ℤ◌, unsigned_abs, if◌then◌else◌};
 ghost use Rattle.nc_number.specs.Position.{travel, IsPosition};
 ghost use Rattle.nc_number.specs.Signs.{signed};
@@ -11,7 +12,9 @@ use nc_number::Point;
 /// How the points of a path lie in the cell: X negated under `mirror`, and then shifted.
 #[derive(Clone, Copy, Debug, PartialEq, Eq)]
 pub struct Frame {
+    /// Whether X is negated in the cell.
     pub mirror: bool,
+    /// What is added then, in 0.001 mm; X is a diameter.
     pub shift: Point,
 }
 

@@ -1,5 +1,6 @@
 //! What holds of every area, for the crates above. Each law is the contract of a function that does
-//! nothing: who calls it has the law.
+//! nothing: a caller of it has the law.
+//! zone_check uses it.
 ghost use Rattle.std.specs.Prelude.{◌≡◌, ◌≤◌, ℕ, List, true};
 ghost use Rattle.nc_number.specs.declared.point.Point.{Point};
 ghost use Rattle.nc_moves.specs.declared.motion.Move.{Move};

@@ -1,0 +1,1 @@
+-- The lemmas of this crate, each file by its subject.

@@ -1,4 +1,5 @@
 -- What a line of a text of zones says. A line that is none of these is not allowed.
+-- For this crate alone.
 use Rattle.std.specs.Prelude.{ℕ, Bool, not, ◌&&◌, List, [], ◌∷◌, Option, Some, None, codes, pos, int_lt, if◌then◌else◌}
 use Rattle.std.specs.Str.{bytes_eq}
 use Rattle.nc_number.specs.declared.point.Point.{Point}

@@ -1,4 +1,5 @@
 -- The lines of a list of zones.
+-- lathe_looks, lathe_top and zone_check take words from here.
 use Rattle.std.specs.Prelude.{ℕ, ◌+◌, ◌==◌, Bool, not, List, [], ◌∷◌, ◌++◌, length, codes, decimal, if◌then◌else◌}
 use Rattle.std.specs.List.{count_by}
 use Rattle.nc_number.specs.declared.point.Point.{Point}
@@ -18,6 +19,7 @@ along_text low high = codes " Z" ++ length_text low.z ++ codes " Z" ++ length_te
 unfoldable pub area_text : Area → List ℕ
 area_text area = across_text area.low area.high ++ along_text area.low area.high
 
+-- how the line of a zone ends: its areas are clear, or they are not
 abbrev pub state_text : Bool → List ℕ
 state_text clear = if clear then codes " clear\n" else codes " hit\n"
 

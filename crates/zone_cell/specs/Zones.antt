@@ -1,4 +1,5 @@
 -- The zones that a text gives: how the paths lie in the cell, and the gap that they are to keep.
+-- lathe_looks, lathe_top and zone_check take words from here.
 use Rattle.std.specs.Prelude.{ℕ, true, false, List, [], ◌∷◌, Result}
 use Rattle.std.specs.Str.Lines.{lines}
 use Rattle.nc_number.specs.declared.both.Both.{Both}
@@ -26,6 +27,7 @@ pub record AreNear (zones : ZonesView) : Type 0 where
   pub two : IsPosition zones.frames.two.shift
   pub gap : IsPosition zones.gap
 
+-- a path that lies in the cell as it is
 abbrev pub at_origin : Frame
 at_origin = record { mirror = false; shift = origin }
 

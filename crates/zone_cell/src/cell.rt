@@ -1,4 +1,5 @@
-//! How both paths lie in the cell.
+//! How both paths lie in the cell, the gap that they are to keep, and the zone of two areas.
+//! lathe_looks, lathe_top and zone_check, and tests, use it.
 ghost use Rattle.std.specs.Prelude.{◌≡◌};
 ghost use Rattle.zone_area.specs.Range.{IsNearArea};
 ghost use Rattle.zone_cell.specs.Entry.{IsAllowed};
@@ -29,6 +30,7 @@ impl Model for Zones {
 /// What both paths may pass between two meetings, as it lies in the cell.
 #[derive(Clone, Copy, Debug, PartialEq, Eq)]
 pub struct Zone {
+    /// The area of each path, as it lies in the cell.
     pub areas: Both<Area>,
     /// The areas lie more than the gap apart in X or in Z.
     pub clear: bool,

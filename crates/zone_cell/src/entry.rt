@@ -1,4 +1,5 @@
-//! A line of a text of zones, read.
+//! What one line of a text of zones says. How it is read is in named.rt.
+//! For this crate alone.
 use nc_number::{Path, Point};
 
 /// What a line of a text of zones says.

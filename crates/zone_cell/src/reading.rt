@@ -1,4 +1,5 @@
 //! From a text to the zones of a cell.
+//! lathe_looks and tests use it.
 ghost use Rattle.std.specs.Prelude.{◌≡◌, ◌<◌, ◌^◌, length};
 ghost use Rattle.nc_number.specs.Answers.{GivesBy};
 ghost use Rattle.zone_cell.specs.Zones.{zones_of};
@@ -15,6 +16,7 @@ use thiserror::Error;
 #[derive(Clone, Copy, Debug, PartialEq, Eq, Error)]
 #[error("line {line} of the zones is not allowed")]
 pub struct ZoneFault {
+    /// The first line that is not allowed, from 1.
     pub line: u32,
 }
 

@@ -1,3 +1,4 @@
+-- One word more is added, and the command read so far is that of the words so far (src/grammar.rt).
 use Rattle.std.proofs.Common.{[], arith}
 use Rattle.clap.specs.Words.{new_app}
 use Rattle.clap_reading.specs.Grammar.{with_name_rule}

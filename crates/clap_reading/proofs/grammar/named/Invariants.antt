@@ -1,3 +1,4 @@
+-- The command so far is that of the row's words so far (loop of src/grammar.rt).
 use Rattle.std.proofs.Common.{map, take}
 use Rattle.std.specs.List.{fold}
 use Rattle.clap.specs.Words.{new_app}

@@ -1,3 +1,4 @@
+-- One row more is added; after the last the command is the program's (src/grammar.rt).
 use Rattle.std.proofs.Common.{[], arith}
 use Rattle.clap_reading.specs.Grammar.{bare_app, with_row}
 use Rattle.command_words.specs.Table.{row_seen}
@@ -7,7 +8,7 @@ use Rattle.command_words.specs.declared.table.Task.TheVariants.{Verify}
 use Rattle.clap_reading.proofs.Building.{adds_subcommand, all_taken, one_more}
 use Rattle.clap_reading.proofs.grammar.program.Goals as goal
 
--- what stands where a list of rows has none
+-- The row that is read if a list has none.
 abbrev no_row : Row
 no_row = record { name = record { ref_ptr = (0, 0); now = [] }; words = record { ref_ptr = (0, 0); now = [] }; options = record { ref_ptr = (0, 0); now = [] }; journal = journal.None; task = Verify }
 

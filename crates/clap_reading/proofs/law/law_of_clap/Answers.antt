@@ -1,3 +1,4 @@
+-- The law of src/law.rt is the lemma of TopWords.
 use Rattle.clap_reading.proofs.TopWords.{all_texts, listed_is}
 use Rattle.clap_reading.proofs.law.law_of_clap.Goals as goal
 

@@ -1,3 +1,4 @@
+-- The names and texts that were found give the command of the row (src/reading.rt).
 use Rattle.std.proofs.Common.{map, rules, sym}
 use Rattle.clap.specs.Words.{found_of, rows_of}
 use Rattle.command_words.specs.Table.{row_seen}

@@ -1,4 +1,4 @@
--- The names so far, with those that the rest gives, are those of all.
+-- The names so far and those of the words ahead are those of all (loop of src/reading.rt).
 use Rattle.std.proofs.Common.{◌≡◌, drop, map, option_map, ◌++◌}
 use Rattle.clap.specs.Words.{found_of, rows_of}
 use Rattle.clap_reading.specs.ClapReading.{names_in}

@@ -1,3 +1,5 @@
+-- The command that `clap` reads is the listed one, and `Usage` says that there is none
+-- (src/reading.rt).
 use Rattle.std.proofs.Common.{◌≡◌, ◌∙◌, ap, map}
 use Rattle.std.specs.Prelude.{string_bytes}
 use Rattle.command_words.specs.Listed.{listed_command}

@@ -1,3 +1,5 @@
+-- Only one to seven digits are read, and only a value between the limits is answered
+-- (src/number.rt).
 use Rattle.std.proofs.Common.{◌≡◌, ℕ, true, Option, Some, None, Ok, ap, sym, ◌∙◌, arith}
 use Rattle.std.specs.Result.{result_ok}
 use Rattle.std.specs.Str.Parse.{digits_value}

@@ -1,4 +1,4 @@
--- None of the texts so far is the one.
+-- None of the texts so far is the one (loop of src/table.rt).
 use Rattle.std.proofs.Common.{◌≡◌, drop, map}
 use Rattle.std.specs.List.{list_any}
 use Rattle.std.specs.Str.{bytes_eq}

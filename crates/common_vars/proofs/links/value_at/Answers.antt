@@ -1,3 +1,5 @@
+-- The write that is found is the latest early enough; without one the variable is vacant
+-- (src/links.rt).
 use Rattle.common_vars.proofs.Latest.{value-read, value-none}
 use Rattle.common_vars.proofs.links.value_at.Goals as goal
 

@@ -1,3 +1,4 @@
+-- No later write of the variable is early enough (src/links.rt).
 use Rattle.common_vars.specs.Links.{IsPast}
 use Rattle.common_vars.proofs.Steps.{steps_left}
 use Rattle.common_vars.proofs.links.value_at.Given as goal

@@ -1,3 +1,4 @@
+-- What the code names is what the table of numbers names (src/variable.rt).
 use Rattle.common_vars.proofs.VariableNumbers.{settled}
 use Rattle.common_vars.proofs.variable.variable_of.Goals as goal
 

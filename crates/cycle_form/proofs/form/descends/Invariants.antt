@@ -1,3 +1,4 @@
+-- The rest of the contour descends from here exactly if all of it does (loop of src/form.rt).
 use Rattle.std.proofs.Common.{◌≡◌, drop}
 use Rattle.cycle_form.specs.Forms.{descends}
 use Rattle.cycle_form.proofs.form.descends.Given as goal

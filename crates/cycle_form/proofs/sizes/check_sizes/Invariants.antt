@@ -1,3 +1,4 @@
+-- The count so far with the parts ahead gives the answer for all parts (loop of src/sizes.rt).
 use Rattle.std.proofs.Common.{◌≡◌, ◌≤◌, drop}
 use Rattle.nc_number.specs.declared.limits.TheConstants.{MOST_BLOCKS}
 use Rattle.cycle_form.specs.Sizes.{sized}

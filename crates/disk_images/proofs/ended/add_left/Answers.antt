@@ -1,3 +1,4 @@
+-- One ended image more is looked at (loop of src/ended.rt).
 use Rattle.std.proofs.Common.{◌≡◌, ◌++◌, ◌∷◌, [], take, get_or, sym, ◌∙◌, ap, append_assoc}
 use Rattle.std.proofs.lemmas.List.{take_more}
 use Rattle.disk_images.specs.Among.{Ended, left_since}

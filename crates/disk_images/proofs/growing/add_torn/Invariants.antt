@@ -1,3 +1,4 @@
+-- The first parts of so many bytes are put over the image (loop of src/growing.rt).
 use Rattle.std.proofs.Common.{◌≡◌, ◌++◌}
 use Rattle.disk_images.specs.Images.{torn_to}
 use Rattle.disk_images.proofs.growing.add_torn.Given as goal

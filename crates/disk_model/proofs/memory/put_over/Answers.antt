@@ -1,3 +1,4 @@
+-- Filled up to the end of the write and put in, the bytes are written over (src/memory.rt).
 use Rattle.std.proofs.Common.{◌≡◌, length, ◌∙◌, arith}
 use Rattle.std.proofs.lemmas.List.{with_items_is}
 use Rattle.disk_model.proofs.Written.{filled_up}

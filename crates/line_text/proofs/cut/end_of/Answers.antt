@@ -1,8 +1,10 @@
+-- The place after the last sign ends the word, or the start if there is no sign (src/cut.rt).
 use Rattle.std.proofs.Common.{◌≡◌, ℕ, suc, ◌+◌, ◌-◌, ◌≤◌, List, [], ◌∷◌, length, get_or, refl, ap, ◌∙◌, arith}
 use Rattle.line_text.specs.declared.sign.Sign.{Sign}
 use Rattle.line_text.specs.Pieces.{end_of}
 use Rattle.line_text.proofs.cut.end_of.Goals as goal
 
+-- the place after the last sign is where signs end
 end_last : (start : ℕ) (signs : List Sign) (none : Sign) → 1 ≤ length signs → (get_or signs (length signs - 1) none).place + 1 ≡ end_of start signs
 end_last start [] none some = absurd (omega arith)
 end_last start (sign ∷ []) none some = refl

@@ -1,3 +1,4 @@
+-- The text agrees with the word so far, and what is left decides (loop of src/front.rt).
 use Rattle.std.proofs.Common.{◌≡◌, drop}
 use Rattle.std.specs.Prelude.{nat_eq}
 use Rattle.std.specs.List.{starts_with}

@@ -1,3 +1,4 @@
+-- Signs that go on after N and its literal with no statement are no numbered one (src/line.rt).
 use Rattle.std.proofs.Common.{◌≡◌, ℕ, ◌-◌, false, List, [], ◌∷◌, length, take, drop, refl, sym, ap, ◌∙◌, arith}
 use Rattle.std.proofs.Math.Seq.{take-length}
 use Rattle.std.specs.List.{prefix_len}
@@ -12,6 +13,7 @@ behind_first sign signs others e =
     let n : length (sign ∷ signs) - 1 ≡ length signs = omega arith in
     e ∙ ap (λ (k : ℕ). take k signs) n ∙ take-length signs
 
+-- signs are no numbered statement if none stands after N and its literal
 no_statement : (signs others behind : List Sign) (n : ℕ) → others ≡ take (length signs - 1) (drop 1 signs) → n ≡ prefix_len is_number_sign others → behind ≡ drop n others → is_statement (sentence_of behind) ≡ false → is_numbered signs ≡ false
 no_statement [] others behind n others-are n-is behind-is e = refl
 no_statement (sign ∷ signs) others behind n others-are n-is behind-is e =

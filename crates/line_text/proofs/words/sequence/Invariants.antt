@@ -1,3 +1,4 @@
+-- The sequence number so far is the last one of the words so far (loop of src/words.rt).
 use Rattle.std.proofs.Common.{◌≡◌, drop}
 use Rattle.std.specs.Prelude.{None}
 use Rattle.line_text.specs.Said.{sequence_from}

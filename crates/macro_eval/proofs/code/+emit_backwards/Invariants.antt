@@ -1,3 +1,5 @@
+-- The code so far, with that of the part of the tree that is left, is the tree's (loop of
+-- src/code.rt).
 use Rattle.std.proofs.Common.{◌≡◌, ◌≤◌, reverse}
 use Rattle.macro_expr.specs.Tree.{tree_of, right_depth}
 use Rattle.macro_eval.specs.Postfix.{code_before}
@@ -7,6 +9,7 @@ use Rattle.macro_eval.proofs.code.+emit_backwards.Given as goal
 abbrev pub decreases-emit_backwards : goal.decreases-emit_backwards
 decreases-emit_backwards l = right_depth (tree_of l.tree.now)
 
+-- The part is no deeper than the tree, and the code of both before what is written is the same.
 abbrev pub invariant-loop-part : goal.invariant-loop-part
 invariant-loop-part l =
     (right_depth (tree_of l.part) ≤ right_depth (tree_of l.tree))

@@ -1,3 +1,5 @@
+-- The part of the tree that is left fits exactly if the tree does, and each call has less room
+-- (loop of src/code.rt).
 use Rattle.std.proofs.Common.{◌≡◌, nat_le}
 use Rattle.macro_expr.specs.Tree.{tree_of, right_depth}
 use Rattle.macro_eval.proofs.code.+is_shallow.Given as goal

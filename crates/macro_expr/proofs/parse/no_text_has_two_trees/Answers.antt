@@ -1,3 +1,4 @@
+-- No text has two trees, as an expression or as a statement (src/parse.rt).
 use Rattle.std.proofs.Common.{◌≡◌, ℕ, List, Result, Ok}
 use Rattle.macro_expr.specs.declared.stop.Stop.{Stop}
 use Rattle.macro_expr.specs.Statements.{expression_at, statement_at, whole}

@@ -1,3 +1,4 @@
+-- The tree of an expression, all of the text (src/parse.rt).
 use Rattle.std.proofs.Common.{◌≤◌, false}
 use Rattle.macro_expr.specs.Tree.{tree_of, right_depth, variables}
 use Rattle.macro_expr.specs.Statements.{expression_at, whole}

@@ -1,3 +1,4 @@
+-- The tree of a statement, all of the text: what a block holds in place of words (src/parse.rt).
 use Rattle.std.proofs.Common.{◌≤◌, false}
 use Rattle.std.specs.List.{All}
 use Rattle.macro_expr.specs.Tree.{sentence_of, right_depth, evaluated, variables_in, IsInRange}

@@ -1,3 +1,5 @@
+-- Reading ends: each function calls one that stands lower in the grammar, or one with fewer
+-- brackets left to open. The rounds of a chain take the text away (src/reading.rt).
 use Rattle.std.proofs.Common.{◌≡◌, ℕ, ◌+◌, ◌-◌, ◌*◌}
 use Rattle.macro_expr.specs.declared.words.Rank.{Rank}
 use Rattle.macro_expr.specs.declared.words.Rank.TheVariants.{Product, Sum}

@@ -1,3 +1,4 @@
+-- What stands behind the word, where the text begins with it (src/words.rt).
 use Rattle.macro_expr.proofs.Prefixes.{behind_prefix}
 use Rattle.macro_expr.proofs.words.behind.Goals as goal
 

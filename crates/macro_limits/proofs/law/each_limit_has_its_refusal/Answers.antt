@@ -1,3 +1,4 @@
+-- 5, 21 and 25 are answered exactly if their limits say so (src/law.rt).
 use Rattle.std.proofs.Common.{false}
 use Rattle.macro_expr.specs.Limits.{cleaned}
 use Rattle.macro_limits.proofs.Exact.{expression_refused, statement_refused}

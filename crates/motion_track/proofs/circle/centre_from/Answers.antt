@@ -1,3 +1,4 @@
+-- The centre is the start with I and K, in 0.0005 mm (src/circle.rt).
 use Rattle.std.proofs.Common.{arith}
 use Rattle.std.proofs.lemmas.Int.{ints}
 use Rattle.motion_track.proofs.Places.{same_place}

@@ -1,3 +1,4 @@
+-- Where two axis words lead, from the lengths as they are stored (src/targets.rt).
 use Rattle.nc_number.proofs.Points.{same_point}
 use Rattle.motion_track.proofs.Places.{stored_part}
 use Rattle.motion_track.proofs.targets.reached.Goals as goal

@@ -1,3 +1,4 @@
+-- The product, rounded to the millionth, is what the control answers (src/arithmetic.rt).
 use Rattle.std.proofs.Common.{rules}
 use Rattle.std.specs.Prelude.{FitsSigned}
 use Rattle.std.specs.Int.{w128}

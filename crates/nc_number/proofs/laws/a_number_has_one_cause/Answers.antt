@@ -1,3 +1,4 @@
+-- No two causes have one number, and none is missing in the table (src/laws.rt).
 use Rattle.nc_number.proofs.CauseTable.{number_has_one_cause, cause_is_listed}
 use Rattle.nc_number.proofs.laws.a_number_has_one_cause.Goals as goal
 

@@ -1,3 +1,4 @@
+-- A root's square is at most the number, and the next one's is more (src/laws.rt).
 use Rattle.nc_number.proofs.Roots.{root_squares, root_next}
 use Rattle.nc_number.proofs.laws.a_root_is_the_greatest.Goals as goal
 

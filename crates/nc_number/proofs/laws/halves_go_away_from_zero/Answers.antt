@@ -1,3 +1,4 @@
+-- Of two quotients that are equally near, the one farther from zero counts (src/laws.rt).
 use Rattle.nc_number.proofs.NearestQuotient.{quotient_is_far_from_zero}
 use Rattle.nc_number.proofs.laws.halves_go_away_from_zero.Goals as goal
 

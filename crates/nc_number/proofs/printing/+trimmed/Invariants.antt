@@ -1,3 +1,4 @@
+-- Each call has one digit less, so the calls end (src/printing.rt).
 use Rattle.std.proofs.Common.{length}
 use Rattle.nc_number.proofs.printing.+trimmed.Given as goal
 

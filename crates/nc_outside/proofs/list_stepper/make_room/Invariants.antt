@@ -1,3 +1,4 @@
+-- The calls kept so far stay (src/list_stepper.rt).
 use Rattle.std.proofs.Common.{◌≡◌}
 use Rattle.nc_outside.proofs.list_stepper.make_room.Given as goal
 

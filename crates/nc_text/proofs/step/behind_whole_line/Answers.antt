@@ -1,3 +1,4 @@
+-- What is kept and counted of a whole line is enough to read it (src/step.rt).
 use Rattle.nc_text.specs.View.{before_of}
 use Rattle.nc_text.proofs.Standing.{whole_line}
 use Rattle.nc_text.proofs.step.behind_whole_line.Goals as goal

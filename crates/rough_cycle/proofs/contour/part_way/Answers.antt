@@ -1,3 +1,4 @@
+-- Where a segment comes to a pass's X, its Z rounded up; no number is too large (src/contour.rt).
 use Rattle.std.proofs.Common.{◌≡◌, ◌*◌, ◌/◌, arith, ◌∙◌}
 use Rattle.std.proofs.lemmas.Int.{ints}
 use Rattle.nc_number.specs.Distances.{distance}

@@ -1,3 +1,4 @@
+-- The blocks to the contour, along it, off, and back (src/form.rt).
 use Rattle.std.proofs.Common.{◌∙◌, refl}
 use Rattle.rough_cycle.proofs.Pushed.{lines_pushed}
 use Rattle.rough_cycle.proofs.form.push_contour.Goals as goal

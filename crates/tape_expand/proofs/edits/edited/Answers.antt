@@ -1,3 +1,4 @@
+-- The text with edits, which are in the order of their lines (src/edits.rt).
 use Rattle.std.proofs.Common.{◌∙◌}
 use Rattle.tape_expand.proofs.ByLines.{by_lines}
 use Rattle.tape_expand.proofs.edits.edited.Goals as goal

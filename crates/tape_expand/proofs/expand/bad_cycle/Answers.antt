@@ -1,3 +1,4 @@
+-- The refusal of a cycle, as that of the text (src/expand.rt).
 use Rattle.tape_expand.proofs.Answered.{cycle_fails}
 use Rattle.tape_expand.proofs.expand.bad_cycle.Goals as goal
 

@@ -1,3 +1,4 @@
+-- The parts of a tape that was read from this text (src/expand.rt).
 use Rattle.std.proofs.Common.{ap, sym, ◌∙◌}
 use Rattle.tape_expand.specs.Expansion.{of_cycles}
 use Rattle.tape_expand.proofs.Answered.{marked, same_fails}

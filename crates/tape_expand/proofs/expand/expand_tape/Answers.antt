@@ -1,3 +1,4 @@
+-- The text of a tape with G71 and G70 over contours of lines as plain blocks (src/expand.rt).
 use Rattle.std.proofs.Common.{Ok, ap, sym, ◌∙◌}
 use Rattle.std.specs.List.{flat_map}
 use Rattle.nc_text.specs.Lines.{lines_of}

@@ -1,3 +1,4 @@
+-- The parts that are written out, or why the text is refused (src/expand.rt).
 use Rattle.std.proofs.Common.{◌≤◌, sym, subst, length}
 use Rattle.nc_number.specs.Answers.{Gives}
 use Rattle.nc_number.specs.declared.limits.TheConstants.{MOST_BLOCKS}

@@ -1,3 +1,5 @@
+-- The tape of the text with no switch set, since a block that is skipped would still be written out
+-- (src/expand.rt).
 use Rattle.std.proofs.Common.{[]}
 use Rattle.nc_text.proofs.RefusedAtEnd.{refused_at_end}
 use Rattle.tape_expand.proofs.expand.read_tape.Goals as goal

@@ -1,3 +1,4 @@
+-- The parts of a tape, if it has no more blocks than it may with them written out (src/expand.rt).
 use Rattle.std.proofs.Common.{sym, subst, length}
 use Rattle.nc_number.specs.Answers.{Gives}
 use Rattle.nc_text.specs.Shape.{blocks_in}

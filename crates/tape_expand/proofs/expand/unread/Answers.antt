@@ -1,3 +1,4 @@
+-- A text that is no tape has no cycles (src/expand.rt).
 use Rattle.tape_expand.proofs.Answered.{text_fails}
 use Rattle.tape_expand.proofs.expand.unread.Goals as goal
 

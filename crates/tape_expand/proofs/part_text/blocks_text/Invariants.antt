@@ -1,3 +1,5 @@
+-- The lines of the blocks so far, with those of the others, are all lines (loop of
+-- src/part_text.rt).
 use Rattle.std.proofs.Common.{◌≡◌, take}
 use Rattle.tape_expand.specs.BlockText.{blocks_text}
 use Rattle.tape_expand.proofs.part_text.blocks_text.Given as goal

@@ -1,3 +1,5 @@
+-- The edits of the parts so far, with those of the others, are all edits (loop of
+-- src/part_text.rt).
 use Rattle.std.proofs.Common.{◌≡◌, take}
 use Rattle.std.specs.List.{flat_map}
 use Rattle.tape_expand.specs.Replaced.{edits_of}

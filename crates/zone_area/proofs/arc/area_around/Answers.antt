@@ -1,3 +1,4 @@
+-- A middle plus and minus a reach; along Z half of it, rounded outward (src/arc.rt).
 use Rattle.std.proofs.Common.{arith}
 use Rattle.std.proofs.lemmas.Int.{ints}
 use Rattle.zone_area.specs.Area.{area_around}

@@ -1,3 +1,4 @@
+-- The least number whose square is at least n (src/arc.rt).
 use Rattle.std.proofs.Common.{arith, sym}
 use Rattle.zone_area.proofs.LeastRoot.{root_after, root_exact}
 use Rattle.zone_area.proofs.arc.least_root.Goals as goal

@@ -1,3 +1,4 @@
+-- The middle of the circle that the arc may reach (src/arc.rt).
 use Rattle.std.proofs.Common.{arith, subst}
 use Rattle.std.proofs.lemmas.Int.{ints}
 use Rattle.nc_moves.specs.declared.motion.Centre.TheVariants.{Offset}

@@ -1,3 +1,4 @@
+-- How far the arc may reach from its middle, in 0.0005 mm (src/arc.rt).
 use Rattle.std.proofs.Common.{ap, sym, ◌∙◌}
 use Rattle.zone_area.specs.Passing.{middle_of}
 use Rattle.zone_area.specs.Area.{reach_of}

@@ -1,3 +1,4 @@
+-- The square of the distance of two points, in 0.0005 mm (src/arc.rt).
 use Rattle.std.proofs.Common.{arith}
 use Rattle.zone_area.proofs.Squares.{squares_between, distance_stored}
 use Rattle.zone_area.proofs.arc.square_between.Goals as goal

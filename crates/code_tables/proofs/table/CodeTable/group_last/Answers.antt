@@ -1,3 +1,4 @@
+-- The code that counts is the last whose row is of the group (src/table.rt).
 use Rattle.std.proofs.Common.{◌≡◌, ◌≤◌, length, sym, ◌∙◌, arith, take_all, rules}
 use Rattle.std.specs.Option.{option_map}
 use Rattle.code_tables.specs.declared.row.Row.{Row}

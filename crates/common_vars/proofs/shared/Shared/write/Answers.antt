@@ -1,3 +1,4 @@
+-- With the new node the writes are linked, and the latest places are right (src/shared.rt).
 use Rattle.std.proofs.Common.{◌≡◌, ◌≤◌, ◌<◌, All, arith, ap, sym, subst, set, ℕ, Some, List, length}
 use Rattle.common_vars.specs.Links.{AreEnds, IsSomeBefore, stamp_at}
 use Rattle.common_vars.specs.declared.links.Node.{Node}

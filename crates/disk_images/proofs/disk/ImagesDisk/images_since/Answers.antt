@@ -1,3 +1,4 @@
+-- The images that are listed are exactly those that a crash since then may leave (src/disk.rt).
 use Rattle.disk_images.proofs.Parts.{just_listed}
 use Rattle.disk_images.proofs.disk.ImagesDisk.images_since.Goals as goal
 

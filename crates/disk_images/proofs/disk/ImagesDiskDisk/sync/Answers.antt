@@ -1,3 +1,4 @@
+-- A sync puts all on the disk, or fails and puts nothing there (src/disk.rt).
 use Rattle.std.proofs.Common.{rules, ◌≡◌, true, false, refl, sym, subst, ap, ◌∙◌}
 use Rattle.disk_model.specs.Device.{Looks}
 use Rattle.nc_number.specs.Faults.{next}

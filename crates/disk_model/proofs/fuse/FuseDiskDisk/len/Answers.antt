@@ -1,3 +1,4 @@
+-- Asked for its length, the fuse passes the call on to the disk below, or fails it (src/fuse.rt).
 use Rattle.std.proofs.Common.{refl, ◌∙◌}
 use Rattle.disk_model.proofs.Fused.{carried_measures}
 use Rattle.disk_model.proofs.fuse.FuseDiskDisk.len.Goals as goal

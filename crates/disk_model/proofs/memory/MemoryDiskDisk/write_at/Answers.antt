@@ -1,3 +1,4 @@
+-- A write tears its range only, done or failed, and a read then gives its bytes (src/memory.rt).
 use Rattle.std.proofs.Common.{rules, ◌≡◌, ◌+◌, ◌^◌, ◌<◌, length, true, ap, sym, subst, ◌∙◌, arith}
 use Rattle.std.proofs.lemmas.Bool.Decides.{nat_tests}
 use Rattle.disk_model.specs.declared.stretch.Stretch.{Stretch}

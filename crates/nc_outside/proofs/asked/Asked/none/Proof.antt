@@ -1,4 +1,4 @@
--- `none` makes a value of no bytes, at the empty list.
+-- `none` makes a value of no bytes, at the empty list (src/asked.rt).
 use mathlib.Core.Path.{refl}
 use mathlib.Core.List.{[], ◌∷◌}
 use seplogic.Ra.Ura.{Ura}

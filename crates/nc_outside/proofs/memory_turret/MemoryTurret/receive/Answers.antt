@@ -1,3 +1,5 @@
+-- A call that fails raises the count of faults, and one that does not leaves it
+-- (src/memory_turret.rt).
 use Rattle.std.proofs.Common.{◌≡◌, true, false, subst, sym}
 use Rattle.nc_outside.specs.Faults.{CountsFault}
 use Rattle.nc_outside.specs.Kept.{KeptMoves, turret_of}

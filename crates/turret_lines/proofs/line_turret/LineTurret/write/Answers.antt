@@ -1,3 +1,4 @@
+-- The line is written whole, or a part of it is left by a fault (src/line_turret.rt).
 use Rattle.std.proofs.Common.{◌≡◌, ℕ, [], ◌∷◌, ◌++◌, take, rules, sym, subst}
 use Rattle.std.specs.Option.{ForSome}
 use Rattle.std.specs.Io.KnownBytes.{Appends}

@@ -1,4 +1,4 @@
--- An empty body makes the value without bytes, at the empty list.
+-- An empty body makes the value without bytes, at the empty list (src/told.rt).
 use mathlib.Core.Path.{refl}
 use mathlib.Core.List.{[], ◌∷◌}
 use seplogic.Ra.Ura.{Ura}

@@ -1,4 +1,4 @@
--- An empty body makes the value without bytes, at another ghost value.
+-- An empty body makes the value without bytes, at another ghost value (src/told.rt).
 use mathlib.Core.Path.{refl}
 use mathlib.Core.List.{[], ◌∷◌, ◌++◌}
 use seplogic.Ra.Ura.{Ura}

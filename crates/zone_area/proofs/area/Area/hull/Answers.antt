@@ -1,3 +1,4 @@
+-- The least area that holds both (src/area.rt).
 use Rattle.std.proofs.Common.{arith}
 use Rattle.zone_area.specs.Area.{hull_of}
 use Rattle.zone_area.proofs.Squares.{same_area, lesser_stored, greater_stored}

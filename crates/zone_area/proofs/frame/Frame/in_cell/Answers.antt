@@ -1,3 +1,4 @@
+-- The area as it lies in the cell (src/frame.rt).
 use Rattle.std.proofs.Common.{arith}
 use Rattle.std.proofs.lemmas.Int.{ints}
 use Rattle.zone_area.specs.Area.{area_in_cell}
