@@ -11,11 +11,12 @@ use Rattle.block_forms.specs.Forms.{signs_in}
 use Rattle.block_forms.specs.Variables.{variables_of_value, variables_of_words}
 use Rattle.block_forms.proofs.WordByWord.{signs_at}
 
--- one word more
+-- the variables of the words with one more are theirs and its own
 pub words_with : (words : List FlowWord) (word : FlowWord) → variables_of_words (words ++ word ∷ []) ≡ variables_of_words words + variables_of_value word.value
 words_with [] word = omega arith
 words_with (w ∷ words) word = omega (arith, words_with words word)
 
+-- so its variables are no more than the signs of its text
 pub one_more_named : (words : List FlowWord) (word : FlowWord) (signs : ℕ) → variables_of_value word.value ≤ signs → variables_of_words (words ++ word ∷ []) ≤ variables_of_words words + signs
 one_more_named words word signs few = omega (arith, words_with words word)
 
@@ -23,9 +24,11 @@ one_more_named words word signs few = omega (arith, words_with words word)
 abbrev sign : ℕ → ℕ
 sign b = cond (b == 35) 1 0
 
+-- the signs of a text are those of its first byte and of the rest
 signs_at_head : (b : ℕ) (text : List ℕ) → variable_signs (b ∷ text) ≡ sign b + variable_signs text
 signs_at_head b text = sum_by-cons _ b text
 
+-- a small letter that is made great is no new sign
 upper_sign : (b : ℕ) → sign (to_ascii_uppercase b) ≤ sign b
 upper_sign b = grind (arith, nat_tests)
 
@@ -42,6 +45,7 @@ fewer_cleaned false (b ∷ text) = go (b == 40) (b == 32 || b == 9) (fewer_clean
     go false false inside outside =
         omega (arith, signs_at_head b text, signs_at_head (to_ascii_uppercase b) (cleaned false text), upper_sign b, outside)
 
+-- nor does leaving out a minus in front,
 fewer_behind_sign : (text : List ℕ) → variable_signs (behind_sign text) ≤ variable_signs text
 fewer_behind_sign [] = omega arith
 fewer_behind_sign (b ∷ text) = go (is_sign b)
@@ -50,6 +54,7 @@ fewer_behind_sign (b ∷ text) = go (is_sign b)
     go true = omega (arith, signs_at_head b text)
     go false = omega arith
 
+-- and both together leave no more signs
 pub fewer_in_value : (text : List ℕ) → variable_signs (cleaned false (behind_sign text)) ≤ variable_signs text
 fewer_in_value text = omega (arith, fewer_cleaned false (behind_sign text), fewer_behind_sign text)
 

@@ -9,14 +9,17 @@ use Rattle.block_forms.specs.Refusals.{is_above, rises_behind}
 unfoldable pub in_order_behind : Option ℕ → List FlowWord → Bool
 in_order_behind before words = rises_behind before (map (λ word. word.letter) (words_of (codes "IJK") words))
 
+-- before the first word it says what the definition says,
 pub in_order_start : (words : List FlowWord) → in_order_behind None (drop 0 words) ≡ rises_behind None (map (λ word. word.letter) (words_of (codes "IJK") words))
 unfolding in_order_behind
 in_order_start words = refl
 
+-- behind the last word it holds
 pub in_order_end : (before : Option ℕ) → in_order_behind before [] ≡ true
 unfolding in_order_behind
 in_order_end before = refl
 
+-- of one word and the others: an I, J or K must be above the letter before
 in_order_cons : (before : Option ℕ) (word : FlowWord) (words : List FlowWord) → in_order_behind before (word ∷ words) ≡ cond (is_one_of (codes "IJK") word.letter) (is_above before word.letter && in_order_behind (Some word.letter) words) (in_order_behind before words)
 unfolding in_order_behind
 in_order_cons before word words = go (is_one_of (codes "IJK") word.letter) (words_of (codes "IJK") words)
@@ -31,14 +34,17 @@ in_order_next before words i d lt =
     let e : i + 1 ≡ suc i = omega arith in
     rw (drop-cons words i d lt, e) (in_order_cons before (get_or words i d) (drop (suc i) words))
 
+-- an I, J or K that is not above the one before ends the search,
 pub in_order_ends : (before : Option ℕ) (words : List FlowWord) (i : ℕ) (word : FlowWord) → i < length words → word ≡ get_or words i word → is_one_of (codes "IJK") word.letter ≡ true → is_above before word.letter ≡ false → in_order_behind before (drop i words) ≡ false
 in_order_ends before words i word lt is one above =
     in_order_next before words i word lt ∙ rw (← is, one, above) refl
 
+-- one that is goes on from its letter,
 pub in_order_goes : (before : Option ℕ) (words : List FlowWord) (i : ℕ) (word : FlowWord) → i < length words → word ≡ get_or words i word → is_one_of (codes "IJK") word.letter ≡ true → is_above before word.letter ≡ true → in_order_behind before (drop i words) ≡ in_order_behind (Some word.letter) (drop (i + 1) words)
 in_order_goes before words i word lt is one above =
     in_order_next before words i word lt ∙ rw (← is, one, above) refl
 
+-- and another word changes nothing
 pub in_order_skips : (before : Option ℕ) (words : List FlowWord) (i : ℕ) (word : FlowWord) → i < length words → word ≡ get_or words i word → is_one_of (codes "IJK") word.letter ≡ false → in_order_behind before (drop i words) ≡ in_order_behind before (drop (i + 1) words)
 in_order_skips before words i word lt is one =
     in_order_next before words i word lt ∙ rw (← is, one) refl

@@ -20,6 +20,7 @@ rest_reads (Ok w) (Err n) words e = absurd (cc)
 rest_reads (Err n) (Ok ws) words e = absurd (cc)
 rest_reads (Err n) (Err m) words e = absurd (cc)
 
+-- if all words read, none of them doesn't
 all_read : (before behind : List Word) (word : Word) (words : List FlowWord) (number : ℕ) → all_words (before ++ word ∷ behind) ≡ Ok words → word_of word ≡ Err number → ⊥
 all_read [] behind word words number all fails = go (word_of word) (all_words behind) fails all
   where
@@ -35,6 +36,7 @@ all_read (b ∷ before) behind word words number all fails =
 first_or_rest : (own rest number : ℕ) → ◌≡◌ {A = Result (List FlowWord) ℕ} (Err (if nat_le own rest then own else rest)) (Err number) → (number ≤ own) × (number ≤ rest)
 first_or_rest own rest number e = let same : (if nat_le own rest then own else rest) ≡ number = cc in (grind (arith, nat_tests), grind (arith, nat_tests))
 
+-- the number that is answered is at most that of each word that doesn't read
 is_least : (before behind : List Word) (word : Word) (number own : ℕ) → all_words (before ++ word ∷ behind) ≡ Err number → word_of word ≡ Err own → number ≤ own
 is_least [] behind word number own all fails = go (word_of word) (all_words behind) fails all
   where
@@ -51,7 +53,7 @@ is_least (b ∷ before) behind word number own all fails =
     go (Ok w) (Err m) at all later never = let a : m ≡ number = cc in let b : m ≤ own = later m at in omega arith
     go (Err n) (Err m) at all later never = let a : number ≤ m = (first_or_rest n m number all).1 in let b : m ≤ own = later m at in omega arith
 
--- a word that does not read
+-- a word of the block that doesn't read, and where it stands
 pub record Unread (texts : List Word) (number : ℕ) : Type 0 where
   pub before : List Word
   pub behind : List Word
@@ -59,6 +61,7 @@ pub record Unread (texts : List Word) (number : ℕ) : Type 0 where
   pub stands : texts ≡ before ++ word ∷ behind
   pub fails : word_of word ≡ Err number
 
+-- and it is that of one of them
 there : (texts : List Word) (number : ℕ) → all_words texts ≡ Err number → Unread texts number
 there [] number all = absurd (cc)
 there (t ∷ ts) number all = go (word_of t) (all_words ts) refl refl all (λ n rest. there ts n rest)
@@ -87,7 +90,7 @@ there (t ∷ ts) number all = go (word_of t) (all_words ts) refl refl all (λ n 
         let same : (if nat_le n m then n else m) ≡ number = cc in
         either (nat_le n m) n m at (behind m rest) same
 
--- where a word does not read
+-- if a word doesn't read, the number that is answered is the least
 unread_is_least : Stops → (dialect : Dialect) (texts : List Word) (number : ℕ) → all_words texts ≡ Err number → IsLeastOfText dialect texts number
 unread_is_least stops dialect texts number all =
     let it = there texts number all in
@@ -103,7 +106,7 @@ unread_is_least stops dialect texts number all =
     go _ (said words cause read refuses) small =
         let never : ◌≡◌ {A = Result (List FlowWord) ℕ} (Ok words) (Err number) = sym read ∙ all in absurd (cc)
 
--- where all words read
+-- if all words read and are few enough, the least refusal of what they say is the least
 said_is_least : (dialect : Dialect) (texts : List Word) (words : List FlowWord) (cause : Cause) → all_words texts ≡ Ok words → has_many_variables texts ≡ false → refusal_of dialect words ≡ Some cause → IsLeastOfText dialect texts (cause_number cause)
 said_is_least dialect texts words cause all few refused =
     let is = (least_refusal dialect words cause).0 refused in
@@ -121,6 +124,7 @@ said_is_least dialect texts words cause all few refused =
         let same : own ≡ words = cc in
         is.least other (rw (← same) refuses)
 
+-- if all words read but name more than 32 variables, that is the least refusal
 many_is_least : (dialect : Dialect) (texts : List Word) (words : List FlowWord) → all_words texts ≡ Ok words → has_many_variables texts ≡ true → IsLeastOfText dialect texts (cause_number TooManyVariables)
 many_is_least dialect texts words all are =
     record { holds = many are; least = λ other refuses. go other refuses }
@@ -131,9 +135,11 @@ many_is_least dialect texts words all are =
     go _ (many is) = omega arith
     go _ (said own other read refuses) = refusal_above_25 dialect own other refuses
 
+-- what is least of a number is so of an equal one
 along : (dialect : Dialect) (texts : List Word) (a b : ℕ) → a ≡ b → IsLeastOfText dialect texts a → IsLeastOfText dialect texts b
 along dialect texts a b same is = rw (← same) is
 
+-- the number that is answered is the least,
 answered_is_least : Stops → (dialect : Dialect) (texts : List Word) (number : ℕ) → words_or_refusal dialect texts ≡ Err number → IsLeastOfText dialect texts number
 answered_is_least stops dialect texts number answered =
     go (all_words texts) refl (has_many_variables texts) refl answered
@@ -176,6 +182,7 @@ accepted_has_none dialect texts words accepted =
     go (Ok own) all false few e = told own all few (refusal_of dialect own) refl e
     go (Err n) all are is e = absurd (cc)
 
+-- and the least is answered,
 least_is_answered : Stops → (dialect : Dialect) (texts : List Word) (number : ℕ) → IsLeastOfText dialect texts number → words_or_refusal dialect texts ≡ Err number
 least_is_answered stops dialect texts number is = go (words_or_refusal dialect texts) refl
   where
@@ -188,5 +195,6 @@ least_is_answered stops dialect texts number is = go (words_or_refusal dialect t
         let same : n ≡ number = omega arith in
         ap Err same
 
+-- so both are the same
 pub least_of_text : Stops → (dialect : Dialect) (texts : List Word) (number : ℕ) → (words_or_refusal dialect texts ≡ Err number) ↔ IsLeastOfText dialect texts number
 least_of_text stops dialect texts number = (answered_is_least stops dialect texts number, least_is_answered stops dialect texts number)

@@ -23,18 +23,21 @@ holds_of dialect words AxisTwice = has_axis_twice dialect.system words
 holds_of dialect words WordRange = is_out_of_range dialect words
 holds_of dialect words _ = false
 
+-- the refusals in the order of their numbers: 54, 56, 57, 58, 59, 61, 62 and 64
 abbrev in_order : List Cause
 in_order = NotFixed ∷ UnknownCode ∷ WaitNotAlone ∷ WaitPaths ∷ TwoM ∷ BadCall ∷ AxisTwice ∷ WordRange ∷ []
 
+-- the refusal stands in this list
 abbrev IsAmong : Cause → List Cause → Type 0
 IsAmong cause [] = ⊥
 IsAmong cause (x ∷ xs) = (cause ≡ x) ⊎ IsAmong cause xs
 
--- no later number is smaller
+-- each refusal of the list has a number no greater than those behind it
 abbrev rises : List Cause → Bool
 rises [] = true
 rises (x ∷ xs) = list_all (λ cause. nat_le (cause_number x) (cause_number cause)) xs && rises xs
 
+-- a refusal that holds tests as such, and is one of the list,
 tests_so : (dialect : Dialect) (words : List FlowWord) (cause : Cause) → Refuses dialect words cause → (holds_of dialect words cause ≡ true) × IsAmong cause in_order
 tests_so dialect words _ (not_fixed e) = (e, inl refl)
 tests_so dialect words _ (unknown e) = (e, inr (inl refl))
@@ -45,6 +48,7 @@ tests_so dialect words _ (bad_call e) = (e, inr (inr (inr (inr (inr (inl refl)))
 tests_so dialect words _ (axis_twice e) = (e, inr (inr (inr (inr (inr (inr (inl refl)))))))
 tests_so dialect words _ (out_of_range e) = (e, inr (inr (inr (inr (inr (inr (inr (inl refl))))))))
 
+-- and one that tests as such holds
 refuses_so : (dialect : Dialect) (words : List FlowWord) (cause : Cause) → holds_of dialect words cause ≡ true → Refuses dialect words cause
 refuses_so dialect words NotFixed e = not_fixed e
 refuses_so dialect words UnknownCode e = unknown e
@@ -56,6 +60,7 @@ refuses_so dialect words AxisTwice e = axis_twice e
 refuses_so dialect words WordRange e = out_of_range e
 refuses_so dialect words _ e = absurd (cc)
 
+-- a number that is at most each of the list is at most any of it
 all_at_least : (n : ℕ) (xs : List Cause) → list_all (λ cause. nat_le n (cause_number cause)) xs ≡ true → (other : Cause) → IsAmong other xs → n ≤ cause_number other
 all_at_least n [] all other among = absurd among
 all_at_least n (x ∷ xs) all other (inl e) =
@@ -63,6 +68,7 @@ all_at_least n (x ∷ xs) all other (inl e) =
     rw e (true_le n (cause_number x) first)
 all_at_least n (x ∷ xs) all other (inr later) = all_at_least n xs (both _ _ all).1 other later
 
+-- the first of a rising list that holds is the least that holds
 first_is_least : (p : Cause → Bool) (xs : List Cause) (cause : Cause) → rises xs ≡ true → find p xs ≡ Some cause → (p cause ≡ true) × ((other : Cause) → IsAmong other xs → p other ≡ true → cause_number cause ≤ cause_number other)
 first_is_least p [] cause rise found = absurd (cc)
 first_is_least p (x ∷ xs) cause rise found =
@@ -85,6 +91,7 @@ first_is_least p (x ∷ xs) cause rise found =
         rw (← same) (e, λ other among holds. this true e all other among)
     go false e all rest found = ((rest found).0, behind e (rest found).1)
 
+-- if none is found, none of the list holds,
 none_holds : (p : Cause → Bool) (xs : List Cause) → find p xs ≡ None → (other : Cause) → IsAmong other xs → p other ≡ true → ⊥
 none_holds p [] none other among holds = among
 none_holds p (x ∷ xs) none other among holds =
@@ -98,6 +105,7 @@ none_holds p (x ∷ xs) none other among holds =
         absurd (cc)
     go false e none (inr later) rest = rest none later
 
+-- and the other way round
 none_found : (p : Cause → Bool) (xs : List Cause) → ((other : Cause) → p other ≡ true → ⊥) → find p xs ≡ None
 none_found p [] never = refl
 none_found p (x ∷ xs) never = go (p x) refl (none_found p xs never)
@@ -106,9 +114,11 @@ none_found p (x ∷ xs) never = go (p x) refl (none_found p xs never)
     go true e rest = absurd (never x e)
     go false e rest = rest
 
+-- the refusal of the definition is the first of the list that holds,
 is_the_first : (dialect : Dialect) (words : List FlowWord) → refusal_of dialect words ≡ find (holds_of dialect words) in_order
 is_the_first dialect words = refl
 
+-- so it is the least,
 answered_is_least : (dialect : Dialect) (words : List FlowWord) (cause : Cause) → refusal_of dialect words ≡ Some cause → IsLeast dialect words cause
 answered_is_least dialect words cause answered =
     let first = first_is_least (holds_of dialect words) in_order cause refl (sym (is_the_first dialect words) ∙ answered) in
@@ -117,6 +127,7 @@ answered_is_least dialect words cause answered =
       least = λ other refuses. let so = tests_so dialect words other refuses in first.1 other so.1 so.0;
     }
 
+-- and the least is it,
 least_is_answered : (dialect : Dialect) (words : List FlowWord) (cause : Cause) → IsLeast dialect words cause → refusal_of dialect words ≡ Some cause
 least_is_answered dialect words cause is = go (refusal_of dialect words) refl
   where
@@ -131,9 +142,11 @@ least_is_answered dialect words cause is = go (refusal_of dialect words) refl
         let same : cause_number own ≡ cause_number cause = omega arith in
         ap Some (number_has_one_cause own cause same)
 
+-- so both are the same
 pub least_refusal : (dialect : Dialect) (words : List FlowWord) (cause : Cause) → (refusal_of dialect words ≡ Some cause) ↔ IsLeast dialect words cause
 least_refusal dialect words cause = (answered_is_least dialect words cause, least_is_answered dialect words cause)
 
+-- and there is none just if none holds
 pub no_refusal : (dialect : Dialect) (words : List FlowWord) → (refusal_of dialect words ≡ None) ↔ ((cause : Cause) → ¬ (Refuses dialect words cause))
 no_refusal dialect words = (
   λ none cause refuses. let so = tests_so dialect words cause refuses in none_holds (holds_of dialect words) in_order (sym (is_the_first dialect words) ∙ none) cause so.1 so.0,

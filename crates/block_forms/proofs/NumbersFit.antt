@@ -1,4 +1,4 @@
--- Numbers of words that are in their range.
+-- Numbers of words that are in their range. So they fit the numbers that the code keeps.
 use Rattle.std.proofs.Common.{◌≡◌, ℕ, ◌≤◌, Bool, true, false, cond, not, List, [], ◌∷◌, Option, Some, None, IfSome, ℤ, pos, negsuc, refl, arith}
 use Rattle.std.specs.List.{list_any, filter_map}
 use Rattle.std.proofs.lemmas.Bool.Decides.{nat_tests}
@@ -17,18 +17,22 @@ use Rattle.block_words.specs.Ranges.{is_between, range_of, fits_value, is_in_ran
 abbrev pub IsWithin : ℕ → ℕ → Option ℕ → Type 0
 IsWithin least greatest number = IfSome number (λ n. (least ≤ n) × (n ≤ greatest))
 
+-- a whole number that tests as in its range is in it,
 number_within : (least greatest : ℕ) (z : Option ℤ) → is_between least greatest z ≡ true → IsWithin least greatest (natural z)
 number_within least greatest None is = tt
 number_within least greatest (Some (pos n)) is = (grind (arith, nat_tests), grind (arith, nat_tests))
 number_within least greatest (Some (negsuc n)) is = tt
 
+-- so is that of a value that fits its range,
 value_within : (least greatest : ℕ) (value : WordValue) → fits_value (Between least greatest) value ≡ true → IsWithin least greatest (natural (whole_value value))
 value_within least greatest (Fixed literal) is = number_within least greatest _ is
 value_within least greatest (Computed minus tree) is = tt
 
+-- a letter that is among one letter is it
 letter_is : (letter own : ℕ) → is_one_of (letter ∷ []) own ≡ true → own ≡ letter
 letter_is letter own e = grind (arith, nat_tests)
 
+-- and that of a word in its range
 word_within : (purpose : Purpose) (letter least greatest : ℕ) (word : FlowWord) → range_of purpose letter ≡ Between least greatest → is_one_of (letter ∷ []) word.letter ≡ true → is_in_range purpose word ≡ true → IsWithin least greatest (natural (whole_value word.value))
 word_within purpose letter least greatest word range same fits =
     let own : word.letter ≡ letter = letter_is letter word.letter same in

@@ -1,4 +1,5 @@
--- What a block does to the order of blocks.
+-- What a block does to the order of blocks. The open reading has its own in open_forms.
+-- open_forms and path_state use these words.
 use Rattle.std.specs.Prelude.{ℕ, ◌/◌, ◌%◌, nat_le, Bool, true, ◌&&◌, ◌||◌, List, Option, Some, None, codes, if◌then◌else◌}
 use Rattle.block_order.specs.declared.control.Control.{Control}
 use Rattle.block_order.specs.declared.control.Control.TheVariants as control
@@ -14,6 +15,7 @@ use Rattle.block_words.specs.Codes.{natural, m_codes, has_code, is_waiting, firs
 abbrev pub number_of : List ℕ → List FlowWord → Option ℕ
 number_of letters words = natural (last_whole letters words)
 
+-- this number, or the one given if there is none
 abbrev pub or_number : ℕ → Option ℕ → ℕ
 or_number n None = n
 or_number n (Some own) = own
@@ -26,10 +28,12 @@ repeats_of words = or_number 1 (number_of (codes "L") words)
 abbrev pub call_of_p : ℕ → ℕ → Control
 call_of_p p repeats = if nat_le 10000 p then control.Call (p % 10000) (p / 10000) else control.Call p repeats
 
+-- M99: back to a sequence number, or to the call
 abbrev pub back_to : Option ℕ → Control
 back_to None = control.Back
 back_to (Some n) = control.BackTo n
 
+-- a wait by its code, of which each wait has one
 abbrev pub wait_at : Option ℕ → Control
 wait_at None = control.Next
 wait_at (Some code) = control.Wait code
@@ -38,6 +42,7 @@ wait_at (Some code) = control.Wait code
 abbrev pub end_or_next : List FlowWord → Control
 end_or_next words = if has_code 2 words || has_code 30 words then control.End else control.Next
 
+-- what a block of this purpose does to the order of blocks
 abbrev pub control_by : Purpose → Dialect → List FlowWord → Control
 control_by MacroCall dialect words = control.Call (or_number 0 (number_of (codes "P") words)) (repeats_of words)
 control_by Subprogram dialect words = call_of_p (or_number 0 (number_of (codes "P") words)) (repeats_of words)
@@ -51,12 +56,12 @@ control_by Other dialect words = end_or_next words
 abbrev pub control_of_words : Dialect → List FlowWord → Control
 control_of_words dialect words = control_by (purpose_of dialect words) dialect words
 
--- a fixed number, or none for a computed one
+-- the sequence number of a jump that is written out, or none of a computed one
 abbrev pub number_of_aim : Aim → Option ℕ
 number_of_aim (ToNumber n) = Some n
 number_of_aim (ToNumberOf tree) = None
 
--- the control of a statement
+-- what a statement does to the order of blocks
 abbrev pub control_of_sentence : Sentence → Control
 control_of_sentence (Assign name tree) = control.Next
 control_of_sentence (Goto aim) = control.Goto (number_of_aim aim)
@@ -66,6 +71,7 @@ control_of_sentence (WhileDo test name) = control.While name
 control_of_sentence (DoOnly name) = control.Do name
 control_of_sentence (EndLoop name) = control.EndLoop name
 
+-- a computed sequence number is known in the run alone; one that is written out is up to 99,999
 abbrev pub is_sequence : Option ℕ → Bool
 is_sequence None = true
 is_sequence (Some n) = nat_le n 99999

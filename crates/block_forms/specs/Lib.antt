@@ -1,3 +1,5 @@
+-- The words in which contracts speak of what a block says. Other crates cite Refusals, Controls,
+-- Forms, Views, Blocks and Variables.
 pub mod Refusals
 pub mod Controls
 pub mod Forms

@@ -1,5 +1,6 @@
 -- When a block of words is refused. Each refusal is a condition of the whole block, apart from the
--- others.
+-- others. Refusals of words that don't read are in Forms.
+-- open_forms and wait_verify use these words.
 use Rattle.std.specs.Prelude.{◌≡◌, ◌≤◌, ℕ, Bool, true, false, not, ◌&&◌, ◌||◌, nat_lt, nat_le, List, [], ◌∷◌, length, map, Option, Some, None, codes, if◌then◌else◌}
 use Rattle.std.specs.List.{list_any}
 use Rattle.nc_number.specs.Causes.{cause_number}
@@ -22,11 +23,12 @@ use Rattle.block_words.specs.Ranges.{is_in_range}
 abbrev pub is_not_fixed : Dialect → List FlowWord → Bool
 is_not_fixed dialect words = has_computed (fixed_letters (purpose_of dialect words)) words
 
--- a G word that the system lacks or the control refuses; a computed one is no matter of this
+-- a G word has no row in the table of the system, or one that the control refuses
 abbrev pub is_refused_row : Option Row → Bool
 is_refused_row None = true
 is_refused_row (Some row) = is_refused row.kind
 
+-- the G word is written out, and of a code that the system lacks or the control refuses
 abbrev pub is_unknown_code : System → FlowWord → Bool
 is_unknown_code system word = not (is_computed word.value) && is_refused_row (row_of_word system word)
 
@@ -40,19 +42,20 @@ abbrev pub is_unknown_letter : System → List FlowWord → ℕ → Bool
 is_unknown_letter system words letter =
     not (is_one_of (known_letters system) letter || (is_one_of (codes "Q") letter && gives system is_setting words))
 
--- the highest speed of the spindle needs S, and X, Z, U and W have no meaning beside it; G53 goes
--- to absolute positions alone
+-- the highest speed of the spindle needs S, and X, Z, U and W have no meaning beside it
 abbrev pub is_bad_limit : System → List FlowWord → Bool
 is_bad_limit system words = gives system is_limit words && (not (has (codes "S") words) || has (codes "XZUW") words)
 
+-- G53 goes to absolute positions alone
 abbrev pub is_bad_machine : System → List FlowWord → Bool
 is_bad_machine system words = gives system is_machine words && has (codes "UW") words
 
--- the first word is the G65 and no other is a G word
+-- the row of a macro call
 abbrev pub is_macro_row : Option Row → Bool
 is_macro_row None = false
 is_macro_row (Some row) = is_macro_call row.kind
 
+-- the first word is the G65, and no other is a G, N or O
 abbrev pub begins_macro_call : System → List FlowWord → Bool
 begins_macro_call system [] = false
 begins_macro_call system (word ∷ words) =
@@ -75,6 +78,7 @@ abbrev pub is_wait_not_alone : Dialect → List FlowWord → Bool
 is_wait_not_alone dialect words =
     waits_there dialect words && nat_lt 1 (length (words_of (codes "ABCDEFGHIJKLMNOQRSTUVWXYZ") words))
 
+-- the number of P names both paths, by bits or by digits
 abbrev pub is_both : Bool → Option ℕ → Bool
 is_both bits None = false
 is_both bits (Some n) = names_both bits n
@@ -103,6 +107,7 @@ rises_behind before (letter ∷ letters) = is_above before letter && rises_behin
 abbrev pub are_in_order : List FlowWord → Bool
 are_in_order words = rises_behind None (map (λ word. word.letter) (words_of (codes "IJK") words))
 
+-- from 10,000 on P has repeats before the program's four digits
 abbrev pub is_many : Option ℕ → Bool
 is_many None = false
 is_many (Some n) = nat_le 10000 n
@@ -120,13 +125,16 @@ is_crowded_call system words =
 abbrev pub is_bad_macro_call : List FlowWord → Bool
 is_bad_macro_call words = not (has (codes "P") words) || not (are_in_order words)
 
+-- a call of a subprogram without P, or with its repeats twice
 abbrev pub is_bad_subprogram : List FlowWord → Bool
 is_bad_subprogram words = not (has (codes "P") words) || (has_repeats words && has (codes "L") words)
 
+-- the block calls a subprogram
 abbrev pub is_subprogram : Purpose → Bool
 is_subprogram Subprogram = true
 is_subprogram _ = false
 
+-- outside macro calls: a bad call, a crowded one, or a P or L without a meaning
 abbrev pub is_bad_block : System → Purpose → List FlowWord → Bool
 is_bad_block system purpose words =
     ((is_subprogram purpose && is_bad_subprogram words) || is_crowded_call system words)
@@ -149,7 +157,7 @@ has_axis_twice system words =
 abbrev pub is_out_of_range : Dialect → List FlowWord → Bool
 is_out_of_range dialect words = list_any (λ word. not (is_in_range (purpose_of dialect words) word)) words
 
--- the refusal holds of the block
+-- the refusal holds of the block, whatever other refusals do
 pub data Refuses (dialect : Dialect) (words : List FlowWord) : Cause → Type 0 where
   not_fixed : is_not_fixed dialect words ≡ true → Refuses dialect words NotFixed
   unknown : is_unknown dialect.system words ≡ true → Refuses dialect words UnknownCode
@@ -160,7 +168,8 @@ pub data Refuses (dialect : Dialect) (words : List FlowWord) : Cause → Type 0 
   axis_twice : has_axis_twice dialect.system words ≡ true → Refuses dialect words AxisTwice
   out_of_range : is_out_of_range dialect words ≡ true → Refuses dialect words WordRange
 
--- of several the one of the least number
+-- the refusal that holds of the block; of several the one of the least number, so the tests stand
+-- in that order
 abbrev pub refusal_of : Dialect → List FlowWord → Option Cause
 refusal_of dialect words =
     if is_not_fixed dialect words then Some NotFixed

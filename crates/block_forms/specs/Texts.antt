@@ -1,4 +1,5 @@
 -- Which refusals hold of the text of a block of words, apart from any order among them.
+-- For this crate alone.
 use Rattle.std.specs.Prelude.{◌≡◌, ◌≤◌, ℕ, true, List, ◌∷◌, ◌++◌, Ok, Err}
 use Rattle.nc_number.specs.Causes.{cause_number}
 use Rattle.nc_number.specs.declared.cause.Cause.{Cause}
@@ -9,7 +10,7 @@ use Rattle.block_words.specs.declared.word.FlowWord.{FlowWord}
 use Rattle.block_forms.specs.Refusals.{Refuses}
 use Rattle.block_forms.specs.Forms.{word_of, all_words, has_many_variables}
 
--- a refusal of this number holds
+-- a refusal of this number holds of the text of a block
 pub data RefusesText (dialect : Dialect) (texts : List Word) : ℕ → Type 0 where
   -- a word does not read
   unread : (before behind : List Word) (word : Word) (number : ℕ) → texts ≡ before ++ word ∷ behind
@@ -20,7 +21,7 @@ pub data RefusesText (dialect : Dialect) (texts : List Word) : ℕ → Type 0 wh
   said : (words : List FlowWord) (cause : Cause) → all_words texts ≡ Ok words → Refuses dialect words cause
       → RefusesText dialect texts (cause_number cause)
 
--- it holds, and none of a smaller number
+-- a refusal of this number holds of the text, and none of a smaller number
 pub record IsLeastOfText (dialect : Dialect) (texts : List Word) (number : ℕ) : Type 0 where
   pub holds : RefusesText dialect texts number
   pub least : (other : ℕ) → RefusesText dialect texts other → number ≤ other

@@ -1,4 +1,5 @@
--- How many variables a block names.
+-- How many variables a block names. At most 32, since the signs in its text are no more.
+-- path_state uses these words.
 use Rattle.std.specs.Prelude.{ℕ, ◌+◌, List, [], ◌∷◌}
 use Rattle.macro_expr.specs.Tree.{variables, variables_in, evaluated, sentence_of}
 use Rattle.block_words.specs.declared.word.FlowWord.{FlowWord}
@@ -7,10 +8,12 @@ use Rattle.block_words.specs.declared.word.WordValue.TheVariants.{Fixed, Compute
 use Rattle.block_forms.specs.declared.body.FlowBody.{FlowBody}
 use Rattle.block_forms.specs.declared.body.FlowBody.TheVariants.{Words, Statement}
 
+-- a literal names none, an expression those of its tree
 abbrev pub variables_of_value : WordValue → ℕ
 variables_of_value (Fixed literal) = 0
 variables_of_value (Computed minus tree) = variables tree
 
+-- how many variables the computed words name together
 abbrev pub variables_of_words : List FlowWord → ℕ
 variables_of_words [] = 0
 variables_of_words (word ∷ words) = variables_of_value word.value + variables_of_words words

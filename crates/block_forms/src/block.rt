@@ -1,4 +1,5 @@
 //! A block that is not refused, and the call that it is.
+//! path_state, race_report and tape_flow use what it exports.
 ghost use Rattle.std.specs.Prelude.{◌≡◌, ◌≤◌, true, None};
 ghost use Rattle.nc_number.specs.declared.limits.TheConstants.{MOST_READS};
 ghost use Rattle.block_forms.specs.Controls.{is_allowed};

@@ -1,4 +1,5 @@
-//! What stands in a block: words or a statement.
+//! What stands in a block: words or a statement. The block around it is in block.rt.
+//! path_state and race_report use what it exports.
 use crate::statement::FlowStatement;
 use crate::words::FlowWords;
 

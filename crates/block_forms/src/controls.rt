@@ -1,4 +1,5 @@
 //! What the words or the statement of a block do to the order of blocks.
+//! For this crate alone: reading.rt uses it.
 ghost use Rattle.std.specs.Prelude.{◌≡◌, ◌≤◌, IfSome};
 ghost use Rattle.macro_expr.specs.Tree.{aim_of, sentence_of};
 ghost use Rattle.block_forms.specs.Controls.{number_of, or_number, call_of_p, back_to, wait_at, end_or_next, number_of_aim, control_of_sentence};

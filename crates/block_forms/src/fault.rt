@@ -1,4 +1,5 @@
-//! Why a block is refused.
+//! Why a block is refused. A number of the table of refusals in nc_number.
+//! open_forms uses what it exports.
 ghost use Rattle.std.specs.Prelude.{◌≡◌};
 ghost use Rattle.nc_number.specs.Causes.{cause_number};
 

@@ -1,4 +1,5 @@
 //! The words of a block, gathered one by one with the least refusal.
+//! For this crate alone: reading.rt uses it.
 ghost use Rattle.std.specs.Prelude.{◌≡◌, ◌≤◌, ◌+◌, List, ℕ, Result, OnOk, IfOk};
 ghost use Rattle.nc_number.specs.Answers.{GivesBy};
 ghost use Rattle.block_words.specs.declared.word.FlowWord.{FlowWord};
@@ -14,7 +15,9 @@ use std::alloc::Global;
 /// don't read.
 #[derive(Drop)]
 pub(crate) struct Gathered {
+    /// The words that were read.
     words: Vec<FlowWord>,
+    /// The least number of a refusal, if a word doesn't read.
     least: Option<u8>,
 }
 
@@ -31,7 +34,7 @@ fn lesser(before: Option<u8>, number: u8) -> u8
 impl Gathered {
     ghost use Rattle.std.specs.Prelude.{[], None};
 
-    /// No words, with room for so many.
+    /// No words, with room for so many. The error is that memory ran out.
     pub(crate) fn empty(alloc: Global, words: usize) -> Result<Gathered, NoMemory>
         ensures words { IfOk result (λ it. it.words.items ≡ []) }
         ensures least { IfOk result (λ it. it.least ≡ None) }

@@ -1,4 +1,5 @@
-//! Laws of refused blocks.
+//! Laws of refused blocks. Each is the contract of a function that does nothing: who calls it has
+//! the law.
 ghost use Rattle.std.specs.Prelude.{◌≡◌, ◌↔◌, ℕ, List};
 ghost use Rattle.nc_number.specs.declared.cause.Cause.{Cause};
 ghost use Rattle.line_text.specs.declared.body.Word.{Word};

@@ -1,4 +1,5 @@
 //! A block read from its text, or the least of the refusals that hold of it.
+//! tape_flow uses what it exports.
 ghost use Rattle.std.specs.Prelude.{◌≡◌, ◌≤◌, IfOk, None, true};
 ghost use Rattle.nc_number.specs.Answers.{GivesBy};
 ghost use Rattle.nc_number.specs.declared.limits.TheConstants.{MOST_READS};

@@ -1,4 +1,5 @@
 //! Why words that read are refused, each refusal apart from the others.
+//! For this crate alone: reading.rt asks for the first that holds.
 ghost use Rattle.std.specs.Prelude.{◌≡◌, codes};
 ghost use Rattle.std.specs.List.{list_any};
 ghost use Rattle.block_words.specs.Words.{words_of};

@@ -1,4 +1,5 @@
-//! A statement in a block.
+//! A statement in a block. Its tree as macro_expr reads it.
+//! path_state and race_report use what it exports.
 ghost use Rattle.std.specs.Prelude.{◌≡◌};
 ghost use Rattle.macro_expr.specs.Tree.{sentence_of, evaluated};
 

@@ -1,4 +1,6 @@
-//! A block of words.
+//! A block of words. What they are there for, and what they do to the order of blocks. Why they
+//! are refused is in refusals.rt.
+//! block_values and path_state use what it exports.
 ghost use Rattle.std.specs.Prelude.{◌≡◌};
 ghost use Rattle.block_words.specs.Codes.{rows as rows_in, one_shot as one_shot_in, purpose_of};
 

@@ -1,4 +1,4 @@
--- Where a jump leads, as a result.
+-- The first fault of a tape, which wait_order cites, and the tables at a program's place.
 use Rattle.std.proofs.Common.{◌≡◌, ℕ, zero, suc, ◌<◌, [], ◌∷◌, List, length, Option, Some, slice_get, slice_index_or, refl, subst, sym, ◌∙◌, arith}
 use Rattle.block_order.specs.declared.fault.OrderFault.{OrderFault}
 use Rattle.block_order.specs.declared.program.ControlProgram.{ControlProgram}
@@ -17,6 +17,7 @@ first_of tape stage o fault before first is =
     let f : IsFirstOf tape stage (Some fault) = subst (IsFirstOf tape stage) is first in
     record { stage = stage; before = before; holds = f.0; least = f.1 }
 
+-- below a list's length there is an entry
 item_at : {X : Type 0} (xs : List X) (i : ℕ) → i < length xs → (x : X) × (slice_get xs i ≡ Some x)
 item_at [] i within = absurd (omega (arith, within))
 item_at (x ∷ xs) zero within = (x, refl)
@@ -34,6 +35,7 @@ tables_there tape tables q i are e =
     let found = are.each i p stood.1 in
     (found.0, found.1, subst (λ bs. IsProgramTables bs found.0) (blocks_there tape q i p e within is) found.2)
 
+-- the place of a program lies within the tables
 pub tables_within : (tape : List ControlProgram) (tables : List ProgramTables) (q i : ℕ) → IsTapeTables tape tables → Some i ≡ place_of tape q
     → i < length tables
 tables_within tape tables q i are e = omega (arith, place_within tape q i e, are.long)

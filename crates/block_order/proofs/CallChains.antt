@@ -1,4 +1,5 @@
 -- Chains of calls of loud programs, and the frames of a place.
+-- flow_laws takes `chain_before`, part_order `counts_below` and `main_below`.
 use Rattle.std.proofs.Common.{◌≡◌, ◌≢◌, ℕ, zero, suc, ◌+◌, true, List, [], ◌∷◌, length, Some, refl, sym, subst, arith}
 use Rattle.block_order.specs.declared.control.Control.TheVariants.{Call}
 use Rattle.block_order.specs.declared.frame.Frame.{Frame}
@@ -17,6 +18,8 @@ pub counts_below : (tape : List ControlProgram) → AreLoud tape → (g : Frame)
 counts_below tape are g [] q r is noisy = refl
 counts_below tape are g (h ∷ stack) q r is noisy = are.calls g.program g.block q r is noisy
 
+-- the running program of a place that counts is reached by as many calls of loud programs as are
+-- open
 pub place_calling : (tape : List ControlProgram) → AreLoud tape → (f : Frame) (stack : List Frame)
     → IsPlace tape (f ∷ stack) → counts tape f.program stack ≡ true
     → IsReachedBy tape (length stack) (main_number tape) f.program
@@ -34,10 +37,12 @@ chain_before tape (suc n) m p q (mid, block, r, c, is, noisy) chain =
     let e : n + suc m ≡ suc n + m = omega arith in
     subst (λ k. Chain tape k p) e (chain_before tape n (suc m) p mid c (block, q, r, is, noisy, chain))
 
+-- a chain begins with a chain one shorter
 pub chain_front : (tape : List ControlProgram) (n p : ℕ) → Chain tape (suc n) p → Chain tape n p
 chain_front tape zero p chain = tt
 chain_front tape (suc n) p (block, q, r, is, noisy, chain) = (block, q, r, is, noisy, chain_front tape n q chain)
 
+-- a chain begins with each shorter chain
 pub chain_less : (tape : List ControlProgram) (k n p : ℕ) → Chain tape (k + n) p → Chain tape n p
 chain_less tape zero n p chain = let e : 0 + n ≡ n = omega arith in subst (λ k. Chain tape k p) e chain
 chain_less tape (suc k) n p chain =

@@ -1,4 +1,5 @@
--- Flags of programs at their places, asked by O numbers.
+-- Flags of programs at their places, asked by O numbers. Being loud is defined in specs/Loud.antt.
+-- wait_order takes `flag_set`.
 use Rattle.std.proofs.Common.{◌≡◌, ◌≢◌, ◌↔◌, ◌⊎◌, inl, inr, ℕ, zero, suc, ◌+◌, ◌-◌, ◌<◌, ◌≤◌, length, Bool, true, false, ◌==◌, List, [], ◌∷◌, map, drop, find, slice_index_or, slice_set, Option, Some, None, refl, ap, sym, ◌∙◌, arith}
 use Rattle.std.proofs.lemmas.Grind.{get_or-set_at}
 use Rattle.std.proofs.lemmas.List.{get_or-set_other}
@@ -20,6 +21,7 @@ drop_head zero (y ∷ ys) x d rest e = (cc, cc)
 drop_head (suc n) [] x d rest e = absurd cc
 drop_head (suc n) (y ∷ ys) x d rest e = drop_head n ys x d rest e
 
+-- the flag at a number's place, among programs from some place on
 flag_from : (f : List ControlBlock → Bool) → f [] ≡ false → (ps : List ControlProgram) (place q : ℕ) (flags : List Bool)
     → drop place flags ≡ map (λ p. f p.blocks) ps
     → flag_at flags (place_from ps place q) ≡ f (blocks_of (find (λ p. p.number == q) ps))
@@ -48,7 +50,7 @@ pub known_is_flagged : (tape : List ControlProgram) (numbers : ProgramNumbers) (
     → flag_known numbers flags ≡ flagged tape flags
 known_is_flagged tape numbers flags knows i q = flag_at flags (knows q i)
 
--- one round more
+-- after one round more the flags are those of the programs known by that round
 pub round_known : (tape : List ControlProgram) (numbers : ProgramNumbers) (flags : List Bool) (n : ℕ) → KnowsPlaces tape numbers
     → flagged tape flags ≡ known_loud tape n
     → flagged tape (map (λ p. has_loud_block (flag_known numbers flags) p.blocks) tape) ≡ known_loud tape (n + 1)
@@ -57,6 +59,7 @@ round_known tape numbers flags n knows e =
     ∙ ((λ i q. has_loud_block ((known_is_flagged tape numbers flags knows ∙ e) i) (blocks tape q))
     ∙ (let k : n + 1 ≡ suc n = omega arith in ap (λ m. known_loud tape m) (sym k)))
 
+-- what a round leaves as it was stays so in all later rounds
 stays : (tape : List ControlProgram) (n : ℕ) → known_loud tape n ≡ known_loud tape (suc n) → (k m : ℕ) → m ≡ k + n
     → known_loud tape n ≡ known_loud tape m
 stays tape n e zero m h = let same : n ≡ m = omega arith in ap (λ j. known_loud tape j) same
@@ -72,10 +75,11 @@ settled tape n within e =
     let next : n + 1 ≡ suc n = omega arith in
     stays tape n (e ∙ ap (λ m. known_loud tape m) next) (length tape - n) (length tape) (omega arith)
 
+-- two numbers are the same or differ
 same_or_not : (m n : ℕ) → (m ≡ n) ⊎ (m ≢ n)
 same_or_not m n = grind arith
 
--- one flag more
+-- with one flag more, just the flagged programs and this one are flagged
 pub flag_set : (tape : List ControlProgram) (flags : List Bool) (number place : ℕ) → place_of tape number ≡ Some place
     → place < length flags
     → (q : ℕ) → (flagged tape (slice_set flags place true) q ≡ true) ↔ ((flagged tape flags q ≡ true) ⊎ (q ≡ number))

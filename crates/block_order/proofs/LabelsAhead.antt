@@ -1,4 +1,5 @@
 -- The labels ahead of a place, as its running frame moves.
+-- For KeepsLabels and StepsStay.
 use Rattle.std.proofs.Common.{◌≡◌, ℕ, suc, Bool, true, false, List, [], ◌∷◌, ◌++◌, drop, Some, refl, ap, sym, ◌∙◌}
 use Rattle.block_order.specs.declared.control.Control.{Control}
 use Rattle.block_order.specs.declared.control.Control.TheVariants.{Wait, End, Call, Back}
@@ -13,10 +14,12 @@ use Rattle.block_order.specs.Labels.{times, labels, whole, frame_labels, room, b
 use Rattle.block_order.specs.Moves.{at}
 use Rattle.block_order.proofs.MarksFrom.{marks-at, same_stretch}
 
+-- if the running program counts, its labels come first
 pub ahead-counts : (tape : List ControlProgram) (f : Frame) (stack : List Frame) → counts tape f.program stack ≡ true
     → ahead tape (f ∷ stack) ≡ frame_labels tape (room stack) f.program f.block f.left (behind tape stack)
 ahead-counts tape f stack e = rw e
 
+-- a quiet program has no labels of its own
 pub ahead-quiet : (tape : List ControlProgram) (f : Frame) (stack : List Frame) → counts tape f.program stack ≡ false
     → ahead tape (f ∷ stack) ≡ ahead tape stack
 ahead-quiet tape f stack e = rw e
@@ -37,13 +40,14 @@ moves_kept tape f stack block same = go (counts tape f.program stack) refl
         (times f.left (λ k. whole tape (suc (room stack)) f.program k) (behind tape stack))) (same e))
     go false e = rw e refl
 
--- past a block that is no mark_of
+-- past a block that is no mark the marks ahead stay
 pub from-next : (tape : List ControlProgram) (p block : ℕ) (c : Control) → control_at (blocks tape p) block ≡ Some c
     → mark_of (loud tape) c ≡ []
     → from tape p (suc block) ≡ from tape p block
 from-next tape p block c is none =
     sym (marks-at (loud tape) (blocks tape p) block c is ∙ ap (λ ms. ms ++ from tape p (suc block)) none)
 
+-- a jump within a stretch keeps the marks ahead
 pub from-jump : (tape : List ControlProgram) (p i j : ℕ)
     → stretch (loud tape) (blocks tape p) i ≡ stretch (loud tape) (blocks tape p) j
     → from tape p j ≡ from tape p i
@@ -70,11 +74,13 @@ pub last_returns : (tape : List ControlProgram) (n p block : ℕ) (rest : List L
     → frame_labels tape n p block 0 rest ≡ rest
 last_returns tape n p block rest is = rw (marks-at (loud tape) (blocks tape p) block Back is) refl
 
+-- at a wait the labels begin with it
 pub wait_begins : (tape : List ControlProgram) (n p block left code : ℕ) (rest : List Label)
     → control_at (blocks tape p) block ≡ Some (Wait code)
     → frame_labels tape n p block left rest ≡ label.Wait code ∷ frame_labels tape n p (suc block) left rest
 wait_begins tape n p block left code rest is = rw (marks-at (loud tape) (blocks tape p) block (Wait code) is) refl
 
+-- at an end the labels are End alone
 pub end_alone : (tape : List ControlProgram) (n p block left : ℕ) (rest : List Label)
     → control_at (blocks tape p) block ≡ Some End
     → frame_labels tape n p block left rest ≡ label.End ∷ []

@@ -1,4 +1,5 @@
 -- The lines of a tape rise.
+-- wait_order takes the lemmas on blocks.
 use Rattle.std.proofs.Common.{◌≡◌, ℕ, zero, suc, ◌<◌, ◌≤◌, ◌⊎◌, inl, inr, List, [], ◌∷◌, ◌++◌, length, map, Some, sym, ap, arith, subst}
 use Rattle.std.specs.List.{slice_get}
 use Rattle.std.proofs.lemmas.List.{length-append}
@@ -7,28 +8,34 @@ use Rattle.block_order.specs.declared.program.ControlProgram.{ControlProgram}
 use Rattle.nc_number.specs.Rising.{RiseFrom}
 use Rattle.block_order.specs.Shape.{lines_of_program, lines_in, blocks_in}
 
+-- the number is one of the list
 abbrev pub In : ℕ → List ℕ → Type 0
 In x [] = ⊥
 In x (y ∷ ys) = (y ≡ x) ⊎ In x ys
 
+-- a number of the first list is one of both lists together,
 in-left : (x : ℕ) (xs ys : List ℕ) → In x xs → In x (xs ++ ys)
 in-left x [] ys w = elim w [ ]
 in-left x (y ∷ xs) ys (inl e) = inl e
 in-left x (y ∷ xs) ys (inr w) = inr (in-left x xs ys w)
 
+-- and so is one of the second
 in-right : (x : ℕ) (xs ys : List ℕ) → In x ys → In x (xs ++ ys)
 in-right x [] ys w = w
 in-right x (y ∷ xs) ys w = inr (in-right x xs ys w)
 
+-- rising numbers are all above their bound
 rise-over : (low : ℕ) (xs : List ℕ) → RiseFrom low xs → (x : ℕ) → In x xs → low < x
 rise-over low [] h x w = elim w [ ]
 rise-over low (y ∷ ys) h x (inl e) = omega (arith, h.0)
 rise-over low (y ∷ ys) h x (inr w) = let more = rise-over y ys h.1 x w in omega (arith, h.0)
 
+-- the first part of a rising list rises
 rise-left : (low : ℕ) (xs ys : List ℕ) → RiseFrom low (xs ++ ys) → RiseFrom low xs
 rise-left low [] ys h = tt
 rise-left low (x ∷ xs) ys h = (h.0, rise-left x xs ys h.1)
 
+-- and the second part rises, from a bound that the first part does not pass
 rise-cut : (low : ℕ) (xs ys : List ℕ) → RiseFrom low (xs ++ ys)
     → (m : ℕ) × RiseFrom m ys × (low ≤ m) × ((x : ℕ) → In x xs → x ≤ m)
 rise-cut low [] ys h = (low, h, omega arith, λ x w. absurd w)
@@ -39,6 +46,7 @@ rise-cut low (x ∷ xs) ys h =
       each m l f y (inl e) = omega arith
       each m l f y (inr w) = f y w
 
+-- a line of a program is a line of the tape
 in-lines : (tape : List ControlProgram) (j b : ℕ) (q : ControlProgram) → slice_get tape j ≡ Some q
     → In b (lines_of_program q) → In b (lines_in tape)
 in-lines [] j b q e w = absurd cc
@@ -77,6 +85,7 @@ rise-own (t ∷ ts) low zero p h at =
 rise-own (t ∷ ts) low (suc i) p h at =
     let cut = rise-cut low (lines_of_program t) (lines_in ts) h in rise-own ts cut.0 i p cut.1 at
 
+-- each block's line is above the bound
 pub block-over : (bs : List ControlBlock) (low place : ℕ) (b : ControlBlock) → RiseFrom low (map (λ x. x.line) bs)
     → slice_get bs place ≡ Some b → low < b.line
 block-over [] low place b h e = absurd cc
@@ -86,6 +95,7 @@ block-over (x ∷ xs) low zero b h e =
 block-over (x ∷ xs) low (suc place) b h e =
     let more = block-over xs x.line place b h.1 e in omega (arith, h.0)
 
+-- of two blocks of a program the later one has the greater line
 pub block-order : (bs : List ControlBlock) (low i j : ℕ) (a b : ControlBlock) → RiseFrom low (map (λ x. x.line) bs)
     → slice_get bs i ≡ Some a → slice_get bs j ≡ Some b → i < j → a.line < b.line
 block-order [] low i j a b h at there l = absurd cc
@@ -97,6 +107,7 @@ block-order (x ∷ xs) low zero (suc j) a b h at there l =
 block-order (x ∷ xs) low (suc i) zero a b h at there l = absurd (omega arith)
 block-order (x ∷ xs) low (suc i) (suc j) a b h at there l = block-order xs x.line i j a b h.1 at there (omega arith)
 
+-- a block's line is one of its program's lines
 pub block-in : (bs : List ControlBlock) (place : ℕ) (b : ControlBlock) → slice_get bs place ≡ Some b
     → In b.line (map (λ x. x.line) bs)
 block-in [] place b e = absurd cc

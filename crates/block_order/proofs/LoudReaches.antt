@@ -1,5 +1,5 @@
 -- Loud programs: as many rounds as there are programs find each of them, and each reaches a wait or
--- an end.
+-- an end. part_order takes `AreLoud`.
 use Rattle.std.proofs.Common.{◌≡◌, ℕ, zero, suc, ◌≤◌, ◌⊎◌, inl, inr, Bool, true, false, ◌==◌, ◌||◌, List, [], ◌∷◌, length, None, Some, refl, ap, sym, subst, ◌∙◌, arith, eqb-true}
 use Rattle.std.proofs.lemmas.Bool.{eqb-false}
 use Rattle.block_order.specs.declared.control.Control.{Control}
@@ -13,6 +13,7 @@ use Rattle.block_order.specs.Loud.{is_loud_block, has_loud_block, known_loud, lo
 abbrev pub IsWithin : (ℕ → Bool) → (ℕ → Bool) → Type 0
 IsWithin known more = (program : ℕ) → known program ≡ true → more program ≡ true
 
+-- what is known to be loud stays so, where more is known: of one block,
 block_within : (known more : ℕ → Bool) → IsWithin known more → (c : Control)
     → is_loud_block known c ≡ true → is_loud_block more c ≡ true
 block_within known more within Next e = e
@@ -26,12 +27,14 @@ block_within known more within (Call program repeats) e = within program e
 block_within known more within Back e = e
 block_within known more within (BackTo n) e = e
 
+-- two alternatives that each go over go over together
 or_true : (a b a' b' : Bool) → (a ≡ true → a' ≡ true) → (b ≡ true → b' ≡ true) → (a || b) ≡ true → (a' || b') ≡ true
 or_true true b a' b' f g e = rw (f refl) refl
 or_true false true true b' f g e = refl
 or_true false true false b' f g e = g refl
 or_true false false a' b' f g e = absurd cc
 
+-- a list with a loud block has one too if more is known
 pub has_within : (known more : ℕ → Bool) → IsWithin known more → (bs : List ControlBlock)
     → has_loud_block known bs ≡ true → has_loud_block more bs ≡ true
 has_within known more within [] e = e
@@ -40,12 +43,13 @@ has_within known more within (b ∷ bs) e =
     (is_loud_block more b.control) (has_loud_block more bs)
     (block_within known more within b.control) (has_within known more within bs) e
 
+-- each round finds all that the one before found
 round_within : (tape : List ControlProgram) (n : ℕ) → IsWithin (known_loud tape n) (known_loud tape (suc n))
 round_within tape zero program e = absurd cc
 round_within tape (suc n) program e =
     has_within (known_loud tape n) (known_loud tape (suc n)) (round_within tape n) (blocks tape program) e
 
--- one more where the flag is set
+-- one more if the flag is set
 abbrev pub counted : Bool → ℕ → ℕ
 counted true n = suc n
 counted false n = n
@@ -55,20 +59,24 @@ abbrev pub holding : (ℕ → Bool) → List ControlProgram → ℕ
 holding known [] = 0
 holding known (p ∷ ps) = counted (known p.number) (holding known ps)
 
+-- one flag counts one at most
 counted-le : (a : Bool) (n m : ℕ) → n ≤ m → counted a n ≤ suc m
 counted-le true n m le = omega arith
 counted-le false n m le = omega arith
 
+-- it holds of no more programs than there are
 holding-le : (known : ℕ → Bool) (ps : List ControlProgram) → holding known ps ≤ length ps
 holding-le known [] = omega arith
 holding-le known (p ∷ ps) = counted-le (known p.number) (holding known ps) (length ps) (holding-le known ps)
 
+-- more flags count no less,
 counted_within : (a b : Bool) (n m : ℕ) → (a ≡ true → b ≡ true) → n ≤ m → counted a n ≤ counted b m
 counted_within true true n m f le = omega arith
 counted_within true false n m f le = absurd (let e : false ≡ true = f refl in cc)
 counted_within false true n m f le = omega arith
 counted_within false false n m f le = le
 
+-- also over a list of programs
 holding_within : (known more : ℕ → Bool) → IsWithin known more → (ps : List ControlProgram)
     → holding known ps ≤ holding more ps
 holding_within known more within [] = omega arith
@@ -76,6 +84,7 @@ holding_within known more within (p ∷ ps) =
     counted_within (known p.number) (more p.number) (holding known ps) (holding more ps) (within p.number)
     (holding_within known more within ps)
 
+-- and where they count the same they are the same
 counted_same : (a b : Bool) (n m : ℕ) → (a ≡ true → b ≡ true) → n ≤ m → counted a n ≡ counted b m → (a ≡ b) × (n ≡ m)
 counted_same true true n m f le e = (refl, omega (arith, e))
 counted_same true false n m f le e = absurd (let e : false ≡ true = f refl in cc)
@@ -87,6 +96,7 @@ abbrev pub AgreeOn : (ℕ → Bool) → (ℕ → Bool) → List ControlProgram �
 AgreeOn known more [] = Unit {0}
 AgreeOn known more (p ∷ ps) = (known p.number ≡ more p.number) × AgreeOn known more ps
 
+-- two of which one is within the other and which hold of equally many programs agree on them
 same_agree : (known more : ℕ → Bool) → IsWithin known more → (ps : List ControlProgram)
     → holding known ps ≡ holding more ps
     → AgreeOn known more ps
@@ -96,6 +106,7 @@ same_agree known more within (p ∷ ps) e =
     (holding_within known more within ps) e in
     (same.0, same_agree known more within ps same.1)
 
+-- they agree on each number, if they do so on those that no program has
 agree_at : (known more : ℕ → Bool) (program : ℕ) (ps : List ControlProgram) → AgreeOn known more ps
     → (program_of ps program ≡ None → known program ≡ more program) → known program ≡ more program
 agree_at known more program [] agree lacking = lacking refl
@@ -108,6 +119,7 @@ agree_at known more program (p ∷ ps) agree lacking =
     go true e rest = subst (λ n. known n ≡ more n) (eqb-true p.number program e) agree.0
     go false e rest = rest (λ none. lacking (rw e none))
 
+-- a number without a program is quiet
 lacking_quiet : (tape : List ControlProgram) (n program : ℕ) → program_of tape program ≡ None
     → known_loud tape n program ≡ false
 lacking_quiet tape zero program none = refl
@@ -146,6 +158,7 @@ settles tape (suc n) =
         let differ = eqb-false (holding (known_loud tape n) tape) (holding (known_loud tape (suc n)) tape) other in
         inr (omega (arith, differ))
 
+-- after as many rounds as there are programs nothing new is found
 pub settled : (tape : List ControlProgram) → IsSettled tape (length tape)
 settled tape = go (settles tape (length tape))
   where
@@ -164,6 +177,7 @@ pub loud-has : (tape : List ControlProgram) (program : ℕ)
 unfolding loud
 loud-has tape program = ap (λ known. known program) (settled tape)
 
+-- a loud block among these makes the list loud
 has_at : (known : ℕ → Bool) (bs : List ControlBlock) (i : ℕ) (c : Control) → control_at bs i ≡ Some c
     → is_loud_block known c ≡ true
     → has_loud_block known bs ≡ true
@@ -175,12 +189,16 @@ has_at known (b ∷ bs) (suc i) c is e =
 
 -- whoever has a wait or an end is loud, and whoever calls a loud program
 pub record AreLoud (tape : List ControlProgram) : Type 0 where
+  -- a program with a wait is loud
   pub waits : (program block code : ℕ) → control_at (blocks tape program) block ≡ Some (Wait code)
       → loud tape program ≡ true
+  -- so is one with an end
   pub ends : (program block : ℕ) → control_at (blocks tape program) block ≡ Some End → loud tape program ≡ true
+  -- and one that calls a loud program
   pub calls : (program block called repeats : ℕ) → control_at (blocks tape program) block ≡ Some (Call called repeats)
       → loud tape called ≡ true → loud tape program ≡ true
 
+-- a program that has a wait or an end, or calls a loud one, is loud
 pub are_loud : (tape : List ControlProgram) → AreLoud tape
 are_loud tape = record {
   waits = λ program block code is.
@@ -194,6 +212,7 @@ are_loud tape = record {
 abbrev pub HasLoud : (ℕ → Bool) → List ControlBlock → Type 0
 HasLoud known bs = (i : ℕ) × (c : Control) × (control_at bs i ≡ Some c) × (is_loud_block known c ≡ true)
 
+-- in a loud list stands a loud block
 has_block : (known : ℕ → Bool) (bs : List ControlBlock) → has_loud_block known bs ≡ true → HasLoud known bs
 has_block known [] e = absurd cc
 has_block known (b ∷ bs) e = go (λ h. has_block known bs h) (is_loud_block known b.control) refl
@@ -218,20 +237,24 @@ reaches_by tape known found p i (EndLoop m) is e = absurd cc
 reaches_by tape known found p i Back is e = absurd cc
 reaches_by tape known found p i (BackTo n) is e = absurd cc
 
+-- what a round finds reaches a wait or an end
 found_reaches : (tape : List ControlProgram) (n p : ℕ) → known_loud tape n p ≡ true → (m : ℕ) × Reaches tape m p
 found_reaches tape zero p e = absurd cc
 found_reaches tape (suc n) p e =
     let b = has_block (known_loud tape n) (blocks tape p) e in
     reaches_by tape (known_loud tape n) (found_reaches tape n) p b.0 b.1 b.2 b.3
 
+-- so does each loud program
 loud_reaches : (tape : List ControlProgram) (p : ℕ) → loud tape p ≡ true → (m : ℕ) × Reaches tape m p
 unfolding loud
 loud_reaches tape p e = found_reaches tape (length tape) p e
 
+-- and what reaches one is loud
 reaches_loud : (tape : List ControlProgram) (m p : ℕ) → Reaches tape m p → loud tape p ≡ true
 reaches_loud tape zero p (i, inl is) = (are_loud tape).ends p i is
 reaches_loud tape zero p (i, inr (code, is)) = (are_loud tape).waits p i code is
 reaches_loud tape (suc m) p (i, q, r, is, more) = (are_loud tape).calls p i q r is (reaches_loud tape m q more)
 
+-- being loud is reaching a wait or an end
 pub loud_exactly : (tape : List ControlProgram) → IsLoudExactly tape
 loud_exactly tape p = (loud_reaches tape p, λ reaches. reaches_loud tape reaches.0 p reaches.1)

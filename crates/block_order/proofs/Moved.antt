@@ -1,4 +1,5 @@
 -- What the moves of a place come to, frame by frame.
+-- part_order takes these.
 use Rattle.std.proofs.Common.{◌≡◌, ℕ, zero, suc, ◌-◌, ◌<◌, ◌==◌, ◌||◌, Bool, true, false, nat_lt, List, ◌∷◌, length, Option, Some, None, Result, Ok, Err, refl, arith, if◌then◌else◌}
 use Rattle.std.proofs.lemmas.Bool.Decides.{nat_tests}
 use Rattle.nc_number.specs.declared.cause.Cause.{Cause}
@@ -18,12 +19,14 @@ moved_to target f stack to e = go (target f) e
     go (Ok block) e = (block, refl, cc)
     go (Err cause) e = absurd cc
 
+-- a jump leads to a block of the running program, and changes no other frame
 pub jump_leads : (tape : List ControlProgram) (n : ℕ) (f : Frame) (stack to : List Frame)
     → place_of_jump tape n (f ∷ stack) ≡ Ok to
     → (target : ℕ) × Leads (blocks tape f.program) f.block n target × (to ≡ at f target ∷ stack)
 jump_leads tape n f stack to e =
     moved_to (λ f. target_of (blocks tape f.program) f.block n) f stack to e
 
+-- a loop that is left leads behind its END
 pub exit_leads : (tape : List ControlProgram) (f : Frame) (stack to : List Frame)
     → place_behind_loop tape (f ∷ stack) ≡ Ok to
     → (close : ℕ) × IsLoop (blocks tape f.program) f.block close × (to ≡ at f (suc close) ∷ stack)
@@ -34,6 +37,7 @@ exit_leads tape f stack to e = go (end_of_loop (blocks tape f.program) f.block) 
     go None is e = absurd cc
     go (Some close) is e = (close, is, cc)
 
+-- an END leads to the head of its loop
 pub head_leads : (tape : List ControlProgram) (f : Frame) (stack to : List Frame) → place_of_head tape (f ∷ stack) ≡ Ok to
     → (head : ℕ) × IsLoop (blocks tape f.program) head f.block × (to ≡ at f head ∷ stack)
 head_leads tape f stack to e = go (head_of_loop (blocks tape f.program) f.block) refl e
@@ -43,6 +47,7 @@ head_leads tape f stack to e = go (head_of_loop (blocks tape f.program) f.block)
     go None is e = absurd cc
     go (Some head) is e = (head, head_is_of_loop (blocks tape f.program) f.block head is, cc)
 
+-- of an alternative that fails the second part fails
 second_false : (a b : Bool) → (a || b) ≡ false → b ≡ false
 second_false true b e = absurd cc
 second_false false b e = e

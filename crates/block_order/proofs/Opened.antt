@@ -1,4 +1,5 @@
--- Which loops are open where, in a program whose heads and ends fit together.
+-- Which loops are open where, in a program whose heads and ends fit together: an invariant of each
+-- block. part_lines, path_state and wait_order take the lemmas on a place's control.
 use Rattle.std.proofs.Common.{◌≡◌, ◌≢◌, ℕ, zero, suc, ◌+◌, ◌-◌, ◌<◌, ◌≤◌, ◌↔◌, ◌⊎◌, inl, inr, Bool, true, false, cond, eqb, List, [], ◌∷◌, length, take, Option, Some, None, refl, sym, ap, ◌∙◌, arith, subst, ⊎_elim}
 use Rattle.std.specs.List.{Contains}
 use Rattle.std.proofs.lemmas.Bool.{cases_eq, cases_lt}
@@ -16,13 +17,17 @@ use Rattle.block_order.proofs.Searches.{loop_facts, nearest_is, loop_unique, per
 
 -- what a control does to the open loops
 pub data Kind (c : Control) : Type 0 where
+  -- a head
   opening : (n : ℕ) → head_name (Some c) ≡ Some n
       → ((p : ℕ) (loops : List Open) → open_behind p c loops ≡ record { place = p; name = n } ∷ loops)
       → ((m : ℕ) → c ≢ EndLoop m) → Kind c
+  -- an END
   closing : (n : ℕ) → c ≡ EndLoop n → Kind c
+  -- neither
   plain : head_name (Some c) ≡ None → ((p : ℕ) (loops : List Open) → open_behind p c loops ≡ loops)
       → ((m : ℕ) → c ≢ EndLoop m) → Kind c
 
+-- each control is one of these
 pub kind : (c : Control) → Kind c
 kind (While m) = opening m refl (λ p loops. refl) (λ k e. cc)
 kind (Do m) = opening m refl (λ p loops. refl) (λ k e. cc)
@@ -48,22 +53,26 @@ open_after-more (b ∷ bs) (suc p) place loops c e =
     open_after-more bs p (suc place) (open_behind place b.control loops) c e
     ∙ ap (λ q. open_behind q c (open_after (suc place) (open_behind place b.control loops) (take p bs))) at
 
+-- the open loops behind a block are those before it, changed by its control
 pub open_more : (bs : List ControlBlock) (p : ℕ) (c : Control) → control_at bs p ≡ Some c
     → open_before bs (suc p) ≡ open_behind p c (open_before bs p)
 open_more bs p c e =
     let at : 0 + p ≡ p = omega arith in
     open_after-more bs p 0 [] c e ∙ ap (λ q. open_behind q c (open_before bs p)) at
 
+-- a place within the program has a control,
 pub control_within : (bs : List ControlBlock) (p : ℕ) → p < length bs → (c : Control) × (control_at bs p ≡ Some c)
 control_within (b ∷ bs) zero h = (b.control, refl)
 control_within (b ∷ bs) (suc p) h = control_within bs p (omega arith)
 control_within [] p h = absurd (omega arith)
 
+-- a place with a control stands in the program
 pub within_control : (bs : List ControlBlock) (p : ℕ) (c : Control) → control_at bs p ≡ Some c → p < length bs
 within_control (b ∷ bs) zero c e = omega arith
 within_control (b ∷ bs) (suc p) c e = let l = within_control bs p c e in omega arith
 within_control [] p c e = absurd cc
 
+-- the END of a loop stands in the program
 pub close_within : (bs : List ControlBlock) (head close : ℕ) → IsLoop bs head close → close < length bs
 close_within bs head close loop =
     let facts = loop_facts bs head close loop in within_control bs close (EndLoop facts.name) facts.is_close
@@ -73,22 +82,27 @@ abbrev pub Has : ℕ → ℕ → List Open → Type 0
 Has h n [] = ⊥
 Has h n (x ∷ xs) = ((x.place ≡ h) × (x.name ≡ n)) ⊎ Has h n xs
 
+-- an open loop's name is one of the names,
 pub has-names : (h n : ℕ) (loops : List Open) → Has h n loops → Contains (names loops) n
 has-names h n [] w = elim w [ ]
 has-names h n (x ∷ xs) (inl e) = (0, omega arith, e.1)
 has-names h n (x ∷ xs) (inr w) = let k = has-names h n xs w in (suc k.0, omega (arith, k.1), k.2)
 
+-- an open loop's head is one of the places
 pub has-places : (h n : ℕ) (loops : List Open) → Has h n loops → Contains (places loops) h
 has-places h n [] w = elim w [ ]
 has-places h n (x ∷ xs) (inl e) = (0, omega arith, e.0)
 has-places h n (x ∷ xs) (inr w) = let k = has-places h n xs w in (suc k.0, omega (arith, k.1), k.2)
 
+-- the test of equal numbers says yes,
 eq_test : (a b : ℕ) → a ≡ b → eqb a b ≡ true
 eq_test a b e = grind (arith, nat_tests)
 
+-- and that of different ones no
 ne_test : (a b : ℕ) → a ≢ b → eqb a b ≡ false
 ne_test a b e = grind (arith, nat_tests)
 
+-- a loop that stays in the rest stays, whether the first is closed or not
 has-cond : (v : Bool) (h n : ℕ) (x : Open) (xs ys : List Open) → Has h n xs → Has h n ys → Has h n (cond v xs (x ∷ ys))
 has-cond true h n x xs ys a b = a
 has-cond false h n x xs ys a b = inr b
@@ -125,9 +139,11 @@ AllOpen bs p (x ∷ xs) =
     × (xs ≡ open_before bs x.place)
     × AllOpen bs p xs
 
+-- a list with one name more still contains the others
 contains-more : (n m : ℕ) (ns : List ℕ) → Contains ns n → Contains (m ∷ ns) n
 contains-more n m ns w = (suc w.0, omega (arith, w.1), w.2)
 
+-- a block that is no END of this name adds none
 not-end : (bs : List ControlBlock) (p n : ℕ) (c : Control) (x : ℕ) → control_at bs p ≡ Some c → c ≢ EndLoop n
     → ((k : ℕ) → x < k → k < p → control_at bs k ≢ Some (EndLoop n))
     → (k : ℕ) → x < k → k < suc p → control_at bs k ≢ Some (EndLoop n)
@@ -153,6 +169,7 @@ all-further bs p c (x ∷ xs) at ne w = (
   all-further bs p c xs at (λ n k. ne n (contains-more n x.name (names xs) k)) w.5,
 )
 
+-- a loop whose name is not the latest one
 some-names : (x : Open) (xs : List Open) (n : ℕ) → x.name ≢ n → latest (names (x ∷ xs)) ≢ Some n
 some-names x xs n ne e = let k : x.name ≡ n = cc in ne k
 
@@ -172,6 +189,7 @@ closes-latest bs p n fits at (x ∷ xs) is =
     absurd (fits p (unopened n at lacks)))
     (cases_eq x.name n)
 
+-- the invariant, behind one block
 all-behind : (bs : List ControlBlock) (p : ℕ) (c : Control) (loops : List Open) → Fits bs → control_at bs p ≡ Some c → Kind c
     → loops ≡ open_before bs p → AllOpen bs p loops → AllOpen bs (suc p) (open_behind p c loops)
 all-behind bs p c loops fits at (opening n is push other) same w =
@@ -216,6 +234,7 @@ each-open bs p h n (x ∷ xs) w (inl e) =
     subst (P h) e.1 (subst (λ h. P h x.name) e.0 (w.0, w.1, w.2))
 each-open bs p h n (x ∷ xs) w (inr more) = each-open bs p h n xs w.5 more
 
+-- a place has one control
 pub at-control : (bs : List ControlBlock) (p : ℕ) (c d : Control) → control_at bs p ≡ Some c → control_at bs p ≡ Some d → c ≡ d
 at-control bs p c d e f = let k : Some c ≡ Some d = sym e ∙ f in cc
 
@@ -249,6 +268,7 @@ loop-open bs h close loop (suc gap) l =
     subst (λ (p : ℕ). Has h loop.name (open_before bs p)) e
     (rw (open_more bs (suc (h + gap)) c.0 c.1) (has-behind h loop.name _ c.0 _ (kind c.0) ne more))
 
+-- a loop is open before each block that it holds
 pub open-inside : (bs : List ControlBlock) (h close : ℕ) (loop : LoopFacts bs h close) (t : ℕ) → h < t → t ≤ close
     → Has h loop.name (open_before bs t)
 open-inside bs h close loop t l m =
@@ -256,6 +276,7 @@ open-inside bs h close loop t l m =
     let e : suc (h + gap) ≡ t = omega arith in
     subst (λ (p : ℕ). Has h loop.name (open_before bs p)) e (loop-open bs h close loop gap (omega arith))
 
+-- a control is this END or not
 cases-end : (c : Control) (n : ℕ) → (c ≡ EndLoop n) ⊎ (c ≢ EndLoop n)
 cases-end c n = go (kind c) where
   go : Kind c → (c ≡ EndLoop n) ⊎ (c ≢ EndLoop n)
@@ -289,15 +310,17 @@ open-ends bs h n (suc left) t fits e w =
     (more.0, omega (arith, more.1), more.2))
     (cases-end c.0 n)
 
--- the innermost loop that is open before a block
+-- the innermost head before a block belongs to an open loop
 latest-has : (h : ℕ) (loops : List Open) → latest (places loops) ≡ Some h → (n : ℕ) × Has h n loops
 latest-has h [] e = absurd cc
 latest-has h (x ∷ xs) e = let k : x.place ≡ h = cc in (x.name, inl (k, refl))
 
+-- if a loop is open, there is an innermost one
 has-latest : (h n : ℕ) (loops : List Open) → Has h n loops → latest (places loops) ≡ None → ⊥
 has-latest h n [] w e = w
 has-latest h n (x ∷ xs) w e = absurd cc
 
+-- no open loop of these begins behind the innermost head
 top-of : (bs : List ControlBlock) (p h n top : ℕ) (loops : List Open) → Fits bs → p ≤ length bs → AllOpen bs p loops
     → Has h n loops → latest (places loops) ≡ Some top → h ≤ top
 top-of bs p h n top [] fits l w has e = elim has [ ]
@@ -314,6 +337,7 @@ pub top-least : (bs : List ControlBlock) (p h n top : ℕ) → Fits bs → p ≤
     → innermost bs p ≡ Some top → h ≤ top
 top-least bs p h n top fits l has e = top-of bs p h n top _ fits l (all-open bs fits p l) has e
 
+-- two open loops of one name are one
 same-name : (bs : List ControlBlock) (p h n : ℕ) (x : Open) (xs : List Open) → AllOpen bs p (x ∷ xs) → Has h n (x ∷ xs)
     → n ≡ x.name → x.place ≡ h
 same-name bs p h n x xs w (inl e) is = e.0
@@ -381,7 +405,7 @@ nests bs h end h' end' fits x y l m = go (cases_lt end' end) where
       absurd (omega (arith, top-least bs end h' inner.name h fits (omega arith) has (closed-head bs h end fits x))))
       (cases_eq h' end)
 
--- from where a jump is permitted: outside all loops
+-- outside all loops a jump is permitted from everywhere
 pub reach-all : (bs : List ControlBlock) (t b : ℕ) → innermost bs t ≡ None → IsPermitted bs b t
 reach-all bs t b e =
     (permitted_held bs b t).1
@@ -397,7 +421,7 @@ innermost-ends bs t top fits l e =
     let ends = open-ends bs top has.0 (length bs - t) t fits (omega arith) has.1 in
     (ends.0, begun.0, ends.1, ends.2)
 
--- and inside one
+-- inside loops it is permitted from the blocks of the innermost one
 pub reach-some : (bs : List ControlBlock) (t b top end : ℕ) → Fits bs → t ≤ length bs → innermost bs t ≡ Some top
     → top < t → t ≤ end → IsLoop bs top end → IsPermitted bs b t ↔ ((top < b) × (b ≤ end))
 reach-some bs t b top end fits l e before behind loop = (

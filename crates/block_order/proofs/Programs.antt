@@ -1,4 +1,5 @@
 -- A program of the tape stands at the place that is kept of its number.
+-- part_lines and wait_order take some of these.
 use Rattle.std.proofs.Common.{◌≡◌, ℕ, zero, suc, ◌+◌, ◌<◌, Bool, true, false, cond, ◌==◌, List, [], ◌∷◌, length, find, Option, Some, None, slice_get, slice_index_or, refl, ap, sym, ◌∙◌, arith}
 use Rattle.nc_number.proofs.Counts.{equal}
 use Rattle.block_order.specs.declared.program.ControlBlock.{ControlBlock}
@@ -8,12 +9,14 @@ use Rattle.block_order.specs.ProgramPlaces.{place_from, place_of}
 
 -- the program of this number stands that many places on
 record IsThere (ps : List ControlProgram) (place q i : ℕ) : Type 0 where
+  -- how many programs stand before it, from the given place on
   behind : ℕ
   at : i ≡ place + behind
   within : behind < length ps
   is : find (λ p. p.number == q) ps ≡ slice_get ps behind
   named : (p : ControlProgram) → slice_get ps behind ≡ Some p → p.number ≡ q
 
+-- a number that has a place has its program there
 there : (ps : List ControlProgram) (place q i : ℕ) → place_from ps place q ≡ Some i → IsThere ps place q i
 there [] place q i e = absurd cc
 there (p ∷ ps) place q i e = go (λ h. there ps (suc place) q i h) (p.number == q) refl
@@ -33,6 +36,7 @@ there (p ∷ ps) place q i e = go (λ h. there ps (suc place) q i h) (p.number =
           named = r.named;
         }
 
+-- a number that has no place has no program
 not_there : (ps : List ControlProgram) (place q : ℕ) → place_from ps place q ≡ None → find (λ p. p.number == q) ps ≡ None
 not_there [] place q e = refl
 not_there (p ∷ ps) place q e = go (λ h. not_there ps (suc place) q h) (p.number == q) refl
@@ -42,11 +46,13 @@ not_there (p ∷ ps) place q e = go (λ h. not_there ps (suc place) q h) (p.numb
     go rest true y = absurd (let both : ◌≡◌ {A = Option ℕ} (Some place) None = rw y at e in cc)
     go rest false y = rw y (rest (rw y at e))
 
+-- an index below the tape's length has a program
 pub stands : (tape : List ControlProgram) (i : ℕ) (d : ControlProgram) → i < length tape → slice_get tape i ≡ Some (slice_index_or tape i d)
 stands [] i d within = absurd (omega arith)
 stands (p ∷ ps) zero d within = refl
 stands (p ∷ ps) (suc i) d within = stands ps i d (omega arith)
 
+-- the program at a number's place is the one that the number finds
 pub program_there : (tape : List ControlProgram) (q i : ℕ) → Some i ≡ place_of tape q → slice_get tape i ≡ program_of tape q
 program_there tape q i e =
     let r = there tape 0 q i (sym e) in
@@ -54,10 +60,11 @@ program_there tape q i e =
     let same : i ≡ r.behind = omega arith in
     ap (λ k. slice_get tape k) same ∙ sym r.is
 
+-- a number without a place finds none
 pub no_program_there : (tape : List ControlProgram) (q : ℕ) → None ≡ place_of tape q → program_of tape q ≡ None
 no_program_there tape q e = not_there tape 0 q (sym e)
 
--- the program that stands there
+-- the blocks of the program at a number's place are those of the number
 pub blocks_there : (tape : List ControlProgram) (q i : ℕ) (p : ControlProgram) → Some i ≡ place_of tape q → i < length tape
     → p ≡ slice_index_or tape i p → p.blocks ≡ blocks tape q
 blocks_there tape q i p e within is =
@@ -68,9 +75,11 @@ blocks_there tape q i p e within is =
     r.is ∙ (ap (λ k. slice_get tape k) same ∙ (stands tape i p within ∙ ap (λ x. Some x) (sym is))) in
     sym (ap (λ o. blocks_of o) found)
 
+-- a number without a place has no blocks
 pub no_blocks_there : (tape : List ControlProgram) (q : ℕ) → None ≡ place_of tape q → ◌≡◌ {A = List ControlBlock} [] (blocks tape q)
 no_blocks_there tape q e = sym (ap (λ o. blocks_of o) (not_there tape 0 q (sym e)))
 
+-- the place of a number lies on the tape
 pub place_within : (tape : List ControlProgram) (q i : ℕ) → Some i ≡ place_of tape q → i < length tape
 place_within tape q i e = let r = there tape 0 q i (sym e) in let at = r.at in let within = r.within in omega arith
 

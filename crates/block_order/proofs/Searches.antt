@@ -1,4 +1,5 @@
 -- What the searches for loops and jumps find.
+-- wait_order takes `led` and `leads_to`, and part_order too takes `loop_facts`.
 use Rattle.std.proofs.Common.{◌≡◌, ◌≢◌, ◌↔◌, ℕ, zero, suc, ◌+◌, ◌-◌, ◌<◌, ◌≤◌, inl, inr, Bool, true, false, ◌==◌, ◌&&◌, ◌||◌, not, nat_lt, nat_le, List, [], ◌∷◌, drop, Option, Some, None, Result, Ok, Err, refl, ap, sym, subst, ◌∙◌, arith}
 use Rattle.std.proofs.lemmas.Bool.Decides.{nat_tests}
 use Rattle.nc_number.specs.declared.cause.Cause.{Cause}
@@ -12,13 +13,16 @@ use Rattle.block_order.specs.declared.program.ControlBlock.{ControlBlock}
 use Rattle.block_order.specs.Order.{control_at, seek, IsLoop, IsPermitted, Leads, head_name, is_end_of, first_end, end_named, end_of_loop, head_below, head_of_loop, is_up_to, holds, permits_below, permits, permitted_target}
 use Rattle.block_order.specs.LoopFacts.{LoopFacts, IsHeldToo}
 
+-- equal numbers test as equal
 true_same : (a b : ℕ) → a ≡ b → (a == b) ≡ true
 true_same a b e = grind (arith, nat_tests)
 
+-- a control that tests as this END is it,
 end-true : (name : ℕ) (c : Control) → is_end_of name c ≡ true → c ≡ EndLoop name
 end-true name (EndLoop own) e = ap (λ k. EndLoop k) (equal own name e)
 end-true name _ e = absurd cc
 
+-- and this END tests so
 true-end : (name : ℕ) (c : Control) → c ≡ EndLoop name → is_end_of name c ≡ true
 true-end name c e = rw e (true_same name name refl)
 
@@ -28,6 +32,7 @@ FirstEnd name bs place close =
     (i : ℕ) × (close ≡ place + i) × (control_at bs i ≡ Some (EndLoop name))
     × ((k : ℕ) → k < i → control_at bs k ≢ Some (EndLoop name))
 
+-- the search finds the first END
 first_end-found : (name : ℕ) (bs : List ControlBlock) (place close : ℕ)
     → first_end name bs place ≡ Some close → FirstEnd name bs place close
 first_end-found name [] place close e = absurd cc
@@ -51,6 +56,7 @@ first_end-found name (b ∷ bs) place close e =
         let r = rest (rw n at e) in
         (suc r.0, (let at' = r.1 in omega arith), r.2, later n r.0 r.3)
 
+-- the first END is found
 first_end-is : (name : ℕ) (bs : List ControlBlock) (place i : ℕ) → control_at bs i ≡ Some (EndLoop name)
     → ((k : ℕ) → k < i → control_at bs k ≢ Some (EndLoop name))
     → first_end name bs place ≡ Some (place + i)
@@ -67,6 +73,7 @@ first_end-is name (b ∷ bs) place (suc i) at before =
     go rest true y = absurd (before 0 (omega arith) (ap (λ x. Some x) (end-true name b.control y)))
     go rest false n = rw n (rest ∙ ap (λ n. Some n) (omega arith))
 
+-- the control at a place, in the blocks without the first n
 control-drop : (bs : List ControlBlock) (n i : ℕ) → control_at (drop n bs) i ≡ control_at bs (n + i)
 control-drop bs zero i = ap (λ k. control_at bs k) (omega arith)
 control-drop [] (suc n) i = refl
@@ -107,6 +114,7 @@ loop_facts bs head close loop = go (head_name (control_at bs head)) refl loop
               r.3 k (omega arith) (control-drop bs (suc head) k ∙ (ap (λ j. control_at bs j) e ∙ at'));
         }
 
+-- a loop is exactly what `LoopFacts` says
 pub loop_nearest : (bs : List ControlBlock) (head close : ℕ) → IsLoop bs head close ↔ LoopFacts bs head close
 loop_nearest bs head close = (loop_facts bs head close, nearest_is bs head close)
 
@@ -114,13 +122,16 @@ loop_nearest bs head close = (loop_facts bs head close, nearest_is bs head close
 pub loop_unique : (bs : List ControlBlock) (head a b : ℕ) → IsLoop bs head a → IsLoop bs head b → a ≡ b
 loop_unique bs head a b x y = some_is (sym x ∙ y)
 
+-- a number tests as no more than a greater one
 le_true : (a b : ℕ) → a ≤ b → nat_le a b ≡ true
 le_true a b h = grind (arith, nat_tests)
 
+-- an implication, by a test, used
 implied : (a b : Bool) → (not a || b) ≡ true → a ≡ true → b ≡ true
 implied true b e h = e
 implied false b e h = absurd cc
 
+-- and shown
 implies : (a b : Bool) → (a ≡ true → b ≡ true) → (not a || b) ≡ true
 implies true b f = f refl
 implies false b f = refl
@@ -130,6 +141,7 @@ holds-at : (bs : List ControlBlock) (head close block : ℕ) → IsLoop bs head 
     → holds bs head block ≡ (nat_lt head block && nat_le block close)
 holds-at bs head close block loop = ap (λ o. nat_lt head block && is_up_to block o) loop
 
+-- a loop that holds a block begins before it and ends at it or behind
 holds-loop : (bs : List ControlBlock) (head block : ℕ) → holds bs head block ≡ true
     → (close : ℕ) × IsLoop bs head close × (head < block) × (block ≤ close)
 holds-loop bs head block h =
@@ -141,6 +153,7 @@ holds-loop bs head block h =
     go None e l f = absurd cc
     go (Some close) e l f = (close, e, l, true_le block close f)
 
+-- what one head asks of a permitted jump
 one_head : (bs : List ControlBlock) (block target head close : ℕ)
     → (not (holds bs head target) || holds bs head block) ≡ true
     → IsLoop bs head close → head < target → target ≤ close → (head < block) × (block ≤ close)
@@ -151,6 +164,7 @@ one_head bs block target head close h loop from to =
     ∙ implied (holds bs head target) (holds bs head block) h t) in
     (true_lt head block b.0, true_le block close b.1)
 
+-- what the test asks of all heads below n
 permits-loop : (n : ℕ) (bs : List ControlBlock) (block target : ℕ)
     → permits_below n bs block target ≡ true
     → (head close : ℕ) → head < n → IsLoop bs head close → head < target → target ≤ close
@@ -164,6 +178,7 @@ permits-loop (suc n) bs block target h head close lt loop from to =
       | inr less ↦ permits-loop n bs block target each.1 head close less loop from to
     ]
 
+-- a jump whose target is held only with it passes the test
 permits-from : (n : ℕ) (bs : List ControlBlock) (block target : ℕ) → IsHeldToo bs block target
     → permits_below n bs block target ≡ true
 permits-from zero bs block target p = refl
@@ -202,10 +217,12 @@ led bs block n target e = go (seek bs block n) refl e
     go None f h = absurd cc
     go (Some at) f h = to at f (permits bs block at) refl h
 
+-- a permitted jump leads to the block that the search finds
 pub leads_to : (bs : List ControlBlock) (block n target : ℕ) → seek bs block n ≡ Some target → IsPermitted bs block target
     → Leads bs block n target
 leads_to bs block n target found may = rw (found, may) refl
 
+-- an option that tests as holding the number holds it
 some_of : (place : ℕ) (o : Option ℕ) → is_some_of place o ≡ true → o ≡ Some place
 some_of place None e = absurd cc
 some_of place (Some own) e = ap (λ k. Some k) (equal own place e)
@@ -225,6 +242,7 @@ below-loop (suc n) bs close head e =
         subst (λ k. IsLoop bs k close) same (some_of close (end_of_loop bs n) y)
     go rest false y = rest (rw y at e)
 
+-- the head that is found for an END begins a loop that ends there
 pub head_is_of_loop : (bs : List ControlBlock) (close head : ℕ) → head_of_loop bs close ≡ Some head
     → IsLoop bs head close
 head_is_of_loop bs close head e = below-loop close bs close head e

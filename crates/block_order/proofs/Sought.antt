@@ -1,4 +1,5 @@
 -- The search for a sequence number is the search in the list of its places.
+-- For the proofs of src/sequence.rt.
 use Rattle.std.proofs.Common.{◌≡◌, ℕ, zero, suc, ◌+◌, ◌-◌, ◌<◌, ◌≤◌, ◌↔◌, ◌⊎◌, inl, inr, Bool, true, false, cond, nat_lt, eqb, leb, ltb, ◌≢◌, List, [], ◌∷◌, ◌++◌, length, get_or, take, drop, Option, Some, None, refl, sym, ap, ◌∙◌, arith}
 use Rattle.std.proofs.lemmas.List.{take_more, length-take-le, append-nil}
 use Rattle.std.proofs.Common.{⊎_elim}
@@ -23,6 +24,7 @@ abbrev pub Rises : ℕ → List ℕ → Type 0
 Rises low [] = Unit {0}
 Rises low (x ∷ xs) = (low ≤ x) × Rises (suc x) xs
 
+-- the first block of a number is the first of its places
 first-numbered : (bs : List ControlBlock) (p n : ℕ) → first_numbered bs p n ≡ slice_get (places_from bs p n) 0
 first-numbered [] p n = refl
 first-numbered (b ∷ bs) p n =
@@ -30,26 +32,32 @@ first-numbered (b ∷ bs) p n =
     as (λ v. cond v (Some p) (first_numbered bs (suc p) n) ≡ slice_get (cond v (p ∷ places_from bs (suc p) n) (places_from bs (suc p) n)) 0)
     [ true ↦ refl | false ↦ first-numbered bs (suc p) n ]
 
+-- a rising list rises from a lower bound too
 rises-lower : (low : ℕ) (xs : List ℕ) → Rises (suc low) xs → Rises low xs
 rises-lower low [] h = tt
 rises-lower low (x ∷ xs) h = (omega arith, h.1)
 
+-- a place more or none, before places that rise
 rises-cond : (v : Bool) (p : ℕ) (xs : List ℕ) → Rises (suc p) xs → Rises p (cond v (p ∷ xs) xs)
 rises-cond true p xs h = (omega arith, h)
 rises-cond false p xs h = rises-lower p xs h
 
+-- the places of a number rise
 pub places-rise : (bs : List ControlBlock) (p n : ℕ) → Rises p (places_from bs p n)
 places-rise [] p n = tt
 places-rise (b ∷ bs) p n = rises-cond (has_sequence n b.sequence) p (places_from bs (suc p) n) (places-rise bs (suc p) n)
 
+-- if all are above the bound, the first above it is the first
 above-low : (low p : ℕ) (xs : List ℕ) → low < p → Rises p xs → first_above low xs ≡ slice_get xs 0
 above-low low p [] h r = refl
 above-low low p (x ∷ xs) h r = rw (lt_true low x (omega arith)) refl
 
+-- a place that is not above the bound does not count
 above-cond : (v : Bool) (m p : ℕ) (xs : List ℕ) → p ≤ m → first_above m (cond v (p ∷ xs) xs) ≡ first_above m xs
 above-cond true m p xs h = rw (lt_false m p h) refl
 above-cond false m p xs h = refl
 
+-- the search behind a block is the first place above it
 sought-above : (bs : List ControlBlock) (k p n m : ℕ) → m ≡ p + k
     → first_numbered (drop (suc k) bs) (suc m) n ≡ first_above m (places_from bs p n)
 sought-above [] k p n m e = refl
@@ -69,16 +77,19 @@ pub seek-places : (bs : List ControlBlock) (from n : ℕ)
 unfolding places_of
 seek-places bs from n = rw (sought-above bs from 0 n from (omega arith), first-numbered bs 0 n) refl
 
+-- the places of a number rise, from the start
 pub places_of-rise : (bs : List ControlBlock) (n : ℕ) → Rises 0 (places_of bs n)
 unfolding places_of
 places_of-rise bs n = places-rise bs 0 n
 
+-- none is below the bound
 pub rises-least : (p : ℕ) (xs : List ℕ) → Rises p xs → (j d : ℕ) → j < length xs → p ≤ get_or xs j d
 rises-least p (x ∷ xs) r zero d h = r.0
 rises-least p (x ∷ xs) r (suc j) d h =
     let more = rises-least (suc x) xs r.1 j d (omega arith) in omega (arith, more, r.0)
 rises-least p [] r j d h = absurd (omega arith)
 
+-- a later one is greater
 pub rises-apart : (p : ℕ) (xs : List ℕ) → Rises p xs → (i j d : ℕ) → i < j → j < length xs → get_or xs i d < get_or xs j d
 rises-apart p (x ∷ xs) r zero (suc j) d h l = rises-least (suc x) xs r.1 j d (omega arith)
 rises-apart p (x ∷ xs) r (suc i) (suc j) d h l = rises-apart (suc x) xs r.1 i j d (omega arith) (omega arith)
@@ -101,33 +112,40 @@ Above low xs =
     ⊎ ((j : ℕ) × (j < length xs) × (first_above low xs ≡ Some (get_or xs j 0)) × (low < get_or xs j 0)
     × ((k : ℕ) → k < j → get_or xs k 0 ≤ low))
 
+-- one number more that is not above the bound
 none-more : (low x : ℕ) (xs : List ℕ) → x ≤ low → ((k : ℕ) → k < length xs → get_or xs k 0 ≤ low)
     → (k : ℕ) → k < length (x ∷ xs) → get_or (x ∷ xs) k 0 ≤ low
 none-more low x xs h f zero l = h
 none-more low x xs h f (suc k) l = f k (omega arith)
 
+-- the same up to a number
 less-more : (low x j : ℕ) (xs : List ℕ) → x ≤ low → ((k : ℕ) → k < j → get_or xs k 0 ≤ low)
     → (k : ℕ) → k < suc j → get_or (x ∷ xs) k 0 ≤ low
 less-more low x j xs h f zero l = h
 less-more low x j xs h f (suc k) l = f k (omega arith)
 
+-- what is the first above the bound, with one number more that is not
 above-more : (low x : ℕ) (xs : List ℕ) → x ≤ low → Above low xs → Above low (x ∷ xs)
 above-more low x xs h (inl w) = inl (rw (lt_false low x h) w.0, none-more low x xs h w.1)
 above-more low x xs h (inr w) =
     inr (suc w.0, omega (arith, w.1), rw (lt_false low x h) w.2, w.3, less-more low x w.0 xs h w.4)
 
+-- the same by a test of the number
 above_step : (low x : ℕ) (xs : List ℕ) → Above low xs → (b : Bool) → nat_lt low x ≡ b → Above low (x ∷ xs)
 above_step low x xs w true e = inr (0, omega arith, rw e refl, grind (arith, nat_tests), λ k l. absurd (omega arith))
 above_step low x xs w false e = let le : x ≤ low = grind (arith, nat_tests) in above-more low x xs le w
 
+-- each list has one of these forms
 pub above_cases : (low : ℕ) (xs : List ℕ) → Above low xs
 above_cases low [] = inl (refl, λ k l. absurd (omega arith))
 above_cases low (x ∷ xs) = above_step low x xs (above_cases low xs) (nat_lt low x) refl
 
+-- a place more or none, before two lists
 cond-append : (v : Bool) (xs ys : List ℕ) (x : ℕ) → cond v (x ∷ (xs ++ ys)) (xs ++ ys) ≡ cond v (x ∷ xs) xs ++ ys
 cond-append true xs ys x = refl
 cond-append false xs ys x = refl
 
+-- the places, with one block pushed behind
 places-push : (bs : List ControlBlock) (b : ControlBlock) (p n : ℕ)
     → places_from (bs ++ b ∷ []) p n ≡ places_from bs p n ++ cond (has_sequence n b.sequence) ((p + length bs) ∷ []) []
 places-push [] b p n =
@@ -142,7 +160,7 @@ places-push (a ∷ bs) b p n =
     ap (λ r. cond (has_sequence n a.sequence) (p ∷ r) r) more
     ∙ cond-append (has_sequence n a.sequence) (places_from bs (suc p) n) tail p
 
--- one block more, without a number and with one
+-- a block more adds its place, if it has the number, to the places so far
 pub places_more : (bs : List ControlBlock) (i q : ℕ) (d : ControlBlock) (own : Option ℕ) → i < length bs
     → (get_or bs i d).sequence ≡ own
     → places_from (take (i + 1) bs) 0 q ≡ places_from (take i bs) 0 q ++ cond (has_sequence q own) (i ∷ []) []
@@ -153,10 +171,12 @@ places_more bs i q d own h is =
     ∙ ap (λ k. places_from (take i bs) 0 q ++ cond (has_sequence q (get_or bs i d).sequence) (k ∷ []) []) len
     ∙ ap (λ o. places_from (take i bs) 0 q ++ cond (has_sequence q o) (i ∷ []) []) is
 
+-- a block without a number adds no place to the places so far
 pub places_none : (bs : List ControlBlock) (i q : ℕ) (d : ControlBlock) → i < length bs
     → (get_or bs i d).sequence ≡ None → places_from (take (i + 1) bs) 0 q ≡ places_from (take i bs) 0 q
 places_none bs i q d h is = places_more bs i q d None h is ∙ append-nil (places_from (take i bs) 0 q)
 
+-- a block of the number adds its own place to the places so far
 pub places_same : (bs : List ControlBlock) (i q n : ℕ) (d : ControlBlock) → i < length bs
     → (get_or bs i d).sequence ≡ Some n → q ≡ n
     → places_from (take (i + 1) bs) 0 q ≡ places_from (take i bs) 0 q ++ i ∷ []
@@ -165,6 +185,7 @@ places_same bs i q n d h is e =
     places_more bs i q d (Some n) h is
     ∙ ap (λ v. places_from (take i bs) 0 q ++ cond v (i ∷ []) []) test
 
+-- a block of another number adds no place to the places so far
 pub places_other : (bs : List ControlBlock) (i q n : ℕ) (d : ControlBlock) → i < length bs
     → (get_or bs i d).sequence ≡ Some n → q ≢ n
     → places_from (take (i + 1) bs) 0 q ≡ places_from (take i bs) 0 q
@@ -174,6 +195,7 @@ places_other bs i q n d h is e =
     ∙ ap (λ v. places_from (take i bs) 0 q ++ cond v (i ∷ []) []) test
     ∙ append-nil (places_from (take i bs) 0 q)
 
+-- a later one is not less
 rises-order : (p : ℕ) (xs : List ℕ) → Rises p xs → (i j d : ℕ) → i ≤ j → j < length xs → get_or xs i d ≤ get_or xs j d
 rises-order p xs r i j d h l =
     ⊎_elim
@@ -185,6 +207,7 @@ rises-order p xs r i j d h l =
 pub rises-non-decreasing : (p : ℕ) (xs : List ℕ) → Rises p xs → IsNonDecreasingBy (λ x. x) xs
 rises-non-decreasing p xs r i j d h l = rises-order p xs r i j d h l
 
+-- a list that is not empty has a first entry
 first_is : (xs : List ℕ) → 0 < length xs → slice_get xs 0 ≡ Some (get_or xs 0 0)
 first_is [] h = absurd (omega arith)
 first_is (x ∷ xs) h = refl
@@ -254,11 +277,13 @@ finders_next xs t b i r within at = go (above_cases b xs) where
           (le_or_lt w.0 (i + 1)))
           (le_or_lt w.0 i)
 
+-- a list with a place more or none still contains the others
 contains-cond : (v : Bool) (p x : ℕ) (xs : List ℕ) → ((i : ℕ) × (i < length xs) × (get_or xs i 0 ≡ x))
     → (i : ℕ) × (i < length (cond v (p ∷ xs) xs)) × (get_or (cond v (p ∷ xs) xs) i 0 ≡ x)
 contains-cond true p x xs w = (suc w.0, omega (arith, w.1), w.2)
 contains-cond false p x xs w = w
 
+-- a block of the number, among blocks from some place on
 numbered-from : (bs : List ControlBlock) (k p n : ℕ) (block : ControlBlock) → slice_get bs k ≡ Some block
     → block.sequence ≡ Some n
     → (i : ℕ) × (i < length (places_from bs p n)) × (get_or (places_from bs p n) i 0 ≡ p + k)
@@ -291,26 +316,32 @@ partition-place xs t p i r within at below above =
     (λ (l : i < p). absurd (omega (arith, at, below i l)))
     (le_or_lt p i)
 
+-- a test of at most that says yes is right
 pub leb-true : {a b : ℕ} → leb a b ≡ true → a ≤ b
 leb-true {a} {b} e = grind (arith, nat_tests)
 
+-- a test of at most that says no is right
 pub leb-false : {a b : ℕ} → leb a b ≡ false → b < a
 leb-false {a} {b} e = grind (arith, nat_tests)
 
+-- the code's choice of options is that of the specs
 pub option_or-or_else : (a b : Option ℕ) → option_or a b ≡ or_else a b
 option_or-or_else None b = refl
 option_or-or_else (Some x) b = refl
 
+-- a test of below that says yes is right
 pub ltb-true : {a b : ℕ} → ltb a b ≡ true → a < b
 ltb-true {a} {b} e = grind (arith, nat_tests)
 
+-- a test of below that says no is right
 pub ltb-false : {a b : ℕ} → ltb a b ≡ false → b ≤ a
 ltb-false {a} {b} e = grind (arith, nat_tests)
 
+-- the last entry of a list
 pub last-get : (xs : List ℕ) → 0 < length xs → slice_get xs (length xs - 1) ≡ Some (get_or xs (length xs - 1) 0)
 last-get xs h = slice_get-get_or xs (length xs - 1) 0 (omega arith)
 
--- the two parts of what finds the first place
+-- what finds the first place: blocks before it, and blocks from the last place on
 pub finder_sides : (t last block : ℕ) (r f around : Option ℕ) → around ≡ Some last → r ≡ f
     → (f ≡ Some t) ↔ ((block < t) ⊎ (last ≤ block))
     → (r ≡ Some t) ↔ IsFinder (record { low = 0; high = t; around = around }) block
@@ -327,7 +358,7 @@ finder_sides t last block r f around is same side =
           let k : last ≡ w.0 = cc in
           inr (omega (arith, w.2))
 
--- and of what finds a later one
+-- what finds a later place: blocks from the place before it, up to it
 pub finder_only : (low t block : ℕ) (r f : Option ℕ) → r ≡ f → (f ≡ Some t) ↔ ((low ≤ block) × (block < t))
     → (r ≡ Some t) ↔ IsFinder (record { low = low; high = t; around = None }) block
 finder_only low t block r f same side = (λ e. inl (side.0 (sym same ∙ e)), λ w. same ∙ side.1 (from w)) where

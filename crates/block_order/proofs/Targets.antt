@@ -1,10 +1,12 @@
 -- What a search for a sequence number finds.
+-- wait_order takes `seek_stands`.
 use Rattle.std.proofs.Common.{◌≡◌, ℕ, zero, suc, ◌+◌, ◌<◌, Bool, true, false, List, [], ◌∷◌, length, drop, Option, Some, None, refl, ap, ◌∙◌, arith}
 use Rattle.std.proofs.lemmas.Bool.Decides.{nat_tests}
 use Rattle.block_order.specs.declared.program.ControlBlock.{ControlBlock}
 use Rattle.block_order.specs.Order.{has_sequence, first_numbered, or_else, seek}
 use Rattle.block_order.specs.Places.{IsNumbered}
 
+-- a sequence number that tests as n is n
 has_sequence-is : (n : ℕ) (o : Option ℕ) → has_sequence n o ≡ true → o ≡ Some n
 has_sequence-is n None e = absurd cc
 has_sequence-is n (Some own) e = let same : own ≡ n = grind (arith, nat_tests) in ap (λ k. Some k) same
@@ -26,6 +28,7 @@ first_numbered-stands (b ∷ bs) place n t e = go (λ h. first_numbered-stands b
         let at = r.1 in let within = r.2 in
         (suc r.0, omega arith, omega arith, r.3)
 
+-- a numbered block of the rest stands in the whole
 numbered_behind : (bs : List ControlBlock) (k i n : ℕ) → i < length (drop k bs) → IsNumbered (drop k bs) i n
     → (k + i < length bs) × IsNumbered bs (k + i) n
 numbered_behind bs zero i n within is = let e : 0 + i ≡ i = omega arith in rw e (within, is)

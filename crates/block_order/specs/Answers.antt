@@ -1,4 +1,4 @@
--- What holds of the fault of a call that may also lack memory.
+-- What holds of the fault of a call that may also run out of memory. All crates above cite this.
 use Rattle.nc_number.specs.declared.fault.Failing.{Failing}
 use Rattle.nc_number.specs.declared.fault.Failing.TheVariants.{Fault, NoMemory}
 

@@ -1,5 +1,6 @@
 -- What is wrong with the order of a tape's blocks, apart from any code that finds it, and which
 -- fault is answered.
+-- tape_flow, wait_order, open_order and the verifiers cite this.
 use Rattle.std.specs.Prelude.{◌≡◌, ◌≢◌, ℕ, zero, suc, ◌<◌, ◌≤◌, ◌==◌, true, ◌⊎◌, List, ◌∷◌, ◌++◌, map, Option, Some, None, Err, Contains, slice_get, if◌then◌else◌}
 use Rattle.nc_number.specs.declared.cause.Cause.{Cause}
 use Rattle.nc_number.specs.declared.cause.Cause.TheVariants.{ProgramTwice, LoopMismatch, NoProgram, BranchAtWait, WaitTooDeep}
@@ -16,8 +17,11 @@ use Rattle.block_order.specs.Loops.{IsMismatch}
 -- Faults are looked for in this order: whether programs and loops fit together, whether jumps and
 -- calls find what they name, whether waits stay in order.
 pub data Stage : Type 0 where
+  -- programs and loops fit together
   Fitting : Stage
+  -- jumps and calls find what they name
   Finding : Stage
+  -- waits stay in order
   Waiting : Stage
 
 -- the sequence number that a jump of the program names once for all: a fixed GOTO, and an M99 P of
@@ -83,6 +87,7 @@ IsFreeOf tape cause = (line : ℕ) → HasFault tape Waiting line cause → ⊥
 abbrev pub IsClear : List ControlProgram → Stage → Type 0
 IsClear tape stage = (line : ℕ) (cause : Cause) → HasFault tape stage line cause → ⊥
 
+-- the stages before this one have no fault
 abbrev pub IsClearBefore : List ControlProgram → Stage → Type 0
 IsClearBefore tape Fitting = Unit {0}
 IsClearBefore tape Finding = IsClear tape Fitting
@@ -101,7 +106,11 @@ IsNoLater line cause other_line other = (line < other_line) ⊎ ((line ≡ other
 -- The fault that is answered: of the first stage that has one, the least line, and on it the least
 -- number.
 pub record IsFirst (tape : List ControlProgram) (line : ℕ) (cause : Cause) : Type 0 where
+  -- the stage of the fault
   pub stage : Stage
+  -- no earlier stage has a fault
   pub before : IsClearBefore tape stage
+  -- the fault is one of that stage
   pub holds : HasFault tape stage line cause
+  -- no fault of that stage is earlier
   pub least : (other_line : ℕ) (other : Cause) → HasFault tape stage other_line other → IsNoLater line cause other_line other

@@ -1,4 +1,5 @@
 -- The first fault of a stage.
+-- wait_order cites this.
 use Rattle.std.specs.Prelude.{◌≡◌, ℕ, ◌≤◌, List, Option, Some, None, slice_get}
 use Rattle.nc_number.specs.declared.cause.Cause.{Cause}
 use Rattle.block_order.specs.declared.fault.OrderFault.{OrderFault}

@@ -1,4 +1,5 @@
 -- The fault of one block in what jumps and calls find.
+-- For this crate alone.
 use Rattle.std.specs.Prelude.{◌≡◌, ℕ, ◌≤◌, List, Option, Some, None, Err, slice_get}
 use Rattle.nc_number.specs.declared.cause.Cause.{Cause}
 use Rattle.nc_number.specs.declared.cause.Cause.TheVariants.{NoProgram}
@@ -16,8 +17,10 @@ JumpFault bs place n cause = target_of bs place n ≡ Err cause
 
 -- a block of a program at a place has this fault
 pub data BlockFault (tape : List ControlProgram) (program : ControlProgram) (place : ℕ) (control : Control) : Cause → Type 0 where
+  -- its jump fails
   jumps : (n : ℕ) (cause : Cause) → fixed_number tape program.number control ≡ Some n
       → JumpFault program.blocks place n cause → BlockFault tape program place control cause
+  -- it calls a program that the tape lacks
   calls : (called repeats : ℕ) → control ≡ Call called repeats → program_of tape called ≡ None
       → BlockFault tape program place control NoProgram
 

@@ -1,4 +1,5 @@
 -- A place as its code keeps it: where it begins, its callers, and the numbers of its blocks.
+-- path_state cites this.
 use Rattle.std.specs.Prelude.{ℕ, suc, ◌^◌, ◌<◌, List, [], ◌∷◌}
 use Rattle.block_order.specs.declared.frame.Frame.{Frame}
 

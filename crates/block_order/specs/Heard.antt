@@ -1,4 +1,5 @@
 -- What is kept of which programs are loud.
+-- Being loud is defined in Loud. wait_order cites this.
 use Rattle.std.specs.Prelude.{◌≡◌, ℕ, Bool, true, List}
 use Rattle.block_order.specs.declared.loud.LoudPrograms.{LoudPrograms}
 use Rattle.block_order.specs.declared.numbers.ProgramNumbers.{ProgramNumbers}

@@ -1,4 +1,4 @@
--- What the order of a tape keeps.
+-- What the types DraftOrder and BlockOrder keep. For this crate alone.
 use Rattle.std.specs.Prelude.{List}
 use Rattle.block_order.specs.declared.loud.LoudPrograms.{LoudPrograms}
 use Rattle.block_order.specs.declared.program.ControlProgram.{ControlProgram}
@@ -17,7 +17,7 @@ pub record IsDrafted (tape : List ControlProgram) (tables : List ProgramTables) 
   pub tables_are : IsTapeTables tape tables
   pub loud_are : IsKnown tape known
 
--- the same of programs whose waits stay in order
+-- what an order keeps of programs whose waits, besides, stay in order
 pub record IsKept (tape : List ControlProgram) (tables : List ProgramTables) (known : LoudPrograms) : Type 0 where
   pub listed : IsListed tape
   pub sound : IsSound tape

@@ -1,4 +1,5 @@
 -- The labels of a tape, and which tapes have one list of them, whatever the variables hold.
+-- Nearly all crates above cite `list` and `IsUnforked`.
 use Rattle.std.specs.Prelude.{◌≡◌, ℕ, zero, suc, ◌-◌, Bool, true, false, ◌⊎◌, List, [], ◌∷◌, length, drop, Some, if◌then◌else◌}
 use Rattle.block_order.specs.declared.control.Control.{Control}
 use Rattle.block_order.specs.declared.control.Control.TheVariants.{Goto, Call, BackTo}
@@ -92,11 +93,14 @@ Counts tape program = (program ≡ main_number tape) ⊎ (loud tape program ≡ 
 
 -- no jump, no end of a loop and no return leads from one stretch to another
 pub record IsStraight (tape : List ControlProgram) : Type 0 where
+  -- of jumps
   pub jumps : (program block target : ℕ) (c : Control) → Counts tape program
       → control_at (blocks tape program) block ≡ Some c → IsTarget tape program block c target
       → stretch (loud tape) (blocks tape program) block ≡ stretch (loud tape) (blocks tape program) target
+  -- of loops
   pub loops : (program head close : ℕ) → Counts tape program → IsLoop (blocks tape program) head close
       → stretch (loud tape) (blocks tape program) head ≡ stretch (loud tape) (blocks tape program) close
+  -- a return to a sequence number stands only in the main program, if its program is loud
   pub backs : (program block n : ℕ) → loud tape program ≡ true
       → control_at (blocks tape program) block ≡ Some (BackTo n) → program ≡ main_number tape
 

@@ -1,3 +1,5 @@
+-- The words in which contracts speak of the order of blocks. Order, Moves, Steps, Labels and Faults
+-- are what other crates cite most.
 pub mod Order
 pub mod LoopFacts
 pub mod Loud

@@ -1,4 +1,5 @@
 -- Which loops are open where, and when the heads and ends of a program's loops don't fit together.
+-- wait_order cites this. A loop's END as a search finds it is in Order.
 use Rattle.std.specs.Prelude.{◌≡◌, ◌≢◌, ℕ, suc, ◌==◌, List, [], ◌∷◌, length, map, take, Option, Some, None, Contains, if◌then◌else◌}
 use Rattle.block_order.specs.declared.control.Control.{Control}
 use Rattle.block_order.specs.declared.control.Control.TheVariants.{While, Do, EndLoop}
@@ -32,12 +33,15 @@ open_after place loops (b ∷ bs) = open_after (suc place) (open_behind place b.
 abbrev pub open_before : List ControlBlock → ℕ → List Open
 open_before bs place = open_after 0 [] (take place bs)
 
+-- the names of these loops
 abbrev pub names : List Open → List ℕ
 names loops = map (λ loop. loop.name) loops
 
+-- the places of their heads
 abbrev pub places : List Open → List ℕ
 places loops = map (λ loop. loop.place) loops
 
+-- the first entry, which is that of the loop opened last
 abbrev pub latest : List ℕ → Option ℕ
 latest [] = None
 latest (name ∷ earlier) = Some name
@@ -45,10 +49,14 @@ latest (name ∷ earlier) = Some name
 -- The block at a place does not fit: a head without its END, an END without its head, a head inside
 -- a loop of its own name, or an END that closes a loop while a later one is open.
 pub data IsMismatch (bs : List ControlBlock) (place : ℕ) : Type 0 where
+  -- a head whose loop is still open at the program's end
   unclosed : Contains (places (open_before bs (length bs))) place → IsMismatch bs place
+  -- an END without an open loop of its name
   unopened : (name : ℕ) → control_at bs place ≡ Some (EndLoop name) → (Contains (names (open_before bs place)) name → ⊥)
       → IsMismatch bs place
+  -- a head inside a loop of its own name
   nested : (name : ℕ) → head_name (control_at bs place) ≡ Some name → Contains (names (open_before bs place)) name
       → IsMismatch bs place
+  -- an END of a loop that is not the latest open one
   overlap : (name : ℕ) → control_at bs place ≡ Some (EndLoop name) → Contains (names (open_before bs place)) name
       → latest (names (open_before bs place)) ≢ Some name → IsMismatch bs place

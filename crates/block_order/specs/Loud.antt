@@ -1,4 +1,5 @@
 -- Which programs reach a wait or an end, and the marks that cut a program into stretches.
+-- wait_order, open_order, label_list, part_lines and the verifiers cite this.
 use Rattle.std.specs.Prelude.{◌≡◌, ◌↔◌, ℕ, zero, suc, Bool, true, false, ◌||◌, ◌⊎◌, List, [], ◌∷◌, ◌++◌, length, take, Some, if◌then◌else◌}
 use Rattle.block_order.specs.declared.control.Control.{Control}
 use Rattle.block_order.specs.declared.control.Control.TheVariants.{Wait, End, Call, Back}
@@ -15,6 +16,7 @@ is_loud_block known End = true
 is_loud_block known (Call program repeats) = known program
 is_loud_block known other = false
 
+-- one of the blocks is loud, by what is known
 abbrev pub has_loud_block : (ℕ → Bool) → List ControlBlock → Bool
 has_loud_block known [] = false
 has_loud_block known (b ∷ bs) = is_loud_block known b.control || has_loud_block known bs
@@ -53,6 +55,7 @@ mark_of loud (Call program repeats) = if loud program then mark.Call program rep
 mark_of loud Back = mark.Back ∷ []
 mark_of loud other = []
 
+-- the marks of these blocks, in order
 abbrev pub marks : (ℕ → Bool) → List ControlBlock → List Mark
 marks loud [] = []
 marks loud (b ∷ bs) = mark_of loud b.control ++ marks loud bs

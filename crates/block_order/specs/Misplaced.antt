@@ -1,4 +1,5 @@
 -- How the first block of a program that doesn't fit is found in one pass.
+-- For this crate alone.
 use Rattle.std.specs.Prelude.{ℕ, suc, ◌<◌, ◌≤◌, ◌==◌, Bool, false, not, List, [], ◌∷◌, length, map, reverse, Option, Some, None, if◌then◌else◌}
 use Rattle.std.specs.List.{list_any}
 use Rattle.block_order.specs.declared.control.Control.{Control}
@@ -8,6 +9,7 @@ use Rattle.block_order.specs.declared.program.ControlBlock.{ControlBlock}
 use Rattle.block_order.specs.Order.{or_else}
 use Rattle.block_order.specs.Loops.{Open, open_behind, IsMismatch}
 
+-- an open loop of the code, as one of the specs
 abbrev pub opened : OpenLoop → Open
 opened x = record { place = x.place; name = x.name }
 
@@ -15,9 +17,11 @@ opened x = record { place = x.place; name = x.name }
 unfoldable pub seen : List OpenLoop → List Open
 seen xs = reverse (map opened xs)
 
+-- one of these loops has this name
 abbrev pub has_name : ℕ → List Open → Bool
 has_name name loops = list_any (λ loop. loop.name == name) loops
 
+-- the loop opened last has this name
 abbrev pub is_latest : ℕ → List Open → Bool
 is_latest name [] = false
 is_latest name (loop ∷ loops) = loop.name == name

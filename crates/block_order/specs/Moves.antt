@@ -1,5 +1,6 @@
 -- Where control goes from a place: each move as a function of the place and of the tape. What the
 -- variables hold only chooses among them.
+-- path_state, two_path, part_order, named_vars and zone_check cite this.
 use Rattle.std.specs.Prelude.{ℕ, zero, suc, ◌-◌, ◌==◌, ◌||◌, nat_lt, List, [], ◌∷◌, length, Option, Some, None, Result, Ok, Err, if◌then◌else◌}
 use Rattle.nc_number.specs.declared.cause.Cause.{Cause}
 use Rattle.nc_number.specs.declared.cause.Cause.TheVariants.{TooDeep, LoopMismatch}
@@ -44,6 +45,7 @@ behind_end (Some close) = Ok (suc close)
 abbrev pub place_behind_loop : List ControlProgram → List Frame → Result (List Frame) Cause
 place_behind_loop tape place = place_by (λ f. behind_end (end_of_loop (blocks tape f.program) f.block)) place
 
+-- at the head of a loop, where there is one
 abbrev pub at_head : Option ℕ → Result ℕ Cause
 at_head None = Err LoopMismatch
 at_head (Some head) = Ok head
@@ -62,6 +64,7 @@ abbrev pub place_of_call : ℕ → ℕ → List Frame → Result (List Frame) Ca
 place_of_call program repeats place =
     if repeats == 0 || nat_lt 8 (length place) then Err TooDeep else Ok (place_in program (repeats - 1) place)
 
+-- a return with so many repeats left, from a frame whose callers are these
 abbrev pub return_by : ℕ → Frame → List Frame → List Frame
 return_by left f [] = at f 0 ∷ []
 return_by zero f (g ∷ stack) = at g (suc g.block) ∷ stack

@@ -1,4 +1,5 @@
 -- What is kept of a tape's O numbers.
+-- wait_order cites this.
 use Rattle.std.specs.Prelude.{◌≡◌, ℕ, List, Option, slice_get}
 use Rattle.std.specs.Option.{option_flatten}
 use Rattle.block_order.specs.declared.numbers.ProgramNumbers.{ProgramNumbers}

@@ -1,6 +1,7 @@
 -- The programs of a tape, as far as control goes through them: where jumps lead, and which loops
 -- hold a block. Everywhere a tape is the list of its programs, a program is known by its O number,
 -- and a block of it by its place from 0.
+-- All crates of the flow, and two_path above them, cite this.
 use Rattle.std.specs.Prelude.{◌≡◌, ℕ, zero, suc, Bool, true, false, not, ◌==◌, ◌&&◌, ◌||◌, nat_lt, nat_le, List, [], ◌∷◌, drop, find, Option, Some, None, Result, Ok, Err, slice_get, if◌then◌else◌}
 use Rattle.nc_number.specs.declared.cause.Cause.{Cause}
 use Rattle.nc_number.specs.declared.cause.Cause.TheVariants.{NoSequence, IntoLoop}
@@ -14,10 +15,12 @@ use Rattle.block_order.specs.declared.program.ControlProgram.{ControlProgram}
 abbrev pub program_of : List ControlProgram → ℕ → Option ControlProgram
 program_of tape number = find (λ program. program.number == number) tape
 
+-- the blocks of a program, and none of no program
 abbrev pub blocks_of : Option ControlProgram → List ControlBlock
 blocks_of None = []
 blocks_of (Some program) = program.blocks
 
+-- the blocks of the program with this number
 abbrev pub blocks : List ControlProgram → ℕ → List ControlBlock
 blocks tape number = blocks_of (program_of tape number)
 
@@ -26,6 +29,7 @@ abbrev pub main_number : List ControlProgram → ℕ
 main_number [] = 0
 main_number (program ∷ rest) = program.number
 
+-- the control of a block, if there is one
 abbrev pub control_of : Option ControlBlock → Option Control
 control_of None = None
 control_of (Some block) = Some block.control
@@ -34,6 +38,7 @@ control_of (Some block) = Some block.control
 abbrev pub control_at : List ControlBlock → ℕ → Option Control
 control_at bs place = control_of (slice_get bs place)
 
+-- a block of this sequence number, which may lack one, is numbered n
 abbrev pub has_sequence : ℕ → Option ℕ → Bool
 has_sequence n None = false
 has_sequence n (Some own) = n == own
@@ -43,6 +48,7 @@ abbrev pub first_numbered : List ControlBlock → ℕ → ℕ → Option ℕ
 first_numbered [] place n = None
 first_numbered (b ∷ bs) place n = if has_sequence n b.sequence then Some place else first_numbered bs (suc place) n
 
+-- the first one, or else the other
 abbrev pub or_else : Option ℕ → Option ℕ → Option ℕ
 or_else (Some place) other = Some place
 or_else None other = other
@@ -58,6 +64,7 @@ head_name (Some (While name)) = Some name
 head_name (Some (Do name)) = Some name
 head_name other = None
 
+-- the block is an END of this name
 abbrev pub is_end_of : ℕ → Control → Bool
 is_end_of name (EndLoop own) = own == name
 is_end_of name other = false
@@ -67,6 +74,7 @@ abbrev pub first_end : ℕ → List ControlBlock → ℕ → Option ℕ
 first_end name [] place = None
 first_end name (b ∷ bs) place = if is_end_of name b.control then Some place else first_end name bs (suc place)
 
+-- the END, behind the head, of a loop of this name
 abbrev pub end_named : List ControlBlock → ℕ → Option ℕ → Option ℕ
 end_named bs head None = None
 end_named bs head (Some name) = first_end name (drop (suc head) bs) (suc head)
@@ -85,6 +93,7 @@ head_below (suc head) bs close = if is_some_of close (end_of_loop bs head) then 
 abbrev pub head_of_loop : List ControlBlock → ℕ → Option ℕ
 head_of_loop bs close = head_below close bs close
 
+-- the block is not behind the END
 abbrev pub is_up_to : ℕ → Option ℕ → Bool
 is_up_to block None = false
 is_up_to block (Some close) = nat_le block close
@@ -104,6 +113,7 @@ permits_below (suc head) bs block target =
 abbrev pub permits : List ControlBlock → ℕ → ℕ → Bool
 permits bs block target = permits_below target bs block target
 
+-- the target that a search found, if a jump to it is permitted; else alarm 50 or 53
 abbrev pub permitted_target : List ControlBlock → ℕ → Option ℕ → Result ℕ Cause
 permitted_target bs block None = Err NoSequence
 permitted_target bs block (Some target) = if permits bs block target then Ok target else Err IntoLoop

@@ -1,4 +1,5 @@
 -- Where the programs of a tape stand, and which of them are known to be loud.
+-- tape_flow and wait_order cite this.
 use Rattle.std.specs.Prelude.{ℕ, suc, Bool, false, ◌==◌, List, [], ◌∷◌, Option, Some, None, slice_index_or, if◌then◌else◌}
 use Rattle.block_order.specs.declared.program.ControlProgram.{ControlProgram}
 

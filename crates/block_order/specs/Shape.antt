@@ -1,5 +1,6 @@
 -- What holds of the programs of every tape that was read: where they stand in the text, and how
 -- many blocks there are.
+-- The readers tape_flow and open_order keep this of what they read.
 use Rattle.std.specs.Prelude.{ℕ, ◌<◌, ◌≤◌, List, ◌∷◌, length, map}
 use Rattle.std.specs.List.{flat_map}
 use Rattle.nc_number.specs.Rising.{RiseFrom}
@@ -10,14 +11,17 @@ use Rattle.block_order.specs.declared.program.ControlProgram.{ControlProgram}
 abbrev pub lines_of_program : ControlProgram → List ℕ
 lines_of_program program = program.line ∷ map (λ block. block.line) program.blocks
 
+-- the lines of all programs, in the order of the text
 abbrev pub lines_in : List ControlProgram → List ℕ
 lines_in tape = flat_map lines_of_program tape
 
+-- the blocks of all programs, in the order of the text
 abbrev pub blocks_in : List ControlProgram → List ControlBlock
 blocks_in tape = flat_map (λ program. program.blocks) tape
 
 -- at least one program, lines that rise through the whole tape, and at most 20,000 blocks
 pub record IsListed (tape : List ControlProgram) : Type 0 where
   pub some : 0 < length tape
+  -- lines count from 1
   pub lines : RiseFrom 0 (lines_in tape)
   pub few : length (blocks_in tape) ≤ 20000

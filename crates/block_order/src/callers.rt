@@ -1,6 +1,7 @@
-//! Which programs call a program.
+//! Which programs call a program. The only error here is that memory runs out.
 //!
-//! Only time hangs on it: what is looked at again because of it is looked at as ever.
+//! Only time depends on it: it says which programs are looked at again, and that look decides.
+//! part_lines uses it too.
 
 use crate::control::Control;
 use crate::program::{ControlBlock, ControlProgram};

@@ -1,4 +1,4 @@
-//! What a block does to the order of blocks.
+//! What a block does to the order of blocks. Which words say so is in block_forms and open_forms.
 
 /// What a block does to the order of blocks.
 #[derive(Clone, Copy, Debug, PartialEq, Eq)]

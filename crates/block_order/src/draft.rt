@@ -1,4 +1,5 @@
 //! The order of a tape's blocks before its waits are judged.
+//! wait_order judges them and makes a [`BlockOrder`] of it.
 ghost use Rattle.std.specs.Prelude.{◌≡◌, IfOk, IfErr};
 ghost use Rattle.block_order.specs.Answers.{IfFault};
 ghost use Rattle.block_order.specs.Faults.{Fitting, Finding, Waiting, IsClear, IsFirst};
@@ -25,6 +26,7 @@ pub struct DraftOrder {
     programs: Vec<ControlProgram>,
     /// The tables of the programs, in their order.
     tables: Vec<ProgramTables>,
+    /// Which of the programs are loud.
     loud: LoudPrograms,
 }
 
@@ -94,7 +96,7 @@ impl DraftOrder {
         &self.loud
     }
 
-    /// The same order, whose waits were judged.
+    /// The same order, after wait_order has found no fault of waits.
     pub fn judged(self) -> BlockOrder
         requires waits { IsClear self Waiting }
         ensures { result ≡ self }

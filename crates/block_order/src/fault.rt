@@ -1,4 +1,5 @@
-//! What is wrong with the order of a tape's blocks.
+//! What is wrong with the order of a tape's blocks. wait_order answers it too, tape_flow by its
+//! number.
 
 use nc_number::Cause;
 use thiserror::Error;

@@ -1,4 +1,5 @@
 //! The first fault in what jumps and calls find.
+//! Which faults there are is in specs/Faults.antt. draft.rt calls it.
 ghost use Rattle.std.specs.Prelude.{◌≡◌, ◌↔◌, ◌<◌, ◌≤◌, List, IsTrue, None, Some, is_some, length, if◌then◌else◌};
 ghost use Rattle.nc_number.specs.declared.cause.Cause.TheVariants.{NoProgram};
 ghost use Rattle.block_order.specs.declared.program.ControlBlock.{ControlBlock};
@@ -42,7 +43,7 @@ pub(crate) fn finding_fault(
     None
 }
 
-/// The first fault of one program.
+/// The first fault of one program, with its own tables. `main` is the main program's O number.
 fn program_fault(
     numbers: &ProgramNumbers,
     own: &ProgramTables,
@@ -69,7 +70,8 @@ fn program_fault(
     None
 }
 
-/// The fault of a block of a program, which is the main one or not.
+/// Why the block's jump or call fails, if it does. A GOTO that is computed, and an M99 P outside
+/// the main program, are judged only in the run.
 fn block_fault(
     numbers: &ProgramNumbers,
     own: &ProgramTables,
@@ -95,7 +97,7 @@ fn block_fault(
     }
 }
 
-/// The fault of a jump to a sequence number.
+/// Why a jump from this block to the sequence number fails, if it does: 50 or 53.
 fn jump_fault(own: &ProgramTables, place: u32, number: u32) -> Option<Cause>
     ensures { (bs : List ControlBlock) → IsProgramTables bs own.now
         → IsFaultOf (JumpFault bs place number) result }
@@ -106,7 +108,7 @@ fn jump_fault(own: &ProgramTables, place: u32, number: u32) -> Option<Cause>
     }
 }
 
-/// The fault of a call.
+/// 51 if the tape has no program of this O number.
 fn call_fault(numbers: &ProgramNumbers, called: u16) -> Option<Cause>
     ensures { (tape : List ControlProgram) → KnowsPlaces tape numbers.now
         → result ≡ (if is_some (program_of tape called) then None else Some NoProgram) }

@@ -1,4 +1,5 @@
 //! The first fault in how programs and loops fit together.
+//! Which faults there are is in specs/Faults.antt. draft.rt calls it.
 ghost use Rattle.std.specs.Prelude.{◌≤◌, length, IfOk};
 ghost use Rattle.block_order.specs.Faults.{Fitting};
 ghost use Rattle.block_order.specs.First.{IsFirstOf, IsMismatchLine};

@@ -1,4 +1,5 @@
 //! What one path shows the other, and what stands for it in a program.
+//! label_list lists and compares labels, by the marks; two_path and run_table meet at them.
 
 /// What a path comes to, as far as the other path can tell.
 #[derive(Clone, Copy, Debug, PartialEq, Eq)]

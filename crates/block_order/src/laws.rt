@@ -1,5 +1,6 @@
 //! What holds of every tape, for the crates above. Each law is the contract of a function that does
 //! nothing: who calls it has the law.
+//! The verifiers, pair_order, two_path, loud_calls and trace_list call them.
 
 ghost use Rattle.std.specs.Prelude.{List, ℕ, ◌↔◌};
 ghost use Rattle.block_order.specs.declared.program.ControlBlock.{ControlBlock};

@@ -1,4 +1,5 @@
 //! The loops of a program whose heads and ends fit together.
+//! wait_order asks for the reach of a block.
 ghost use Rattle.std.specs.Prelude.{◌≡◌, ℕ, suc, ◌<◌, ◌≤◌, ◌↔◌, List, Some, IsTrue, length, slice_set, IfOk};
 ghost use Rattle.block_order.specs.Order.{IsLoop, IsPermitted, control_at, end_of_loop};
 ghost use Rattle.block_order.specs.declared.program.ControlBlock.{ControlBlock};
@@ -21,7 +22,9 @@ pub struct LoopTable {
 /// The blocks from which a jump to one block is permitted: those from `low` to `high`.
 #[derive(Clone, Copy, Debug, PartialEq, Eq)]
 pub struct Reach {
+    /// The first of these blocks.
     pub low: u32,
+    /// The last of them.
     pub high: u32,
 }
 
@@ -39,7 +42,7 @@ impl Reach {
 impl LoopTable {
     ghost use Rattle.block_order.specs.Table.{IsLoopTable, IsWithin};
 
-    /// The table of a program's loops, which fit together.
+    /// The table of a program's loops, which fit together. The only error is that memory runs out.
     pub(crate) fn of(alloc: Global, blocks: &[ControlBlock]) -> Result<LoopTable, NoMemory>
         requires few { length blocks.now ≤ 20000 }
         requires fit { Fits blocks.now }

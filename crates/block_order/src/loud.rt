@@ -1,4 +1,5 @@
 //! Which programs are loud: they reach a wait or an end.
+//! wait_order asks for them too. The meaning is in specs/Loud.antt.
 ghost use Rattle.std.specs.Prelude.{◌≡◌, [], true, map, IfOk};
 ghost use Rattle.block_order.specs.Loud.{is_loud_block, has_loud_block, known_loud, loud};
 ghost use Rattle.block_order.specs.Order.{blocks};
@@ -16,7 +17,9 @@ use std::alloc::{AllocError, Global};
 /// Which programs of a tape are loud: have a wait or an end, or call a loud one.
 #[derive(Drop)]
 pub struct LoudPrograms {
+    /// The place of each program.
     numbers: ProgramNumbers,
+    /// At the place of each program whether it is loud.
     flags: Vec<bool>,
 }
 
@@ -167,7 +170,7 @@ fn hear_all(
     Ok(())
 }
 
-/// Most of the loud programs, and mostly all of them.
+/// Flags of loud programs, mostly of all of them.
 fn heard_first(
     alloc: Global,
     numbers: &ProgramNumbers,
@@ -181,7 +184,8 @@ fn heard_first(
     Ok(flags)
 }
 
-/// What is heard first is looked at again until nothing changes, which it mostly doesn't.
+/// The flags of exactly the loud programs. What is heard first is looked at again until nothing
+/// changes, which it mostly doesn't.
 fn loud_flags(
     alloc: Global,
     numbers: &ProgramNumbers,
@@ -202,7 +206,8 @@ fn loud_flags(
 }
 
 impl LoudPrograms {
-    /// The loud ones of these programs, whose places are known.
+    /// The loud ones of these programs, whose places are known. The only error is that memory runs
+    /// out.
     pub(crate) fn of(
         alloc: Global,
         programs: &[ControlProgram],

@@ -1,4 +1,5 @@
 //! The first block of a program that shows that its loops don't fit together.
+//! fitting.rt calls it.
 ghost use Rattle.std.specs.Prelude.{◌≡◌, ◌≤◌, length, IfOk, OnOk};
 ghost use Rattle.block_order.specs.Loops.{closed, open_behind};
 ghost use Rattle.block_order.specs.Misplaced.{seen, has_name, is_latest, is_misplaced, earliest, IsFirstMismatch};
@@ -11,7 +12,9 @@ use std::alloc::Global;
 /// A loop that is open: the place of its head, and its name.
 #[derive(Clone, Copy, Debug, PartialEq, Eq)]
 struct OpenLoop {
+    /// The place of its head.
     place: u32,
+    /// 1, 2 or 3.
     name: u8,
 }
 

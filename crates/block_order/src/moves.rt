@@ -1,4 +1,5 @@
 //! Where control goes from a place, by the order of its tape.
+//! What a move does to the place is in place.rt.
 ghost use Rattle.std.specs.Prelude.{◌≡◌, ◌∷◌};
 ghost use Rattle.block_order.specs.Moves.{place_to, place_of_jump, place_behind_loop, place_of_head};
 ghost use Rattle.block_order.specs.Moves.{place_of_caller, place_of_jump_back};

@@ -1,4 +1,5 @@
 //! From O numbers to places on the tape.
+//! For this crate alone; other crates ask the order.
 ghost use Rattle.std.specs.Prelude.{◌≡◌, ◌==◌, ◌<◌, ℕ, Some, None, length, OnOk, IfOk, if◌then◌else◌};
 ghost use Rattle.block_order.specs.Order.{blocks, or_else};
 ghost use Rattle.block_order.specs.ProgramPlaces.{place_of};
@@ -15,7 +16,7 @@ pub struct ProgramNumbers {
     places: Vec<Option<usize>>,
 }
 
-/// Makes room for the number.
+/// Adds empty places until this O number has one.
 fn make_room(places: &mut Vec<Option<usize>>, number: u16) -> Result<(), NoMemory>
     ensures kept { OnOk result ((q : ℕ) → place_kept places.new.items q ≡ place_kept places.old.items q) }
     ensures room { OnOk result (number < length places.new.items) }
@@ -26,7 +27,7 @@ fn make_room(places: &mut Vec<Option<usize>>, number: u16) -> Result<(), NoMemor
     Ok(())
 }
 
-/// The number stands at this place, if it stands at none before.
+/// Notes the place of the program with this number, unless one is noted.
 fn note_place(places: &mut Vec<Option<usize>>, number: u16, place: usize) -> Result<(), NoMemory>
     ensures { OnOk result ((q : ℕ) → place_kept places.new.items q
         ≡ or_else (place_kept places.old.items q) (if number == q then Some place else None)) }

@@ -1,4 +1,5 @@
 //! The order of a tape's blocks, checked.
+//! wait_order makes it of a draft; path_state and label_list go by it.
 ghost use Rattle.std.specs.Prelude.{◌≡◌, ◌<◌, [], None, IfSome, slice_get};
 ghost use Rattle.std.specs.Option.{option_copied};
 ghost use Rattle.block_order.specs.Faults.{IsSound};
@@ -21,6 +22,7 @@ pub struct BlockOrder {
     pub(crate) programs: Vec<ControlProgram>,
     /// The tables of the programs, in their order.
     pub(crate) tables: Vec<ProgramTables>,
+    /// Which of the programs are loud.
     pub(crate) loud: LoudPrograms,
 }
 

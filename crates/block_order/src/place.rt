@@ -1,4 +1,6 @@
 //! Where a path stands, and its moves.
+//! What the moves ask of the tape is in moves.rt.
+//! path_state, tape_flow and label_list go by places.
 ghost use Rattle.std.specs.Prelude.{◌≡◌, ◌+◌, ◌≤◌, ◌↔◌, ◌∷◌, length, reverse, slice_get};
 ghost use Rattle.std.specs.Prelude.{Ok, Err, IsOk, IfErr, OnOk, OnErr};
 ghost use Rattle.nc_number.specs.declared.cause.Cause.TheVariants as Cause;
@@ -16,6 +18,7 @@ pub const MOST_CALLS: usize = 8;
 /// Where a path stands: the frame that runs, and those of its callers.
 #[derive(Debug, Drop)]
 pub struct Place {
+    /// The frame that runs.
     running: Frame,
     /// The callers, the main program first.
     below: ArrayVec<Frame, MOST_CALLS>,

@@ -1,4 +1,5 @@
 //! Blocks and programs, as far as their order goes.
+//! tape_flow and open_order make them of what they read.
 use crate::control::Control;
 use nc_number::ListOf;
 
@@ -9,6 +10,7 @@ pub struct ControlBlock {
     pub line: u32,
     /// Its sequence number, 0 to 99,999.
     pub sequence: Option<u32>,
+    /// What it does to the order of blocks.
     pub control: Control,
 }
 
@@ -22,5 +24,6 @@ pub struct ControlProgram {
     pub number: u16,
     /// The line of the O number.
     pub line: u32,
+    /// Its blocks, in the order of the text.
     pub blocks: ControlBlockList,
 }

@@ -1,4 +1,5 @@
 //! The blocks of a program by their sequence numbers.
+//! Part of a program's tables (tables.rt); wait_order asks for the finders of a block.
 ghost use Rattle.std.specs.Prelude.{◌≡◌, ℕ, ◌<◌, ◌≤◌, ◌↔◌, List, Some, length, IfOk};
 ghost use Rattle.block_order.specs.Order.{seek};
 
@@ -10,6 +11,7 @@ use std::alloc::Global;
 /// From a sequence number to the ascending places of its blocks in one program.
 #[derive(Drop)]
 pub struct SequenceIndex {
+    /// The ascending places of each number.
     places: IndexMap<u32, Vec<u32>>,
 }
 
@@ -17,8 +19,11 @@ pub struct SequenceIndex {
 /// without, `high`, and those from `around` on, whose search begins anew at the program's start.
 #[derive(Clone, Copy, Debug, PartialEq, Eq)]
 pub struct Finders {
+    /// The first block whose search goes forward to it.
     pub low: u32,
+    /// The block itself, which is behind the last of them.
     pub high: u32,
+    /// The first block whose search comes round to it.
     pub around: Option<u32>,
 }
 

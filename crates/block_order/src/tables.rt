@@ -1,4 +1,5 @@
 //! The tables of a tape whose programs and loops fit together.
+//! draft.rt makes them; order.rt and wait_order look up in them.
 ghost use Rattle.std.specs.Prelude.{◌≤◌, IfOk, length};
 ghost use Rattle.block_order.specs.Faults.{Fitting, IsClear};
 ghost use Rattle.block_order.specs.Fitting.{Fits};
@@ -14,7 +15,9 @@ use std::alloc::Global;
 /// The tables of one program.
 #[derive(Drop)]
 pub struct ProgramTables {
+    /// Its blocks by their sequence numbers.
     pub index: SequenceIndex,
+    /// Its loops.
     pub loops: LoopTable,
 }
 
@@ -42,7 +45,8 @@ impl ProgramTables {
     }
 }
 
-/// The tables of a tape's programs, in the order of the text.
+/// The tables of a tape's programs, in the order of the text. The only error is that memory runs
+/// out.
 pub(crate) fn tape_tables(
     alloc: Global,
     tape: &[ControlProgram],

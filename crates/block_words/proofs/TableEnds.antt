@@ -1,4 +1,4 @@
--- No table has a code past 65,535.
+-- No table of G codes has a code past 65,535.
 use Rattle.std.proofs.Common.{◌≡◌, ℕ, ◌<◌, ◌==◌, nat_le, true, false, List, [], ◌∷◌, None, refl, arith}
 use Rattle.std.specs.List.{list_all}
 use Rattle.std.proofs.lemmas.Bool.{and_parts}
@@ -9,6 +9,7 @@ use Rattle.code_tables.specs.declared.system.System.TheVariants.{A, B}
 use Rattle.code_tables.specs.Codes.{row_of}
 use Rattle.code_tables.specs.Systems.{rows_of_system}
 
+-- Rows without such a code have no row for it.
 none_beyond : (rows : List Row) (code : ℕ) → list_all (λ (row : Row). nat_le row.code 65535) rows ≡ true → 65535 < code
     → row_of rows code ≡ None
 none_beyond [] code all beyond = refl
@@ -21,6 +22,7 @@ none_beyond (row ∷ rows) code all beyond =
     differs : (own code : ℕ) → nat_le own 65535 ≡ true → 65535 < code → (own == code) ≡ false
     differs own code small beyond = grind (arith, nat_tests)
 
+-- The table of each system has none.
 pub no_row_beyond : (system : System) (code : ℕ) → 65535 < code → row_of (rows_of_system system) code ≡ None
 no_row_beyond A code beyond = none_beyond (rows_of_system A) code refl beyond
 no_row_beyond B code beyond = none_beyond (rows_of_system B) code refl beyond

@@ -1,4 +1,5 @@
--- The G and M codes of a block, and what they make of P and L.
+-- The G and M codes of a block, and what they make of P and L. block_forms, open_forms,
+-- block_values and crates above read this.
 use Rattle.std.specs.Prelude.{ℕ, Bool, true, false, ◌==◌, ◌&&◌, nat_le, List, [], ◌∷◌, Option, Some, None, ℤ, pos, negsuc, codes, find, if◌then◌else◌}
 use Rattle.std.specs.List.{list_any, filter_map}
 use Rattle.code_tables.specs.declared.row.Row.{Row}
@@ -14,84 +15,94 @@ use Rattle.block_words.specs.declared.purpose.Purpose.{Purpose}
 use Rattle.block_words.specs.declared.purpose.Purpose.TheVariants as purpose
 use Rattle.block_words.specs.Words.{words_of, whole_value}
 
--- a number that is not below 0
+-- The number, if it is not below 0.
 abbrev pub natural : Option ℤ → Option ℕ
 natural None = None
 natural (Some (pos n)) = Some n
 natural (Some (negsuc n)) = None
 
--- the row of a G code that is written out, if the system has it
+-- The row of a G code in the table of the system, if it has the code.
 abbrev pub row_of_number : System → Option ℕ → Option Row
 row_of_number system None = None
 row_of_number system (Some code) = row_of (rows_of_system system) code
 
+-- The row of a G word that is written out as a whole number, if the system has it.
 abbrev pub row_of_word : System → FlowWord → Option Row
 row_of_word system word = row_of_number system (natural (whole_value word.value))
 
--- the rows of the block's G words, in their order
+-- The rows of the block's G words, in their order.
 abbrev pub rows : System → List FlowWord → List Row
 rows system words = filter_map (row_of_word system) (words_of (codes "G") words)
 
--- a G code of that kind is given
+-- The block has a G code of that kind.
 abbrev pub gives : System → (CodeKind → Bool) → List FlowWord → Bool
 gives system is_kind words = list_any (λ row. is_kind row.kind) (rows system words)
 
+-- The code is a dwell, G04.
 abbrev pub is_dwell : CodeKind → Bool
 is_dwell Dwell = true
 is_dwell other = false
 
+-- The code sets an offset, G10.
 abbrev pub is_setting : CodeKind → Bool
 is_setting Setting = true
 is_setting other = false
 
+-- The code limits the spindle's speed, G50 or G92.
 abbrev pub is_limit : CodeKind → Bool
 is_limit Limit = true
 is_limit other = false
 
+-- The code makes the block's positions machine coordinates, G53.
 abbrev pub is_machine : CodeKind → Bool
 is_machine Machine = true
 is_machine other = false
 
+-- The code calls a macro, G65.
 abbrev pub is_macro_call : CodeKind → Bool
 is_macro_call MacroCall = true
 is_macro_call other = false
 
+-- The kind of a row.
 abbrev pub kind_of : Option Row → Option CodeKind
 kind_of None = None
 kind_of (Some row) = Some row.kind
 
--- the one-shot code that is in force: the last one of the block
+-- The one-shot code that is in force: the last one of the block.
 abbrev pub one_shot : System → List FlowWord → Option CodeKind
 one_shot system words = kind_of (last_of_group (rows system words) ONE_SHOT_GROUP)
 
--- the numbers of the block's M words that are written out, in their order
+-- The numbers of the block's M words that are written out, in their order.
 abbrev pub m_codes : List FlowWord → List ℕ
 m_codes words = filter_map (λ word. natural (whole_value word.value)) (words_of (codes "M") words)
 
--- the first of the codes, if there is one
+-- The first of the codes, if there is one.
 abbrev pub first : List ℕ → Option ℕ
 first [] = None
 first (code ∷ codes) = Some code
 
--- the M code of the block: the first one, and in a block that is not refused the only one outside a
--- macro call
+-- The M code of the block: the first one, and in a block that is not refused the only one outside a
+-- macro call.
 abbrev pub m_code : List FlowWord → Option ℕ
 m_code words = first (m_codes words)
 
+-- The M code waits for the other path: it lies in the range of the settings.
 abbrev pub is_waiting : Dialect → ℕ → Bool
 is_waiting dialect code = nat_le dialect.low code && nat_le code dialect.high
 
+-- The block has an M word of this code.
 abbrev pub has_code : ℕ → List FlowWord → Bool
 has_code code words = list_any (λ own. own == code) (m_codes words)
 
--- the first waiting code of the block
+-- The first of these codes that waits.
 abbrev pub first_waiting : Dialect → List ℕ → Option ℕ
 first_waiting dialect codes = find (is_waiting dialect) codes
 
+-- The block has a waiting M code.
 abbrev pub has_wait : Dialect → List FlowWord → Bool
 has_wait dialect words = list_any (is_waiting dialect) (m_codes words)
 
--- what the one-shot code in force makes of P and L
+-- What the one-shot code in force makes of P and L.
 abbrev pub purpose_by : Option CodeKind → Purpose
 purpose_by (Some Dwell) = purpose.Dwell
 purpose_by (Some Setting) = purpose.Setting
@@ -107,7 +118,7 @@ purpose_of dialect words =
     else if has_wait dialect words then purpose.Wait
     else purpose_by (one_shot dialect.system words)
 
--- a call of a macro, in which M is an argument
+-- The block calls a macro, so that M is an argument in it.
 abbrev pub is_macro : Purpose → Bool
 is_macro purpose.MacroCall = true
 is_macro _ = false

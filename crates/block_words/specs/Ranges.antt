@@ -1,4 +1,5 @@
--- Which numbers the words of a block may have where they are written out.
+-- Which numbers the words of a block may have if they are written out. block_forms, open_forms,
+-- block_values and two_path read this.
 use Rattle.std.specs.Prelude.{ℕ, Bool, true, false, not, ◌&&◌, nat_le, Option, Some, None, ℤ, pos, negsuc, codes, if◌then◌else◌}
 use Rattle.std.specs.Int.{is_negative}
 use Rattle.std.specs.Option.{is_some}
@@ -13,11 +14,13 @@ use Rattle.block_words.specs.declared.range.Range.{Range}
 use Rattle.block_words.specs.declared.range.Range.TheVariants.{Any, NotNegative, Whole, Between}
 use Rattle.block_words.specs.Words.{is_one_of}
 
+-- There is a number, and it lies between these, both included.
 abbrev pub is_between : ℕ → ℕ → Option ℤ → Bool
 is_between least greatest None = false
 is_between least greatest (Some (pos n)) = nat_le least n && nat_le n greatest
 is_between least greatest (Some (negsuc n)) = false
 
+-- The literal is in the range. One with a point is whole if its fraction is 0.
 abbrev pub fits : Range → Literal → Bool
 fits Any literal = true
 fits NotNegative literal = not (is_negative literal.value)
@@ -25,7 +28,7 @@ fits Whole literal = is_some (whole_of literal.value)
 fits (Between least greatest) literal = is_between least greatest (whole_of literal.value)
 
 -- P: milliseconds of a dwell; the number of an offset; a program, with repeats before its four
--- digits or without; the sequence number of a return; the program of a macro call
+-- digits or without; the sequence number of a return; the program of a macro call.
 abbrev pub range_of_p : Purpose → Range
 range_of_p MacroCall = Between 1 9999
 range_of_p Subprogram = Between 1 99999999
@@ -35,7 +38,7 @@ range_of_p Dwell = Between 0 99999999
 range_of_p Setting = Whole
 range_of_p Other = Any
 
--- L: repeats of a call; the kind of an offset
+-- L: repeats of a call; the kind of an offset.
 abbrev pub range_of_l : Purpose → Range
 range_of_l MacroCall = Between 1 9999
 range_of_l Subprogram = Between 1 9999
@@ -45,12 +48,12 @@ range_of_l Dwell = Any
 range_of_l Setting = Between 2 2
 range_of_l Other = Any
 
--- X and U of a dwell are seconds; elsewhere positions, whose range is an alarm's matter
+-- X and U: seconds of a dwell; else positions, whose range only the run judges, by an alarm.
 abbrev pub range_of_way : Purpose → Range
 range_of_way Dwell = NotNegative
 range_of_way _ = Any
 
--- F is 0 or more, S at most 99,999, T at most 9,999, M at most 999
+-- Outside a macro call: F is 0 or more, S at most 99,999, T at most 9,999, M at most 999.
 abbrev pub range_of_letter : Purpose → ℕ → Range
 range_of_letter purpose letter =
     if is_one_of (codes "P") letter then range_of_p purpose
@@ -62,21 +65,23 @@ range_of_letter purpose letter =
     else if is_one_of (codes "M") letter then Between 0 999
     else Any
 
--- in a macro call all but P and L are arguments, of any number
+-- In a macro call all but P and L are arguments, of any number.
 abbrev pub range_of_argument : ℕ → Range
 range_of_argument letter =
     if is_one_of (codes "P") letter then range_of_p MacroCall
     else if is_one_of (codes "L") letter then range_of_l MacroCall
     else Any
 
+-- The range of a word of this letter, in a block of this purpose.
 abbrev pub range_of : Purpose → ℕ → Range
 range_of MacroCall letter = range_of_argument letter
 range_of purpose letter = range_of_letter purpose letter
 
+-- The value, if it is written out, is in the range.
 abbrev pub fits_value : Range → WordValue → Bool
 fits_value range (Fixed literal) = fits range literal
 fits_value range (Computed minus tree) = true
 
--- the word, where it is written out, is in its range
+-- The word, if it is written out, is in its range.
 abbrev pub is_in_range : Purpose → FlowWord → Bool
 is_in_range purpose word = fits_value (range_of purpose word.letter) word.value

@@ -1,4 +1,5 @@
-//! The G and M codes of a block, and what they make of its P and L.
+//! The G and M codes of a block, and what they make of its P and L. What a code does is not known
+//! here; the tables are in code_tables.
 ghost use Rattle.std.specs.Prelude.{◌≡◌, ◌≤◌, IfSome, IfOk};
 ghost use Rattle.std.specs.List.{list_any};
 ghost use Rattle.code_tables.specs.Codes.{last_of_group};
@@ -23,7 +24,8 @@ pub fn row_of_word(system: System, word: &FlowWord) -> Option<Row>
     }
 }
 
-/// A code that the system lacks has no row, and is left out here.
+/// The rows of the block's G words. A code that the system lacks is left out. The only error is out
+/// of memory.
 fn collect_rows(alloc: Global, system: System, words: &[FlowWord]) -> Result<Vec<Row>, AllocError>
     ensures { IfOk result (λ found. found.items ≡ rows system words.now) }
 {
@@ -34,7 +36,7 @@ fn collect_rows(alloc: Global, system: System, words: &[FlowWord]) -> Result<Vec
         .collect(alloc)
 }
 
-/// The rows of the block's G words, in their order.
+/// The rows of the block's G words, in their order. The only error is out of memory.
 pub fn rows_of(alloc: Global, system: System, words: &[FlowWord]) -> Result<RowList, NoMemory>
     ensures { IfOk result (λ list. list ≡ rows system words.now) }
 {
@@ -51,7 +53,7 @@ pub fn one_shot_of(rows: &[Row]) -> Option<CodeKind>
     last_of_group(rows, ONE_SHOT_GROUP).map(|row| row.kind)
 }
 
-/// The first M code of the block.
+/// The first M code of the block that is written out.
 pub fn first_code(words: &[FlowWord]) -> Option<u32>
     ensures value { result ≡ m_code words.now }
     ensures range { IfSome result (λ code. code ≤ 99999999) }
@@ -88,7 +90,7 @@ pub fn has_wait(words: &[FlowWord], dialect: Dialect) -> bool
         .any(|code| dialect.is_waiting(code))
 }
 
-/// The first waiting M code of the block, which is none above the last waiting code.
+/// The first waiting M code of the block.
 fn find_waiting(words: &[FlowWord], dialect: Dialect) -> Option<u32>
     ensures { result ≡ first_waiting dialect (m_codes words.now) }
 {
@@ -99,7 +101,8 @@ fn find_waiting(words: &[FlowWord], dialect: Dialect) -> Option<u32>
         .find(|code| dialect.is_waiting(*code))
 }
 
-/// The first waiting M code of the block.
+/// The first waiting M code of the block. It fits 16 bits, since it is none above the last waiting
+/// code.
 #[tactic(auto, using(crate::proofs::Waiting::first_waiting_is_below))]
 pub fn first_waiting(words: &[FlowWord], dialect: Dialect) -> Option<u16>
     ensures { result ≡ first_waiting dialect (m_codes words.now) }
@@ -110,7 +113,7 @@ pub fn first_waiting(words: &[FlowWord], dialect: Dialect) -> Option<u16>
     }
 }
 
-/// Whether one of the codes calls a macro.
+/// Whether one of these rows calls a macro.
 pub fn have_macro_call(rows: &[Row]) -> bool
     ensures { result ≡ list_any (λ row. is_macro_call row.kind) rows.now }
 {

@@ -1,4 +1,5 @@
-//! How a tape is read, as the settings say.
+//! How a tape is read, as the settings say: which M codes wait, and of which system its G codes
+//! are.
 ghost use Rattle.std.specs.Prelude.{◌≡◌};
 ghost use Rattle.code_tables.specs.Codes.{row_of};
 ghost use Rattle.code_tables.specs.Systems.{rows_of_system};
@@ -14,8 +15,7 @@ pub struct Dialect {
     pub low: u16,
     /// The last waiting code.
     pub high: u16,
-    /// P names the paths by bits: 3 for both. Else by their numbers, one behind the other: 12 or
-    /// 21.
+    /// P names the paths by bits: 3 for both. Else by their numbers, one after the other: 12 or 21.
     pub bits: bool,
     /// The system of the G codes.
     pub system: System,
@@ -36,7 +36,7 @@ impl Dialect {
     ghost use Rattle.block_words.specs.Codes.{is_waiting};
     ghost use Rattle.block_words.specs.Purposes.{names_both};
 
-    /// That of the cell.
+    /// The dialect of these settings.
     pub fn of(settings: &Settings) -> Dialect
         ensures low { result.low ≡ settings.now.wait_low }
         ensures high { result.high ≡ settings.now.wait_high }
@@ -51,7 +51,7 @@ impl Dialect {
         }
     }
 
-    /// Whether the code waits for the other path.
+    /// Whether the M code waits for the other path.
     pub fn is_waiting(&self, code: u32) -> bool
         ensures { result ≡ is_waiting self.now code }
     {

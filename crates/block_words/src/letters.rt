@@ -1,4 +1,5 @@
-//! The words of a block by their letters.
+//! The words of a block by their letters. A letter is its byte, in upper case. block_forms,
+//! open_forms and block_values call these.
 ghost use Rattle.std.specs.Prelude.{◌≡◌, ◌≤◌, IfSome, length, if◌then◌else◌};
 ghost use Rattle.block_words.specs.Words.{is_one_of, words_of, has, has_computed, whole_value, last_whole};
 ghost use Rattle.block_words.specs.Codes.{natural};
@@ -12,14 +13,14 @@ pub fn is_one_of(letters: &[u8], letter: u8) -> bool
     letters.contains(&letter)
 }
 
-/// Whether a word of one of these letters is there.
+/// Whether the block has a word of one of these letters.
 pub fn has(words: &[FlowWord], letters: &[u8]) -> bool
     ensures { result ≡ has letters.now words.now }
 {
     words.iter().any(|word| is_one_of(letters, word.letter))
 }
 
-/// Whether a word of one of these letters is computed.
+/// Whether a word of one of these letters is a variable or an expression.
 pub fn has_computed(words: &[FlowWord], letters: &[u8]) -> bool
     ensures { result ≡ has_computed letters.now words.now }
 {
@@ -53,8 +54,8 @@ fn later_number(before: Option<u32>, word: &FlowWord, letters: &[u8]) -> Option<
     }
 }
 
-/// The number that the last word of these letters says, where it is written out, whole and not
-/// below 0.
+/// The number that the last word of these letters says, if it is written out, whole and not below
+/// 0.
 #[tactic(auto, using(crate::proofs::LastWord::last_number_more))]
 pub fn number_of(words: &[FlowWord], letters: &[u8]) -> Option<u32>
     ensures value { result ≡ natural (last_whole letters.now words.now) }

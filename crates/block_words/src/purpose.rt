@@ -1,4 +1,4 @@
-//! What a block is for.
+//! What a block is for, which decides the meaning of P and L. Its purpose is found in `codes`.
 ghost use Rattle.std.specs.Prelude.{◌≡◌};
 
 /// What decides the meaning of the addresses P and L, and in a dwell of X and U.

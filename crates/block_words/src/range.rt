@@ -1,4 +1,4 @@
-//! Which numbers a word may write out.
+//! Which numbers a word may write out. Calculated values are judged in the run (block_values).
 ghost use Rattle.std.specs.Prelude.{◌≡◌};
 ghost use Rattle.block_words.specs.Ranges.{fits, range_of_p, range_of_l, range_of_way, range_of_letter, range_of_argument, range_of, is_between, is_in_range};
 
@@ -19,15 +19,15 @@ pub enum Range {
     Between { least: u32, greatest: u32 },
 }
 
-/// A range of whole numbers, both ends in it.
+/// A range of whole numbers, with both ends in it.
 fn between(least: u32, greatest: u32) -> Range
     ensures { result ≡ Range.Between least greatest }
 {
     Range::Between { least, greatest }
 }
 
-/// P: milliseconds of a dwell; the number of an offset; a program, with repeats before its four
-/// digits or without; the sequence number of a return; the program of a macro call.
+/// The range of P: milliseconds of a dwell; the number of an offset; a program, with repeats before
+/// its four digits or without; the sequence number of a return; the program of a macro call.
 fn range_of_p(purpose: Purpose) -> Range
     ensures { result ≡ range_of_p purpose }
 {
@@ -41,7 +41,7 @@ fn range_of_p(purpose: Purpose) -> Range
     }
 }
 
-/// L: repeats of a call; the kind of an offset.
+/// The range of L: repeats of a call; the kind of an offset.
 fn range_of_l(purpose: Purpose) -> Range
     ensures { result ≡ range_of_l purpose }
 {
@@ -52,7 +52,8 @@ fn range_of_l(purpose: Purpose) -> Range
     }
 }
 
-/// X and U: seconds of a dwell; elsewhere positions, whose range is an alarm's matter.
+/// The range of X and U: seconds of a dwell; else positions, whose range only the run judges, by an
+/// alarm.
 fn range_of_way(purpose: Purpose) -> Range
     ensures { result ≡ range_of_way purpose }
 {
@@ -62,7 +63,7 @@ fn range_of_way(purpose: Purpose) -> Range
     }
 }
 
-/// The ranges outside macro calls.
+/// The range of a word of this letter outside macro calls.
 fn range_of_letter(purpose: Purpose, letter: u8) -> Range
     ensures { result ≡ range_of_letter purpose letter }
 {
@@ -78,7 +79,7 @@ fn range_of_letter(purpose: Purpose, letter: u8) -> Range
     }
 }
 
-/// In a macro call all but P and L are arguments, of any number.
+/// The range of a word of a macro call: all but P and L are arguments, of any number.
 fn range_of_argument(letter: u8) -> Range
     ensures { result ≡ range_of_argument letter }
 {
@@ -89,7 +90,7 @@ fn range_of_argument(letter: u8) -> Range
     }
 }
 
-/// What a word of this letter may say.
+/// The range of a word of this letter, in a block of this purpose.
 fn range_of(purpose: Purpose, letter: u8) -> Range
     ensures { result ≡ range_of purpose letter }
 {
@@ -99,7 +100,8 @@ fn range_of(purpose: Purpose, letter: u8) -> Range
     }
 }
 
-/// A literal with a fraction is in no range of whole numbers.
+/// Whether the number lies between these, both included; false for none, as of a literal with a
+/// fraction.
 fn is_between(least: u32, greatest: u32, number: Option<i64>) -> bool
     ensures { result ≡ is_between least greatest number }
 {
@@ -109,7 +111,8 @@ fn is_between(least: u32, greatest: u32, number: Option<i64>) -> bool
     }
 }
 
-/// A range of whole numbers takes a literal with a point, where its fraction is 0.
+/// Whether the literal is in the range. A range of whole numbers takes a literal with a point, if
+/// its fraction is 0.
 fn fits(range: Range, literal: &Literal) -> bool
     ensures { result ≡ fits range literal.now }
 {
@@ -128,7 +131,7 @@ pub fn fits_word(purpose: Purpose, letter: u8, literal: &Literal) -> bool
     fits(range_of(purpose, letter), literal)
 }
 
-/// Whether the word, where it is written out, is in its range.
+/// Whether the word, if it is written out, is in its range.
 pub fn is_in_range(purpose: Purpose, word: &FlowWord) -> bool
     ensures { result ≡ is_in_range purpose word.now }
 {

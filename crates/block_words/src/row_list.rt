@@ -1,4 +1,4 @@
-//! The rows of a block's G codes.
+//! The rows of a block's G codes, as a list that is a value. The table's row is in code_tables.
 use code_tables::Row;
 use nc_number::ListOf;
 

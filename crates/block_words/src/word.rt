@@ -1,4 +1,4 @@
-//! A word of a block, and its value.
+//! A word of a block, and its value. How its text is read is in block_forms.
 ghost use Rattle.std.specs.Prelude.{◌≡◌, ◌≤◌, Some, IfSome, unsigned_abs};
 
 use macro_eval::Code;
@@ -9,7 +9,7 @@ use nc_number::{ListOf, Literal};
 pub enum WordValue {
     /// A number that is written out.
     Fixed(Literal),
-    /// A variable or a bracketed expression, behind the word's own sign. Contracts see the code as
+    /// A variable or a bracketed expression, after the word's own sign. Contracts see the code as
     /// the tree of its text.
     Computed { minus: bool, code: Code },
 }
@@ -51,7 +51,7 @@ impl WordValue {
         }
     }
 
-    /// The whole number that is written out, where it is not below 0.
+    /// The whole number that is written out, if it is not below 0.
     pub fn natural(&self) -> Option<u32>
         ensures value { result ≡ natural (whole_value self.now) }
         ensures range { IfSome result (λ n. n ≤ 99999999) }

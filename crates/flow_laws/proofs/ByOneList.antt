@@ -1,4 +1,4 @@
--- A tape is accepted exactly with one list of labels.
+-- A tape is accepted exactly with one list of labels (the law of src/tape.rt).
 use Rattle.std.proofs.Common.{◌↔◌, List}
 use Rattle.nc_text.specs.declared.tape.Program.{Program}
 use Rattle.block_words.specs.declared.dialect.Dialect.{Dialect}
@@ -9,6 +9,7 @@ use Rattle.tape_flow.specs.Forms.{ProgramForm}
 use Rattle.flow_laws.specs.OneList.{ReadsWithOneList}
 use Rattle.flow_laws.specs.Waits.{AreWaitFaultsExact}
 
+-- if the faults of waits are exact, accepted and read with one list are the same
 pub by_one_list : ((order : List ControlProgram) → AreWaitFaultsExact order) → (dialect : Dialect) (tape : List Program)
     (programs : List ProgramForm) → IsAccepted dialect tape programs ↔ ReadsWithOneList dialect tape programs
 by_one_list law dialect tape programs = (

@@ -1,4 +1,5 @@
--- The blocks of a tape that was read stand on rising lines: an invariant of each line that is read.
+-- The blocks of a tape that was read stand on rising lines (the law of src/lines.rt). It is an
+-- invariant of each line that is read.
 use Rattle.std.proofs.Common.{◌≡◌, ℕ, ◌+◌, Bool, true, false, List, [], ◌∷◌, ◌++◌, length, map, Option, Some, None, Result, Ok, Err, refl, ap, sym, subst, ◌∙◌, arith, append_assoc, if◌then◌else◌}
 use Rattle.std.specs.Prelude.{IfOk}
 use Rattle.std.specs.Option.{option_to_list, is_none}
@@ -16,10 +17,11 @@ use Rattle.nc_text.specs.Tape.{Before, Answer, nothing_read, programs_of, next, 
 use Rattle.nc_text.proofs.Shaping.{blocks_last, rise_from, rise_last, rise_on}
 use Rattle.flow_laws.specs.Answers.{HasRisingBlocks}
 
+-- the lines of the blocks of programs
 abbrev lines : List Program → List ℕ
 lines tape = map (λ block. block.line) (blocks_in tape)
 
--- the blocks so far stand on rising lines, of which the last is not behind the lines that are read
+-- the blocks so far stand on rising lines, and none is past the lines that are read
 abbrev Rises : Before → Type 0
 Rises before = RiseTo 0 (lines (programs_of before)) before.lines
 
@@ -46,6 +48,7 @@ lines_with_block programs program block =
 line_more : (before : Before) (len : ℕ) (ended : Bool) → Rises before → Rises (next before len ended)
 line_more before len ended h = rise_on (lines (programs_of before)) 0 before.lines (before.lines + 1) h (omega arith)
 
+-- a block on the next line comes after those so far
 block_more : (done : List Program) (current : Option Program) (block : Block) (n : ℕ) → block.line ≡ n + 1
     → RiseTo 0 (lines (done ++ option_to_list current)) n
     → RiseTo 0 (lines (done ++ option_to_list (with_block block current))) (n + 1)
@@ -53,6 +56,7 @@ block_more done None block n at h = rise_on (lines (done ++ [])) 0 n (n + 1) h (
 block_more done (Some program) block n at h =
     rw (lines_with_block done program block, at) (rise_last (lines (done ++ program ∷ [])) 0 n (n + 1) h (omega arith))
 
+-- whatever the next line says, the lines still rise
 said_more : (before : Before) (what : Said) (len : ℕ) (ended : Bool) → Rises before → Rises (next (with_said before what) len ended)
 said_more before said.Nothing len ended h = line_more before len ended h
 said_more before (said.Program None) len ended h = line_more before len ended h
@@ -63,11 +67,13 @@ said_more before (said.Block block) len ended h =
 
 -- Steps.
 
+-- if what follows a line rises, so does the reading from it on, also if the line is refused
 goes : (before after : Before) (refusal : Option Refusal) (rest : Before → Answer) → AnswerRises (rest after)
     → AnswerRises (goes_on before (unless_refused refusal after) rest)
 goes before after None rest h = h
 goes before after (Some refusal) rest h = tt
 
+-- if what follows a line rises whatever it says, so does the reading from this line on
 goes_said : (before : Before) (len : ℕ) (ended : Bool) (says : Result Said Refusal) (rest : Before → Answer)
     → ((what : Said) → AnswerRises (rest (next (with_said before what) len ended)))
     → AnswerRises (goes_on before (after_said before len ended says) rest)
@@ -75,10 +81,12 @@ goes_said before len ended (Ok what) rest h =
     goes before (next (with_said before what) len ended) (said_refusal before len ended what) rest (h what)
 goes_said before len ended (Err refusal) rest h = tt
 
+-- whichever of two readings is taken, its lines rise
 either : (test : Bool) (one other : Answer) → AnswerRises one → AnswerRises other → AnswerRises (if test then one else other)
 either true one other h k = h
 either false one other h k = k
 
+-- what is read after the second `%` has rising lines
 rest_rises : (rest : List Line) (before : Before) → Rises before → AnswerRises (in_rest rest before)
 rest_rises [] before h =
     either (is_none before.current) _ (Ok (programs_of before)) tt (rise_from (lines (programs_of before)) 0 before.lines h)
@@ -86,6 +94,7 @@ rest_rises (line ∷ rest) before h =
     goes before (next before (length line.bytes) line.ended) (outer_refusal before (length line.bytes) line.ended) (in_rest rest)
     (rest_rises rest (next before (length line.bytes) line.ended) (line_more before (length line.bytes) line.ended h))
 
+-- what is read between the `%` lines, and after them, has rising lines
 body_rises : (skips : ℕ) (rest : List Line) (before : Before) → Rises before → AnswerRises (in_body skips rest before)
 body_rises skips [] before h = either (is_none before.current) _ _ tt tt
 body_rises skips (line ∷ rest) before h =
@@ -96,6 +105,7 @@ body_rises skips (line ∷ rest) before h =
     (λ what. body_rises skips rest (next (with_said before what) (length line.bytes) line.ended)
     (said_more before what (length line.bytes) line.ended h)))
 
+-- what is read from before the first `%` on has rising lines
 leader_rises : (skips : ℕ) (rest : List Line) (before : Before) → Rises before → AnswerRises (in_leader skips rest before)
 leader_rises skips [] before h = tt
 leader_rises skips (line ∷ rest) before h =
@@ -106,9 +116,11 @@ leader_rises skips (line ∷ rest) before h =
     (body_rises skips rest (begun after) own))
     (goes before after (outer_refusal before (length line.bytes) line.ended) (in_leader skips rest) (leader_rises skips rest after own))
 
+-- what is read of a whole text has rising lines
 read_rises : (skips : ℕ) (text : List ℕ) → AnswerRises (tape_of skips text)
 unfolding tape_of
 read_rises skips text = leader_rises skips (lines_of text) nothing_read (omega arith)
 
+-- the law: the blocks of a tape that was read stand on rising lines
 pub blocks_rise : (skips : ℕ) (text : List ℕ) (tape : List Program) → tape_of skips text ≡ Ok tape → HasRisingBlocks tape
 blocks_rise skips text tape read = subst AnswerRises read (read_rises skips text)

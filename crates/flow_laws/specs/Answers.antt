@@ -1,4 +1,4 @@
--- How the laws of answers are said.
+-- How the laws of answers are said. nc_verify and wait_verify say theirs by the same words.
 use Rattle.std.specs.Prelude.{◌≡◌, ℕ, List, map}
 use Rattle.nc_number.specs.declared.cause.Cause.{Cause}
 use Rattle.nc_text.specs.declared.tape.Program.{Program}

@@ -1,4 +1,4 @@
-//! Where the blocks of a tape stand in its text.
+//! Where the blocks of a tape stand in its text. nc_verify takes this law.
 ghost use Rattle.std.specs.Prelude.{◌≡◌, ℕ, List, Ok};
 ghost use Rattle.nc_text.specs.declared.tape.Program.{Program};
 ghost use Rattle.nc_text.specs.Tape.{tape_of};

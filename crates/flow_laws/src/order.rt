@@ -1,4 +1,5 @@
-//! The faults of the order of blocks.
+//! The faults of the order of blocks. wait_verify takes the laws on first faults; tape.rt takes
+//! all.
 ghost use Rattle.std.specs.Prelude.{List};
 ghost use Rattle.block_order.specs.declared.program.ControlProgram.{ControlProgram};
 ghost use Rattle.flow_laws.specs.Answers.{HasOneFirst, HasSomeFirst};

@@ -1,4 +1,5 @@
 -- An append, call by call.
+-- `add_staged` (src/gate.rt) rests on it.
 use Rattle.std.proofs.Common.{inl, ℕ, ◌+◌, List, [], ◌∷◌, ◌++◌, length, Some, ◌∙◌, ap, subst}
 use Rattle.disk_model.specs.Device.{DiskState, Torn, Tears, Looks, Reads, Only, written_over}
 use Rattle.disk_model.specs.Moments.{LeavesOnly}
@@ -7,7 +8,9 @@ use Rattle.gate_file.specs.Gate.{Keeps}
 use Rattle.disk_model.proofs.Runs.{begun, goes_on}
 use Rattle.gate_file.proofs.Staged.{torn_behind, torn_gate, with_gate, written_behind, written_gate, opened, opened_place}
 
+-- A file that keeps these bodies, and staged entries of more.
 module _ (bodies more : List (List ℕ)) (staged : List ℕ) (end : ℕ) (first : DiskState) (is : IsStaged more staged) (keeps : Keeps bodies first end) where
+  -- the bytes with the staged entries, after a gate of this byte
   abbrev gated : ℕ → List ℕ
   gated = with_gate bodies end staged keeps.bytes keeps.behind keeps.opens keeps.place
 
@@ -28,6 +31,7 @@ module _ (bodies more : List (List ℕ)) (staged : List ℕ) (end : ℕ) (first 
       goes_on (IsBeforeOrAfter bodies more) (Torn end 1) first synced wrote so_far tears.time
       (λ b c image torn. torn_gate bodies end staged keeps.bytes keeps.behind keeps.opens keeps.place more is c (subst (λ (f : List ℕ). Torn end 1 f c) (durable (gated 0) reads b image) torn))
 
+  -- after the last write and its sync the disk keeps the bodies and those more
   pub kept_4 : (synced wrote last : DiskState) → Reads synced (gated 0) → ((old : List ℕ) → Reads synced old → Reads wrote (written_over old end (1 ∷ []))) → Looks wrote last → ((b : List ℕ) → Reads last b → Only b last.image) → Keeps (bodies ++ more) last (end + length staged)
   kept_4 synced wrote last reads written looks durable =
       let now : Reads last (gated 1) = looks.same ∙ written (gated 0) reads ∙ ap (λ (l : List ℕ). Some l) (written_gate bodies end staged keeps.bytes keeps.behind keeps.opens keeps.place) in

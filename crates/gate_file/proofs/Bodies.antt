@@ -1,4 +1,5 @@
 -- Bodies in one list of bytes: how many there are, each of them, and one more.
+-- The functions of src/body_list.rt rest on it.
 use Rattle.std.proofs.Common.{◌≡◌, ℕ, ◌+◌, ◌-◌, ◌^◌, ◌≤◌, ◌<◌, List, [], ◌∷◌, ◌++◌, length, get_or, take, drop, refl, sym, ◌∙◌, ap, subst, arith, zero, suc, append_assoc, length-append, length-drop, length-take, length-take-le, take-append-drop}
 use Rattle.std.proofs.lemmas.List.{append-nil, take-append-le, drop-append-le, take_all, drop_at}
 use Rattle.std.specs.Int.{w32, to_be_bytes}
@@ -7,10 +8,12 @@ use Rattle.gate_file.specs.Chain.{entry, Opens, IsStaged, ends_at}
 use Rattle.gate_file.proofs.Chains.{length-entry, opens_push, opens_before, opens_alone, opens_anew}
 use Rattle.gate_file.proofs.Ends.{opens_length}
 
+-- there are as many bodies as ends
 pub length_bodies : (start : ℕ) (ends bytes : List ℕ) → length (bodies_from start ends bytes) ≡ length ends
 length_bodies start [] bytes = refl
 length_bodies start (end ∷ ends) bytes = ap suc (length_bodies end ends bytes)
 
+-- the bodies begin inside the bytes
 pub start_within : (start : ℕ) (ends : List ℕ) (len : ℕ) → AreEnds start ends len → start ≤ len
 start_within start [] len are = omega (arith, are)
 start_within start (end ∷ ends) len are = omega (arith, are.0, start_within end ends len are.1)
@@ -21,6 +24,7 @@ body_within start [] len i are below = absurd (omega (arith, below))
 body_within start (end ∷ ends) len zero are below = (are.0, start_within end ends len are.1)
 body_within start (end ∷ ends) len (suc i) are below = body_within end ends len i are.1 (omega (arith, below))
 
+-- the body of an index lies five bytes after the end of the one before it
 pub body_of : (start : ℕ) (ends bytes : List ℕ) (i : ℕ) → i < length ends → get_or (bodies_from start ends bytes) i [] ≡ between (get_or (start ∷ ends) i 0 + 5) (get_or ends i 0) bytes
 body_of start [] bytes i below = absurd (omega (arith, below))
 body_of start (end ∷ ends) bytes zero below = refl
@@ -37,7 +41,7 @@ starts_at start [] bytes (suc i) are below = absurd (omega (arith, below))
 starts_at start (end ∷ ends) bytes (suc i) are below =
     omega (arith, starts_at end ends bytes i are.1 (omega (arith, below)), length_between start end bytes are.0 (start_within end ends (length bytes) are.1))
 
--- a body, behind its gate and its length, ends inside the bytes
+-- a body, after its gate and its length, ends inside the bytes
 pub body_ends : (start : ℕ) (ends bytes : List ℕ) (i : ℕ) → AreEnds start ends (length bytes) → i < length ends → get_or (start ∷ ends) i 0 + 5 + length (get_or (bodies_from start ends bytes) i []) ≤ length bytes
 body_ends start [] bytes i are below = absurd (omega (arith, below))
 body_ends start (end ∷ ends) bytes zero are below =
@@ -45,11 +49,12 @@ body_ends start (end ∷ ends) bytes zero are below =
     omega (arith, length_between start end bytes are.0 within, within)
 body_ends start (end ∷ ends) bytes (suc i) are below = body_ends end ends bytes i are.1 (omega (arith, below))
 
+-- one more end, five bytes after the last or later, is in order too
 pub ends_more : (start : ℕ) (ends : List ℕ) (len more : ℕ) → AreEnds start ends len → len + 5 ≤ more → AreEnds start (ends ++ more ∷ []) more
 ends_more start [] len more are later = (omega (arith, are, later), refl)
 ends_more start (end ∷ ends) len more are later = (are.0, ends_more end ends len more are.1 later)
 
--- one body more stands behind those that were there, and behind its frame
+-- one body more stands after those that were there, and after its frame
 pub bodies_more : (start : ℕ) (ends bytes frame body : List ℕ) (end : ℕ) → AreEnds start ends (length bytes) → length frame ≡ 5 → end ≡ length bytes + 5 + length body
     → bodies_from start (ends ++ end ∷ []) (bytes ++ (frame ++ body)) ≡ bodies_from start ends bytes ++ body ∷ []
 bodies_more start [] bytes frame body end are five is_end =
@@ -67,7 +72,7 @@ bodies_more start (first ∷ ends) bytes frame body end are five is_end =
     let more = bodies_more first ends bytes frame body end are.1 five is_end in
     ap (λ (l : List ℕ). l ∷ bodies_from first (ends ++ end ∷ []) (bytes ++ new)) front ∙ ap (λ (l : List (List ℕ)). between (start + 5) first bytes ∷ l) more
 
--- the bodies with one more, behind its entry's frame
+-- the bodies with one more, after its entry's frame
 pub more_bodies : (ends bytes body : List ℕ) (end : ℕ) → AreBodies ends bytes → end ≡ length bytes + 5 + length body → bodies_from 0 (ends ++ end ∷ []) (bytes ++ (1 ∷ entry body)) ≡ bodies_from 0 ends bytes ++ body ∷ []
 more_bodies ends bytes body end are is_end =
     let frame : List ℕ = 1 ∷ to_be_bytes w32 (length body) in
@@ -104,11 +109,12 @@ are_taken ends more bytes seen n are within are_ends marks =
 pub bytes_end : (ends bytes : List ℕ) → AreBodies ends bytes → length bytes ≡ ends_at (bodies_from 0 ends bytes)
 bytes_end ends bytes are = omega (arith, opens_length (bodies_from 0 ends bytes) bytes [] are.opens)
 
+-- a file of at least one body has at least five bytes
 pub some_bytes : (bodies : List (List ℕ)) → 0 < length bodies → 5 ≤ ends_at bodies
 some_bytes [] some = absurd (omega (arith, some))
 some_bytes (body ∷ bodies) some = omega arith
 
--- the entries of some bodies, without the first gate and with a shut one behind
+-- the entries of some bodies, without the first gate and with a shut one after
 pub chain_staged : (bodies : List (List ℕ)) (bytes : List ℕ) → 0 < length bodies → Opens bodies bytes [] → IsStaged bodies (drop 1 bytes ++ 0 ∷ [])
 chain_staged bodies [] some opens = absurd (omega (arith, some_bytes bodies some, opens_length bodies [] [] opens))
 chain_staged bodies (gate ∷ rest) some opens = opens_anew bodies gate 1 (rest ++ 0 ∷ []) (0 ∷ []) some (λ (e : 1 ≡ 0). cc) (opens_before bodies (gate ∷ rest) [] (0 ∷ []) opens)

@@ -1,19 +1,22 @@
 -- Files of gates, cut at the end of their entries.
+-- `push` (src/body_list.rt) and `read_on` (src/open.rt) rest on it.
 use Rattle.std.proofs.Common.{◌≡◌, ◌≢◌, inl, inr, ℕ, ◌+◌, ◌<◌, List, [], ◌∷◌, ◌++◌, length, take, drop, get_or, refl, sym, ◌∙◌, ap, subst, arith, append_assoc, length-append}
 use Rattle.std.proofs.lemmas.Bool.{cases_eq}
 use Rattle.std.proofs.lemmas.List.{append-nil, take_at}
 use Rattle.std.specs.Int.{w32, to_be_bytes}
 use Rattle.gate_file.specs.Chain.{entry, IsEntry, Opens, IsBeforeOrAfter, IsStaged}
 
+-- an entry has four bytes more than its body
 pub length-entry : (body : List ℕ) → length (entry body) ≡ length body + 4
 length-entry body = omega (arith, length-append (to_be_bytes w32 (length body)) body)
 
--- The entries are the front of the file, whatever stands behind them.
+-- The entries are the front of the file, whatever stands after them.
 pub record Front (bodies : List (List ℕ)) (file rest : List ℕ) : Type 0 where
   pub front : List ℕ
   pub split : file ≡ front ++ rest
   pub anew : (other : List ℕ) → Opens bodies (front ++ other) other
 
+-- the bytes before the rest are known: they are the entries of the bodies
 pub front_of : (bodies : List (List ℕ)) (file rest : List ℕ) → Opens bodies file rest → Front bodies file rest
 front_of [] file rest same = record { front = []; split = same; anew = λ other. refl }
 front_of (body ∷ bodies) file rest (after, is, opens) =
@@ -45,11 +48,12 @@ entry_before body file rest behind is = record {
   bytes = ap (λ (l : List ℕ). l ++ behind) is.bytes ∙ ap (λ (l : List ℕ). is.gate ∷ l) (append_assoc (entry body) rest behind);
 }
 
+-- bytes put after a file do not change what it begins with
 pub opens_before : (bodies : List (List ℕ)) (file rest behind : List ℕ) → Opens bodies file rest → Opens bodies (file ++ behind) (rest ++ behind)
 opens_before [] file rest behind same = ap (λ (l : List ℕ). l ++ behind) same
 opens_before (body ∷ bodies) file rest behind (next, is, opens) = (next ++ behind, entry_before body file next behind is, opens_before bodies next rest behind opens)
 
--- what is left where nothing stands behind the entries
+-- what is left if nothing stands after the entries
 pub opens_alone : (bodies : List (List ℕ)) (file rest : List ℕ) → Opens bodies (file ++ rest) rest → Opens bodies file []
 opens_alone bodies file rest opens =
     let cut = front_of bodies (file ++ rest) rest opens in
@@ -68,12 +72,13 @@ pub staged_some : (bodies : List (List ℕ)) (staged : List ℕ) → IsStaged bo
 staged_some [] staged is = absurd (omega (arith, ap (λ (l : List ℕ). get_or l 0 0) is))
 staged_some (body ∷ bodies) staged is = omega arith
 
+-- staged bytes after an open gate open their bodies
 pub staged_open : (bodies : List (List ℕ)) (staged behind : List ℕ) (gate : ℕ) → IsStaged bodies staged → gate ≢ 0 → Opens bodies (gate ∷ (staged ++ behind)) (0 ∷ behind)
 staged_open bodies staged behind gate is is_open =
     opens_anew bodies 1 gate (staged ++ behind) (0 ∷ behind) (staged_some bodies staged is) is_open (opens_before bodies (1 ∷ staged) (0 ∷ []) behind is)
 
--- whatever byte the gate before staged entries is, the file spells the bodies before it, or those
--- and the staged ones
+-- the entries of some bodies, a gate and staged bytes spell these bodies; if the gate is open, they
+-- spell the staged ones too
 pub either_gate : (bodies more : List (List ℕ)) (file front staged behind : List ℕ) (gate : ℕ) → ((other : List ℕ) → Opens bodies (front ++ other) other) → IsStaged more staged
     → file ≡ front ++ gate ∷ (staged ++ behind) → IsBeforeOrAfter bodies more file
 either_gate bodies more file front staged behind gate anew staged_is is = elim (cases_eq gate 0) [

@@ -1,14 +1,17 @@
 -- What the first five bytes at a gate say of what stands there.
+-- `read_entry` (src/open.rt) rests on it.
 use Rattle.std.proofs.Common.{◌≡◌, ◌≢◌, inl, inr, ℕ, ◌+◌, ◌^◌, ◌≤◌, ◌<◌, List, [], ◌∷◌, ◌++◌, length, take, drop, refl, sym, ◌∙◌, ap, arith, append_assoc, take-append-drop}
 use Rattle.std.proofs.lemmas.List.{take_at, drop-drop, length-take}
 use Rattle.std.proofs.lemmas.Nat.{from_be_bytes-to_be_bytes_4}
 use Rattle.std.specs.Int.{w32, to_be_bytes, from_be_bytes}
 use Rattle.gate_file.specs.Chain.{IsEntry, IsShut, IsCutShort}
 
+-- a shut gate in the first five bytes is one of the whole
 pub shut_head : (rest : List ℕ) → IsShut (take 5 rest) → IsShut rest
 shut_head [] (behind, is) = absurd (cc)
 shut_head (b ∷ rest) (behind, is) = let zero : b ≡ 0 = cc in (rest, ap (λ (g : ℕ). g ∷ rest) zero)
 
+-- fewer than five bytes after an open gate are cut short
 pub cut_head : (rest : List ℕ) → 0 < length rest → length (take 5 rest) < 5 → (IsShut (take 5 rest) → ⊥) → IsCutShort rest
 cut_head [] some short not_shut = absurd (omega arith)
 cut_head (b ∷ rest) some short not_shut = record {
@@ -19,11 +22,13 @@ cut_head (b ∷ rest) some short not_shut = record {
   short = inl (omega (arith, length-take 4 rest));
 }
 
--- an open gate with a length behind it
+-- an open gate with a length after it
 module _ (rest : List ℕ) (size gate : ℕ) (is_open : gate ≢ 0) (fits : size < 2 ^ 32) (head : take 5 rest ≡ gate ∷ to_be_bytes w32 size) where
+  -- the file is this gate, its length and what follows
   whole : rest ≡ gate ∷ (to_be_bytes w32 size ++ drop 5 rest)
   whole = sym (take-append-drop 5 rest) ∙ ap (λ (l : List ℕ). l ++ drop 5 rest) head
 
+  -- if it is shorter than the entry with the next gate, the entry is cut short
   pub open_cut : length rest ≤ 5 + size → IsCutShort rest
   open_cut short =
       let number : from_be_bytes w32 (take 4 (to_be_bytes w32 size ++ drop 5 rest)) ≡ size =
@@ -36,6 +41,7 @@ module _ (rest : List ℕ) (size gate : ℕ) (is_open : gate ≢ 0) (fits : size
         short = inr (omega (arith, number, ap length whole));
       }
 
+  -- else the entry stands whole
   pub open_entry : (body : List ℕ) → body ≡ take size (drop 5 rest) → length body ≡ size → IsEntry body rest (drop (5 + length body) rest)
   open_entry body is long = record {
     gate = gate;

@@ -1,4 +1,5 @@
 -- Many appends, one after another.
+-- `appends_leave_prefixes` (src/laws.rt) rests on it.
 use Rattle.std.proofs.Common.{◌≡◌, inl, inr, ⊎_elim, ℕ, zero, suc, ◌+◌, ◌≤◌, ◌<◌, List, [], ◌∷◌, ◌++◌, sym, subst, arith}
 use Rattle.std.proofs.lemmas.Bool.{cases_eq}
 use Rattle.disk_model.specs.Device.{DiskState}
@@ -7,28 +8,34 @@ use Rattle.gate_file.specs.Chain.{Spells, IsBeforeOrAfter}
 use Rattle.gate_file.specs.Gate.{Keeps}
 use Rattle.gate_file.specs.Run.{after}
 
+-- So many appends, each acknowledged, and one more under way; the k-th of them finds the disk k.
 module _ {D : Type 0} (state : D → DiskState) (disk : ℕ → D) (end : ℕ → ℕ) (body : ℕ → List ℕ) (first : List (List ℕ)) (count : ℕ)
     (start : Keeps first (state (disk 0)) (end 0))
     (acknowledged : (k : ℕ) → k < count → (bodies : List (List ℕ)) → Keeps bodies (state (disk k)) (end k) → Keeps (bodies ++ body k ∷ []) (state (disk (k + 1))) (end (k + 1)))
     (moments : (k : ℕ) → k ≤ count → (bodies : List (List ℕ)) → Keeps bodies (state (disk k)) (end k) → LeavesOnly (IsBeforeOrAfter bodies (body k ∷ [])) (state (disk k)) (state (disk (k + 1)))) where
+  -- after k appends the disk keeps their bodies
   keeps_at : (k : ℕ) → k ≤ count → Keeps (after first body k) (state (disk k)) (end k)
   keeps_at zero le = start
   keeps_at (suc k) le =
       let e : k + 1 ≡ suc k = omega arith in
       subst (λ (i : ℕ). Keeps (after first body k ++ body k ∷ []) (state (disk i)) (end i)) e (acknowledged k (omega arith) (after first body k) (keeps_at k (omega arith)))
 
+  -- a crash in the k-th append leaves the bodies before it, or those with its own
   step : (k : ℕ) → k ≤ count → LeavesOnly (IsBeforeOrAfter (after first body k) (body k ∷ [])) (state (disk k)) (state (disk (suc k)))
   step k le =
       let e : k + 1 ≡ suc k = omega arith in
       subst (λ (i : ℕ). LeavesOnly (IsBeforeOrAfter (after first body k) (body k ∷ [])) (state (disk k)) (state (disk i))) e (moments k le (after first body k) (keeps_at k le))
 
+  -- the time at which the k-th append begins
   clock_at : ℕ → ℕ
   clock_at k = (state (disk k)).clock
 
+  -- time goes on
   later : (k : ℕ) → k ≤ count → clock_at k ≤ clock_at (suc k)
   unfolding clock_at
   later k le = (step k le).later
 
+  -- over any number of appends
   clock_le : (j n : ℕ) → j ≤ n → n ≤ count → clock_at j ≤ clock_at n
   clock_le j zero jn le = let e : j ≡ 0 = omega arith in subst (λ (i : ℕ). clock_at i ≤ clock_at 0) (sym e) (omega arith)
   clock_le j (suc n) jn le = elim (cases_eq j (suc n)) [
@@ -36,18 +43,22 @@ module _ {D : Type 0} (state : D → DiskState) (disk : ℕ → D) (end : ℕ �
     | inr less ↦ let before = clock_le j n (omega arith) (omega arith) in omega (arith, before, later n (omega arith))
   ]
 
+  -- the file spells the bodies of m appends, with m at least j
   Prefix : ℕ → ℕ → List ℕ → Type 0
   Prefix j n c = (m : ℕ) × (j ≤ m) × (m ≤ suc n) × Spells (after first body m) c
 
+  -- what a crash in one append leaves is such a prefix
   spelled : (j n : ℕ) (c : List ℕ) → j ≤ n → IsBeforeOrAfter (after first body n) (body n ∷ []) c → Prefix j n c
   unfolding Prefix
   spelled j n c jn (inl same) = (n, jn, omega arith, same)
   spelled j n c jn (inr more) = (suc n, omega arith, omega arith, more)
 
+  -- a prefix of fewer appends is one of more
   longer : (j n : ℕ) (c : List ℕ) → Prefix j n c → Prefix j (suc n) c
   unfolding Prefix
   longer j n c (m, least, most, spells) = (m, least, omega (arith, most), spells)
 
+  -- so is what a crash since the j-th append leaves
   since_then : (n : ℕ) → n ≤ count → (j : ℕ) → j ≤ n → (c : List ℕ) → (state (disk (suc n))).image_since (clock_at j) c → Prefix j n c
   unfolding clock_at
   since_then zero le j jn c since =
@@ -59,6 +70,7 @@ module _ {D : Type 0} (state : D → DiskState) (disk : ℕ → D) (end : ℕ �
         ((step (suc n) le).before (clock_at j) c (clock_le j (suc n) jn le) since)
   ]
 
+  -- a stop at any moment since then leaves the bodies of the first m appends
   pub prefixes : (j : ℕ) → j ≤ count → (c : List ℕ) → (state (disk (count + 1))).image_since (state (disk j)).clock c → (m : ℕ) × (j ≤ m) × (m ≤ count + 1) × Spells (after first body m) c
   unfolding Prefix clock_at
   prefixes j jn c since =

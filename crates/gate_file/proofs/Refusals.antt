@@ -1,4 +1,5 @@
 -- Why a file is not opened, from what its parts say.
+-- The functions of src/open.rt rest on it.
 use Rattle.std.proofs.Common.{◌≡◌, ℕ, ◌+◌, ◌-◌, ◌≤◌, ◌<◌, List, [], length, refl, sym, ◌∙◌, subst, arith}
 use Rattle.disk_model.specs.Device.{DiskState, Reads, IsSettled}
 use Rattle.nc_number.specs.Faults.{Rose}

@@ -1,4 +1,5 @@
 -- What a crash leaves in each of the two steps of an append.
+-- Appending rests on it.
 use Rattle.std.proofs.Common.{◌≡◌, inl, inr, ℕ, ◌+◌, ◌-◌, ◌≤◌, ◌<◌, List, [], ◌∷◌, ◌++◌, length, take, drop, replicate, get_or, refl, sym, ◌∙◌, ap, subst, arith, append_assoc, length-append, length-drop, take-append-drop}
 use Rattle.std.proofs.lemmas.List.{take_at, drop_at, drop-drop, take-append-le, drop_more, length-take, get_or-take, get_or-drop}
 use Rattle.std.proofs.lemmas.Grind.{same_number_lists}
@@ -6,14 +7,16 @@ use Rattle.disk_model.specs.Device.{Torn, written_over}
 use Rattle.gate_file.specs.Chain.{Opens, Spells, IsBeforeOrAfter, IsStaged}
 use Rattle.gate_file.proofs.Chains.{Front, front_of, opens_append, staged_open, either_gate}
 
--- a torn write leaves what stands before it, and what stands behind it
+-- a torn write leaves what stands before it, and what stands after it
 module _ (at n : ℕ) (old new : List ℕ) (torn : Torn at n old new) where
+  -- a write that was cut off does not change what lies before it
   pub torn_front : at ≤ length old → take at new ≡ take at old
   torn_front within =
       let size : length (take at new) ≡ length (take at old) = omega (arith, length-take at new, length-take at old, torn.no_shorter) in
       same_number_lists (take at new) (take at old) size
       (λ i below. let ahead : i < at = omega (arith, length-take at new) in get_or-take at new i 0 ahead ∙ torn.outside i (omega arith) (inl ahead) ∙ sym (get_or-take at old i 0 ahead))
 
+  -- nor what lies after it
   pub torn_back : at + n ≤ length old → drop (at + n) new ≡ drop (at + n) old
   torn_back within =
       let size : length (drop (at + n) new) ≡ length (drop (at + n) old) = omega (arith, length-drop (at + n) new, length-drop (at + n) old, torn.no_shorter, torn.no_longer) in
@@ -24,31 +27,40 @@ module _ (at n : ℕ) (old new : List ℕ) (torn : Torn at n old new) where
 pub written_within : (old : List ℕ) (at : ℕ) (bytes : List ℕ) → at ≤ length old → written_over old at bytes ≡ take at old ++ bytes ++ drop (at + length bytes) old
 written_within old at bytes within = ap (λ (l : List ℕ). l ++ bytes ++ drop (at + length bytes) old) (take-append-le at old (replicate (at - length old) 0) within)
 
+-- A file that opens these bodies up to a shut gate, and bytes staged after that gate.
 module _ (bodies : List (List ℕ)) (end : ℕ) (staged bytes behind : List ℕ) (opens : Opens bodies bytes (0 ∷ behind)) (place : end + 1 + length behind ≡ length bytes) where
+  -- the bytes before the shut gate are the entries of the bodies
   cut : Front bodies bytes (0 ∷ behind)
   cut = front_of bodies bytes (0 ∷ behind) opens
 
+  -- these bytes
   front : List ℕ
   front = cut.front
 
+  -- the shut gate stands at their length
   size : length front ≡ end
   unfolding front
   size = omega (arith, place, ap length cut.split, length-append cut.front (0 ∷ behind))
 
+  -- the file is these bytes, the shut gate, and what follows
   split : bytes ≡ front ++ 0 ∷ behind
   unfolding front
   split = cut.split
 
+  -- whatever follows these bytes, the bodies are opened
   anew : (other : List ℕ) → Opens bodies (front ++ other) other
   unfolding front
   anew = cut.anew
 
+  -- the file up to and with the shut gate, and what follows
   halves : bytes ≡ (front ++ 0 ∷ []) ++ behind
   halves = split ∙ sym (append_assoc front (0 ∷ []) behind)
 
+  -- the gate is one byte
   size_shut : length (front ++ 0 ∷ []) ≡ end + 1
   size_shut = omega (arith, size, length-append front (0 ∷ []))
 
+  -- the first bytes of the file, up to and with the shut gate
   shut_front : take (end + 1) bytes ≡ front ++ 0 ∷ []
   shut_front = ap (take (end + 1)) halves ∙ take_at (front ++ 0 ∷ []) behind (end + 1) size_shut
 
@@ -60,17 +72,20 @@ module _ (bodies : List (List ℕ)) (end : ℕ) (staged bytes behind : List ℕ)
       let whole : c ≡ front ++ 0 ∷ rest = sym (take-append-drop (end + 1) c) ∙ ap (λ (l : List ℕ). l ++ rest) begins ∙ append_assoc front (0 ∷ []) rest in
       (0 ∷ rest, subst (λ (file : List ℕ). Opens bodies file (0 ∷ rest)) (sym whole) (anew (0 ∷ rest)), (rest, refl))
 
-  -- what stands behind the staged entries
+  -- what stands after the staged entries
   pub beyond : List ℕ
   beyond = drop (length staged) behind
 
+  -- the file with the staged bytes, after a gate of this byte
   pub with_gate : ℕ → List ℕ
   with_gate gate = front ++ gate ∷ (staged ++ beyond)
 
+  -- how long it is
   length-with_gate : (gate : ℕ) → length (with_gate gate) ≡ end + 1 + length staged + length beyond
   unfolding with_gate
   length-with_gate gate = omega (arith, size, length-append front (gate ∷ (staged ++ beyond)), length-append staged beyond)
 
+  -- the staged bytes written after the gate give it
   pub written_behind : written_over bytes (end + 1) staged ≡ with_gate 0
   unfolding with_gate beyond
   written_behind =
@@ -82,10 +97,12 @@ module _ (bodies : List (List ℕ)) (end : ℕ) (staged bytes behind : List ℕ)
       ∙ append_assoc (front ++ 0 ∷ []) staged (drop (length staged) behind)
       ∙ append_assoc front (0 ∷ []) (staged ++ drop (length staged) behind)
 
+  -- what stands before the gate
   gate_front : (gate : ℕ) → take end (with_gate gate) ≡ front
   unfolding with_gate
   gate_front gate = take_at front (gate ∷ (staged ++ beyond)) end size
 
+  -- what stands after the gate
   gate_back : (gate : ℕ) → drop (end + 1) (with_gate gate) ≡ staged ++ beyond
   unfolding with_gate
   gate_back gate =
@@ -103,10 +120,12 @@ module _ (bodies : List (List ℕ)) (end : ℕ) (staged bytes behind : List ℕ)
       let whole : c ≡ front ++ gate ∷ (staged ++ beyond) = sym (take-append-drop end c) ∙ ap (λ (l : List ℕ). l ++ drop end c) begins ∙ ap (λ (l : List ℕ). front ++ l) rest in
       either_gate bodies more c front staged beyond gate anew is whole
 
+  -- its parts with an open gate
   joined : front ++ (1 ∷ []) ++ (staged ++ beyond) ≡ with_gate 1
   unfolding with_gate
   joined = append_assoc front (1 ∷ []) (staged ++ beyond)
 
+  -- the gate written over its first byte gives it open
   pub written_gate : written_over (with_gate 0) end (1 ∷ []) ≡ with_gate 1
   written_gate =
       written_within (with_gate 0) end (1 ∷ []) (omega (arith, length-with_gate 0))
@@ -114,12 +133,13 @@ module _ (bodies : List (List ℕ)) (end : ℕ) (staged bytes behind : List ℕ)
       ∙ ap (λ (l : List ℕ). front ++ (1 ∷ []) ++ l) (gate_back 0)
       ∙ joined
 
-  -- and then the file has their bodies, with a shut gate behind
+  -- and then the file has their bodies, with a shut gate after
   pub opened : (more : List (List ℕ)) → IsStaged more staged → Opens (bodies ++ more) (with_gate 1) (0 ∷ beyond)
   unfolding with_gate
   opened more is =
       let rest : List ℕ = 1 ∷ (staged ++ beyond) in
       opens_append bodies more (front ++ rest) rest (0 ∷ beyond) (anew rest) (staged_open more staged beyond 1 is (λ (e : 1 ≡ 0). cc))
 
+  -- where the next shut gate then stands
   pub opened_place : end + length staged + 1 + length beyond ≡ length (with_gate 1)
   opened_place = omega (arith, length-with_gate 1)

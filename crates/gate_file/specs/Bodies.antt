@@ -1,5 +1,6 @@
--- Bodies that are kept in one list of bytes as a file has them, each behind a gate and its length,
+-- Bodies that are kept in one list of bytes as a file has them, each after a gate and its length,
 -- five bytes, with the offsets where they end.
+-- For this crate alone.
 use Rattle.std.specs.Prelude.{◌≡◌, ℕ, ◌+◌, ◌-◌, ◌≤◌, List, [], ◌∷◌, length, take, drop}
 use Rattle.gate_file.specs.Chain.{Opens}
 
@@ -7,7 +8,7 @@ use Rattle.gate_file.specs.Chain.{Opens}
 abbrev pub between : ℕ → ℕ → List ℕ → List ℕ
 between start end bytes = take (end - start) (drop start bytes)
 
--- the bodies of which the first stands behind the five bytes at an offset, and each next one behind
+-- the bodies of which the first stands after the five bytes at an offset, and each next one after
 -- the five at its end
 abbrev pub bodies_from : ℕ → List ℕ → List ℕ → List (List ℕ)
 bodies_from start [] bytes = []
@@ -18,7 +19,7 @@ abbrev pub AreEnds : ℕ → List ℕ → ℕ → Type 0
 AreEnds start [] len = start ≡ len
 AreEnds start (end ∷ ends) len = (start + 5 ≤ end) × AreEnds end ends len
 
--- the offsets are those of the bodies' ends, and the bytes are the bodies' entries, each behind an
+-- the offsets are those of the bodies' ends, and the bytes are the bodies' entries, each after an
 -- open gate
 pub record AreBodies (ends bytes : List ℕ) : Type 0 where
   pub are_ends : AreEnds 0 ends (length bytes)

@@ -1,4 +1,5 @@
--- How a file of gates is begun.
+-- How a file of gates is begun: what a call promises, made or refused, and what a crash leaves. The
+-- gates that it looks at are in First. run_journal, run_branch and run_table rely on it.
 use Rattle.std.specs.Prelude.{ℕ, ◌+◌, ◌≤◌, List, Result, Ok, Err, OnOk, IfErr}
 use Rattle.disk_model.specs.Device.{DiskState, Reads, IsSettled}
 use Rattle.nc_number.specs.Faults.{Rose}
@@ -9,7 +10,7 @@ use Rattle.gate_file.specs.Chain.{IsRunThere, ends_at}
 use Rattle.gate_file.specs.Gate.{Keeps, IsCalm}
 use Rattle.gate_file.specs.First.{IsBeginning}
 
--- why a file is not begun, and what the disk is then: where no call of it failed it is as it was
+-- why a file is not begun, and what the disk is then: if no call of it failed it is as it was
 abbrev pub RefusesBeginning : GateFault → DiskState → DiskState → Type 0
 RefusesBeginning DiskFault old new = Rose old.faults new.faults
 RefusesBeginning RunThere old new =

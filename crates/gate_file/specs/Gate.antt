@@ -1,4 +1,5 @@
--- A file of gates on a disk.
+-- A file of gates on a disk: what callers see of it, and when the disk holds bodies. run_journal,
+-- run_branch, run_table and nc_restart say their disks by it.
 use Rattle.std.specs.Prelude.{◌≡◌, ℕ, ◌+◌, ◌*◌, ◌≤◌, Bool, List, ◌∷◌, length, Result, Ok, Err}
 use Rattle.gate_file.specs.declared.fault.GateFault.{GateFault}
 use Rattle.gate_file.specs.declared.fault.GateFault.TheVariants.{DiskFault}
@@ -23,7 +24,7 @@ pub record Keeps (bodies : List (List ℕ)) (disk : DiskState) (end : ℕ) : Typ
   pub only : Only bytes disk.image
 
 -- An opening makes four calls at most for each gate that it reads, and four besides: it reads the
--- gates of some entries that the file begins with, and the one behind them. It asks for no write.
+-- gates of some entries that the file begins with, and the one after them. It asks for no write.
 pub record OpeningUses (bytes : List ℕ) (old new : DiskState) : Type 0 where
   pub bodies : List (List ℕ)
   pub rest : List ℕ
@@ -37,6 +38,7 @@ abbrev pub disk_of : {D : Type 0} → Result (Gate D) (D × GateFault) → D
 disk_of (Ok gate) = gate.disk
 disk_of (Err fault) = fault.0
 
+-- the disk in an answer that opens a file, which gives it back either way
 abbrev pub disk_opened : {D : Type 0} → Result (Gate D × List (List ℕ)) (D × GateFault) → D
 disk_opened (Ok found) = found.0.disk
 disk_opened (Err fault) = fault.0
@@ -46,6 +48,6 @@ abbrev pub IsDiskFault : {A : Type 0} → Result A GateFault → Type 0
 IsDiskFault (Ok answer) = ⊥
 IsDiskFault (Err fault) = fault ≡ DiskFault
 
--- no call of the disk failed, but where that is the answer
+-- no call of the disk failed, unless that is the answer
 abbrev pub IsCalm : {A : Type 0} → DiskState → DiskState → Result A GateFault → Type 0
 IsCalm old new result = (IsDiskFault result → ⊥) → new.faults ≡ old.faults

@@ -1,4 +1,6 @@
--- How a file of gates is opened.
+-- How a file of gates is opened: what a call promises, found or refused. The words about offsets at
+-- the end are for this crate alone.
+-- run_journal takes it.
 use Rattle.std.specs.Prelude.{◌≡◌, ℕ, ◌+◌, ◌*◌, ◌≤◌, List, [], length, take, drop, Option, Some, None, Result, Ok, Err, IfOk, IfErr}
 use Rattle.disk_model.specs.Device.{DiskState, Reads, IsSettled}
 use Rattle.nc_number.specs.Faults.{Rose}
@@ -21,6 +23,7 @@ RefusesOpening RunThere old new = ⊥
 pub record Finds (old new : DiskState) (result : Result (List (List ℕ) × ℕ) GateFault) : Type 0 where
   pub found : IfOk result (λ found. (bytes : List ℕ) → Reads old bytes
       → Spells found.0 bytes × Keeps found.0 new found.1)
+  -- a file that is opened has at least one body
   pub some : IfOk result (λ found. found.0 ≡ [] → ⊥)
   pub refused : IfErr result (λ fault. RefusesOpening fault old new)
   pub later : old.faults ≤ new.faults
@@ -28,6 +31,7 @@ pub record Finds (old new : DiskState) (result : Result (List (List ℕ) × ℕ)
   -- a crash at any moment of the call leaves an image from before it
   pub unwritten : Unwritten old new
   pub uses : (bytes : List ℕ) → Reads old bytes → OpeningUses bytes old new
+  -- four calls at most for each gate, and four besides
   pub uses_ok : IfOk result (λ found. Uses (4 * (length found.0 + 1) + 4) 0 old new)
 
 -- what an opening found
@@ -35,6 +39,7 @@ abbrev pub found_in : Result Contents GateFault → Result (List (List ℕ) × �
 found_in (Ok contents) = Ok (contents.bodies, contents.end)
 found_in (Err fault) = Err fault
 
+-- the bodies and the place of the shut gate in the answer of an opening, without the file
 abbrev pub found_with : {D : Type 0} → Result (Gate D × List (List ℕ)) (D × GateFault)
     → Result (List (List ℕ) × ℕ) GateFault
 found_with (Ok found) = Ok (found.1, found.0.end)

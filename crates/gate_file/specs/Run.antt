@@ -1,4 +1,5 @@
--- Many appends, one after another.
+-- Many appends, one after another. The law `appends_leave_prefixes` is said by it.
+-- For this crate alone: src/laws.rt.
 use Rattle.std.specs.Prelude.{ℕ, zero, suc, List, [], ◌∷◌, ◌++◌}
 
 -- the bodies that a file has at first, and the first k of those that are appended

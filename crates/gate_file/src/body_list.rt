@@ -1,4 +1,5 @@
-//! A list of bodies.
+//! A list of bodies, which takes no memory for each: all stand in one list of bytes, as in a file
+//! of gates. `run_journal` puts the batches of a run into one.
 
 ghost use Rattle.std.specs.Prelude.{◌≡◌, ◌+◌, ◌*◌, ◌^◌, ◌<◌, ◌≤◌, ◌++◌, ◌==◌, [], ◌∷◌, List, ℕ, length, take, drop, get_or, IfOk, IfSome, IfNone, OnOk, OnErr, vec_capacity};
 ghost use Rattle.gate_file.specs.Bodies.{between, bodies_from, AreEnds};
@@ -12,7 +13,7 @@ use std::marker::Model;
 /// list of bytes, as a file has them, so that none takes memory of its own.
 #[derive(Drop)]
 pub struct BodyList {
-    // Each body's entry behind its open gate, as a file has it.
+    // Each body's entry after its open gate, as a file has it.
     bytes: Vec<u8>,
     // Where each body ends and the gate of the next one stands.
     ends: Vec<usize>,
@@ -40,7 +41,8 @@ impl BodyList {
         }
     }
 
-    /// Makes room for so many bodies more, which have so many bytes together.
+    /// Makes room for so many bodies more, which have so many bytes together. An error leaves the
+    /// list as it is.
     pub fn reserve(&mut self, bodies: usize, bytes: usize) -> Result<(), AllocError>
         ensures { self.new ≡ self.old }
     {
@@ -54,8 +56,8 @@ impl BodyList {
         self.bytes.reserve(room)
     }
 
-    /// Puts one body more behind those that are there. Where there is no memory left the list stays
-    /// as it is.
+    /// Puts one body more after those that are there. If there is no memory left the list stays as
+    /// it is.
     pub fn push(&mut self, body: &[u8]) -> Result<(), AllocError>
         requires { length body.now < 2 ^ 32 }
         ensures ok { OnOk result (self.new ≡ self.old ++ body.now ∷ []) }
@@ -114,8 +116,8 @@ impl BodyList {
         (start_of(&self.ends, index) + FRAME as usize) as u64
     }
 
-    /// Takes the entries that lie whole in these bytes, each with the gate behind it, by one copy,
-    /// and answers where the next gate stands.
+    /// Takes the entries that lie whole in these bytes, each with the gate after it, by one copy.
+    /// Gives where the next gate is in these bytes; 0 if no entry lies whole in them.
     pub(crate) fn take_entries(&mut self, seen: &[u8]) -> Result<usize, AllocError>
         ensures reads { IfOk result (λ n. (file behind : List ℕ) → Opens self.old file (seen.now ++ behind)
             → Opens self.new file (drop n seen.now ++ behind)) }
@@ -132,15 +134,15 @@ impl BodyList {
         Ok(taken)
     }
 
-    /// Where the shut gate stands behind these bodies in a file.
+    /// Where the shut gate stands after these bodies in a file.
     pub(crate) fn end(&self) -> u64
         ensures { result ≡ ends_at self.now }
     {
         self.bytes.len() as u64
     }
 
-    /// What is to be written behind a shut first gate, so that a file has these bodies once that
-    /// gate is open.
+    /// What is to be written after a shut first gate, so that a file has these bodies once that
+    /// gate is open. An error is out of memory.
     pub(crate) fn staged(&self, alloc: Global) -> Result<Vec<u8>, AllocError>
         requires { 0 < length self.now }
         ensures staged { IfOk result (λ staged. IsStaged self.now staged.items) }
@@ -154,7 +156,7 @@ impl BodyList {
     }
 }
 
-/// Puts a body behind its length behind what is there.
+/// Adds a body with its length before it, four bytes, the high one first, after what is there.
 pub(crate) fn put_entry(room: &mut Vec<u8>, body: &[u8])
     requires fits { length room.old.items + (length body.now + 4) ≤ vec_capacity room.old }
     requires short { length body.now < 2 ^ 32 }
@@ -167,7 +169,7 @@ pub(crate) fn put_entry(room: &mut Vec<u8>, body: &[u8])
 }
 
 /// Notes where each entry ends that lies whole in these bytes, the first of which stands at an
-/// offset, and answers how many of the bytes they take.
+/// offset. Gives how many of the bytes they take.
 fn mark_entries(seen: &[u8], start: usize, ends: &mut Vec<usize>) -> usize
     requires room { 5 * length ends.old.items + length seen.now ≤ 5 * vec_capacity ends.old + 4 }
     requires small { start + length seen.now < 2 ^ 63 }

@@ -1,4 +1,5 @@
-//! How a file of gates is begun.
+//! How a file of gates is begun on a disk. What is written while it runs is in specs/Creation.antt.
+//! For gate.rt of this crate.
 
 ghost use Rattle.std.specs.Prelude.{◌≡◌, ◌+◌, ◌^◌, ◌≤◌, ◌<◌, [], List, ℕ, length, OnOk, IfOk, IfErr};
 ghost use Rattle.disk_model.specs.Device.{Reads, HasCause, IsSettled, Only};
@@ -20,7 +21,8 @@ pub(crate) enum FirstGate {
     Shut,
 }
 
-/// Begins a file on the disk, with the staged entries as its first bodies.
+/// Begins a file on the disk, with the staged entries as its first bodies. Errors: `RunThere` if
+/// there is a run, `DiskFault` if a call of the disk failed.
 pub(crate) fn begin<D: Disk>(disk: &mut D, staged: &[u8]) -> Result<(), GateFault>
     ensures begun { (bodies : List (List ℕ)) → IsStaged bodies staged.now
         → Begins bodies (D.state disk.old) (D.state disk.new) result }
@@ -32,7 +34,7 @@ pub(crate) fn begin<D: Disk>(disk: &mut D, staged: &[u8]) -> Result<(), GateFaul
     Ok(())
 }
 
-/// Looks whether a run is there.
+/// What stands first, or `RunThere` if it is a run. It syncs and reads, and writes nothing.
 fn look_first<D: Disk>(disk: &mut D) -> Result<FirstGate, GateFault>
     ensures first { IfOk result (λ first. (bytes : List ℕ) → Reads (D.state disk.old) bytes → StandsFirst first bytes) }
     ensures settled { OnOk result (IsSettled (D.state disk.new)) }
@@ -52,7 +54,7 @@ fn look_first<D: Disk>(disk: &mut D) -> Result<FirstGate, GateFault>
     Ok(FirstGate::Shut)
 }
 
-/// Sees to it that a shut gate stands first, on the disk.
+/// Writes a shut gate at the front if the file has none, and syncs.
 fn shut_first<D: Disk>(disk: &mut D, first: FirstGate) -> Result<(), Failed>
     ensures shut { OnOk result ((bytes : List ℕ) → Reads (D.state disk.old) bytes
         → Only bytes (D.state disk.old).image → StandsFirst first bytes

@@ -1,4 +1,5 @@
 //! What can go wrong with a file of gates.
+//! 5 other crates use it.
 
 ghost use Rattle.std.specs.Prelude.{◌≡◌};
 ghost use Rattle.gate_file.specs.declared.fault.GateFault.TheVariants.{NoMemory};
@@ -26,7 +27,7 @@ pub enum GateFault {
     /// The first gate is open, and the file has more than one byte.
     #[error("run there")]
     RunThere,
-    /// The entry of the open gate at this offset, with the gate behind it, does not end inside the
+    /// The entry of the open gate at this offset, with the gate after it, does not end inside the
     /// file.
     #[error("cut short at {0}")]
     Cut(u64),
@@ -38,6 +39,7 @@ pub enum GateFault {
 impl From<Failed> for GateFault {
     ghost from_gives = { λ _ fault. fault ≡ Disk };
 
+    /// A failed call of the disk is `DiskFault`.
     fn from(_: Failed) -> GateFault {
         GateFault::DiskFault
     }
@@ -46,6 +48,7 @@ impl From<Failed> for GateFault {
 impl From<AllocError> for GateFault {
     ghost from_gives = { λ _ fault. fault ≡ NoMemory };
 
+    /// No memory left is `NoMemory`.
     fn from(_: AllocError) -> GateFault {
         GateFault::NoMemory
     }
@@ -54,6 +57,7 @@ impl From<AllocError> for GateFault {
 impl<T: Drop> From<AllocFailed<T>> for GateFault {
     ghost from_gives = { λ _ fault. fault ≡ NoMemory };
 
+    /// No memory left is `NoMemory`; what could not be pushed is dropped.
     fn from(_: AllocFailed<T>) -> GateFault {
         GateFault::NoMemory
     }

@@ -1,4 +1,5 @@
-//! A file of bodies behind gates.
+//! A file of bodies, each after a gate. The bytes are in specs/Chain.antt. What a body says is not
+//! known here; `run_journal` gives it records.
 
 ghost use Rattle.std.specs.Prelude.{◌≡◌, ◌*◌, ◌+◌, ◌^◌, ◌≤◌, ◌<◌, ◌++◌, [], ◌∷◌, List, ℕ, length, true, IsTrue, OnOk, IfOk, is_ok, vec_capacity, Bool};
 ghost use Rattle.disk_model.specs.Device.{HasCause};
@@ -20,15 +21,19 @@ use std::marker::Model;
 /// The most bytes of a body that `append` takes: a count, and 64 records of 131 bytes.
 pub const LONGEST_BODY: usize = 8_385;
 
-/// The room of such a body's entry, with the gate behind it.
+/// The room of such a body's entry, with the gate after it.
 pub(crate) const BATCH_ROOM: usize = LONGEST_BODY + 5;
 
 /// A file of bodies behind gates, which may be written as long as it is live.
 #[derive(Drop)]
 pub struct GateFile<D: Disk> {
+    /// The disk with the file.
     disk: D,
+    /// The offset of the shut gate after the last body.
     end: u64,
+    /// Whether the file may be written: no call of `append` has failed.
     live: bool,
+    /// Room for the entry of one batch, so that `append` takes no memory.
     room: Vec<u8>,
 }
 
@@ -47,8 +52,8 @@ impl<D: Disk> Model for GateFile<D> {
 
 impl<D: Disk> GateFile<D> {
     /// Begins a file on the disk, with this first body. It begins with a sync, and writes over no
-    /// run: where the first gate is open and the file has more than one byte nothing is written,
-    /// and the answer is `RunThere`, or `DiskFault` where the disk failed before that was seen. An
+    /// run: if the first gate is open and the file has more than one byte nothing is written,
+    /// and the answer is `RunThere`, or `DiskFault` if the disk failed before that was seen. An
     /// error gives the disk back, and unless it is `DiskFault` nothing was written.
     pub fn create(alloc: Global, disk: D, body: &[u8]) -> Result<GateFile<D>, (D, GateFault)>
         requires { length body.now < 2 ^ 32 }
@@ -69,7 +74,7 @@ impl<D: Disk> GateFile<D> {
     }
 
     /// Begins a file on the disk, with all these bodies at once: a crash at any moment of the call
-    /// leaves what was there before, or no run, or all of them. It writes them behind a shut first
+    /// leaves what was there before, or no run, or all of them. It writes them after a shut first
     /// gate, each later gate open, and then opens the first. It refuses, and writes over no run, as
     /// `create` does.
     pub fn create_filled(
@@ -95,8 +100,8 @@ impl<D: Disk> GateFile<D> {
     }
 
     /// Opens the file on the disk, and gives its bodies. It begins with a sync, and writes nothing.
-    /// `NoRun` comes where the file has at most one byte or its first gate is shut, and `Cut` with
-    /// the offset of the first open gate whose entry, with the gate behind it, does not end inside
+    /// `NoRun` comes if the file has at most one byte or its first gate is shut, and `Cut` with
+    /// the offset of the first open gate whose entry, with the gate after it, does not end inside
     /// the file. An error gives the disk back.
     pub fn open_file(alloc: Global, disk: D) -> Result<(GateFile<D>, BodyList), (D, GateFault)>
         ensures finds { Finds (D.state disk) (D.state (disk_opened result)) (found_with result) }
@@ -122,7 +127,7 @@ impl<D: Disk> GateFile<D> {
     pub fn append(&mut self, body: &[u8]) -> Result<(), DiskFault>
         requires live { IsTrue self.old.live }
         requires short { length body.now ≤ LONGEST_BODY }
-        // After an Ok the file has the body behind those that it had, whichever those were.
+        // After an Ok the file has the body after those that it had, whichever those were.
         ensures acknowledged { OnOk result ((bodies : List (List ℕ)) → Keeps bodies (D.state self.old.disk) self.old.end
             → Keeps (bodies ++ body.now ∷ []) (D.state self.new.disk) self.new.end) }
         // A crash at any moment of the call leaves those, or those and the body.
@@ -167,7 +172,7 @@ impl<D: Disk> GateFile<D> {
     }
 }
 
-/// The room of one whole batch, behind a beginning of the file.
+/// Begins the file with this body, and gives the room of one whole batch.
 fn begin_with<D: Disk>(alloc: Global, disk: &mut D, body: &[u8]) -> Result<Vec<u8>, GateFault>
     requires { length body.now < 2 ^ 32 }
     ensures room { IfOk result (λ room. BATCH_ROOM ≤ vec_capacity room) }
@@ -182,7 +187,7 @@ fn begin_with<D: Disk>(alloc: Global, disk: &mut D, body: &[u8]) -> Result<Vec<u
     }
 }
 
-/// The room of one whole batch, behind a beginning of the file with all these bodies.
+/// Begins the file with all these bodies, and gives the room of one whole batch.
 fn fill_with<D: Disk>(alloc: Global, disk: &mut D, bodies: &BodyList) -> Result<Vec<u8>, GateFault>
     requires { 0 < length bodies.now }
     ensures room { IfOk result (λ room. BATCH_ROOM ≤ vec_capacity room) }
@@ -197,7 +202,7 @@ fn fill_with<D: Disk>(alloc: Global, disk: &mut D, bodies: &BodyList) -> Result<
     }
 }
 
-/// Puts a body's entry into the room, and a shut gate behind it.
+/// Puts a body's entry into the room, and a shut gate after it.
 fn stage(room: &mut Vec<u8>, body: &[u8])
     requires fits { length body.now + 5 ≤ vec_capacity room.old }
     requires short { length body.now < 2 ^ 32 }
@@ -210,7 +215,7 @@ fn stage(room: &mut Vec<u8>, body: &[u8])
     room.push(0).unwrap();
 }
 
-/// Writes staged entries behind the shut gate, and then opens the gate: each of the two is on the
+/// Writes staged entries after the shut gate, and then opens the gate: each of the two is on the
 /// disk before the next begins.
 pub(crate) fn add_staged<D: Disk>(disk: &mut D, end: u64, staged: &[u8]) -> Result<(), Failed>
     requires { end < 2 ^ 62 }

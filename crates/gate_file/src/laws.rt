@@ -1,4 +1,4 @@
-//! What holds of files of gates, and of many appends, whatever made them.
+//! What holds of files of gates, and of many appends. nc_restart takes the first law.
 
 ghost use Rattle.std.specs.Prelude.{◌≡◌, ◌+◌, ◌≤◌, ◌<◌, ◌++◌, [], ◌∷◌, List, ℕ};
 ghost use Rattle.disk_model.specs.Moments.{LeavesOnly};

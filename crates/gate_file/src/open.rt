@@ -1,4 +1,6 @@
-//! How a file of gates is read.
+//! How a file of gates is read, a window of 64 KB at a time, up to the first shut gate. It writes
+//! nothing.
+//! For body_list.rt and gate.rt of this crate.
 
 ghost use Rattle.std.specs.Prelude.{◌≡◌, ◌+◌, ◌-◌, ◌*◌, ◌^◌, ◌≤◌, ◌<◌, ◌++◌, [], ◌∷◌, List, ℕ, length, take, drop, min, OnOk, OnErr, IfOk, IfErr, IfSome, vec_capacity};
 ghost use Rattle.disk_model.specs.Device.{Reads, IsSettled};
@@ -15,7 +17,7 @@ use crate::{BodyList, GateFault};
 use disk_model::Disk;
 use std::alloc::{AllocError, Global};
 
-/// How many bytes stand beside a body: its length before it, and the gate behind it.
+/// How many bytes stand beside a body: its length before it, and the gate after it.
 pub(crate) const FRAME: u64 = 5;
 
 /// How many bytes of a file are read at once.
@@ -31,14 +33,19 @@ pub(crate) enum Head {
     Cut,
 }
 
-/// What stands behind an open gate, and the room of one whole batch.
+/// What stands after an open gate, and the room of one whole batch.
 pub(crate) struct Contents {
+    /// The offset of the first shut gate.
     pub(crate) end: u64,
+    /// The bodies before it.
     pub(crate) bodies: BodyList,
+    /// Room for the entry of one batch.
     pub(crate) room: Vec<u8>,
 }
 
-/// All bodies up to the first shut gate.
+/// All bodies up to the first shut gate, where that gate stands, and room for a batch. Errors:
+/// `NoRun` if the first gate is shut or there is at most one byte, `Cut` if an entry does not end
+/// inside the file, `DiskFault`, `NoMemory`.
 pub(crate) fn read_all<D: Disk>(alloc: Global, disk: &mut D) -> Result<Contents, GateFault>
     ensures finds { Finds (D.state disk.old) (D.state disk.new) (found_in result) }
     ensures small { IfOk result (λ found. found.end < 2 ^ 62) }
@@ -63,7 +70,8 @@ fn empty_window(alloc: Global) -> Result<Vec<u8>, AllocError>
     Ok(window)
 }
 
-/// The length of a file that may hold a run, with all of it on the disk.
+/// The length of a file that may hold a run, with all of it on the disk. `NoRun` if it has at most
+/// one byte.
 fn start_reading<D: Disk>(disk: &mut D) -> Result<u64, GateFault>
     ensures size { IfOk result (λ len. (bytes : List ℕ) → Reads (D.state disk.old) bytes → len ≡ length bytes) }
     ensures small { IfOk result (λ len. (1 < len) × (len < 2 ^ 62)) }
@@ -80,7 +88,7 @@ fn start_reading<D: Disk>(disk: &mut D) -> Result<u64, GateFault>
     Ok(len)
 }
 
-/// Reads bodies up to the first shut gate, and answers its offset.
+/// Reads bodies up to the first shut gate, and gives its offset.
 fn read_bodies<D: Disk>(
     alloc: Global,
     disk: &mut D,
@@ -108,7 +116,7 @@ fn read_bodies<D: Disk>(
 }
 
 /// Reads on from the gate at an offset: the entries that lie whole in a window, or one that is
-/// longer. It answers where the next gate stands, or none where the gate at the offset is shut.
+/// longer. It answers where the next gate stands, or none if the gate at the offset is shut.
 fn read_on<D: Disk>(
     alloc: Global,
     disk: &mut D,
@@ -161,7 +169,7 @@ fn front(window: &[u8], count: usize, left: u64) -> &[u8]
     front
 }
 
-/// The body that stands whole in these bytes behind an open gate, and what stands behind it: the
+/// The body that stands whole in these bytes after an open gate, and what stands after it: the
 /// next gate at least.
 pub(crate) fn entry_in(bytes: &[u8]) -> Option<(&[u8], &[u8])>
     ensures { IfSome result (λ found. IsEntry found.0.now bytes.now found.1.now × (0 < length found.1.now)) }
@@ -184,7 +192,7 @@ fn head_of(bytes: &[u8]) -> Head
     head_in(front)
 }
 
-/// What five bytes at a gate say, or fewer where the file ends.
+/// What five bytes at a gate say, or fewer if the file ends there.
 fn head_in(bytes: &[u8]) -> Head
     requires { length bytes.now ≤ 5 }
     ensures { IsHead result bytes.now }
@@ -196,8 +204,7 @@ fn head_in(bytes: &[u8]) -> Head
     }
 }
 
-/// The body behind the gate at an offset, whose first bytes were seen, or none where the gate is
-/// shut.
+/// The body after the gate at an offset, whose first bytes were seen, or none if the gate is shut.
 fn read_entry<D: Disk>(
     alloc: Global,
     disk: &mut D,
@@ -231,7 +238,8 @@ fn read_entry<D: Disk>(
     }
 }
 
-/// A body of so many bytes behind the gate at an offset.
+/// The body of so many bytes after the gate at an offset. `Cut` with that offset if the file ends
+/// before the body does.
 fn read_body<D: Disk>(
     alloc: Global,
     disk: &mut D,

@@ -6,9 +6,11 @@ use Rattle.block_order.specs.declared.label.Label.TheVariants.{Wait, End, Again,
 use Rattle.label_list.specs.declared.labelled.Labelled.{Labelled}
 use Rattle.label_list.specs.Lists.{IsEnded, ended_by, bare}
 
+-- a label alone is the same list on both sides
 none_left : (a : Label) (xs ys : List Labelled) → xs ≡ [] → ys ≡ [] → a ∷ bare xs ≡ a ∷ bare ys
 none_left a xs ys p q = let e1 : bare xs ≡ [] = ap bare p in let e2 : bare ys ≡ [] = ap bare q in cc
 
+-- lists that agree as far as the shorter one goes agree to their ends
 pub same_to_end : (xs ys : List Labelled) (n : ℕ) → min (length xs) (length ys) ≤ n → IsEnded xs → IsEnded ys
     → bare (take n xs) ≡ bare (take n ys) → bare xs ≡ bare ys
 same_to_end [] ys n short l r e = absurd l

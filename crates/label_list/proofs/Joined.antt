@@ -7,23 +7,27 @@ use Rattle.label_list.specs.declared.labelled.Labelled.{Labelled}
 use Rattle.label_list.specs.Lists.{times}
 use Rattle.label_list.specs.Pieces.{repeated, IsTooLong}
 
+-- once more is once more at the end
 pub repeated-more : (n : ℕ) (xs : List Labelled) → repeated (n + 1) xs ≡ repeated n xs ++ xs
 repeated-more zero xs = append-nil xs
 repeated-more (suc n) xs =
     let e : suc n + 1 ≡ suc (n + 1) = omega arith in
     ap (λ k. repeated k xs) e ∙ (ap (λ ys. xs ++ ys) (repeated-more n xs) ∙ sym (append_assoc xs (repeated n xs) xs))
 
+-- no label, however often, is none
 pub repeated-none : (n : ℕ) (xs : List Labelled) → length xs ≡ 0 → repeated n xs ≡ []
 repeated-none n (x ∷ xs) e = absurd (omega arith)
 repeated-none zero [] e = refl
 repeated-none (suc n) [] e = repeated-none n [] e
 
+-- if each call adds the same labels, n calls add them n times
 pub times_repeated : (n : ℕ) (f : List Labelled → List Labelled) (xs behind : List Labelled) → ((k : List Labelled) → f k ≡ xs ++ k)
     → times n f behind ≡ repeated n xs ++ behind
 times_repeated zero f xs behind is = refl
 times_repeated (suc n) f xs behind is =
     is (times n f behind) ∙ (ap (λ ys. xs ++ ys) (times_repeated n f xs behind is) ∙ sym (append_assoc xs (repeated n xs) behind))
 
+-- fewer runs, with one more, are no longer than all
 pub repeated-longer : (i n : ℕ) (xs : List Labelled) → i < n → length (repeated i xs) + length xs ≤ length (repeated n xs)
 repeated-longer i zero xs lt = absurd (omega arith)
 repeated-longer zero (suc n) xs lt = omega (arith, length-append xs (repeated n xs))

@@ -1,3 +1,4 @@
+-- The lemmas of this crate, each file by its subject. nc_verify takes `path_ended` of Ended.
 pub mod Bare
 pub mod Levels
 pub mod Ended

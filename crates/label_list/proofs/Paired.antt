@@ -13,6 +13,8 @@ use Rattle.label_list.proofs.Bare.{bare_path}
 as_long : (tape : List ControlProgram) → length (list tape) ≡ length (path_labels tape)
 as_long tape = ap length (sym (bare_path tape)) ∙ length-map (path_labels tape) (λ (x : Labelled). x.label)
 
+-- two tapes with one list of labels each are accepted by the one definition exactly if they are by
+-- the other
 pub paired : (left right : List ControlProgram) → IsUnforked left → IsUnforked right
     → IsAcceptedPair left right ↔ AgreeOnLabels left right
 paired left right one two = (

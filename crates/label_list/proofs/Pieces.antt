@@ -28,6 +28,7 @@ pub by_fault : (P Q : PairFault → Type 0) (error : Failing PairFault) → ((fa
 by_fault P Q (Fault fault) follows p = follows fault p
 by_fault P Q NoMemory follows p = tt
 
+-- before the first block there is no label
 pub so_far_start : (tape : List ControlProgram) (p : ℕ) → IsSoFar tape p [] (blocks tape p)
 unfolding whole
 so_far_start tape p = record {
@@ -71,6 +72,7 @@ so_far_next tape p old new b rest so taken = record {
       ∙ taken.are n back (left_labels tape p n back rest) (short_call tape n p old b rest so short);
 }
 
+-- behind the end of a program nothing follows
 ending_alone : (ending : Ending) (back : ℕ → List Labelled) (behind : List Labelled)
     → coming (Some ending) back behind ≡ coming (Some ending) back []
 ending_alone Stops back behind = refl
@@ -104,6 +106,7 @@ piece_off tape p line old new so is appended = record {
     go (suc n) back short =
         so.are n back short ∙ (ap (λ k. old ++ (at label.Off k ∷ [])) (sym is) ∙ (sym appended.are ∙ sym (append-nil new)))
 
+-- one label too many where the path runs off the program makes it too long
 pub fails_off : (tape : List ControlProgram) (p line : ℕ) (old : List Labelled) (fault : PairFault) → IsSoFar tape p old []
     → IsTooLong old (at label.Off line ∷ []) fault → FailsLong tape p fault
 fails_off tape p line old fault so long = record {
@@ -137,6 +140,7 @@ called_long tape n q zero line back behind noisy some long short = absurd (omega
 called_long tape n q (suc r) line back behind noisy some long short =
     rw noisy (long n (λ at_line. times r (λ k. whole tape n q (λ at_line. k)) behind) short)
 
+-- a called program that is too long makes the calling one too long
 pub fails_in_call : (tape : List ControlProgram) (p : ℕ) (old : List Labelled) (b : ControlBlock) (rest : List ControlBlock) (fault : PairFault)
     → IsSoFar tape p old (b ∷ rest) → FailsInCall tape b.control fault → FailsLong tape p fault
 fails_in_call tape p old b rest fault so fails = record {

@@ -28,6 +28,7 @@ call_gives tape line q (suc r) n back xs behind Stops noisy some piece short =
 call_gives tape line q (suc r) n back xs behind (Returns l) noisy some piece short =
     rw noisy (times_repeated (suc r) (λ k. whole tape n q (λ at_line. k)) xs behind (λ k. piece.are n (λ at_line. k) (short noisy)))
 
+-- a call adds the labels of its program as often as it runs
 pub taken_call : (tape : List ControlProgram) (line q r : ℕ) (old new xs : List Labelled) (ending : Ending)
     → loud tape q ≡ true → 0 < r → IsPiece tape q xs ending → IsAppended old new (copies ending r xs)
     → IsTaken tape line (Call q r) old new (stop_of ending)
@@ -43,6 +44,7 @@ taken_call tape line q r old new xs ending noisy some piece appended =
 too_long : (old more behind : List Labelled) → MOST_LABELS < length old + length more → MOST_LABELS < length (old ++ (more ++ behind))
 too_long old more behind h = omega (arith, h, length-append old (more ++ behind), length-append more behind)
 
+-- where these are too many, the calling program is too long
 pub fails_call : (tape : List ControlProgram) (line q r : ℕ) (old xs : List Labelled) (ending : Ending) (fault : PairFault)
     → loud tape q ≡ true → 0 < r → IsPiece tape q xs ending → IsTooLong old (copies ending r xs) fault
     → FailsAt tape line (Call q r) old fault

@@ -1,5 +1,7 @@
 -- Which pairs of tapes are accepted: whatever their variables hold, both paths come to the same
 -- labels in the same order.
+-- nc_verify takes `AgreeOnLabels` and `IsAcceptedPair`, race_report `IsAcceptedPair` and
+-- wait_verify `IsAcceptedPair`.
 use Rattle.std.specs.Prelude.{◌≡◌, ◌≤◌, List, length}
 use Rattle.nc_number.specs.declared.limits.TheConstants.{MOST_LABELS}
 use Rattle.block_order.specs.declared.program.ControlProgram.{ControlProgram}

@@ -1,4 +1,5 @@
 -- Why two tapes make no pair.
+-- nc_verify takes `IsMismatch`.
 use Rattle.std.specs.Prelude.{◌≡◌, ◌≢◌, ℕ, List, take, Some, slice_get}
 use Rattle.nc_number.specs.declared.cause.Cause.TheVariants.{TooManyLabels, WaitMismatch}
 use Rattle.nc_number.specs.Causes.{cause_number}

@@ -1,3 +1,5 @@
+-- The words of the contracts of label_list. Lists, Faults and Accepted are what callers read;
+-- Pieces is for this crate.
 pub mod Lists
 pub mod Faults
 pub mod Accepted

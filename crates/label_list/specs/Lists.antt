@@ -1,4 +1,5 @@
 -- The labels of a path with their lines, in the order in which the path comes to them.
+-- lathe_top, nc_verify and wait_verify take words from here.
 use Rattle.std.specs.Prelude.{◌≡◌, ℕ, zero, suc, ◌≤◌, Bool, List, [], ◌∷◌, length, map, Option, Some, None, if◌then◌else◌}
 use Rattle.nc_number.specs.declared.limits.TheConstants.{MOST_LABELS}
 use Rattle.block_order.specs.declared.control.Control.{Control}
@@ -59,6 +60,7 @@ path_labels tape = whole tape 9 (main_number tape) (λ line. at label.Again line
 abbrev pub bare : List Labelled → List Label
 bare xs = map (λ (x : Labelled). x.label) xs
 
+-- behind a wait the list goes on; behind each other label it is over
 abbrev pub ended_by : Label → List Labelled → Type 0 → Type 0
 ended_by (label.Wait code) xs rest = rest
 ended_by label.End xs rest = xs ≡ []

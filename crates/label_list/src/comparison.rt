@@ -1,4 +1,5 @@
 //! Where the labels of two paths differ.
+//! nc_verify uses it.
 ghost use Rattle.std.specs.Prelude.{◌≡◌, ◌≤◌, length, IsOk, IfErr, IfSome, IfNone};
 ghost use Rattle.nc_number.specs.declared.limits.TheConstants.{MOST_LABELS};
 ghost use Rattle.label_list.specs.Lists.{bare, IsEnded};

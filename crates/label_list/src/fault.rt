@@ -1,4 +1,5 @@
-//! Why two tapes make no pair.
+//! Why two tapes make no pair: too many labels, 70, or labels that differ, 72.
+//! nc_verify uses it.
 use nc_number::Cause;
 use thiserror::Error;
 

@@ -1,4 +1,5 @@
-//! What holds of every tape, for the crates above: who calls the function has the law.
+//! What holds of every tape, for the crates above: a caller of the function has the law.
+//! nc_verify and wait_verify use it.
 ghost use Rattle.std.specs.Prelude.{◌≡◌, ◌≤◌, ◌↔◌, ℕ, List};
 ghost use Rattle.block_order.specs.declared.program.ControlProgram.{ControlProgram};
 ghost use Rattle.block_order.specs.Labels.{IsUnforked, list};
@@ -12,7 +13,7 @@ pub fn labels_are_those_of_the_blocks()
     ensures { (tape : List ControlProgram) → bare (path_labels tape) ≡ list tape }
 {}
 
-/// The labels of a program do not hang on how many calls may follow in it, where no chain of calls
+/// The labels of a program do not depend on how many calls may follow in it, if no chain of calls
 /// of loud programs is too long.
 pub fn labels_hang_on_no_number_of_calls()
     ensures { (tape : List ControlProgram) (n m program : ℕ) (back : ℕ → List Labelled)

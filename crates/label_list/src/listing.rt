@@ -1,4 +1,5 @@
 //! The list of labels of a flow: each program's once, joined by the calls.
+//! No other crate calls `labels`; nc_verify takes the same list from ordered.rt.
 ghost use Rattle.std.specs.Prelude.{◌≡◌, ◌≤◌, ◌++◌, ◌∷◌, [], Some, length, IfOk, IfErr, OnOk};
 ghost use Rattle.nc_number.specs.declared.limits.TheConstants.{MOST_LABELS};
 ghost use Rattle.block_order.specs.declared.control.Control.TheVariants as Control;

@@ -1,4 +1,6 @@
-//! The labels of a path whose order of blocks alone is known.
+//! The labels of a path from the order of its blocks alone, also where nothing else is known of the
+//! blocks.
+//! nc_verify uses it.
 ghost use Rattle.std.specs.Prelude.{◌≡◌, IfOk, IfErr};
 ghost use Rattle.block_order.specs.Answers.{IfFault};
 ghost use Rattle.label_list.specs.Lists.{path_labels};

@@ -1,4 +1,5 @@
-//! The labels of one program.
+//! The labels of one program, as they grow, and how it ends; listing.rt joins them.
+//! For this crate alone.
 ghost use Rattle.std.specs.Prelude.{◌≡◌, ◌≤◌, ◌∷◌, [], length, OnOk, IfOk, IfErr};
 ghost use Rattle.nc_number.specs.declared.limits.TheConstants.{MOST_LABELS};
 ghost use Rattle.block_order.specs.Answers.{IfFault};

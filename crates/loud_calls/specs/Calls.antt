@@ -1,4 +1,5 @@
 -- Which chains of calls are short, and which program a block calls.
+-- label_list and part_lines take words from here.
 use Rattle.std.specs.Prelude.{◌≡◌, ℕ, ◌<◌, true, List, Option, Some}
 use Rattle.block_order.specs.declared.control.Control.{Control}
 use Rattle.block_order.specs.declared.control.Control.TheVariants.{Call}

@@ -1,3 +1,5 @@
+-- What is kept of programs, as contracts see it.
+-- label_list takes `piece_known` and part_lines `piece_known`.
 use Rattle.std.specs.Prelude.{ℕ, Option, nat_eq}
 use Rattle.indexmap.specs.IndexMap.{get}
 use Rattle.loud_calls.specs.declared.known.KnownPrograms.{KnownPrograms}

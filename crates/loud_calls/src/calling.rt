@@ -1,4 +1,5 @@
 //! The loud program that a block calls.
+//! label_list and part_lines use it.
 ghost use Rattle.std.specs.Prelude.{ℕ, IfSome, IfNone};
 ghost use Rattle.loud_calls.specs.Calls.{IsCallOf, IsReady};
 ghost use Rattle.loud_calls.specs.Known.{piece_known};

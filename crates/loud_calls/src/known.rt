@@ -1,4 +1,5 @@
 //! What is kept of programs.
+//! label_list and part_lines use it.
 ghost use Rattle.std.specs.Prelude.{◌≡◌, ◌≢◌, ℕ, Some, None, OnOk};
 ghost use Rattle.std.specs.Option.{option_copied};
 ghost use Rattle.loud_calls.specs.Known.{piece_known};

@@ -1,4 +1,5 @@
 //! The one list of labels that all runs of an order come to.
+//! label_list and part_lines use it.
 ghost use Rattle.block_order.specs.Labels.{IsUnforked};
 
 use block_order::{BlockOrder, a_tape_without_faults_is_unforked};

@@ -1,4 +1,6 @@
--- Texts that are put in pieces: none at all, and one piece for each element of a list.
+-- Texts that are put in pieces: none at all, and one piece for each element of a list. Two pieces
+-- are in Put.
+-- lathe_looks, move_list, race_report and trace_list use these lemmas.
 use Rattle.std.proofs.Common.{◌≡◌, ℕ, ◌+◌, ◌≤◌, ◌<◌, List, [], ◌∷◌, ◌++◌, length, take, drop, get_or, Result, Ok, Err, refl, sym, subst, ap, ◌∙◌, append-nil, take-append-drop, take_all, arith}
 use Rattle.std.specs.List.{flat_map}
 use Rattle.std.proofs.KnownBytes.{Appends-nil}
@@ -65,12 +67,14 @@ pub each_more : {X : Type 0} (f : X → List ℕ) (xs : List X) (i : ℕ) (x : X
 each_more f xs i x within is =
     each_more_at f xs i x within ∙ ap (λ t. flat_map f (take i xs) ++ t) (ap f (sym is))
 
+-- the texts of all elements, parted there,
 pub each_parted : {X : Type 0} (f : X → List ℕ) (xs : List X) (i : ℕ) (x : X) → i < length xs → x ≡ get_or xs i x
     → flat_map f xs ≡ flat_map f (take i xs) ++ (f x ++ flat_map f (drop (i + 1) xs))
 each_parted f xs i x within is =
     each_parted_at f xs i x within
     ∙ ap (λ t. flat_map f (take i xs) ++ (t ++ flat_map f (drop (i + 1) xs))) (ap f (sym is))
 
+-- and behind the last element
 pub each_whole : {X : Type 0} (f : X → List ℕ) (xs : List X) (i : ℕ) → length xs ≤ i
     → flat_map f (take i xs) ≡ flat_map f xs
 each_whole f xs i le = ap (flat_map f) (take_all i xs le)

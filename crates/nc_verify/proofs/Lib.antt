@@ -1,3 +1,4 @@
+-- The lemmas of this crate, each file by its subject. Other crates use all of these.
 pub mod Put
 pub mod InPieces
 pub mod Refused

@@ -1,4 +1,5 @@
 -- No three texts are both accepted and refused.
+-- lathe_top, nc_restart and wait_verify use these lemmas.
 use Rattle.std.proofs.Common.{◌≡◌, ℕ, zero, suc, ◌↔◌, List, [], ◌∷◌, slice_get, Result, Ok, Err, Some, sym, subst, ap, ◌∙◌, arith}
 use Rattle.nc_number.specs.declared.path.Path.{Path}
 use Rattle.nc_number.specs.declared.path.Path.TheVariants.{One, Two}
@@ -22,17 +23,20 @@ use Rattle.nc_verify.specs.Verdict.IsTapeRefusal.{reading, flow}
 use Rattle.nc_verify.specs.Verdict.IsPairRefusal.{one, two, differ}
 use Rattle.nc_verify.specs.Verdict.IsRefusalOf.{settings, left, right, pair}
 
--- the law of the flows
+-- the law of tape_flow, as these lemmas take it: no tape has both a flow and a refusal
 abbrev pub NotBoth : Type 0
 NotBoth = (dialect : Dialect) (tape : List Program) (programs : List ProgramForm) (line number : ℕ)
     → IsAccepted dialect tape programs → IsRefused dialect tape line number → ⊥
 
+-- one text of settings gives one cell,
 pub one_cell : (a b : Cell) (r : Result Cell ℕ) → r ≡ Ok a → r ≡ Ok b → a ≡ b
 one_cell a b r p q = let e : ◌≡◌ {A = Result Cell ℕ} (Ok a) (Ok b) = sym p ∙ q in cc
 
+-- one text gives one tape,
 pub one_tape : (a b : List Program) (r : Result (List Program) TextFault) → r ≡ Ok a → r ≡ Ok b → a ≡ b
 one_tape a b r p q = let e : ◌≡◌ {A = Result (List Program) TextFault} (Ok a) (Ok b) = sym p ∙ q in cc
 
+-- and one tape one list of programs
 one_programs : (a b : List ProgramForm) (r : Result (List ProgramForm) FlowFault) → r ≡ Ok a → r ≡ Ok b → a ≡ b
 one_programs a b r p q = let e : ◌≡◌ {A = Result (List ProgramForm) FlowFault} (Ok a) (Ok b) = sym p ∙ q in cc
 
@@ -43,6 +47,7 @@ one_flow cell path text a b x y =
     one_programs a b (programs_read (dialect_in cell) y.tape)
     (subst (λ t. programs_read (dialect_in cell) t ≡ Ok a) same x.accepted.reads) y.accepted.reads
 
+-- a tape isn't both a flow and refused,
 pub not_both_tape : NotBoth → (cell : Cell) (path : Path) (text : List ℕ) (programs : List ProgramForm) (refusal : Refusal)
     → IsFlowOf cell path text programs → IsTapeRefusal cell path text refusal → ⊥
 not_both_tape law cell path text programs refusal x (reading fault refused is) =
@@ -63,12 +68,14 @@ same_label (x ∷ xs) (y ∷ ys) zero a b e p q =
     sym (ap (λ (z : Labelled). z.label) one') ∙ (heads ∙ ap (λ (z : Labelled). z.label) two')
 same_label (x ∷ xs) (y ∷ ys) (suc n) a b e p q = same_label xs ys n a b (let t : bare xs ≡ bare ys = cc in t) p q
 
+-- two flows are not both an accepted pair and refused,
 pub not_both_pair : (l r : List ControlProgram) (refusal : Refusal) → AgreeOnLabels l r → IsPairRefusal l r refusal → ⊥
 not_both_pair l r refusal agree (one long) = omega (arith, long.long, agree.left_few)
 not_both_pair l r refusal agree (two few long) = omega (arith, long.long, agree.right_few)
 not_both_pair l r refusal agree (differ few_l few_r fault m is) =
     m.differ (same_label (path_labels l) (path_labels r) fault.after m.one m.two agree.same m.is_one m.is_two)
 
+-- so no three texts are both
 pub not_both : NotBoth → ((l r : List ControlProgram) → IsUnforked l → IsUnforked r → IsAcceptedPair l r ↔ AgreeOnLabels l r)
     → (texts : Texts) (cell : Cell) (l r : List ProgramForm) (refusal : Refusal)
     → AreAccepted texts cell l r → IsRefusalOf texts refusal → ⊥

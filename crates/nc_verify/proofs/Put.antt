@@ -1,4 +1,5 @@
--- Texts that are put in pieces.
+-- Texts that are put in pieces. One piece after another; texts of many pieces are in InPieces.
+-- lathe_calls, move_list, race_report, trace_list and zone_check use these lemmas.
 use Rattle.std.proofs.Common.{◌≡◌, ℕ, ◌+◌, ◌≤◌, min, List, ◌++◌, length, take, Result, Ok, Err, sym, subst, ◌∙◌, arith}
 use Rattle.std.proofs.KnownBytes.{Appends-trans}
 use Rattle.std.proofs.Math.Seq.{take-append-add}
@@ -9,6 +10,7 @@ use Rattle.nc_outside.specs.Faults.{Rose, CountsFault}
 use Rattle.nc_outside.specs.Written.{SinkState, Writes}
 use Rattle.nc_verify.specs.Printed.{IsPut}
 
+-- a fault of a later time is one of the longer time
 rose_before : (a b c : ℕ) → a ≤ b → Rose b c → Rose a c
 rose_before a b c le rose = omega arith
 
@@ -20,6 +22,7 @@ counts_on a b c calm one two = record {
   kept = λ none. two.kept none ∙ one.kept calm;
 }
 
+-- what went well has not failed
 put_well : ◌≡◌ {A = Result (Unit {0}) PutFault} (Ok tt) (Err Failed) → ⊥
 put_well clash = absurd cc
 

@@ -1,4 +1,5 @@
 -- What follows from a refusal of a part for the whole.
+-- wait_verify uses these lemmas.
 use Rattle.std.proofs.Common.{◌≡◌, ℕ, ◌≤◌, List, length, Ok, Err, subst}
 use Rattle.nc_number.specs.declared.fault.Failing.{Failing}
 use Rattle.nc_number.specs.declared.fault.Failing.TheVariants.{Fault, NoMemory}

@@ -1,4 +1,5 @@
 -- No three texts are neither accepted nor refused.
+-- wait_verify uses these lemmas.
 use Rattle.std.proofs.Common.{◌≡◌, ◌≢◌, ℕ, suc, ◌<◌, ◌≤◌, ◌⊎◌, inl, inr, ◌↔◌, List, [], ◌∷◌, length, take, slice_get, Some, Result, Ok, Err, refl, ap, sym, ◌∙◌, arith}
 use Rattle.nc_number.specs.declared.path.Path.{Path}
 use Rattle.nc_number.specs.declared.path.Path.TheVariants.{One, Two}
@@ -30,14 +31,16 @@ use Rattle.nc_verify.specs.Verdict.IsTapeRefusal.{reading, flow}
 use Rattle.nc_verify.specs.Verdict.IsPairRefusal.{one, two, differ}
 use Rattle.nc_verify.specs.Verdict.IsRefusalOf.{settings, left, right, pair}
 
--- the laws of a tape's answers, of its waits, and of two lists of labels
+-- three laws, as these lemmas take them: a tape is accepted or refused,
 abbrev pub SomeOfTape : Type 0
 SomeOfTape = (dialect : Dialect) (tape : List Program) → CantBothFail ((programs : List ProgramForm) × IsAccepted dialect tape programs)
     ((line : ℕ) × (number : ℕ) × IsRefused dialect tape line number)
 
+-- a tape in which nothing is wrong with its waits has one list of labels,
 abbrev pub OneList : Type 0
 OneList = (tape : List ControlProgram) → IsClear tape Waiting → IsUnforked tape
 
+-- and a pair is accepted by its lists
 abbrev pub ByLists : Type 0
 ByLists = (l r : List ControlProgram) → IsUnforked l → IsUnforked r → IsAcceptedPair l r ↔ AgreeOnLabels l r
 
@@ -45,13 +48,16 @@ ByLists = (l r : List ControlProgram) → IsUnforked l → IsUnforked r → IsAc
 
 -- the labels differ after so many equal ones
 record DifferAt (l r : List Labelled) (after : ℕ) : Type 0 where
+  -- the label of path 1 there,
   one' : Labelled
+  -- and that of path 2
   two' : Labelled
   equal : bare (take after l) ≡ bare (take after r)
   is_one : slice_get l after ≡ Some one'
   is_two : slice_get r after ≡ Some two'
   differs : one'.label ≢ two'.label
 
+-- with an equal label more in front they differ one place later
 one_behind : (x y : Labelled) (xs ys : List Labelled) (after : ℕ) → x.label ≡ y.label → DifferAt xs ys after → DifferAt (x ∷ xs) (y ∷ ys) (suc after)
 one_behind x y xs ys after same d = record {
   one' = d.one';
@@ -70,6 +76,7 @@ both_behind label.End xs ys ex ey = inl (ap bare ex ∙ sym (ap bare ey))
 both_behind label.Again xs ys ex ey = inl (ap bare ex ∙ sym (ap bare ey))
 both_behind label.Off xs ys ex ey = inl (ap bare ex ∙ sym (ap bare ey))
 
+-- two lists of labels that end are the same, or differ somewhere
 same_or_differ : (l r : List Labelled) → IsEnded l → IsEnded r → CantBothFail (bare l ≡ bare r) ((after : ℕ) × DifferAt l r after)
 same_or_differ [] r el er unequal none = el
 same_or_differ (x ∷ xs) [] el er unequal none = er
@@ -96,6 +103,7 @@ same_or_differ (x ∷ xs) (y ∷ ys) el er unequal none =
         rest ends.0 ends.1 (λ tails. unequal (λ i. same i ∷ tails i))
         (λ d. none (suc d.0, one_behind x y xs ys d.0 same d.1))
 
+-- where they differ first is their mismatch
 mismatch_at : (l r : List Labelled) (after : ℕ) (d : DifferAt l r after)
     → IsMismatch l r (labels.mismatch after d.one'.line d.two'.line)
 mismatch_at l r after d = record {
@@ -108,9 +116,11 @@ mismatch_at l r after d = record {
   is = refl;
 }
 
+-- there are few enough labels, or too many
 few_or_many : (n : ℕ) → (n ≤ MOST_LABELS) ⊎ (MOST_LABELS < n)
 few_or_many n = grind arith
 
+-- so two flows are an accepted pair, or refused
 pub pair_answer : ByLists → (l r : List ControlProgram) → IsUnforked l → IsUnforked r
     → CantBothFail (IsAcceptedPair l r) ((refusal : Refusal) × IsPairRefusal l r refusal)
 pair_answer lists l r ul ur unaccepted unrefused = go (few_or_many (length (path_labels l))) (few_or_many (length (path_labels r)))
@@ -129,6 +139,7 @@ pair_answer lists l r ul ur unaccepted unrefused = go (few_or_many (length (path
 
 -- Three texts.
 
+-- a tape has a flow, or is refused,
 tape_answer : SomeOfTape → (cell : Cell) (path : Path) (text : List ℕ)
     → CantBothFail ((programs : List ProgramForm) × IsFlowOf cell path text programs) ((refusal : Refusal) × IsTapeRefusal cell path text refusal)
 tape_answer law cell path text unaccepted unrefused = go (tape_of (skips_of path cell) text) refl
@@ -139,6 +150,7 @@ tape_answer law cell path text unaccepted unrefused = go (tape_of (skips_of path
         law (dialect_in cell) tape (λ own. unaccepted (own.0, record { tape = tape; reads = is; accepted = own.1 }))
         (λ own. unrefused (at_line path own.0 own.1, flow tape own.0 own.1 is own.2 refl))
 
+-- and so are three texts with flows accepted or refused
 flows_answer : OneList → ByLists → (texts : Texts) (cell : Cell) (l r : List ProgramForm) → settings_of texts.settings ≡ Ok cell
     → IsFlowOf cell One texts.left l → IsFlowOf cell Two texts.right r
     → CantBothFail (AreAccepted texts cell l r) ((refusal : Refusal) × IsRefusalOf texts refusal)
@@ -147,6 +159,7 @@ flows_answer unforked lists texts cell l r is fl fr unaccepted unrefused =
     (λ own. unaccepted (record { flows = record { settings_are = is; left_is = fl; right_is = fr }; pair = own }))
     (λ own. unrefused (own.0, pair cell l r (record { settings_are = is; left_is = fl; right_is = fr }) own.1))
 
+-- so three texts are accepted, or refused
 pub some_answer : SomeOfTape → OneList → ByLists → (texts : Texts)
     → CantBothFail ((cell : Cell) × (l : List ProgramForm) × (r : List ProgramForm) × AreAccepted texts cell l r)
     ((refusal : Refusal) × IsRefusalOf texts refusal)

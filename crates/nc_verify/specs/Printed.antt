@@ -1,4 +1,6 @@
--- The line of a verdict as it is printed.
+-- The line of a verdict as it is printed. Also what it means that a text is put into a sink.
+-- lathe_calls, lathe_looks, lathe_top, move_list, race_report, trace_list and zone_check use these
+-- words.
 use Rattle.std.specs.Prelude.{◌≡◌, ◌≢◌, ℕ, List, ◌++◌, take, Option, Some, None, Result, OnOk, OnErr, IsErrOf, codes}
 use Rattle.nc_number.specs.declared.cause.Cause.{Cause}
 use Rattle.nc_number.specs.declared.cause.Cause.TheVariants.{BadSetting, TooManyLabels, WaitMismatch}
@@ -15,7 +17,7 @@ abbrev pub IsCauseOf : ℕ → Option Cause → Type 0
 IsCauseOf number None = (cause : Cause) → cause_number cause ≢ number
 IsCauseOf number (Some cause) = cause_number cause ≡ number
 
--- a path and a line of its tape
+-- a path and a line of its tape, as they are printed
 unfoldable pub place_text : ℕ → ℕ → List ℕ
 place_text path line = numbered (codes " path ") path ++ numbered (codes " line ") line
 

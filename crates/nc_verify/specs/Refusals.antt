@@ -1,4 +1,5 @@
--- The refusals of a pair, each with what it is about.
+-- The refusals of a pair, each with what it is about. Which texts they refuse is in Verdict.
+-- wait_verify uses these words.
 use Rattle.std.specs.Prelude.{ℕ}
 use Rattle.nc_number.specs.declared.cause.Cause.TheVariants.{BadSetting, TooManyLabels}
 use Rattle.nc_number.specs.declared.path.Path.{Path}

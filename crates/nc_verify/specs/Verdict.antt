@@ -1,4 +1,6 @@
 -- Which three texts are accepted, and the one refusal of all others.
+-- lathe_c, lathe_calls, lathe_looks, lathe_top, nc_restart, run_table and wait_verify use these
+-- words.
 use Rattle.std.specs.Prelude.{◌≡◌, ℕ, ◌<◌, ◌≤◌, List, length, Ok, Err, slice_index}
 use Rattle.nc_number.specs.declared.path.Path.{Path}
 use Rattle.nc_number.specs.declared.path.Path.TheVariants.{One, Two}
@@ -42,8 +44,10 @@ pub record IsFlowOf (cell : Cell) (path : Path) (text : List ℕ) (programs : Li
 
 -- the refusal of a path's tape: of its reading, or else of its flow
 pub data IsTapeRefusal (cell : Cell) (path : Path) (text : List ℕ) (refusal : Refusal) : Type 0 where
+  -- the text doesn't read: its first fault
   reading : (fault : TextFault) → tape_of (skips_of path cell) text ≡ Err fault → refusal ≡ at_line path fault.line fault.number
       → IsTapeRefusal cell path text refusal
+  -- it reads, and a block or the order of blocks is wrong
   flow : (tape : List Program) (line number : ℕ) → tape_of (skips_of path cell) text ≡ Ok tape
       → IsRefused (dialect_in cell) tape line number → refusal ≡ at_line path line number → IsTapeRefusal cell path text refusal
 
@@ -61,8 +65,11 @@ pub record IsTooLong (path : Path) (tape : List ControlProgram) (refusal : Refus
 -- the refusal of two flows that are no accepted pair: path 1 has too many labels, or path 2 has, or
 -- the labels differ
 pub data IsPairRefusal (left right : List ControlProgram) (refusal : Refusal) : Type 0 where
+  -- path 1 has too many labels,
   one : IsTooLong One left refusal → IsPairRefusal left right refusal
+  -- or else path 2 has,
   two : length (path_labels left) ≤ MOST_LABELS → IsTooLong Two right refusal → IsPairRefusal left right refusal
+  -- or else the lists differ
   differ : length (path_labels left) ≤ MOST_LABELS → length (path_labels right) ≤ MOST_LABELS
       → (fault : PairFault) → IsMismatch (path_labels left) (path_labels right) fault → refusal ≡ mismatch fault
       → IsPairRefusal left right refusal
@@ -81,10 +88,14 @@ pub record AreAccepted (texts : Texts) (cell : Cell) (left right : List ProgramF
 -- The refusal of three texts: of the settings; else of path 1's tape; else of path 2's; else of the
 -- two flows as a pair.
 pub data IsRefusalOf (texts : Texts) (refusal : Refusal) : Type 0 where
+  -- the settings are refused,
   settings : AreRefusedSettings texts.settings refusal → IsRefusalOf texts refusal
+  -- or else the tape of path 1,
   left : (cell : Cell) → settings_of texts.settings ≡ Ok cell → IsTapeRefusal cell One texts.left refusal
       → IsRefusalOf texts refusal
+  -- or else that of path 2,
   right : (cell : Cell) (programs : List ProgramForm) → settings_of texts.settings ≡ Ok cell
       → IsFlowOf cell One texts.left programs → IsTapeRefusal cell Two texts.right refusal → IsRefusalOf texts refusal
+  -- or else both flows as a pair
   pair : (cell : Cell) (one two : List ProgramForm) → AreFlows texts cell one two
       → IsPairRefusal (controls one) (controls two) refusal → IsRefusalOf texts refusal

@@ -1,4 +1,5 @@
 //! What holds of every three texts, for the crates above: who calls the function has the law.
+//! lathe_top and nc_restart use them.
 ghost use Rattle.std.specs.Prelude.{◌≡◌, List};
 ghost use Rattle.cell_settings.specs.Cell.{Cell};
 ghost use Rattle.flow_laws.specs.Answers.{CantBothFail};

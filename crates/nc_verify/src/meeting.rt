@@ -1,4 +1,5 @@
-//! Whether two orders of blocks are an accepted pair.
+//! Whether two orders of blocks are an accepted pair. It compares their lists of labels.
+//! wait_verify uses what it exports.
 ghost use Rattle.std.specs.Prelude.{◌≡◌, ◌≤◌, length, IfOk, IfErr};
 ghost use Rattle.nc_number.specs.declared.limits.TheConstants.{MOST_LABELS};
 ghost use Rattle.block_order.specs.Answers.{IfFault};

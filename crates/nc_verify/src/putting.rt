@@ -1,10 +1,11 @@
 //! Pieces of a text into a sink.
+//! move_list, race_report, trace_list and zone_check use what it exports.
 ghost use Rattle.nc_verify.specs.Printed.{IsPut};
 
 use nc_outside::{PutFault, Sink};
 use text_pieces::Piece;
 
-/// Puts a piece; one without a byte is not put.
+/// Puts a piece; one without a byte is not put. Errors: those of the sink.
 pub fn put_piece<K: Sink>(sink: &mut K, piece: &Piece) -> Result<(), PutFault>
     ensures { IsPut (K.state sink.old) (K.state sink.new) piece.now result }
 {

@@ -1,4 +1,5 @@
-//! Why a pair is refused.
+//! Why a pair is refused. Its number, path and line; its text is written in writing.rt.
+//! lathe_calls and wait_verify use what it exports.
 ghost use Rattle.std.specs.Prelude.{◌≡◌};
 ghost use Rattle.nc_verify.specs.Refusals.{at_setting, at_line, too_long, mismatch};
 

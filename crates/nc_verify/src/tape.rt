@@ -1,4 +1,5 @@
-//! The tape of one path, from its text to its flow.
+//! The tape of one path, from its text to its flow. The settings and the pair are in verifying.rt.
+//! wait_verify uses what it exports.
 ghost use Rattle.std.specs.Prelude.{◌≡◌, map, IfOk, IfErr};
 ghost use Rattle.block_order.specs.Answers.{IfFault};
 ghost use Rattle.cell_settings.specs.View.{view};
@@ -14,7 +15,7 @@ use nc_text::{Reader, Tape, TextFault};
 use std::alloc::Global;
 use tape_flow::{Flow, compile};
 
-/// The tape of a text, where blocks of these switches are skipped.
+/// The tape of a text, where blocks of these switches are skipped; or its refusal, with its line.
 pub fn read_tape(alloc: Global, skips: u16, text: &[u8]) -> Result<Tape, Failing<TextFault>>
     ensures { Gives (λ tape. tape) result (tape_of skips text.now) }
 {

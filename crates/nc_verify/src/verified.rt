@@ -1,4 +1,6 @@
-//! An accepted pair.
+//! An accepted pair. Only verifying.rt makes one.
+//! lathe_calls, lathe_top, move_list, nc_restart, race_report, run_table, trace_list, turn_order
+//! and zone_check use what it exports.
 ghost use Rattle.std.specs.Prelude.{◌≡◌};
 ghost use Rattle.label_list.specs.Accepted.{IsAcceptedPair};
 

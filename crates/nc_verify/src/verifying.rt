@@ -1,4 +1,5 @@
 //! From three texts to an accepted pair, or to the reason why there is none.
+//! lathe_calls, lathe_top, nc_restart and wait_verify use what it exports.
 ghost use Rattle.std.specs.Prelude.{◌≡◌, ◌<◌, ◌^◌, Ok, length, map, IfOk, IfErr};
 ghost use Rattle.block_order.specs.Answers.{IfFault};
 ghost use Rattle.cell_settings.specs.Cell.{settings_of};
@@ -16,7 +17,7 @@ use nc_number::{Failing, Path};
 use std::alloc::Global;
 use tape_flow::Flow;
 
-/// The settings of a text.
+/// The settings of a text, or their refusal: 90, with the first line that is not allowed.
 pub fn settings_of(alloc: Global, text: &[u8]) -> Result<Settings, Failing<Refusal>>
     requires { length text.now < 2 ^ 32 }
     ensures settings { IfOk result (λ settings. settings_of text.now ≡ Ok (view settings)) }

@@ -1,4 +1,5 @@
-//! The line of a verdict.
+//! The line of a verdict. What it says is in refusal.rt.
+//! lathe_calls uses what it exports.
 ghost use Rattle.std.specs.Prelude.{◌≡◌, ◌+◌, ◌≤◌, ℕ, List, ◌++◌, length, codes};
 ghost use Rattle.std.specs.Option.{option_copied};
 ghost use Rattle.nc_verify.specs.Printed.{IsPut, IsVerdictText, about_text, mismatch_text, other_text, place_text, refused_text};

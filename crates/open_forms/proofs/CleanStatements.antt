@@ -26,13 +26,15 @@ use Rattle.nc_text.specs.Tape.{Before, nothing_read, programs_of, unless_refused
 use Rattle.line_text.proofs.Judged.{judged_ok}
 use Rattle.open_forms.specs.Widening.{IsClean, AreClean, IsCleanTape}
 
--- a sign as a scan gives it
+-- a sign as a scan gives it: no blank, and in upper case
 abbrev is_plain : Sign → Bool
 is_plain sign = not (is_blank sign.byte) && (to_ascii_uppercase sign.byte == sign.byte)
 
+-- each sign is so
 abbrev ArePlain : List Sign → Type 0
 ArePlain signs = list_all is_plain signs ≡ true
 
+-- a byte in upper case is no blank, and stays as it is
 upper_twice : (b : ℕ) → is_blank b ≡ false → (not (is_blank (to_ascii_uppercase b)) && (to_ascii_uppercase (to_ascii_uppercase b) == to_ascii_uppercase b)) ≡ true
 upper_twice b other = go (nat_lt b 97) (nat_lt b 123) refl refl
   where
@@ -48,6 +50,7 @@ upper_twice b other = go (nat_lt b 97) (nat_lt b 123) refl refl
         same (b - 32) no_blank (rw below refl)
     go false false low middle = same b other (rw (low, middle) refl)
 
+-- the signs of a scan are plain,
 scan_plain : (bs : List ℕ) (inside : Bool) (place : ℕ) → ArePlain (scan_of bs inside place).list
 scan_plain [] inside place = refl
 scan_plain (b ∷ bs) inside place =
@@ -61,11 +64,13 @@ scan_plain (b ∷ bs) inside place =
     go true true other more = more
     go false y other more = more
 
+-- and those of the rest,
 drop_plain : (n : ℕ) (signs : List Sign) → ArePlain signs → ArePlain (drop n signs)
 drop_plain zero signs all = all
 drop_plain (suc n) [] all = refl
 drop_plain (suc n) (sign ∷ signs) all = drop_plain n signs (and_parts (is_plain sign) (list_all is_plain signs) all).1
 
+-- those behind a digit,
 digit_plain : (signs : List Sign) → ArePlain signs → ArePlain (behind_digit signs)
 digit_plain [] all = refl
 digit_plain (sign ∷ signs) all = go (is_switch sign.byte)
@@ -74,6 +79,7 @@ digit_plain (sign ∷ signs) all = go (is_switch sign.byte)
     go true = (and_parts (is_plain sign) (list_all is_plain signs) all).1
     go false = all
 
+-- and those behind a switch (/1 to /9)
 switch_plain : (signs : List Sign) → ArePlain signs → ArePlain (behind_switch signs)
 switch_plain [] all = refl
 switch_plain (sign ∷ signs) all = go (sign.byte == 47)
@@ -103,12 +109,13 @@ sentence_clean (sign ∷ signs) all =
         let no_blank : is_blank sign.byte ≡ false = not_true (is_blank sign.byte) other in
         rw (is, no_blank, upper, rest) refl
 
--- what a line says
+-- what a line says has a clean statement, if it says one
 abbrev IsCleanSaid : Said → Type 0
 IsCleanSaid said.Nothing = Unit {0}
 IsCleanSaid (said.Program number) = Unit {0}
 IsCleanSaid (said.Block block) = IsClean block.body
 
+-- a line of words says nothing but words,
 words_clean : (slash : Bool) (pieces : List Piece) → IsCleanSaid (said_by slash pieces)
 words_clean slash pieces = go (is_program slash pieces)
   where
@@ -117,6 +124,7 @@ words_clean slash pieces = go (is_program slash pieces)
     go true = tt
     go false = tt
 
+-- a block has clean statements,
 block_clean : (slash : Bool) (signs : List Sign) → ArePlain signs → IsCleanSaid (read_block slash signs).said
 unfolding read_block read_numbered read_statement read_words
 block_clean slash signs all = go (is_numbered signs) (is_statement (sentence_of signs)) (value_len signs 0 == 0)
@@ -132,6 +140,7 @@ block_clean slash signs all = go (is_numbered signs) (is_statement (sentence_of 
     go false false true = words_clean slash (pieces_of signs)
     go false false false = tt
 
+-- a program's head too,
 head_clean : (signs : List Sign) → ArePlain signs → IsCleanSaid (read_head signs).said
 unfolding read_head
 head_clean [] all = tt
@@ -139,6 +148,7 @@ head_clean (sign ∷ signs) all =
     block_clean (is_some (switch_of (sign ∷ signs))) (behind_comments (behind_switch (sign ∷ signs)))
     (drop_plain (prefix_len is_comment (behind_switch (sign ∷ signs))) (behind_switch (sign ∷ signs)) (switch_plain (sign ∷ signs) all))
 
+-- and so has each line
 line_clean : (skips : ℕ) (line : List ℕ) (ended : Bool) (says : Said) → line_says skips line ended ≡ Ok says → IsCleanSaid says
 unfolding line_says signs_of
 line_clean skips line ended says e =
@@ -152,23 +162,26 @@ line_clean skips line ended says e =
     go true what clean = tt
     go false what clean = clean
 
--- with a block or a program more
+-- one block more that is clean leaves all so
 more_clean : (blocks : List Block) (block : Block) → AreClean blocks → IsClean block.body → AreClean (blocks ++ block ∷ [])
 more_clean [] block all own = (own, tt)
 more_clean (b ∷ blocks) block all own = (all.0, more_clean blocks block all.1 own)
 
+-- two lists of programs, one after the other
 joined_clean : (done more : List Program) → IsCleanTape done → IsCleanTape more → IsCleanTape (done ++ more)
 joined_clean [] more first second = second
 joined_clean (p ∷ done) more first second = (first.0, joined_clean done more first.1 second)
 
--- what was read so far
+-- the programs that were read so far are clean
 record IsCleanBefore (before : Before) : Type 0 where
   done : IsCleanTape before.done
   current : IsCleanTape (option_to_list before.current)
 
+-- the programs so far are clean,
 programs_clean : (before : Before) → IsCleanBefore before → IsCleanTape (programs_of before)
 programs_clean before clean = joined_clean before.done (option_to_list before.current) clean.done clean.current
 
+-- also with what one line says,
 said_clean : (before : Before) (what : Said) → IsCleanBefore before → IsCleanSaid what → IsCleanBefore (with_said before what)
 said_clean before said.Nothing clean own = clean
 said_clean before (said.Program None) clean own = clean
@@ -181,10 +194,12 @@ said_clean before (said.Block block) clean own =
     go None all = tt
     go (Some program) all = (more_clean program.blocks (block_at (before.lines + 1) block) all.0 own, tt)
 
+-- and if it is not refused
 unless_clean : (refusal : Option Refusal) (after now : Before) → IsCleanBefore after → unless_refused refusal after ≡ Ok now → IsCleanBefore now
 unless_clean (Some refusal) after now clean e = absurd (cc)
 unless_clean None after now clean e = let same : after ≡ now = cc in subst IsCleanBefore same clean
 
+-- so one line more keeps it so,
 line_after : (skips : ℕ) (before now : Before) (bytes : List ℕ) (ended : Bool) → IsCleanBefore before → after_line skips before bytes ended ≡ Ok now → IsCleanBefore now
 line_after skips before now bytes ended clean e = go (line_says skips bytes ended) refl e
   where
@@ -195,20 +210,23 @@ line_after skips before now bytes ended clean e = go (line_says skips bytes ende
         unless_clean (said_refusal before (length bytes) ended what) (next (with_said before what) (length bytes) ended) now
         (record { done = told.done; current = told.current }) e
 
+-- and so does one that says nothing
 same_after : (refusal : Option Refusal) (before now : Before) (len : ℕ) (ended : Bool) → IsCleanBefore before → unless_refused refusal (next before len ended) ≡ Ok now → IsCleanBefore now
 same_after refusal before now len ended clean e =
     unless_clean refusal (next before len ended) now (record { done = clean.done; current = clean.current }) e
 
--- what is answered in the end
+-- the tape that is answered in the end is clean
 abbrev IsCleanAnswer : Answer → Type 0
 IsCleanAnswer (Ok tape) = IsCleanTape tape
 IsCleanAnswer (Err fault) = Unit {0}
 
+-- what is answered is clean if what goes on is,
 goes_clean : (before : Before) (after : Result Before Refusal) (rest : Before → Answer)
     → ((now : Before) → after ≡ Ok now → IsCleanBefore now) → ((now : Before) → IsCleanBefore now → IsCleanAnswer (rest now)) → IsCleanAnswer (goes_on before after rest)
 goes_clean before (Ok now) rest clean further = further now (clean now refl)
 goes_clean before (Err refusal) rest clean further = tt
 
+-- at the end of the tape,
 finished_clean : (before : Before) → IsCleanBefore before → IsCleanAnswer (finished before)
 finished_clean before clean = go (is_none before.current)
   where
@@ -216,6 +234,7 @@ finished_clean before clean = go (is_none before.current)
     go true = tt
     go false = programs_clean before clean
 
+-- at a tape without an end,
 unfinished_clean : (before : Before) → IsCleanAnswer (unfinished before)
 unfinished_clean before = go (is_none before.current)
   where
@@ -223,6 +242,7 @@ unfinished_clean before = go (is_none before.current)
     go true = tt
     go false = tt
 
+-- behind the last sign,
 rest_clean : (lines : List Line) (before : Before) → IsCleanBefore before → IsCleanAnswer (in_rest lines before)
 rest_clean [] before clean = finished_clean before clean
 rest_clean (line ∷ lines) before clean =
@@ -230,6 +250,7 @@ rest_clean (line ∷ lines) before clean =
     (λ now e. same_after (outer_refusal before (length line.bytes) line.ended) before now (length line.bytes) line.ended clean e)
     (λ now more. rest_clean lines now more)
 
+-- in the programs,
 body_clean : (skips : ℕ) (lines : List Line) (before : Before) → IsCleanBefore before → IsCleanAnswer (in_body skips lines before)
 body_clean skips [] before clean = unfinished_clean before
 body_clean skips (line ∷ lines) before clean = go (is_percent line.bytes) (λ now more. body_clean skips lines now more)
@@ -245,6 +266,7 @@ body_clean skips (line ∷ lines) before clean = go (is_percent line.bytes) (λ 
         goes_clean before (after_line skips before line.bytes line.ended) (in_body skips lines)
         (λ now e. line_after skips before now line.bytes line.ended clean e) further
 
+-- and before the first sign
 leader_clean : (skips : ℕ) (lines : List Line) (before : Before) → IsCleanBefore before → IsCleanAnswer (in_leader skips lines before)
 leader_clean skips [] before clean = tt
 leader_clean skips (line ∷ lines) before clean = go (is_percent line.bytes) (λ now more. leader_clean skips lines now more)
@@ -260,6 +282,7 @@ leader_clean skips (line ∷ lines) before clean = go (is_percent line.bytes) (�
         goes_clean before (after_outer before (length line.bytes) line.ended) (in_leader skips lines)
         (λ now e. same_after (outer_refusal before (length line.bytes) line.ended) before now (length line.bytes) line.ended clean e) further
 
+-- so each tape that reads has clean statements
 pub tape_clean : (skips : ℕ) (text : List ℕ) (tape : List Program) → tape_of skips text ≡ Ok tape → IsCleanTape tape
 unfolding tape_of
 tape_clean skips text tape e =

@@ -17,14 +17,16 @@ use Rattle.open_forms.specs.Refusals.{is_long, is_not_fixed, is_unknown, is_wait
 use Rattle.nc_number.proofs.Bools.{neither, not_false}
 use Rattle.open_forms.proofs.AmongLetters.{AreAmong, one_among, same_among}
 
--- at most so much, if it is there
+-- the number is at most so much, if there is one
 abbrev IsAtMost : ℕ → Option ℕ → Type 0
 IsAtMost greatest n = IfSome n (λ n. n ≤ greatest)
 
+-- a number in its range is at most the greatest of it
 at_most : (least greatest : ℕ) (n : Option ℕ) → is_within least greatest n ≡ true → IsAtMost greatest n
 at_most least greatest None e = tt
 at_most least greatest (Some n) e = grind (arith, nat_tests)
 
+-- so is that of the last word of letters that are among these
 last_in : (least greatest : ℕ) (few letters : List ℕ) → AreAmong few letters → (words : List Word)
     → are_in least greatest letters words ≡ true → IsAtMost greatest (last_number few words)
 last_in least greatest few letters among [] all = tt
@@ -64,19 +66,20 @@ in_range dialect words accepted =
     go false false false false false false false true is = absurd (cc)
     go false false false false false false false false is = refl
 
+-- so none of its role is
 ranges_of : (dialect : Dialect) (words : List Word) (role kind : Role) → refusal_of dialect words ≡ None → role ≡ role_of dialect words → role ≡ kind
     → is_in_range_by kind words ≡ true
 ranges_of dialect words role kind accepted is same =
     let own : is_in_range_by (role_of dialect words) words ≡ true = not_false _ (neither _ _ (in_range dialect words accepted)).0 in
     subst (λ r. is_in_range_by r words ≡ true) (sym is ∙ same) own
 
--- the numbers of a call of a macro
+-- the P and L of a macro call are 9,999 at most
 pub macro_at_most : (dialect : Dialect) (words : List Word) (role : Role) (letter : ℕ) → refusal_of dialect words ≡ None → role ≡ role_of dialect words
     → role ≡ MacroCall → is_one_of (codes "PL") letter ≡ true → IfSome (last_number (letter ∷ []) words) (λ n. n ≤ 9999)
 macro_at_most dialect words role letter accepted is same there =
     last_in 1 9999 (letter ∷ []) (codes "PL") (one_among letter (codes "PL") there) words (ranges_of dialect words role MacroCall accepted is same)
 
--- the repeats of a call of a subprogram
+-- the repeats of a call of a subprogram are 9,999 at most
 pub repeats_at_most : (dialect : Dialect) (words : List Word) (role : Role) → refusal_of dialect words ≡ None → role ≡ role_of dialect words
     → role ≡ Subprogram → IfSome (last_number (codes "L") words) (λ n. n ≤ 9999)
 repeats_at_most dialect words role accepted is same =

@@ -1,4 +1,4 @@
--- The last word of a letter, word by word.
+-- The last word of a letter, word by word. For the loop of letters.rt.
 use Rattle.std.proofs.Common.{◌≡◌, ℕ, ◌+◌, ◌<◌, Bool, true, false, cond, List, [], ◌∷◌, ◌++◌, length, get_or, take, append-nil, refl, ap}
 use Rattle.std.proofs.lemmas.List.Elements.{filter-append}
 use Rattle.std.proofs.lemmas.List.{take_more}
@@ -8,6 +8,7 @@ use Rattle.block_words.specs.Words.{is_one_of}
 use Rattle.code_tables.proofs.LastOfGroup.{last_of_push}
 use Rattle.open_forms.specs.Words.{words_of, number, number_of_last, last_number}
 
+-- one word more: it is the last if it is of these letters
 last_number_push : (letters : List ℕ) (words : List Word) (word : Word) → last_number letters (words ++ word ∷ []) ≡ cond (is_one_of letters word.letter) (number word) (last_number letters words)
 last_number_push letters words word =
     rw (filter-append (λ (w : Word). is_one_of letters w.letter) words (word ∷ [])) (go (is_one_of letters word.letter) (words_of letters words))

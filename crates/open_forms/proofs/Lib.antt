@@ -1,3 +1,5 @@
+-- The lemmas of this crate, each file by its subject. Other crates use ReadWords, TableRows,
+-- AmongLetters, Accepts and Widened.
 pub mod LastWord
 pub mod Calm
 pub mod Sentences

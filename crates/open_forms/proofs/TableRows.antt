@@ -1,4 +1,5 @@
 -- The G codes of a block that reads in full are those of its system's table.
+-- wait_verify uses these lemmas.
 use Rattle.std.proofs.Common.{◌≡◌, ℕ, zero, suc, ◌*◌, ◌/◌, ◌%◌, ◌==◌, Bool, true, false, cond, not, ◌&&◌, ◌||◌, List, [], ◌∷◌, Option, Some, None, ℤ, pos, negsuc, neg_ℤ, unsigned_abs, refl, sym, ◌∙◌, ap, subst, arith, eqb-true, eq-eqb}
 use Rattle.std.specs.List.{list_any, list_all, filter_map, cons_option, find}
 use Rattle.std.proofs.lemmas.Bool.{and_parts}
@@ -55,6 +56,7 @@ whole_pos a k is = go (a % 1000000 == 0) refl is
     go true e is = let same : a / 1000000 ≡ k = cc in let none : a % 1000000 ≡ 0 = eqb-true _ _ e in omega (arith, same, none)
     go false e is = absurd (cc)
 
+-- a number below 0 is no code
 whole_neg : (a k : ℕ) → natural (whole_of (negsuc a)) ≡ Some k → ⊥
 whole_neg a k is = go (suc a % 1000000) (suc a / 1000000) refl refl is
   where
@@ -66,11 +68,13 @@ whole_neg a k is = go (suc a % 1000000) (suc a / 1000000) refl refl is
         let some : (suc m == 0) ≡ false = grind (arith, nat_tests) in
         let no : natural None ≡ Some k = rw some at is in absurd (cc)
 
+-- a whole number that is written is so many millionths,
 written_whole : (w : Option ℤ) (k : ℕ) → whole_of_written w ≡ Some k → w ≡ Some (pos (k * 1000000))
 written_whole None k is = absurd (cc)
 written_whole (Some (pos a)) k is = ap (λ n. Some (pos n)) (whole_pos a k is)
 written_whole (Some (negsuc a)) k is = absurd (whole_neg a k is)
 
+-- and the other way round
 whole_written : (k : ℕ) → whole_of_written (Some (pos (k * 1000000))) ≡ Some k
 whole_written k =
     let none : (k * 1000000) % 1000000 ≡ 0 = omega arith in
@@ -82,18 +86,24 @@ abbrev agree : Bool → Bool → Bool
 agree true b = b
 agree false b = not b
 
+-- a row is of this kind; no row is not
 abbrev of_kind : (CodeKind → Bool) → Option Row → Bool
 of_kind is_kind None = false
 of_kind is_kind (Some row) = is_kind row.kind
 
+-- a number passes the test; no number does not
 abbrev of_number : (ℤ → Bool) → Option ℤ → Bool
 of_number p None = false
 of_number p (Some z) = p z
 
+-- this code is the one code of the kind in this system
 pub record IsKindOf (system : System) (is_kind : CodeKind → Bool) (code : ℕ) : Type 0 where
+  -- each row is of the kind just if it is of the code,
   pub alone : list_all (λ (row : Row). agree (is_kind row.kind) (row.code == code)) (rows_of_system system) ≡ true
+  -- and there is one
   pub there : of_kind is_kind (row_of (rows_of_system system) code) ≡ true
 
+-- so a G word is of the kind just if it is of that code
 kind_of_word : (system : System) (is_kind : CodeKind → Bool) (code : ℕ) → IsKindOf system is_kind code → (w : Option ℤ)
     → of_number (is_g (code * 1000000)) w ≡ of_kind is_kind (row_of_number system (whole_of_written w))
 kind_of_word system is_kind code of None = refl
@@ -144,15 +154,17 @@ same_kind system is_kind code of _ _ (one_more text word texts words is others) 
     go (Some z) None e rest = rw e rest
     go (Some z) (Some row) e rest = rw (e, rest) refl
 
+-- 65 is the code of a macro call,
 pub macro_is : (system : System) → IsKindOf system is_macro_call 65
 macro_is A = record { alone = refl; there = refl }
 macro_is B = record { alone = refl; there = refl }
 
+-- and 10 that of a setting
 pub setting_is : (system : System) → IsKindOf system is_setting 10
 setting_is A = record { alone = refl; there = refl }
 setting_is B = record { alone = refl; there = refl }
 
--- a dwell or a setting
+-- both readings see the same dwell or setting
 pub same_takes : (system : System) (texts : List Word) (words : List FlowWord) → AreSaid texts words
     → list_any (λ (t : Word). takes_p (row_of_word system t)) texts
     ≡ (list_any (λ (row : Row). is_dwell row.kind) (filter_map (row_of_read system) words)
@@ -186,16 +198,19 @@ record HasRow (system : System) (text : Word) : Type 0 where
   written : written text ≡ Some (pos (row.code * 1000000))
   passes : (q : Row → Bool) → list_all q (rows_of_system system) ≡ true → q row ≡ true
 
+-- a row that is found has its number
 number_row : (system : System) (n : Option ℕ) (row : Row) → row_of_number system n ≡ Some row → n ≡ Some row.code
 number_row system None row e = absurd (cc)
 number_row system (Some k) row e =
     ap Some (sym (row_passes system (λ _. true) k row e (in_each (λ _. true) refl refl system)).0)
 
+-- and passes what all rows pass
 row_passes_all : (system : System) (n : Option ℕ) (row : Row) → row_of_number system n ≡ Some row → (q : Row → Bool)
     → list_all q (rows_of_system system) ≡ true → q row ≡ true
 row_passes_all system None row e q all = absurd (cc)
 row_passes_all system (Some k) row e q all = (row_passes system q k row e all).1
 
+-- so a G word that is known has a row
 has_row : (system : System) (text : Word) (word : FlowWord) → IsSaid text word → is_computed word.value ≡ false
     → is_unknown_code system word ≡ false → HasRow system text
 has_row system text word is plain known = go (row_of_read system word) refl
@@ -224,6 +239,7 @@ no_such_g system p all _ _ (one_more text word texts words is others) known plai
     let not_this : p (pos (own.row.code * 1000000)) ≡ false = not_true _ (own.passes (λ (row : Row). not (p (pos (row.code * 1000000)))) all) in
     rw (own.written, not_this) (no_such_g system p all texts words others knows.1 plains.1)
 
+-- so each G word of the block has one
 pub each_has_row : (system : System) (texts : List Word) (words : List FlowWord) → AreSaid texts words → list_any (is_unknown_code system) words ≡ false
     → list_any (λ (w : FlowWord). is_computed w.value) words ≡ false → list_any (λ (t : Word). is_no_row (row_of_word system t)) texts ≡ false
 each_has_row system _ _ none known plain = refl

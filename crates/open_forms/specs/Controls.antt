@@ -1,4 +1,6 @@
--- The control of a block, read for its control alone.
+-- The control of a block, read for its control alone. The full reading's control is in
+-- block_forms.
+-- open_order and wait_verify use these words.
 use Rattle.std.specs.Prelude.{ℕ, List, Option, Some, None, Result, Ok, Err, codes}
 use Rattle.nc_number.specs.declared.cause.Cause.{Cause}
 use Rattle.nc_number.specs.Causes.{cause_number}
@@ -18,6 +20,7 @@ use Rattle.open_forms.specs.Codes.{m_codes, role_of}
 use Rattle.open_forms.specs.Refusals.{refusal_of}
 use Rattle.open_forms.specs.Statements.{control_of_statement}
 
+-- the repeats of a call: L, or once
 abbrev pub repeats_of : List Word → ℕ
 repeats_of words = or_number 1 (last_number (codes "L") words)
 
@@ -33,10 +36,12 @@ control_by Roughing dialect words = control.Goto (last_number (codes "Q") words)
 control_by Finishing dialect words = control.Next
 control_by Other dialect words = control.Next
 
+-- this control, or the refusal that holds
 abbrev pub with_refusal : Option Cause → Control → Result Control Cause
 with_refusal None c = Ok c
 with_refusal (Some cause) c = Err cause
 
+-- where a block of words leads, or the least refusal that holds of it
 abbrev pub control_of_words : Dialect → List Word → Result Control Cause
 control_of_words dialect words = with_refusal (refusal_of dialect words) (control_by (role_of dialect words) dialect words)
 
@@ -45,7 +50,7 @@ abbrev pub open_control : Dialect → Body → Result Control Cause
 open_control dialect (Words words) = control_of_words dialect words
 open_control dialect (Statement text) = control_of_statement text
 
--- what is answered: a refusal by its number
+-- the control, or the number of the refusal
 abbrev pub numbered : Result Control Cause → Result Control FormFault
 numbered (Ok control) = Ok control
 numbered (Err cause) = Err (record { number = cause_number cause })

@@ -1,3 +1,5 @@
+-- The words in which contracts speak of what a block does to the order of blocks, read for that
+-- alone. Other crates cite Words, Codes, Controls and Widening.
 pub mod Words
 pub mod Codes
 pub mod Refusals

@@ -1,5 +1,6 @@
 -- When a block of words is refused by the open reading: where its control can't be told, or is not
 -- of this profile.
+-- For this crate alone.
 use Rattle.std.specs.Prelude.{ℕ, Bool, true, false, not, ◌==◌, ◌&&◌, ◌||◌, nat_lt, nat_le, List, [], ◌∷◌, length, Option, Some, None, codes, if◌then◌else◌}
 use Rattle.std.specs.List.{list_any, list_all}
 use Rattle.nc_number.specs.declared.cause.Cause.{Cause}
@@ -42,6 +43,7 @@ is_not_fixed dialect words =
 abbrev pub is_parameter : ℕ → Bool
 is_parameter n = nat_le 50 n && nat_le n 52
 
+-- G10 (10,000,000 millionths) with such an L
 abbrev pub writes_parameters : List Word → Bool
 writes_parameters words = has_g 10000000 words && list_any is_parameter (numbers_of (codes "L") words)
 
@@ -49,6 +51,7 @@ writes_parameters words = has_g 10000000 words && list_any is_parameter (numbers
 abbrev pub row_of_word : System → Word → Option Row
 row_of_word system word = row_of_number system (number word)
 
+-- the system has no row for the word
 abbrev pub is_no_row : Option Row → Bool
 is_no_row None = true
 is_no_row (Some row) = false
@@ -71,6 +74,7 @@ is_unknown_by MacroCall dialect words = not (begins_macro_call dialect.system wo
 is_unknown_by role dialect words =
     (list_any is_refused_g (g_values words) || list_any (is_refused_m dialect) (m_codes words)) || writes_parameters words
 
+-- the block's P and Q name the lines of a contour
 abbrev pub is_contour : Role → Bool
 is_contour Roughing = true
 is_contour Finishing = true
@@ -83,6 +87,7 @@ is_crowded Return system words = not (is_beside_a_call system words)
 is_crowded End system words = is_contour (cycle_of words)
 is_crowded role system words = false
 
+-- 56: a code that may lead elsewhere, or words that may say more of a call, by the block's role
 abbrev pub is_unknown : Dialect → List Word → Bool
 is_unknown dialect words =
     is_unknown_by (role_of dialect words) dialect words || is_crowded (role_of dialect words) dialect.system words
@@ -107,20 +112,24 @@ abbrev pub has_two_m : List Word → Bool
 has_two_m words =
     not (is_macro words) && nat_lt 1 (length (words_of (codes "M") words)) && list_any is_lone_m (m_codes words)
 
--- 61: a call without its program, repeats twice over, L of a return, P of a dwell or an offset
--- beside a call, half a contour a dwell and the setting of an offset have a P of their own
+-- the row is of a dwell or the setting of an offset, which has a P of its own
 abbrev pub takes_p : Option Row → Bool
 takes_p None = false
 takes_p (Some row) = is_dwell row.kind || is_setting row.kind
 
+-- a G word of the block takes the P
 abbrev pub uses_p : System → List Word → Bool
 uses_p system words = list_any (λ word. takes_p (row_of_word system word)) (words_of (codes "G") words)
 
+-- one P, one Q and one G word stand there
 abbrev pub is_one_contour : List Word → Bool
 is_one_contour words =
     (length (words_of (codes "P") words) == 1 && length (words_of (codes "Q") words) == 1)
     && length (words_of (codes "G") words) == 1
 
+-- By the role: a macro call needs P; a call of a subprogram needs it and has its repeats once; a
+-- return has no L; a contour has one P, one Q and one G. Beside a call or a return no other G code
+-- takes the P.
 abbrev pub is_bad_call_by : Role → System → List Word → Bool
 is_bad_call_by MacroCall system words = not (has (codes "P") words)
 is_bad_call_by Subprogram system words =
@@ -131,20 +140,24 @@ is_bad_call_by Roughing system words = not (is_one_contour words)
 is_bad_call_by Finishing system words = not (is_one_contour words)
 is_bad_call_by role system words = false
 
+-- 61: the call, return or contour of the block is a bad one, by its role
 abbrev pub is_bad_call : Dialect → List Word → Bool
 is_bad_call dialect words = is_bad_call_by (role_of dialect words) dialect.system words
 
--- 64: an M code that is none; the P, L or Q of a call, a return or a contour out of its range
+-- a number is there, and lies from the one to the other
 abbrev pub is_within : ℕ → ℕ → Option ℕ → Bool
 is_within least greatest None = false
 is_within least greatest (Some n) = nat_le least n && nat_le n greatest
 
+-- the word writes a whole number from the one to the other
 abbrev pub is_in : ℕ → ℕ → Word → Bool
 is_in least greatest word = is_within least greatest (number word)
 
+-- each word of these letters writes a whole number from the one to the other
 abbrev pub are_in : ℕ → ℕ → List ℕ → List Word → Bool
 are_in least greatest letters words = list_all (is_in least greatest) (words_of letters words)
 
+-- the P, L and Q of a call, a return or a contour are in their range
 abbrev pub is_in_range_by : Role → List Word → Bool
 is_in_range_by MacroCall words = are_in 1 9999 (codes "PL") words
 is_in_range_by Subprogram words = are_in 1 99999999 (codes "P") words && are_in 1 9999 (codes "L") words
@@ -153,12 +166,14 @@ is_in_range_by Roughing words = are_in 1 99999 (codes "PQ") words
 is_in_range_by Finishing words = are_in 1 99999 (codes "PQ") words
 is_in_range_by role words = true
 
+-- 64: an M code that is none; or P, L or Q out of range, by the block's role
 abbrev pub is_out_of_range : Dialect → List Word → Bool
 is_out_of_range dialect words =
     not (is_in_range_by (role_of dialect words) words)
     || (not (is_macro words) && not (are_in 0 99999999 (codes "M") words))
 
--- of several the one of the least number
+-- the refusal that holds of the block; of several the one of the least number, so the tests stand
+-- in that order
 abbrev pub refusal_of : Dialect → List Word → Option Cause
 refusal_of dialect words =
     if is_long dialect words then Some TooManyDigits

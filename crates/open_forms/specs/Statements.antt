@@ -1,5 +1,6 @@
 -- What a statement does to the order of blocks, where neither its condition nor what it assigns is
 -- looked into.
+-- For this crate alone.
 use Rattle.std.specs.Prelude.{ℕ, zero, suc, ◌-◌, Bool, false, not, ◌==◌, ◌&&◌, ◌||◌, nat_le, List, [], ◌∷◌, Option, Some, None, is_some, Result, Ok, Err, codes, if◌then◌else◌}
 use Rattle.nc_number.specs.declared.cause.Cause.{Cause}
 use Rattle.nc_number.specs.declared.cause.Cause.TheVariants.{TooManyDigits, BadExpression, BadCondition, BadLoopNumber, WordRange}
@@ -17,7 +18,8 @@ abbrev pub closed : ℕ → List ℕ → Option (List ℕ) → Option (List ℕ)
 closed zero rest deeper = Some rest
 closed (suc n) rest deeper = deeper
 
--- the text behind the bracket that closes the first one, where so many are open besides
+-- the text behind the bracket that closes the first one, where so many are open besides (91 is [,
+-- 93 is ])
 unfoldable pub behind_close : ℕ → List ℕ → Option (List ℕ)
 behind_close n [] = None
 behind_close n (b ∷ bs) =
@@ -25,19 +27,21 @@ behind_close n (b ∷ bs) =
     else if b == 93 then closed n bs (behind_close (n - 1) bs)
     else behind_close n bs
 
--- the text behind a condition, which is not looked into
+-- the text behind a condition, which begins with [ (91) and is not looked into
 abbrev pub behind_condition : List ℕ → Option (List ℕ)
 behind_condition [] = None
 behind_condition (b ∷ bs) = if b == 91 then behind_close 0 bs else None
 
--- the M of MOD or of PRM
+-- the text begins with this word
 abbrev pub begins : List ℕ → List ℕ → Bool
 begins word text = is_some (behind word text)
 
+-- the M behind two bytes is that of PRM (80 and 82 are P and R), or of MOD
 abbrev pub is_own_m : ℕ → ℕ → List ℕ → Bool
 is_own_m two one rest = (two == 80 && one == 82) || begins (codes "OD") rest
 
--- A G or M word may hide in the text, before which these two bytes stand: a G, or another M.
+-- A G or M word may hide in the text, before which these two bytes stand: a G (71), or an M (77)
+-- that isn't that of MOD or PRM.
 unfoldable pub hides_word : ℕ → ℕ → List ℕ → Bool
 hides_word two one [] = false
 hides_word two one (b ∷ bs) = (b == 71 || (b == 77 && not (is_own_m two one bs))) || hides_word one b bs
@@ -46,34 +50,39 @@ hides_word two one (b ∷ bs) = (b == 71 || (b == 77 && not (is_own_m two one bs
 abbrev pub assignment : List ℕ → Result Control Cause
 assignment text = if hides_word 0 0 text then Err BadExpression else Ok control.Next
 
--- the target of a jump: digits; or a variable or an expression, whose number may be any
+-- a sequence number that is written out is 0 to 99,999
 abbrev pub in_range : Option ℕ → Result Control Cause
 in_range None = Err BadExpression
 in_range (Some n) = if nat_le n 99999 then Ok (control.Goto (Some n)) else Err WordRange
 
+-- a target that is written out: a whole number in its range
 abbrev pub fixed_target : Result Literal NumberFault → Result Control Cause
 fixed_target (Err fault) = Err TooManyDigits
 fixed_target (Ok literal) = in_range (natural (whole_of literal.value))
 
+-- the text begins with # (35) or [ (91)
 abbrev pub is_computed : List ℕ → Bool
 is_computed [] = false
 is_computed (b ∷ bs) = b == 35 || b == 91
 
+-- the target of a jump, which is computed, written out, or none
 abbrev pub target : List ℕ → Result Control Cause
 target text =
     if is_computed text then Ok (control.Goto None)
     else if is_literal text && all_digits text then fixed_target (word_literal text)
     else Err BadExpression
 
--- the number of a loop: 1, 2 or 3
+-- the number of a loop: one digit, 1, 2 or 3 (49 to 51 in ASCII)
 abbrev pub number_of_loop : List ℕ → Option ℕ
 number_of_loop (b ∷ []) = if nat_le 49 b && nat_le b 51 then Some (b - 48) else None
 number_of_loop other = None
 
+-- the control of a loop of this number; else the refusal 24, as there is no such loop
 abbrev pub loop_of : (ℕ → Control) → Option ℕ → Result Control Cause
 loop_of kind None = Err BadLoopNumber
 loop_of kind (Some name) = Ok (kind name)
 
+-- the control of the loop whose number the text writes, or refusal 24
 abbrev pub loop_number : (ℕ → Control) → List ℕ → Result Control Cause
 loop_number kind text = loop_of kind (number_of_loop text)
 
@@ -83,14 +92,17 @@ jump_or_assignment (Some rest) other = target rest
 jump_or_assignment None (Some rest) = assignment rest
 jump_or_assignment None None = Err BadExpression
 
+-- IF: a condition, and then a jump or an assignment
 abbrev pub behind_if : Option (List ℕ) → Result Control Cause
 behind_if None = Err BadCondition
 behind_if (Some rest) = jump_or_assignment (behind (codes "GOTO") rest) (behind (codes "THEN#") rest)
 
+-- behind WHILE and its condition stands DO and a number
 abbrev pub loop_or_none : Option (List ℕ) → Result Control Cause
 loop_or_none None = Err BadExpression
 loop_or_none (Some rest) = loop_number control.While rest
 
+-- WHILE: a condition, and then DO and a number
 abbrev pub behind_while : Option (List ℕ) → Result Control Cause
 behind_while None = Err BadCondition
 behind_while (Some rest) = loop_or_none (behind (codes "DO") rest)
@@ -104,6 +116,7 @@ pub record Heads : Type 0 where
   pub plain_loop : Option (List ℕ)
   pub close : Option (List ℕ)
 
+-- what stands behind each keyword that the text begins with
 abbrev pub heads : List ℕ → Heads
 heads text = record {
   assignment = behind (codes "#") text;
@@ -114,26 +127,32 @@ heads text = record {
   close = behind (codes "END") text;
 }
 
+-- a statement that begins with END, or with no keyword at all
 abbrev pub by_close : Option (List ℕ) → Result Control Cause
 by_close (Some rest) = loop_number control.EndLoop rest
 by_close None = Err BadExpression
 
+-- one that begins with DO, or with a keyword that is tried later
 abbrev pub by_plain_loop : Option (List ℕ) → Heads → Result Control Cause
 by_plain_loop (Some rest) h = loop_number control.Do rest
 by_plain_loop None h = by_close h.close
 
+-- one that begins with WHILE, or with a keyword that is tried later
 abbrev pub by_loop : Option (List ℕ) → Heads → Result Control Cause
 by_loop (Some rest) h = behind_while (behind_condition rest)
 by_loop None h = by_plain_loop h.plain_loop h
 
+-- one that begins with IF, or with a keyword that is tried later
 abbrev pub by_test : Option (List ℕ) → Heads → Result Control Cause
 by_test (Some rest) h = behind_if (behind_condition rest)
 by_test None h = by_loop h.loop h
 
+-- one that begins with GOTO, or with a keyword that is tried later
 abbrev pub by_jump : Option (List ℕ) → Heads → Result Control Cause
 by_jump (Some rest) h = target rest
 by_jump None h = by_test h.test h
 
+-- one that begins with #, or with a keyword that is tried later
 abbrev pub by_assignment : Option (List ℕ) → Heads → Result Control Cause
 by_assignment (Some rest) h = assignment rest
 by_assignment None h = by_jump h.jump h

@@ -1,4 +1,5 @@
 -- When the open reading of a block must lead where its full reading does.
+-- wait_verify uses these words.
 use Rattle.std.specs.Prelude.{◌≡◌, false, Bool, not, ◌&&◌, List, [], ◌∷◌, Ok}
 use Rattle.std.specs.List.{list_any}
 use Rattle.line_text.specs.declared.body.Word.{Word}
@@ -16,6 +17,7 @@ use Rattle.open_forms.specs.Controls.{open_control}
 abbrev pub names_interrupt : Dialect → List Word → Bool
 names_interrupt dialect words = not (is_macro words) && list_any (is_refused_m dialect) (m_codes words)
 
+-- the body names one; a statement never does
 abbrev pub has_interrupt : Dialect → Body → Bool
 has_interrupt dialect (Words words) = names_interrupt dialect words
 has_interrupt dialect (Statement text) = false
@@ -25,11 +27,12 @@ abbrev pub IsClean : Body → Type 0
 IsClean (Words words) = Unit {0}
 IsClean (Statement text) = cleaned false text ≡ text
 
--- the same of each block of a tape
+-- each block of a tape is clean
 abbrev pub AreClean : List Block → Type 0
 AreClean [] = Unit {0}
 AreClean (block ∷ blocks) = IsClean block.body × AreClean blocks
 
+-- each program of a tape is clean
 abbrev pub IsCleanTape : List Program → Type 0
 IsCleanTape [] = Unit {0}
 IsCleanTape (program ∷ programs) = AreClean program.blocks × IsCleanTape programs

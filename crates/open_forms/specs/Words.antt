@@ -1,5 +1,6 @@
 -- The words of a block as they stand on the tape, of which only those are read that its control
 -- hangs on.
+-- open_order and wait_verify use these words.
 use Rattle.std.specs.Prelude.{ℕ, Bool, not, ◌&&◌, List, Option, Some, None, ℤ, filter, if◌then◌else◌}
 use Rattle.std.specs.List.{list_any, filter_map}
 use Rattle.nc_number.specs.Arithmetic.{whole_of}
@@ -22,6 +23,7 @@ has letters words = list_any (λ word. is_one_of letters word.letter) words
 abbrev pub written : Word → Option ℤ
 written word = if is_literal word.text then value_of_literal (word_literal word.text) else None
 
+-- a whole number that is written out, if it is none below 0
 abbrev pub whole_of_written : Option ℤ → Option ℕ
 whole_of_written None = None
 whole_of_written (Some micro) = natural (whole_of micro)
@@ -34,6 +36,7 @@ number word = whole_of_written (written word)
 abbrev pub numbers_of : List ℕ → List Word → List ℕ
 numbers_of letters words = filter_map number (words_of letters words)
 
+-- the number of the last word, if there is one
 abbrev pub number_of_last : Option Word → Option ℕ
 number_of_last None = None
 number_of_last (Some word) = number word

@@ -1,4 +1,5 @@
-//! The G and M codes of a block, as numbers alone.
+//! The G and M codes of a block, as numbers alone. Words by their letters are in letters.rt.
+//! For this crate alone: controls.rt and refusals.rt use it.
 ghost use Rattle.std.specs.Prelude.{◌≡◌};
 ghost use Rattle.block_words.specs.Codes.{first_waiting};
 ghost use Rattle.open_forms.specs.Codes.{is_g, has_g, leads_elsewhere, is_refused_g, m_codes, has_m, has_wait, is_refused_m, is_lone_m, is_roughing, has_contour, cycle_of, role_of};

@@ -1,4 +1,5 @@
-//! What a block does to the order of blocks.
+//! What a block does to the order of blocks. A statement's control is in statement.rt.
+//! For this crate alone: reading.rt uses it.
 ghost use Rattle.std.specs.Prelude.{◌≡◌, ◌≤◌, IfSome, None};
 ghost use Rattle.block_forms.specs.Controls.{or_number, call_of_p, back_to, wait_at};
 ghost use Rattle.open_forms.specs.Words.{last_number};

@@ -1,4 +1,6 @@
-//! What the open reading has to do with the full one.
+//! What the open reading has to do with the full one. Each is the contract of a function that does
+//! nothing: who calls it has the law.
+//! wait_verify uses them.
 ghost use Rattle.std.specs.Prelude.{◌≡◌, ℕ, List, Ok};
 ghost use Rattle.nc_text.specs.declared.tape.Block.{Block};
 ghost use Rattle.nc_text.specs.declared.tape.Program.{Program};

@@ -1,4 +1,5 @@
-//! The words of a block by their letters.
+//! The words of a block by their letters. What their codes mean is in codes.rt.
+//! open_order uses what it exports.
 ghost use Rattle.std.specs.Prelude.{◌≡◌, ◌≤◌, ◌&&◌, not, IfSome, length, if◌then◌else◌};
 ghost use Rattle.nc_number.specs.Literals.{is_literal, has_too_many_digits};
 ghost use Rattle.block_words.specs.Words.{is_one_of};

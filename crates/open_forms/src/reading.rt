@@ -1,4 +1,6 @@
-//! A block, read for its control alone.
+//! A block, read for its control alone. Its words are read by controls.rt, its statement by
+//! statement.rt.
+//! open_order uses what it exports.
 ghost use Rattle.std.specs.Prelude.{◌≡◌};
 ghost use Rattle.open_forms.specs.Controls.{open_control, numbered};
 

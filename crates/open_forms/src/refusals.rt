@@ -1,4 +1,5 @@
 //! The conditions that refuse a block which leads somewhere.
+//! For this crate alone: controls.rt uses it.
 ghost use Rattle.std.specs.Prelude.{◌≡◌, codes};
 ghost use Rattle.std.specs.List.{list_any, list_all};
 ghost use Rattle.block_words.specs.Words.{is_one_of};

@@ -1,4 +1,5 @@
 //! A statement, of which neither the condition nor what it assigns is looked into.
+//! For this crate alone: reading.rt uses it.
 ghost use Rattle.std.specs.Prelude.{◌≡◌};
 ghost use Rattle.std.specs.Option.{option_map};
 ghost use Rattle.nc_number.specs.Literals.{all_digits};

@@ -1,5 +1,6 @@
 -- If reading a tape ends at a block, that block is the first one that is refused, and every other
 -- one stands after it.
+-- `the_first_refused_block_has_the_least_line` (src/laws.rt) rests on it.
 use Rattle.std.proofs.Common.{◌≡◌, ℕ, ◌≤◌, Bool, List, [], ◌∷◌, ◌++◌, map, refl, ap, sym, ◌∙◌, arith, Option, Some, None, Result, Ok, Err, All, Contains}
 use Rattle.std.proofs.lemmas.List.Elements.{All-nil, All-cons, All-weaker, All-contains, Contains-append_left, Contains-append_right, Contains-push}
 use Rattle.nc_number.specs.Results.{◌>>=◌}
@@ -24,6 +25,7 @@ abbrev pub first_refusal : Basis → List Block → Option FlowFault
 first_refusal basis [] = None
 first_refusal basis (block ∷ blocks) = refusal_or (block_read basis block) (first_refusal basis blocks)
 
+-- reading blocks refuses the first of them that is refused
 blocks_tell : (basis : Basis) (blocks more : List Block) (done : List ControlBlock)
     → Tells (blocks_from basis done blocks) (first_refusal basis (blocks ++ more)) (first_refusal basis more)
 blocks_tell basis [] more done = refl
@@ -32,6 +34,7 @@ blocks_tell basis (block ∷ blocks) more done =
     (first_refusal basis (blocks ++ more)) (first_refusal basis more)
     (λ own. blocks_tell basis blocks more (done ++ own ∷ []))
 
+-- reading the programs of a tape refuses the first block that is refused
 programs_tell : (basis : Basis) (tape : List Program) (done : List ControlProgram)
     → Tells (programs_from basis done tape) (first_refusal basis (blocks_in tape)) None
 programs_tell basis [] done = refl
@@ -50,6 +53,7 @@ line_at gone block (Ok control) fault is = absurd cc
 line_at gone block (Err own) fault is =
     let same : record { number = own.number; line = block.line } ≡ fault = cc in ap (λ (f : FlowFault). f.line) same
 
+-- a refusal has the line of its block
 line_of_refusal : (basis : Basis) (block : Block) (fault : FlowFault) → block_read basis block ≡ Err fault
     → block.line ≡ fault.line
 line_of_refusal basis block fault is =
@@ -59,6 +63,7 @@ line_of_refusal basis block fault is =
 abbrev pub IsNoEarlier : Basis → FlowFault → Block → Type 0
 IsNoEarlier basis fault block = (other : FlowFault) → block_read basis block ≡ Err other → fault.line ≤ block.line
 
+-- a block that is refused, before others at no lower line, is refused at the least line
 least_at : (basis : Basis) (block : Block) (blocks : List Block) (fault : FlowFault) (read : Result ControlBlock FlowFault)
     → block_read basis block ≡ read → refusal_or read (first_refusal basis blocks) ≡ Some fault
     → All (λ other. block.line ≤ other.line) blocks
@@ -74,6 +79,7 @@ least_at basis block blocks fault (Err own) is first later rest =
     (All-weaker (λ other. block.line ≤ other.line) (IsNoEarlier basis fault)
     (λ other behind fault' refused. omega (arith, here, behind)) blocks later)
 
+-- the first refused block of rising lines has the least line of all that are refused
 least : (basis : Basis) (blocks : List Block) (low : ℕ) (fault : FlowFault) → first_refusal basis blocks ≡ Some fault
     → RiseFrom low (map (λ block. block.line) blocks) → All (IsNoEarlier basis fault) blocks
 least basis [] low fault first rise = All-nil (IsNoEarlier basis fault)
@@ -85,6 +91,7 @@ least basis (block ∷ blocks) low fault first rise =
 abbrev pub IsThere : Basis → List Block → FlowFault → Type 0
 IsThere basis blocks fault = (block : Block) × Contains blocks block × (block_read basis block ≡ Err fault)
 
+-- the block that is refused is among them, if it is the first or among the rest
 there_at : (basis : Basis) (block : Block) (blocks : List Block) (fault : FlowFault) (read : Result ControlBlock FlowFault)
     → block_read basis block ≡ read → refusal_or read (first_refusal basis blocks) ≡ Some fault
     → (first_refusal basis blocks ≡ Some fault → IsThere basis blocks fault) → IsThere basis (block ∷ blocks) fault
@@ -94,6 +101,7 @@ there_at basis block blocks fault (Err own) is first rest =
     let same : own ≡ fault = cc in
     (block, Contains-append_left (block ∷ []) blocks block (Contains-push [] block), is ∙ ap (λ f. Err f) same)
 
+-- the block that is refused is among them
 there : (basis : Basis) (blocks : List Block) (fault : FlowFault) → first_refusal basis blocks ≡ Some fault
     → IsThere basis blocks fault
 there basis [] fault first = absurd cc

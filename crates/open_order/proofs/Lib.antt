@@ -1,3 +1,4 @@
+-- What proves the clauses of this crate. No other crate takes any of it.
 pub mod Listed
 pub mod Refused
 pub mod Within

@@ -1,5 +1,6 @@
 -- The programs of a tape that was read stand in the text as the tape does: as many, on the same
 -- lines, of as many blocks.
+-- `open_order` (src/ordering.rt) rests on it.
 use Rattle.std.proofs.Common.{◌≡◌, ℕ, ◌+◌, Bool, List, [], ◌∷◌, ◌++◌, length, map, refl, ap, sym, ◌∙◌, arith, Result, Ok, Err, IfOk, append_assoc, length-append, subst}
 use Rattle.std.proofs.lemmas.List.{map-append, length-map, append-nil}
 use Rattle.std.proofs.lemmas.Grind.{flat_map-append}
@@ -19,18 +20,22 @@ use Rattle.tape_flow.proofs.Listed.{bound, text_lines}
 use Rattle.open_order.specs.declared.premises.Premises.{Premises}
 use Rattle.open_order.specs.Reading.{Basis, gone_from, at_line, block_read, blocks_from, program_read, programs_from, programs_read}
 
+-- a control that is read has the line of its block
 line_kept_at : (gone : ℕ → Bool) (block : Block) (read : Result Control FormFault)
     → IfOk (at_line gone block read) (λ c. c.line ≡ block.line)
 line_kept_at gone block (Ok control) = refl
 line_kept_at gone block (Err fault) = tt
 
+-- a block that is read keeps its line
 line_kept : (basis : Basis) (block : Block) → IfOk (block_read basis block) (λ c. c.line ≡ block.line)
 line_kept basis block =
     line_kept_at (gone_from basis) block (numbered (open_control basis.premises.dialect block.body))
 
+-- the lines of blocks that are read
 abbrev control_lines : List ControlBlock → List ℕ
 control_lines blocks = map (λ block. block.line) blocks
 
+-- one more block leaves the lines of what is read and of the rest together
 one_line_more : (done : List ControlBlock) (read : ControlBlock) (block : Block) (blocks : List Block) (whole : List ℕ)
     → read.line ≡ block.line → control_lines done ++ text_lines (block ∷ blocks) ≡ whole
     → control_lines (done ++ read ∷ []) ++ text_lines blocks ≡ whole
@@ -41,6 +46,7 @@ one_line_more done read block blocks whole same is =
       same,
     ) is
 
+-- the blocks that are read have the lines of those of the text
 blocks_kept : (basis : Basis) (blocks : List Block) (done : List ControlBlock) (whole : List ℕ)
     → control_lines done ++ text_lines blocks ≡ whole
     → IfOk (blocks_from basis done blocks) (λ read. control_lines read ≡ whole)
@@ -55,6 +61,7 @@ record IsLike (program : Program) (read : ControlProgram) : Type 0 where
   line : read.line ≡ program.line
   lines : control_lines read.blocks ≡ text_lines program.blocks
 
+-- a program that is read stands in the text as the program does
 program_kept : (basis : Basis) (program : Program) → IfOk (program_read basis program) (IsLike program)
 program_kept basis program =
     bound (blocks_from basis [] program.blocks)
@@ -63,10 +70,12 @@ program_kept basis program =
     (blocks_kept basis program.blocks [] (text_lines program.blocks) refl)
     (λ read same. record { line = refl; lines = same })
 
+-- a program that is read has the lines of that of the text
 lines_like : (program : Program) (read : ControlProgram) → IsLike program read
     → order.lines_of_program read ≡ tape.lines_of_program program
 lines_like program read like = rw (like.lines, like.line) refl
 
+-- a program that is read has as many blocks as that of the text
 count_like : (program : Program) (read : ControlProgram) → IsLike program read → length read.blocks ≡ length program.blocks
 count_like program read like =
     sym (length-map read.blocks (λ b. b.line)) ∙ ap length like.lines ∙ length-map program.blocks (λ block. block.line)
@@ -78,6 +87,7 @@ record IsSplit (done : List ControlProgram) (rest : List Program) (lines : List 
   blocks_are : length (order.blocks_in done) + length (tape.blocks_in rest) ≡ blocks
   programs_are : length done + length rest ≡ programs
 
+-- one more program leaves what is read and the rest together
 split_more : (done : List ControlProgram) (read : ControlProgram) (program : Program) (rest : List Program) (lines : List ℕ)
     (blocks programs : ℕ) → IsLike program read → IsSplit done (program ∷ rest) lines blocks programs
     → IsSplit (done ++ read ∷ []) rest lines blocks programs
@@ -104,6 +114,7 @@ split_more done read program rest lines blocks programs like split =
       programs_are = rw (length-append done (read ∷ [])) (omega (arith, split.programs_are));
     }
 
+-- the programs that are read have the lines, blocks and programs of the text
 programs_kept : (basis : Basis) (rest : List Program) (done : List ControlProgram) (lines : List ℕ) (blocks programs : ℕ)
     → IsSplit done rest lines blocks programs
     → IfOk (programs_from basis done rest) (λ read. IsSplit read [] lines blocks programs)

@@ -1,4 +1,5 @@
 -- What follows for a tape from the refusal of a part.
+-- `open_order` (src/ordering.rt) rests on it.
 use Rattle.std.proofs.Common.{◌≡◌, List, Ok}
 use Rattle.nc_number.specs.declared.fault.Failing.{Failing}
 use Rattle.nc_number.specs.declared.fault.Failing.TheVariants.{Fault, NoMemory}
@@ -12,13 +13,13 @@ use Rattle.open_order.specs.declared.premises.Premises.{Premises}
 use Rattle.open_order.specs.Reading.{programs_read}
 use Rattle.open_order.specs.Exact.{IsRefused, block as by_block, order as by_order}
 
--- a tape of which a block does not read
+-- a tape with a block that does not read is refused for that block
 pub refused_by_reading : (premises : Premises) (tape : List Program) (error : Failing FlowFault)
     → Fails error (programs_read premises tape) → IfFault error (λ fault. IsRefused premises tape fault.line fault.number)
 refused_by_reading premises tape (Fault fault) failed = by_block failed
 refused_by_reading premises tape NoMemory failed = tt
 
--- and if all blocks read, one whose order has a fault
+-- a tape whose blocks read, and whose order has a fault, is refused for that fault
 pub refused_by_order : (premises : Premises) (tape : List Program) (order : List ControlProgram) (error : Failing FlowFault)
     → programs_read premises tape ≡ Ok order → IfFault error (λ fault. IsOrderFault order fault.line fault.number)
     → IfFault error (λ fault. IsRefused premises tape fault.line fault.number)

@@ -1,4 +1,5 @@
 -- Where the searches of a contour lead, and how many blocks a program has.
+-- `contour_cause`, `contour_fault` and `fault_from` (src/cycles.rt) rest on it.
 use Rattle.std.proofs.Common.{◌≡◌, ℕ, ◌<◌, ◌≤◌, ◌==◌, Bool, true, false, cond, List, [], ◌∷◌, length, Option, Some, None, IfSome, All, sym, arith, length-append}
 use Rattle.std.proofs.lemmas.List.Elements.{All-nil, All-cons}
 use Rattle.nc_text.specs.declared.tape.Program.{Program}

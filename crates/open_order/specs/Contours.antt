@@ -1,4 +1,6 @@
 -- The contours of the cycles G70 to G73: what is wrong with one, and the first fault of a tape.
+-- What its P and Q name is at the top. 50 and 65 are alarm numbers (docs/ERRORS.md).
+-- wait_verify takes it.
 use Rattle.std.specs.Prelude.{ℕ, suc, ◌-◌, Bool, true, false, not, ◌==◌, ◌&&◌, ◌||◌, nat_le, List, [], ◌∷◌, take, drop, Option, Some, None, ℤ, codes, if◌then◌else◌}
 use Rattle.std.specs.List.{list_any}
 use Rattle.nc_number.specs.declared.cause.Cause.{Cause}
@@ -35,6 +37,7 @@ is_macro_code (Some z) = is_g 65000000 z
 abbrev pub has_code : (Option ℤ → Bool) → List Word → Bool
 has_code is_it words = list_any (λ word. is_one_of (codes "G") word.letter && is_it (written word)) words
 
+-- the contour from the block numbered P to the one numbered Q, if both numbers are there
 abbrev pub contour_by : Option ℕ → Option ℕ → Option Contour
 contour_by (Some from) (Some to) = Some (record { from = from; to = to })
 contour_by _ _ = None
@@ -70,10 +73,12 @@ is_calm loud bs first last =
 abbrev pub last_block : List ControlBlock → Contour → ℕ → Option ℕ
 last_block bs contour first = if contour.from == contour.to then Some first else seek bs first contour.to
 
+-- the fault of a contour from this first to this last block, which may be missing
 abbrev pub fault_between : (ℕ → Bool) → List ControlBlock → ℕ → Option ℕ → Option Cause
 fault_between loud bs first None = Some NoSequence
 fault_between loud bs first (Some last) = if is_calm loud bs first last then None else Some BranchAtWait
 
+-- the fault of a contour from this first block, which may be missing
 abbrev pub fault_from : (ℕ → Bool) → List ControlBlock → Contour → Option ℕ → Option Cause
 fault_from loud bs contour None = Some NoSequence
 fault_from loud bs contour (Some first) = fault_between loud bs first (last_block bs contour first)
@@ -84,6 +89,7 @@ abbrev pub contour_cause : (ℕ → Bool) → List ControlBlock → ℕ → Opti
 contour_cause loud bs place None = None
 contour_cause loud bs place (Some contour) = fault_from loud bs contour (seek bs place contour.from)
 
+-- the fault with the line of the cycle
 abbrev pub fault_at : ℕ → Option Cause → Option FlowFault
 fault_at line None = None
 fault_at line (Some cause) = Some (record { number = cause_number cause; line = line })
@@ -92,6 +98,7 @@ fault_at line (Some cause) = Some (record { number = cause_number cause; line = 
 abbrev pub block_fault : (ℕ → Bool) → List ControlBlock → ℕ → Block → Option FlowFault
 block_fault loud bs place block = fault_at block.line (contour_cause loud bs place (contour_in block.body))
 
+-- the first fault if there is one, else the later
 abbrev pub or_later : Option FlowFault → Option FlowFault → Option FlowFault
 or_later (Some fault) later = Some fault
 or_later None later = later

@@ -1,4 +1,5 @@
 -- Which tapes have an order of waits, and the one refusal of every other tape.
+-- wait_verify leans on it.
 use Rattle.std.specs.Prelude.{◌≡◌, ℕ, List, Ok, Err, Some, None}
 use Rattle.nc_text.specs.declared.tape.Program.{Program}
 use Rattle.block_order.specs.declared.program.ControlProgram.{ControlProgram}
@@ -9,6 +10,7 @@ use Rattle.open_order.specs.declared.premises.Premises.{Premises}
 use Rattle.open_order.specs.Reading.{programs_read}
 use Rattle.open_order.specs.Contours.{contour_fault}
 
+-- a fault of this line and number
 abbrev pub refusal : ℕ → ℕ → FlowFault
 refusal line number = record { number = number; line = line }
 

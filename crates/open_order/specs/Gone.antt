@@ -1,4 +1,5 @@
 -- The programs that a tape may lack.
+-- For this crate alone.
 use Rattle.std.specs.Prelude.{ℕ, Bool, false, not, ◌==◌, ◌&&◌, nat_le, List, Option, Some, None}
 use Rattle.std.specs.List.{list_any}
 use Rattle.nc_text.specs.declared.tape.Program.{Program}

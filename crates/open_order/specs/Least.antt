@@ -1,4 +1,4 @@
--- That the refusal of a tape's blocks is the one of the least line.
+-- That the refusal of a tape's blocks is the one of the least line. The law of src/laws.rt says it.
 use Rattle.std.specs.Prelude.{◌≡◌, ℕ, ◌≤◌, List, Err, Contains}
 use Rattle.nc_text.specs.declared.tape.Block.{Block}
 use Rattle.nc_text.specs.declared.tape.Program.{Program}
@@ -8,6 +8,7 @@ use Rattle.open_order.specs.declared.premises.Premises.{Premises}
 use Rattle.open_order.specs.Reading.{Basis, block_read}
 use Rattle.open_order.specs.Exact.{refusal}
 
+-- what a block of this tape is read over
 abbrev pub basis_of : Premises → List Program → Basis
 basis_of premises tape = record { premises = premises; tape = tape }
 

@@ -1,4 +1,5 @@
 -- The blocks of a tape, each read for its control alone, or the first of them that is refused.
+-- wait_verify takes `programs_read`.
 use Rattle.std.specs.Prelude.{ℕ, Bool, List, [], ◌∷◌, ◌++◌, Result, Ok, Err, if◌then◌else◌}
 use Rattle.nc_number.specs.Results.{◌>>=◌}
 use Rattle.nc_text.specs.declared.tape.Block.{Block}
@@ -18,6 +19,7 @@ abbrev pub settled : (ℕ → Bool) → Control → Control
 settled gone (Call program repeats) = if gone program then Next else Call program repeats
 settled gone other = other
 
+-- what a block says, at its line: its control, or why it is refused
 abbrev pub at_line : (ℕ → Bool) → Block → Result Control FormFault → Result ControlBlock FlowFault
 at_line gone block (Ok control) =
     Ok (record { line = block.line; sequence = block.sequence; control = settled gone control })
@@ -28,6 +30,7 @@ pub record Basis : Type 0 where
   pub premises : Premises
   pub tape : List Program
 
+-- the tape lacks the program of this number, as it may
 abbrev pub gone_from : Basis → ℕ → Bool
 gone_from basis number = is_gone basis.premises.outside basis.tape number
 
@@ -43,11 +46,13 @@ blocks_from basis done (block ∷ blocks) = do
   read ← block_read basis block
   blocks_from basis (done ++ read ∷ []) blocks
 
+-- a program with its blocks read, or the first refusal
 abbrev pub program_read : Basis → Program → Result ControlProgram FlowFault
 program_read basis program = do
   blocks ← blocks_from basis [] program.blocks
   Ok (record { number = program.number; line = program.line; blocks = blocks })
 
+-- the programs after those that are read, or the first refusal
 abbrev pub programs_from : Basis → List ControlProgram → List Program → Result (List ControlProgram) FlowFault
 programs_from basis done [] = Ok done
 programs_from basis done (program ∷ programs) = do

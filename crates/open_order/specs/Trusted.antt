@@ -1,5 +1,6 @@
 -- What is taken on trust: codes that this control does not know in the system of the tape and that
 -- are taken to go on, and calls of programs that the tape lacks.
+-- wait_verify, lathe_calls and lathe_top take `TrustView` and `with_tape`.
 use Rattle.std.specs.Prelude.{ℕ, Bool, true, false, not, ◌==◌, ◌&&◌, ◌||◌, nat_le, List, [], ◌∷◌, Option, Some, None, ℤ, pos, negsuc, Result, Ok, Err, if◌then◌else◌}
 use Rattle.std.specs.Ordering.{nat_cmp}
 use Rattle.std.specs.BTreeSet.{insert_key}
@@ -29,9 +30,11 @@ pub record TrustView : Type 0 where
   pub auxiliary : List ℕ
   pub programs : List ℕ
 
+-- nothing is taken on trust
 abbrev pub no_trust : TrustView
 no_trust = record { geometry = []; auxiliary = []; programs = [] }
 
+-- the list has nothing
 abbrev pub is_none : List ℕ → Bool
 is_none [] = true
 is_none (x ∷ xs) = false
@@ -47,7 +50,8 @@ with_code trust (Some (Geometry micro)) = record trust { geometry = insert_key n
 with_code trust (Some (Auxiliary code)) = record trust { auxiliary = insert_key nat_cmp trust.auxiliary code }
 with_code trust (Some (Subprogram number)) = record trust { programs = insert_key nat_cmp trust.programs number }
 
--- stops, ends, the spindle, coolant, and calls: none of them is ever made a call on a machine
+-- M00 to M05, M08, M09, M30, M98 and M99: stops, ends, the spindle, coolant, and calls. None of
+-- them is ever made a call on a machine.
 abbrev pub is_standard_m : ℕ → Bool
 is_standard_m code = (nat_le code 5 || (code == 8 || code == 9)) || (code == 30 || (code == 98 || code == 99))
 
@@ -76,10 +80,12 @@ word_code dialect word =
     else if word.letter == 77 then auxiliary_code dialect (number word)
     else None
 
+-- the codes of these words besides
 abbrev pub with_words : Dialect → TrustView → List Word → TrustView
 with_words dialect trust [] = trust
 with_words dialect trust (word ∷ words) = with_words dialect (with_code trust (word_code dialect word)) words
 
+-- the codes of a block besides; a macro call and a statement have none
 abbrev pub with_body : Dialect → TrustView → Body → TrustView
 with_body dialect trust (Words words) = if has_code is_macro_code words then trust else with_words dialect trust words
 with_body dialect trust (Statement text) = trust
@@ -89,19 +95,23 @@ abbrev pub gone_call : (ℕ → Bool) → Control → Option Code
 gone_call gone (Call program repeats) = if gone program then Some (Subprogram program) else None
 gone_call gone other = None
 
+-- the program that a block of this control calls, if the tape lacks it
 abbrev pub called_outside : (ℕ → Bool) → Result Control FormFault → Option Code
 called_outside gone (Ok control) = gone_call gone control
 called_outside gone (Err fault) = None
 
+-- the codes of a block besides, and the program that it calls if the tape lacks it
 abbrev pub with_block : Basis → TrustView → Block → TrustView
 with_block basis trust block =
     with_code (with_body basis.premises.dialect trust block.body)
     (called_outside (gone_from basis) (numbered (open_control basis.premises.dialect block.body)))
 
+-- those of these blocks besides
 abbrev pub with_blocks : Basis → TrustView → List Block → TrustView
 with_blocks basis trust [] = trust
 with_blocks basis trust (block ∷ blocks) = with_blocks basis (with_block basis trust block) blocks
 
+-- those of these programs besides
 abbrev pub with_programs : Basis → TrustView → List Program → TrustView
 with_programs basis trust [] = trust
 with_programs basis trust (program ∷ programs) = with_programs basis (with_blocks basis trust program.blocks) programs

@@ -1,4 +1,5 @@
-//! The codes of a block that are taken on trust.
+//! The codes of a block that are taken on trust: G and M codes that this control does not know, and
+//! calls of programs that the tape lacks. What is kept of them is in trusting.rt.
 ghost use Rattle.std.specs.Prelude.{◌≡◌};
 ghost use Rattle.block_words.specs.Codes.{row_of_number};
 ghost use Rattle.open_forms.specs.Words.{number};
@@ -26,7 +27,8 @@ pub(crate) enum Code {
     Subprogram(u16),
 }
 
-/// A code that this control refuses is known by the machine alone, so it is taken on trust.
+/// Whether a row of the code table is one that this control runs. A code that it refuses is known
+/// by the machine alone, so it is taken on trust.
 fn is_own_row(row: Option<Row>) -> bool
     ensures { result ≡ is_own_row row }
 {
@@ -46,7 +48,7 @@ fn is_own(system: System, word: &Word) -> bool
     }
 }
 
-/// The G code of so many millionths.
+/// The G code of so many millionths, so 70500000 is G70.5. None below 0.
 fn geometry_code(micro: Option<i64>) -> Option<Code>
     ensures { result ≡ geometry_code micro }
 {
@@ -56,14 +58,14 @@ fn geometry_code(micro: Option<i64>) -> Option<Code>
     }
 }
 
-/// Stops, ends, the spindle, coolant, and calls.
+/// Whether an M code is one of the standard ones: stops, ends, the spindle, coolant, and calls.
 fn is_standard_m(code: u32) -> bool
     ensures { result ≡ is_standard_m code }
 {
     (code <= 5 || (code == 8 || code == 9)) || (code == 30 || (code == 98 || code == 99))
 }
 
-/// Waits and standard codes mean the same on every machine.
+/// An M code that is no wait and none of the standard ones. Those mean the same on every machine.
 fn auxiliary_code(dialect: &Dialect, code: Option<u32>) -> Option<Code>
     ensures { result ≡ auxiliary_code dialect.now code }
 {

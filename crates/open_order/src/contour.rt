@@ -1,4 +1,5 @@
-//! The contour of a cycle.
+//! The contour of a cycle G70 to G73: which blocks its P and Q name. What is wrong with one is in
+//! cycles.rt.
 ghost use Rattle.std.specs.Prelude.{◌≡◌};
 ghost use Rattle.open_order.specs.Contours.{is_cycle_code, is_macro_code, has_code, contour_by, contour_in};
 
@@ -9,11 +10,13 @@ use open_forms::{last_number, written};
 /// The blocks of a contour: from the one of a sequence number to the one of another.
 #[derive(Clone, Copy, Debug, PartialEq, Eq)]
 pub(crate) struct Contour {
+    /// The sequence number that P names.
     pub(crate) from: u32,
+    /// The sequence number that Q names.
     pub(crate) to: u32,
 }
 
-/// Whether so many millionths are G70, G71, G72 or G73.
+/// Whether so many millionths are the code G70, G71, G72 or G73.
 fn is_cycle_code(micro: Option<i64>) -> bool
     ensures { result ≡ is_cycle_code micro }
 {
@@ -26,7 +29,7 @@ fn is_cycle_code(micro: Option<i64>) -> bool
     }
 }
 
-/// Whether so many millionths are G65.
+/// Whether so many millionths are the code G65.
 fn is_macro_code(micro: Option<i64>) -> bool
     ensures { result ≡ is_macro_code micro }
 {
@@ -50,7 +53,7 @@ pub(crate) fn is_macro_call(words: &[Word]) -> bool
     words.iter().any(|word| is_one_of(b"G", word.letter) && is_macro_code(written(word)))
 }
 
-/// A contour needs both its numbers.
+/// A contour by the numbers of its P and Q, if both are there.
 fn contour_by(from: Option<u32>, to: Option<u32>) -> Option<Contour>
     ensures { result ≡ contour_by from to }
 {

@@ -1,4 +1,6 @@
-//! What is wrong with the contours of a tape.
+//! What is wrong with the contours of a tape: a number that is missing, or a wait, an end or a call
+//! inside. The alarm numbers 50 and 65 are those of docs/ERRORS.md.
+//! For ordering.rt of this crate.
 ghost use Rattle.std.specs.Prelude.{◌≡◌, ◌≤◌, ◌<◌, length, IfSome};
 ghost use Rattle.std.specs.List.{list_any};
 ghost use Rattle.block_order.specs.Loud.{loud};
@@ -46,7 +48,8 @@ fn between(blocks: &[ControlBlock], first: u32, last: u32) -> &[ControlBlock]
     inside
 }
 
-/// A contour that ends before it begins is none.
+/// Whether a contour is allowed: it does not end before it begins, and none of its blocks disturbs
+/// it.
 fn is_calm(order: &BlockOrder, blocks: &[ControlBlock], first: u32, last: u32) -> bool
     requires { last < length blocks.now }
     ensures { result ≡ is_calm (loud order.now) blocks.now first last }
@@ -54,7 +57,7 @@ fn is_calm(order: &BlockOrder, blocks: &[ControlBlock], first: u32, last: u32) -
     first <= last && !has_disturbing(order, between(blocks, first, last))
 }
 
-/// The last block of the contour that begins with this one.
+/// The place of the last block of the contour that begins at this place, if the program has it.
 fn last_block(order: &BlockOrder, program: u16, contour: Contour, first: u32) -> Option<u32>
     ensures { result ≡ last_block (blocks order.now program) contour first }
 {
@@ -65,7 +68,8 @@ fn last_block(order: &BlockOrder, program: u16, contour: Contour, first: u32) ->
     }
 }
 
-/// 50 where the last number is not found, 65 where something in the contour disturbs it.
+/// The fault of a contour whose first block was found: 50 if its last number is not found, 65 if
+/// something in it disturbs it.
 fn fault_between(order: &BlockOrder, program: u16, first: u32, last: Option<u32>) -> Option<Cause>
     requires { IfSome last (λ n. n < length (blocks order.now program)) }
     ensures { result ≡ fault_between (loud order.now) (blocks order.now program) first last }
@@ -82,7 +86,8 @@ fn fault_between(order: &BlockOrder, program: u16, first: u32, last: Option<u32>
     }
 }
 
-/// 50 where the first number is not found.
+/// The fault of a contour: 50 if its first number is not found, else that of what follows from
+/// there.
 fn fault_from(
     order: &BlockOrder,
     program: u16,
@@ -101,7 +106,7 @@ fn fault_from(
     }
 }
 
-/// What is wrong with the contour of a cycle at a place of a program.
+/// What is wrong with the contour of a cycle at a place of a program, if the block begins one.
 fn contour_cause(
     order: &BlockOrder,
     program: u16,
@@ -119,7 +124,7 @@ fn contour_cause(
     }
 }
 
-/// Told at the line of the cycle, not at that of the contour.
+/// The fault with its line: that of the cycle, not that of the contour.
 fn fault_at(line: u32, cause: Option<Cause>) -> Option<FlowFault>
     ensures { result ≡ fault_at line cause }
 {
@@ -157,7 +162,8 @@ fn blocks_fault(order: &BlockOrder, program: u16, listed: &[Block]) -> Option<Fl
     None
 }
 
-/// The blocks are those of the first program with this O number, which is the only one.
+/// The first fault of a contour of a program. Its blocks are those of the only program with this O
+/// number.
 fn program_fault(order: &BlockOrder, program: &Program) -> Option<FlowFault>
     requires number { program.now.number ≤ 9999 }
     requires few { length program.now.blocks ≤ MOST_BLOCKS }

@@ -1,4 +1,4 @@
-//! What holds of every tape, for the crates above: who calls the function has the law.
+//! What holds of every tape that is refused. It is said for readers: no crate calls it.
 ghost use Rattle.std.specs.Prelude.{◌≡◌, ℕ, List, Err};
 ghost use Rattle.nc_text.specs.declared.tape.Program.{Program};
 ghost use Rattle.nc_text.specs.Shape.{IsTapeShape};

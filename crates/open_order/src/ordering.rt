@@ -1,4 +1,5 @@
-//! The order of the blocks of a tape, read for its waits.
+//! The order of the blocks of a tape, read for its waits: reading, order and contours, one after
+//! another. wait_verify calls it.
 ghost use Rattle.std.specs.Prelude.{◌≡◌, IfOk, IfErr};
 ghost use Rattle.block_order.specs.Answers.{IfFault};
 ghost use Rattle.block_order.specs.Faults.{IsSound};
@@ -17,7 +18,7 @@ use std::alloc::Global;
 use tape_flow::FlowFault;
 use wait_order::check_order;
 
-/// The order of the blocks of programs, or its first fault.
+/// The order of the blocks of programs, or its first fault; no memory left is an error too.
 fn order_of(alloc: Global, programs: Vec<ControlProgram>) -> Result<BlockOrder, Failing<FlowFault>>
     requires { IsListed programs.items }
     ensures same { IfOk result (λ order. order ≡ programs.items) }
@@ -35,9 +36,11 @@ fn order_of(alloc: Global, programs: Vec<ControlProgram>) -> Result<BlockOrder, 
     }
 }
 
-/// The order of the blocks of a tape, or its refusal: of its first block that is refused; else by
-/// 60 and 52, by 50, 51 and 53, or by 65 and 66 of the order of its blocks; else by 50 and 65 of a
-/// contour.
+/// The order of the blocks of a tape, or its refusal, or out of memory.
+///
+/// The refusal is that of the first block that is refused. If none is, it is one of the order of
+/// the blocks: 60 or 52 first, then 50, 51 or 53, then 65 or 66. If that is in order, it is 50 or
+/// 65 of a contour. The numbers are those of docs/ERRORS.md.
 pub fn open_order(
     alloc: Global,
     premises: Premises,

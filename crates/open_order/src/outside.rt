@@ -1,4 +1,5 @@
-//! The programs that the tapes may lack.
+//! The programs that the tapes may lack, as `--outside` names them.
+//! lathe_c, lathe_calls, lathe_top and wait_verify use it.
 ghost use Rattle.std.specs.Prelude.{◌≡◌};
 ghost use Rattle.open_order.specs.Gone.{is_in, is_on, is_gone};
 
@@ -10,7 +11,9 @@ use nc_text::Program;
 /// that the tape has is read, whatever the range.
 #[derive(Clone, Copy, Debug, PartialEq, Eq)]
 pub struct Outside {
+    /// The least O number.
     pub least: u16,
+    /// The greatest O number.
     pub greatest: u16,
 }
 

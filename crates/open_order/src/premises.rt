@@ -1,4 +1,5 @@
-//! What a reading takes on trust.
+//! What a tape is read by: how the words of the cell are read, and the programs outside.
+//! wait_verify uses it.
 use crate::outside::Outside;
 use block_forms::Dialect;
 

@@ -1,4 +1,5 @@
-//! The blocks of a tape, each read for its control alone.
+//! The blocks of a tape, each read for its control alone. What one block says is in open_forms.
+//! For code.rt, ordering.rt and trusting.rt of this crate.
 ghost use Rattle.std.specs.Prelude.{◌≡◌, ◌≤◌, []};
 ghost use Rattle.nc_number.specs.Answers.{Gives};
 ghost use Rattle.nc_text.specs.Shape.{IsTapeShape};
@@ -18,7 +19,9 @@ use tape_flow::FlowFault;
 /// What the blocks of a tape are read over: the premises, and all programs of the tape.
 #[derive(Clone, Copy)]
 pub(crate) struct Reading<'a> {
+    /// How a block is read, and which programs may be missing.
     pub(crate) premises: Premises,
+    /// All programs of the tape.
     pub(crate) tape: &'a [Program],
 }
 
@@ -56,7 +59,7 @@ fn read_block(reading: &Reading<'_>, block: &Block) -> Result<ControlBlock, Flow
     }
 }
 
-/// Reading ends at the first refusal.
+/// The blocks of a program, each read, or the first refusal.
 fn read_blocks(
     alloc: Global,
     reading: &Reading<'_>,
@@ -74,7 +77,7 @@ fn read_blocks(
     Ok(read)
 }
 
-/// The O number of a tape has at most four digits.
+/// A program with its blocks read, or the first refusal. Its O number has at most four digits.
 fn read_program(
     alloc: Global,
     reading: &Reading<'_>,
@@ -93,7 +96,7 @@ fn read_program(
     }
 }
 
-/// The programs as they stand in the text, the main program first.
+/// The programs in the order of the text, the main program first, or the first refusal.
 fn read_programs(
     alloc: Global,
     reading: &Reading<'_>,

@@ -1,4 +1,6 @@
-//! What the tapes of a pair take on trust.
+//! What the tapes of a pair take on trust, gathered over all blocks. `waits` prints it in its line
+//! `goes on`.
+//! wait_verify uses it.
 ghost use Rattle.std.specs.Prelude.{◌≡◌, OnOk, Some};
 ghost use Rattle.open_order.specs.declared.code.Code.TheVariants as Code;
 ghost use Rattle.open_order.specs.Basis.{basis, seen};
@@ -30,7 +32,7 @@ impl Trust {
     ghost use Rattle.open_order.specs.Basis.{seen};
     ghost use Rattle.open_order.specs.Trusted.{is_nothing};
 
-    /// Whether nothing was taken on trust.
+    /// Whether nothing is taken on trust.
     pub fn is_empty(&self) -> bool
         ensures { result ≡ is_nothing (seen self.now) }
     {
@@ -38,7 +40,7 @@ impl Trust {
     }
 }
 
-/// Nothing yet.
+/// Nothing is taken on trust yet.
 pub fn no_trust(alloc: Global) -> Trust
     ensures { seen result ≡ no_trust }
 {
@@ -49,7 +51,7 @@ pub fn no_trust(alloc: Global) -> Trust
     }
 }
 
-/// Each code is kept once, however often it stands there.
+/// Keeps a G code, in millionths, once, however often it is there.
 fn add_geometry(trust: &mut Trust, micro: u64) -> Result<(), NoMemory>
     ensures { OnOk result (seen trust.new ≡ with_code (seen trust.old) (Some (Code.Geometry micro))) }
 {
@@ -57,7 +59,7 @@ fn add_geometry(trust: &mut Trust, micro: u64) -> Result<(), NoMemory>
     Ok(())
 }
 
-/// Each code is kept once, however often it stands there.
+/// Keeps an M code once, however often it is there.
 fn add_auxiliary(trust: &mut Trust, code: u32) -> Result<(), NoMemory>
     ensures { OnOk result (seen trust.new ≡ with_code (seen trust.old) (Some (Code.Auxiliary code))) }
 {
@@ -65,7 +67,7 @@ fn add_auxiliary(trust: &mut Trust, code: u32) -> Result<(), NoMemory>
     Ok(())
 }
 
-/// Each number is kept once, however often it is called.
+/// Keeps an O number once, however often it is called.
 fn add_program(trust: &mut Trust, number: u16) -> Result<(), NoMemory>
     ensures { OnOk result (seen trust.new ≡ with_code (seen trust.old) (Some (Code.Subprogram number))) }
 {
@@ -73,7 +75,7 @@ fn add_program(trust: &mut Trust, number: u16) -> Result<(), NoMemory>
     Ok(())
 }
 
-/// One code more, where there is one.
+/// Keeps one code more, if there is one.
 fn add_code(trust: &mut Trust, code: Option<Code>) -> Result<(), NoMemory>
     ensures { OnOk result (seen trust.new ≡ with_code (seen trust.old) code) }
 {
@@ -85,7 +87,7 @@ fn add_code(trust: &mut Trust, code: Option<Code>) -> Result<(), NoMemory>
     }
 }
 
-/// The codes that the words of a block name.
+/// Keeps the codes that the words of a block name.
 fn add_words(trust: &mut Trust, dialect: &Dialect, words: &[Word]) -> Result<(), NoMemory>
     ensures { OnOk result (seen trust.new ≡ with_words dialect.now (seen trust.old) words.now) }
 {
@@ -95,7 +97,8 @@ fn add_words(trust: &mut Trust, dialect: &Dialect, words: &[Word]) -> Result<(),
     Ok(())
 }
 
-/// The words of a macro call are arguments, and a statement has no codes.
+/// Keeps the codes of a block. A macro call has none, since its words are arguments, and a
+/// statement has none.
 fn add_body(trust: &mut Trust, dialect: &Dialect, body: &Body) -> Result<(), NoMemory>
     ensures { OnOk result (seen trust.new ≡ with_body dialect.now (seen trust.old) body.now) }
 {
@@ -112,7 +115,7 @@ fn add_body(trust: &mut Trust, dialect: &Dialect, body: &Body) -> Result<(), NoM
     }
 }
 
-/// What a block names, and the program that it calls where the tape lacks it.
+/// Keeps the codes of a block, and the program that it calls if the tape lacks it.
 fn add_block(trust: &mut Trust, reading: &Reading<'_>, block: &Block) -> Result<(), NoMemory>
     ensures { OnOk result (seen trust.new ≡ with_block (basis reading.now) (seen trust.old) block.now) }
 {
@@ -120,7 +123,7 @@ fn add_block(trust: &mut Trust, reading: &Reading<'_>, block: &Block) -> Result<
     add_code(trust, called_outside(reading, block))
 }
 
-/// The blocks of a program, in turn.
+/// Keeps those of the blocks of a program, in turn.
 fn add_blocks(trust: &mut Trust, reading: &Reading<'_>, blocks: &[Block]) -> Result<(), NoMemory>
     ensures { OnOk result (seen trust.new ≡ with_blocks (basis reading.now) (seen trust.old) blocks.now) }
 {
@@ -130,7 +133,7 @@ fn add_blocks(trust: &mut Trust, reading: &Reading<'_>, blocks: &[Block]) -> Res
     Ok(())
 }
 
-/// The programs of a tape, in turn.
+/// Keeps those of the programs of a tape, in turn.
 fn add_programs(trust: &mut Trust, reading: &Reading<'_>) -> Result<(), NoMemory>
     ensures { OnOk result (seen trust.new
         ≡ with_programs (basis reading.now) (seen trust.old) reading.now.tape.now) }
@@ -141,7 +144,7 @@ fn add_programs(trust: &mut Trust, reading: &Reading<'_>) -> Result<(), NoMemory
     Ok(())
 }
 
-/// Adds what a tape takes on trust.
+/// Adds what a tape takes on trust to what other tapes did. An error is out of memory.
 pub fn add_tape(trust: &mut Trust, premises: Premises, tape: &[Program]) -> Result<(), NoMemory>
     ensures { OnOk result (seen trust.new ≡ with_tape premises (seen trust.old) tape.now) }
 {

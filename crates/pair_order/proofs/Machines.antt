@@ -21,16 +21,19 @@ pub data IsRun {left right : List ControlProgram} (m : Machine left right) : m.S
   starts : (at : m.State) → IsBeginning left right (m.paths at) → IsRun m at
   moved : (from to : m.State) → IsRun m from → m.Moves from to → IsRun m to
 
+-- where steps lead from a place that is reached is reached,
 reached_by : (left right : List ControlProgram) (from to : Paths) → IsReached left right from → Leads left right from to → IsReached left right to
 reached_by left right from _ before (stays to same) = subst (λ p. IsReached left right p) (sym same) before
 reached_by left right from _ before (further between to leads goes) =
     gone between to (reached_by left right from between before leads) goes
 
+-- so are the paths of each run of a machine,
 run_reached : (left right : List ControlProgram) (m : Machine left right) (at : m.State) → IsRun m at → IsReached left right (m.paths at)
 run_reached left right m _ (starts at begins) = begun (m.paths at) begins
 run_reached left right m _ (moved from to before moves) =
     reached_by left right (m.paths from) (m.paths to) (run_reached left right m from before) (m.lawful from to moves)
 
+-- and so they never wait in vain
 pub machine_free : (left right : List ControlProgram) → IsLawfulPair left right → (m : Machine left right) (at : m.State) → IsRun m at
     → IsFree left right (m.paths at)
 machine_free left right pair m at run = never_stuck left right pair (m.paths at) (run_reached left right m at run)

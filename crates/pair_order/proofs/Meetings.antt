@@ -1,5 +1,6 @@
 -- Two paths over tapes whose lists of labels are equal: the labels ahead of both agree, and each
 -- step leaves it so.
+-- two_path uses these lemmas.
 use Rattle.std.proofs.Common.{◌≡◌, ℕ, ◌⊎◌, inl, inr, List, [], ◌∷◌, refl, sym, subst, ◌∙◌}
 use Rattle.block_order.specs.declared.control.Control.{Control}
 use Rattle.block_order.specs.declared.control.Control.TheVariants as control
@@ -15,29 +16,35 @@ use Rattle.pair_order.specs.Pairs.{Paths, IsAtWait, Goes, one, two, meet, IsBegi
 abbrev pub Agree : List Label → List Label → List Label → Type 0
 Agree all xs ys = (xs ≡ ys) ⊎ (((xs ≡ all) × (ys ≡ label.Again ∷ [])) ⊎ ((xs ≡ label.Again ∷ []) × (ys ≡ all)))
 
+-- it holds with the paths changed over
 pub agree_swap : (all xs ys : List Label) → Agree all xs ys → Agree all ys xs
 agree_swap all xs ys (inl e) = inl (sym e)
 agree_swap all xs ys (inr (inl p)) = inr (inr (p.1, p.0))
 agree_swap all xs ys (inr (inr p)) = inr (inl (p.1, p.0))
 
+-- it holds if the labels ahead of one path are the same as before,
 agree_same : (all xs ys xs' : List Label) → xs' ≡ xs → Agree all xs ys → Agree all xs' ys
 agree_same all xs ys xs' e a = subst (λ zs. Agree all zs ys) (sym e) a
 
+-- or if this path has gone back to its start
 agree_again : (all xs ys xs' : List Label) → xs ≡ label.Again ∷ [] → xs' ≡ all → Agree all xs ys → Agree all xs' ys
 agree_again all xs ys xs' again new (inl e) = inr (inl (new, sym e ∙ again))
 agree_again all xs ys xs' again new (inr (inl p)) = inr (inl (new, p.1))
 agree_again all xs ys xs' again new (inr (inr p)) = inl (new ∙ sym p.1)
 
+-- two waits that are next are of one code, and the rest agrees
 pub agree_waits : (all xs ys : List Label) (code other : ℕ) → Agree all (label.Wait code ∷ xs) (label.Wait other ∷ ys) → (code ≡ other) × (xs ≡ ys)
 agree_waits all xs ys code other (inl e) = (cc, cc)
 agree_waits all xs ys code other (inr (inl p)) = absurd (cc (p.1))
 agree_waits all xs ys code other (inr (inr p)) = absurd (cc (p.0))
 
+-- no wait is next while the other path is at its end
 pub agree_end : (all xs : List Label) (code : ℕ) → Agree all (label.Wait code ∷ xs) (label.End ∷ []) → ⊥
 agree_end all xs code (inl e) = cc
 agree_end all xs code (inr (inl p)) = cc (p.1)
 agree_end all xs code (inr (inr p)) = cc (p.0)
 
+-- a step that keeps the labels keeps the agreement
 kept_agree : (tape : List ControlProgram) (ys : List Label) (f : Frame) (stack : List Frame) (c : Control) (to : List Frame)
     → Kept tape f stack c to → Agree (list tape) (ahead tape (f ∷ stack)) ys → Agree (list tape) (ahead tape to) ys
 kept_agree tape ys f stack control.Next to k a = agree_same (list tape) (ahead tape (f ∷ stack)) ys (ahead tape to) k a
@@ -75,6 +82,7 @@ kept_met tape met f (g ∷ stack) control.Back to k a = rw k a
 kept_met tape met f [] control.Back to k a =
     rw k.1 (anew met (subst (λ xs. AreMet (list tape) met xs) k.0 a))
 
+-- so does each step of a path
 step_met : (tape : List ControlProgram) → KeepsLabels tape → (met : List ℕ) (from to : List Frame) → IsPlace tape from → Step tape from to
     → AreMet (list tape) met (ahead tape from) → AreMet (list tape) met (ahead tape to)
 step_met tape law met [] to place step a = absurd place
@@ -100,6 +108,7 @@ meeting left right pair p s code there is other =
     agree_waits (list left) (ahead left (place_behind p.first)) (ahead right (place_behind p.second)) code there
     (rw (← (pair.first.wait p.first code s.first is).1, ← (pair.second.wait p.second there s.second other).1) (s.agree))
 
+-- each step of the pair keeps all that,
 goes_sound : (left right : List ControlProgram) → IsLawfulPair left right → (from to : Paths) → IsSound left right from
     → Goes left right from to → IsSound left right to
 goes_sound left right pair from to s (one step stays same) =
@@ -129,6 +138,7 @@ goes_sound left right pair from to s (meet code there is other here beyond more)
           (subst (λ xs. AreMet (list left) from.met xs) k.1 s.met));
     }
 
+-- and it holds at a beginning
 beginning_sound : (left right : List ControlProgram) → IsLawfulPair left right → (p : Paths) → IsBeginning left right p
     → IsSound left right p
 beginning_sound left right pair p at = record {
@@ -138,6 +148,7 @@ beginning_sound left right pair p at = record {
   met = rw (at.first, at.met) none;
 }
 
+-- then neither path waits in vain,
 free : (left right : List ControlProgram) → IsLawfulPair left right → (p : Paths) → IsSound left right p → IsFree left right p
 free left right pair p s = record {
   same = λ code there is other. (meeting left right pair p s code there is other).0;
@@ -149,10 +160,12 @@ free left right pair p s = record {
   met = s.met;
 }
 
+-- wherever steps lead,
 reached_sound : (left right : List ControlProgram) → IsLawfulPair left right → (p : Paths) → IsReached left right p → IsSound left right p
 reached_sound left right pair _ (begun p begins) = beginning_sound left right pair p begins
 reached_sound left right pair _ (gone from to before goes) =
     goes_sound left right pair from to (reached_sound left right pair from before) goes
 
+-- so it is of the whole pair
 pub never_stuck : (left right : List ControlProgram) → IsLawfulPair left right → IsNeverStuck left right
 never_stuck left right pair p reached = free left right pair p (reached_sound left right pair p reached)

@@ -1,5 +1,6 @@
 -- Two paths over the orders of their blocks, apart from all that a block does but lead to another
 -- one.
+-- two_path and wait_verify use these words.
 use Rattle.std.specs.Prelude.{◌≡◌, ℕ, List, [], ◌∷◌, ◌++◌, Some}
 use Rattle.block_order.specs.declared.control.Control.TheVariants.{Wait, End}
 use Rattle.block_order.specs.declared.frame.Frame.{Frame}
@@ -63,6 +64,6 @@ pub record IsFree (left right : List ControlProgram) (paths : Paths) : Type 0 wh
   pub second_alone : (code : ℕ) → IsAtEnd left paths.first → IsAtWait right paths.second code → ⊥
   pub met : AreMet (list left) paths.met (ahead left paths.first)
 
--- wherever steps lead from a beginning
+-- wherever steps lead from a beginning, neither path waits in vain
 abbrev pub IsNeverStuck : List ControlProgram → List ControlProgram → Type 0
 IsNeverStuck left right = (paths : Paths) → IsReached left right paths → IsFree left right paths

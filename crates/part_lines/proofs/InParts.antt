@@ -49,6 +49,7 @@ module _ (tape : List ControlProgram) (line : ℕ → ℕ → Option ℕ) where
   in_part_listed n k p b c (called caller there _ _ r inside call quiet) is own =
       in_part_listed n k caller there (Call p r) inside call (inr (p, r, refl, quiet, block_from p b c k is own))
 
+  -- a line of a part is one of a stretch in the list,
   pub part_listed : (n k : ℕ) → LineInPart tape line n k → ListedLine tape line n k
   part_listed n k (p, b, c, inside, is, e) = in_part_listed n k p b c inside is (inl e)
 
@@ -58,6 +59,7 @@ module _ (tape : List ControlProgram) (line : ℕ → ℕ → Option ℕ) where
   opened_in_part n p b q r inside is quiet _ (calls caller at program repeats before is' quiet') block =
       called caller at program block repeats (opened_in_part n p b q r inside is quiet caller before at) is' quiet'
 
+  -- and the other way round
   pub listed_part : (n k : ℕ) → ListedLine tape line n k → LineInPart tape line n k
   listed_part n k (p, s, (rest, f), (b, c, at, is, own)) =
       let inside : IsInPart tape n p b = listed p b rest (subst (λ x. Follows (path_items tape) n (Stretch p x ∷ rest)) (sym at) f) in

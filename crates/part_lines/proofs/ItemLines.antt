@@ -34,6 +34,7 @@ after called p t (mark.Call q r ∷ ms) rest = parts.times r (called q) (items c
 after called p t (mark.Back ∷ ms) rest = rest
 after called p t (mark.Past ∷ ms) rest = []
 
+-- the items from a block on begin with its stretch
 items_are : (called : ℕ → List Item → List Item) (p t : ℕ) (ms : List Mark) (rest : List Item)
     → items called p t ms rest ≡ Stretch p t ∷ after called p t ms rest
 items_are called p t [] rest = refl
@@ -43,6 +44,7 @@ items_are called p t (mark.Call q r ∷ ms) rest = refl
 items_are called p t (mark.Back ∷ ms) rest = refl
 items_are called p t (mark.Past ∷ ms) rest = refl
 
+-- a program that is called many times gives its lines as often
 times_lines : (own : ℕ → ℕ → Option ℕ) (end : Lines) (f : List Item → List Item) (g : Lines → Lines)
     → ((xs : List Item) → item_lines own end (f xs) ≡ g (item_lines own end xs))
     → (n : ℕ) (xs : List Item) → item_lines own end (parts.times n f xs) ≡ times n g (item_lines own end xs)
@@ -158,6 +160,7 @@ abbrev pub own_line : List ControlProgram → (ℕ → ℕ → Option ℕ) → (
 own_line tape line quiet p s =
     stretch_line (loud tape) (λ b c. seen_line (loud tape) quiet (line p b) c) (blocks tape p) 0 0 s
 
+-- the lines of a program with all its calls are those of its items
 whole_same : (tape : List ControlProgram) (line : ℕ → ℕ → Option ℕ) (quiet : ℕ → Option ℕ) (end : Lines) (n p : ℕ)
     (rest : List Item) (back : Lines) → item_lines (own_line tape line quiet) end rest ≡ back
     → item_lines (own_line tape line quiet) end (parts.whole tape n p rest) ≡ whole tape line quiet n p back
@@ -171,6 +174,7 @@ whole_same tape line quiet end (suc n) p rest back returns =
     ∙ sym (blocks_same (loud tape) quiet (line p) own end called given
     (λ q xs. whole_same tape line quiet end n q xs (item_lines own end xs) refl) p rest back returns (blocks tape p) 0 0 (λ s less. refl))
 
+-- the items of a path are those of its main program, and that it begins anew
 list_whole : (tape : List ControlProgram) → path_items tape ≡ parts.whole tape 9 (main_number tape) (Anew ∷ [])
 unfolding parts.whole
 list_whole tape = refl
@@ -182,6 +186,7 @@ path_same tape line quiet end =
     ap (item_lines (own_line tape line quiet) end) (list_whole tape)
     ∙ whole_same tape line quiet end 9 (main_number tape) (Anew ∷ []) end refl
 
+-- a line in the first part adds no part
 with_length : (o : Option ℕ) (lines : Lines) → length (with_first o lines) ≡ length lines
 with_length o [] = refl
 with_length o (x ∷ lines) = refl

@@ -4,29 +4,35 @@ use Rattle.nc_number.specs.Options.{lesser}
 use Rattle.part_lines.specs.Least.{IsLeast}
 use Rattle.part_lines.specs.Lines.{Lines, with_first}
 
+-- the lesser of a line and none is the line
 pub lesser_none : (a : Option ℕ) → lesser a None ≡ a
 lesser_none None = refl
 lesser_none (Some a) = refl
 
+-- the least of three, however they are joined
 pub lesser_assoc : (a b c : Option ℕ) → lesser (lesser a b) c ≡ lesser a (lesser b c)
 lesser_assoc None b c = refl
 lesser_assoc (Some a) None c = refl
 lesser_assoc (Some a) (Some b) None = refl
 lesser_assoc (Some a) (Some b) (Some c) = let e : min (min a b) c ≡ min a (min b c) = omega arith in ap Some e
 
+-- a line twice is once
 pub lesser_again : (a b : Option ℕ) → lesser a (lesser a b) ≡ lesser a b
 lesser_again None b = refl
 lesser_again (Some a) None = let e : min a a ≡ a = omega arith in ap Some e
 lesser_again (Some a) (Some b) = let e : min a (min a b) ≡ min a b = omega arith in ap Some e
 
+-- without a line nothing changes
 pub with_none : (lines : Lines) → with_first None lines ≡ lines
 with_none [] = refl
 with_none (own ∷ lines) = refl
 
+-- two lines in the first part, one after the other
 pub with_both : (a b : Option ℕ) (lines : Lines) → with_first (lesser a b) lines ≡ with_first a (with_first b lines)
 with_both a b [] = refl
 with_both a b (own ∷ lines) = ap (λ x. x ∷ lines) (lesser_assoc a b own)
 
+-- a line twice is once there too
 pub with_again : (a : Option ℕ) (lines : Lines) → with_first a (with_first a lines) ≡ with_first a lines
 with_again a [] = refl
 with_again a (own ∷ lines) = ap (λ x. x ∷ lines) (lesser_again a own)
@@ -71,5 +77,6 @@ pub least_one : (o : Option ℕ) → IsLeast (λ k. o ≡ Some k) o
 least_one None = λ k is. absurd cc
 least_one (Some a) = (refl, λ k is. let e : a ≡ k = cc in omega arith)
 
+-- where no line is, none is the least
 pub least_none : (P : ℕ → Type 0) → ((k : ℕ) → P k → ⊥) → IsLeast P None
 least_none P never = never

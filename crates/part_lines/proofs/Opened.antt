@@ -16,10 +16,12 @@ use Rattle.part_lines.specs.Lines.{called_line, seen_line, IsOpened, itself, cal
 use Rattle.part_lines.specs.Pieces.{IsBelow, AreFound, IsClosedAt, IsClosed, AreQuietLines}
 use Rattle.part_lines.proofs.InParts.{block_from}
 
+-- what was found is no more than itself
 below_same : (a : Option ℕ) → IsBelow a a
 below_same None = tt
 below_same (Some a) = omega arith
 
+-- and what is below what is below is below
 below_on : (a b c : Option ℕ) → IsBelow a b → IsBelow b c → IsBelow a c
 below_on a b None one two = tt
 below_on None None (Some c) one two = absurd two
@@ -27,6 +29,7 @@ below_on (Some a) None (Some c) one two = absurd two
 below_on None (Some b) (Some c) one two = absurd one
 below_on (Some a) (Some b) (Some c) one two = omega arith
 
+-- what is below two is below each
 below_parts : (x a b : Option ℕ) → IsBelow x (lesser a b) → IsBelow x a × IsBelow x b
 below_parts x None b below = (tt, below)
 below_parts x (Some a) None below = (below, tt)
@@ -47,6 +50,7 @@ module _ (tape : List ControlProgram) (line : ℕ → ℕ → Option ℕ) (found
       let at = (below_parts (found program) (line program block) (called_line (loud tape) found c) (closed program block c is)).0 in
       below_on (found p) (found program) (Some k) (opened_below closed p program opened) (subst (IsBelow (found program)) e at)
 
+  -- what was found is the least, once no block has a line that is less
   pub quiet_least : AreFound tape line found → IsClosed tape line found → AreQuietLines tape line found
   quiet_least are closed p = go (found p) refl
     where
@@ -95,6 +99,7 @@ all_closed tape line found each q = go (program_of tape q) refl
 abbrev pub AreBelow : Option ℕ → (ℕ → Control → Option ℕ) → List ControlBlock → ℕ → Type 0
 AreBelow least seen bs i = (block : ℕ) (c : Control) → block < i → control_at bs block ≡ Some c → IsBelow least (seen block c)
 
+-- one block more has no lesser line,
 pub below_more : (least : Option ℕ) (seen : ℕ → Control → Option ℕ) (bs : List ControlBlock) (i : ℕ) (d : ControlBlock) → i < length bs
     → AreBelow least seen bs i → IsBelow least (seen i (get_or bs i d).control) → AreBelow least seen bs (i + 1)
 below_more least seen bs i d within before here block c less is = go (last_or_before block i less)
@@ -107,6 +112,7 @@ below_more least seen bs i d within before here block c less is = go (last_or_be
         let same : (get_or bs i d).control ≡ c = cc in
         subst (λ k. IsBelow least (seen k c)) (sym e) (subst (λ x. IsBelow least (seen i x)) same here)
 
+-- and at the end no block has
 pub all_below : (least : Option ℕ) (seen : ℕ → Control → Option ℕ) (bs : List ControlBlock) (i : ℕ) → length bs ≤ i
     → AreBelow least seen bs i → (block : ℕ) (c : Control) → control_at bs block ≡ Some c → IsBelow least (seen block c)
 all_below least seen bs i past before block c is = before block c (let within = within_control bs block c is in omega arith) is

@@ -179,15 +179,18 @@ get_front [] x n less = absurd (omega arith)
 get_front (y ∷ xs) x zero less = refl
 get_front (y ∷ xs) x (suc n) less = get_front xs x n (omega arith)
 
+-- the last of some lines
 get_end : (xs : Lines) (x : Option ℕ) → slice_get (xs ++ x ∷ []) (length xs) ≡ Some x
 get_end [] x = refl
 get_end (y ∷ xs) x = get_end xs x
 
+-- where a line stands the list goes on
 get_past : (xs : Lines) (n : ℕ) (o : Option ℕ) → slice_get xs n ≡ Some o → n < length xs
 get_past [] n o is = absurd cc
 get_past (y ∷ xs) zero o is = omega arith
 get_past (y ∷ xs) (suc n) o is = let rest = get_past xs n o is in omega arith
 
+-- the first of some lines
 get_first : (xs : Lines) (x : Option ℕ) → 0 < length xs → slice_get (xs ++ x ∷ []) 0 ≡ Some (first_of xs)
 get_first [] x some = absurd (omega arith)
 get_first (y ∷ xs) x some = refl

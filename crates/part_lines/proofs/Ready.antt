@@ -13,6 +13,7 @@ pub on_ok : {A E : Type 0} (P Q : Type 0) (r : Result A E) → (P → Q) → OnO
 on_ok P Q (Ok x) follows p = follows p
 on_ok P Q (Err e) follows p = tt
 
+-- what holds of a value holds of what follows from it
 pub if_ok : {A E : Type 0} (P Q : A → Type 0) (r : Result A E) → ((x : A) → P x → Q x) → IfOk r P → IfOk r Q
 if_ok P Q (Ok x) follows p = follows x p
 if_ok P Q (Err e) follows p = tt

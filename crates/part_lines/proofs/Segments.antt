@@ -12,12 +12,14 @@ Seg (Meets ∷ xs) zero p s = ⊥
 Seg (Meets ∷ xs) (suc k) p s = Seg xs k p s
 Seg (Anew ∷ xs) k p s = ⊥
 
+-- the list ends with the path's beginning anew
 abbrev pub ends_anew : List Item → Bool
 ends_anew [] = false
 ends_anew (Stretch q t ∷ xs) = ends_anew xs
 ends_anew (Meets ∷ xs) = ends_anew xs
 ends_anew (Anew ∷ xs) = true
 
+-- what follows in a list ends as the list does
 follows_anew : (all : List Item) (n : ℕ) (xs : List Item) → Follows all n xs → ends_anew xs ≡ ends_anew all
 follows_anew all _ _ first = refl
 follows_anew all n _ (behind_stretch _ q t rest f) = follows_anew all n (Stretch q t ∷ rest) f
@@ -30,6 +32,7 @@ IsWithin all n xs =
     ((k p s : ℕ) → Seg xs k p s → Seg all (n + k) p s)
     ⊎ ((n ≡ waits_in all) × (ends_anew all ≡ true) × ((k p s : ℕ) → Seg xs k p s → Seg all k p s))
 
+-- what follows behind at most its waits stands within it
 within : (all : List Item) (n : ℕ) (xs : List Item) → Follows all n xs → n ≤ waits_in all → IsWithin all n xs
 within all _ _ first few = inl (λ k p s seg. let e : 0 + k ≡ k = omega arith in subst (λ i. Seg all i p s) (sym e) seg)
 within all n _ (behind_stretch _ q t rest f) few = go (within all n (Stretch q t ∷ rest) f few)
@@ -63,6 +66,7 @@ stands all n p s rest few f = go (within all n (Stretch p s ∷ rest) f few)
 abbrev pub IsListed : List Item → ℕ → ℕ → ℕ → Type 0
 IsListed all n p s = (rest : List Item) × Follows all n (Stretch p s ∷ rest)
 
+-- a stretch behind k waits of what follows m waits is behind m + k,
 seg_follows : (all xs : List Item) (m k p s : ℕ) → Follows all m xs → Seg xs k p s → IsListed all (m + k) p s
 seg_follows all [] m k p s f seg = absurd seg
 seg_follows all (Stretch q t ∷ xs) m k p s f (inl (none, own, same)) =
@@ -78,6 +82,7 @@ seg_follows all (Meets ∷ xs) m (suc k) p s f seg =
     subst (λ i. IsListed all i p s) e (seg_follows all xs (suc m) k p s (behind_wait m xs f) seg)
 seg_follows all (Anew ∷ xs) m k p s f seg = absurd seg
 
+-- and behind the last wait the whole list follows once more
 anew_follows : (all xs : List Item) (m : ℕ) → Follows all m xs → ends_anew xs ≡ true → Follows all (m + waits_in xs) all
 anew_follows all [] m f is = absurd cc
 anew_follows all (Stretch q t ∷ xs) m f is = anew_follows all xs m (behind_stretch m q t xs f) is
@@ -86,10 +91,12 @@ anew_follows all (Meets ∷ xs) m f is =
     subst (λ i. Follows all i all) e (anew_follows all xs (suc m) (behind_wait m xs f) is)
 anew_follows all (Anew ∷ xs) m f is = let e : m ≡ m + 0 = omega arith in subst (λ i. Follows all i all) e (anew m xs f)
 
+-- so a stretch behind n waits of the list is listed there,
 pub seg_listed : (all : List Item) (n p s : ℕ) → Seg all n p s → IsListed all n p s
 seg_listed all n p s seg =
     let e : 0 + n ≡ n = omega arith in subst (λ i. IsListed all i p s) e (seg_follows all all 0 n p s first seg)
 
+-- and one behind none is listed behind all of them too
 pub anew_listed : (all : List Item) (p s : ℕ) → ends_anew all ≡ true → Seg all 0 p s → IsListed all (waits_in all) p s
 anew_listed all p s is seg =
     let f = anew_follows all all 0 first is in

@@ -16,14 +16,17 @@ use Rattle.loud_calls.specs.Calls.{IsShort, IsShortCall}
 use Rattle.part_lines.specs.Pieces.{shown, coming, stop_of, IsSeen, AreJoined, AreAdded, IsPiece, IsTaken, IsSoFar, from_block}
 use Rattle.part_lines.proofs.Lesser.{lesser_none, with_none, with_both, with_again}
 
+-- a piece without lines shows what comes behind it
 pub new_shown : (lines : PieceLines) → lines.done.items ≡ [] → lines.last ≡ None → (behind : Lines) → shown lines behind ≡ behind
 new_shown lines none last behind = rw (none, last) (with_none behind)
 
+-- one line more is seen in its last part
 pub seen_shown : (old new : PieceLines) (line : Option ℕ) → new.done.items ≡ old.done.items → new.last ≡ lesser old.last line
     → IsSeen old new line
 seen_shown old new line done last behind =
     rw (done, last) (ap (λ xs. old.done.items ++ xs) (with_both old.last line behind))
 
+-- a wait that is passed begins a part more
 pub passed_shown : (old new : PieceLines) → new.done.items ≡ old.done.items ++ old.last ∷ [] → new.last ≡ None
     → (behind : Lines) → shown new behind ≡ shown old (None ∷ behind)
 passed_shown old new done last behind =
@@ -37,10 +40,12 @@ times_again (suc zero) line behind some = refl
 times_again (suc (suc n)) line behind some =
     ap (with_first line) (times_again (suc n) line behind (omega arith)) ∙ with_again line behind
 
+-- two functions that agree give the same, however often
 pub times_same : (n : ℕ) (f g : Lines → Lines) (behind : Lines) → ((xs : Lines) → f xs ≡ g xs) → times n f behind ≡ times n g behind
 times_same zero f g behind same = refl
 times_same (suc n) f g behind same = ap f (times_same n f g behind same) ∙ same (times n g behind)
 
+-- once more at the end is once more
 pub times_more : (n : ℕ) (f : Lines → Lines) (behind : Lines) → times n f (f behind) ≡ times (n + 1) f behind
 times_more zero f behind = refl
 times_more (suc n) f behind =
@@ -51,6 +56,7 @@ times_more (suc n) f behind =
 abbrev pub IsJoinedSoFar : PieceLines → PieceLines → Lines → PieceLines → Type 0
 IsJoinedSoFar old now rest more = (behind : Lines) → shown now (rest ++ with_first more.last behind) ≡ shown old (shown more behind)
 
+-- one part more of a called program is joined
 pub joined_next : (old now seen next more : PieceLines) (bs : Lines) (i : ℕ) (line : Option ℕ) → i < length bs
     → IsSeen now seen (get_or bs i line) → ((behind : Lines) → shown next behind ≡ shown seen (None ∷ behind))
     → IsJoinedSoFar old now (drop i bs) more → IsJoinedSoFar old next (drop (i + 1) bs) more
@@ -63,6 +69,7 @@ joined_next old now seen next more bs i line within one two so behind =
     ∙ (ap (λ o. shown now (o ∷ rest)) (lesser_none (get_or bs i line))
     ∙ (ap (λ xs. shown now (xs ++ with_first more.last behind)) (sym own) ∙ so behind)))
 
+-- a list of no length is empty
 pub empty_is : (xs : Lines) → length xs ≡ 0 → xs ≡ []
 empty_is [] e = refl
 empty_is (x ∷ xs) e = absurd (omega arith)
@@ -77,6 +84,7 @@ module _ (tape : List ControlProgram) (line : ℕ → ℕ → Option ℕ) (quiet
   pub quiet_taken : (q r : ℕ) (old : PieceLines) → loud tape q ≡ false → IsTaken tape line quiet (Call q r) old old None
   quiet_taken q r old e n back behind short = rw e refl
 
+  -- a call that runs its program no time gives nothing
   pub unrepeated_taken : (q : ℕ) (old : PieceLines) → IsTaken tape line quiet (Call q 0) old old None
   unrepeated_taken q old n back behind short = go (loud tape q) refl
     where
@@ -84,6 +92,7 @@ module _ (tape : List ControlProgram) (line : ℕ → ℕ → Option ℕ) (quiet
       go true e = rw e refl
       go false e = rw e refl
 
+  -- a call of a loud program gives its lines, as often as it runs
   pub loud_taken : (q r : ℕ) (old new piece : PieceLines) (ending : Ending) → loud tape q ≡ true → 0 < r
       → IsPiece tape line quiet q piece ending → AreAdded ending old new r piece
       → IsTaken tape line quiet (Call q r) old new (stop_of ending)
@@ -94,10 +103,12 @@ module _ (tape : List ControlProgram) (line : ℕ → ℕ → Option ℕ) (quiet
       rw noisy (ap (shown old) (times_same (suc r) (λ k. whole tape line quiet n q k) (shown piece) behind (λ k. is n k (short noisy)))
       ∙ sym (added behind))
 
+  -- a wait ends the part
   pub wait_taken : (code : ℕ) (old new : PieceLines) → ((behind : Lines) → shown new behind ≡ shown old (None ∷ behind))
       → IsTaken tape line quiet (Wait code) old new None
   wait_taken code old new is n back behind short = sym (is behind)
 
+  -- before the first block no line is known
   pub so_far_start : (p : ℕ) (own : PieceLines) → ((behind : Lines) → shown own behind ≡ behind)
       → IsSoFar tape line quiet p own 0 (blocks tape p)
   unfolding whole
@@ -139,6 +150,7 @@ module _ (tape : List ControlProgram) (line : ℕ → ℕ → Option ℕ) (quiet
       ∙ (sym (seen (block_lines (loud tape) (λ q behind. whole tape line quiet n q behind) back b.control (left_lines p n back (suc i) rest)))
       ∙ taken n back (left_lines p n back (suc i) rest) (short_call n p old i b rest so short))
 
+  -- one block more is taken
   pub so_far_next : (p : ℕ) (old mid new : PieceLines) (i : ℕ) (b : ControlBlock) (rest : List ControlBlock)
       → IsSoFar tape line quiet p old i (b ∷ rest) → IsSeen old mid (seen_line (loud tape) quiet (line p i) b.control)
       → IsTaken tape line quiet b.control mid new None → IsSoFar tape line quiet p new (suc i) rest

@@ -28,6 +28,7 @@ stretch_line ld seen [] i t s = None
 stretch_line ld seen (b ∷ bs) i t s =
     lesser (if t == s then seen i b.control else None) (stretch_line ld seen bs (suc i) (next_number (mark_of ld b.control) t) s)
 
+-- a block gives at most one mark
 one_mark : (ld : ℕ → Bool) (c : Control) → (mark_of ld c ≡ []) ⊎ ((m : Mark) × (mark_of ld c ≡ m ∷ []))
 one_mark ld Next = inl refl
 one_mark ld (Goto n) = inl refl
@@ -44,6 +45,7 @@ one_mark ld (Call q r) = go (ld q) refl
     go true e = inr (mark.Call q r, rw e refl)
     go false e = inl (rw e refl)
 
+-- the stretch behind a block is one more if it gives a mark
 next_is : (ld : ℕ → Bool) (c : Control) (t : ℕ) → next_number (mark_of ld c) t ≡ length (mark_of ld c) + t
 next_is ld c t = go (one_mark ld c)
   where
@@ -51,6 +53,7 @@ next_is ld c t = go (one_mark ld c)
     go (inl e) = rw e (omega arith)
     go (inr (m, e)) = rw e (omega arith)
 
+-- so it is above each that is less
 next_above : (ld : ℕ → Bool) (c : Control) (t s : ℕ) → s < t → s < next_number (mark_of ld c) t
 next_above ld c t s less = let e = next_is ld c t in omega arith
 
@@ -68,6 +71,7 @@ number_at ld [] t j = t
 number_at ld (b ∷ bs) t zero = t
 number_at ld (b ∷ bs) t (suc j) = number_at ld bs (next_number (mark_of ld b.control) t) j
 
+-- the number of the stretch at a place counts the marks before it
 number_is : (ld : ℕ → Bool) (bs : List ControlBlock) (t j : ℕ) → number_at ld bs t j ≡ stretch ld bs j + t
 number_is ld [] t zero = omega arith
 number_is ld [] t (suc j) = omega arith
@@ -110,6 +114,7 @@ module _ (tape : List ControlProgram) (line : ℕ → ℕ → Option ℕ) (quiet
       least_either (λ k. line p b ≡ Some k) (CalledLine tape line c) (line p b) (called_line (loud tape) quiet c)
       (least_one (line p b)) (called_least c)
 
+  -- the line of a block, if it is looked for, or the least line of what it calls
   abbrev pub seen_in : ℕ → ℕ → Control → Option ℕ
   seen_in p b c = seen_line (loud tape) quiet (line p b) c
 
@@ -160,6 +165,7 @@ module _ (tape : List ControlProgram) (line : ℕ → ℕ → Option ℕ) (quiet
   abbrev pub line_of_stretch : ℕ → ℕ → Option ℕ
   line_of_stretch p s = stretch_line (loud tape) (seen_in p) (blocks tape p) 0 0 s
 
+  -- what was found of a stretch is the least of its lines
   pub stretch_least : (p s : ℕ) → IsLeast (StretchLine tape line p s) (line_of_stretch p s)
   stretch_least p s =
       least_same (TailLine p (blocks tape p) 0 0 s) (StretchLine tape line p s) (line_of_stretch p s)

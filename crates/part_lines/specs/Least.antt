@@ -1,4 +1,5 @@
 -- The least of some lines, of which there may be none.
+-- race_report takes `IsLeast`.
 use Rattle.std.specs.Prelude.{ℕ, ◌≤◌, Option, Some, None}
 
 -- it is one of the lines, and none is less; or there is none

@@ -1,5 +1,6 @@
 -- The least lines of the parts of a path, as its blocks come one after another with all calls
 -- unfolded.
+-- For this crate alone.
 use Rattle.std.specs.Prelude.{◌≡◌, ℕ, zero, suc, Bool, false, List, [], ◌∷◌, Option, Some, None, if◌then◌else◌}
 use Rattle.block_order.specs.declared.control.Control.{Control}
 use Rattle.block_order.specs.declared.control.Control.TheVariants.{Wait, End, Call, Back}

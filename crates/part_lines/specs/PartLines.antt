@@ -1,4 +1,5 @@
 -- The least line of each part of a path, among the blocks that are looked for.
+-- race_report takes `AreLeastLines` and `LineInPart`.
 use Rattle.std.specs.Prelude.{◌≡◌, ℕ, suc, List, length, Option, Some, slice_get}
 use Rattle.block_order.specs.declared.control.Control.{Control}
 use Rattle.block_order.specs.declared.program.ControlProgram.{ControlProgram}

@@ -1,4 +1,5 @@
 -- The least lines of single programs, as they are made and joined.
+-- For this crate alone.
 use Rattle.std.specs.Prelude.{◌≡◌, ℕ, suc, ◌≤◌, List, [], ◌∷◌, ◌++◌, Option, Some, None, nat_eq}
 use Rattle.indexmap.specs.IndexMap.{get}
 use Rattle.block_order.specs.declared.control.Control.{Control}
@@ -94,6 +95,7 @@ IsClosedAt tape line found program =
     (block : ℕ) (c : Control) → control_at (blocks tape program) block ≡ Some c
     → IsBelow (found program) (seen_line (loud tape) found (line program block) c)
 
+-- so it is with every program
 abbrev pub IsClosed : List ControlProgram → (ℕ → ℕ → Option ℕ) → (ℕ → Option ℕ) → Type 0
 IsClosed tape line found = (program : ℕ) → IsClosedAt tape line found program
 
@@ -101,6 +103,7 @@ IsClosed tape line found = (program : ℕ) → IsClosedAt tape line found progra
 abbrev pub AreQuietLines : List ControlProgram → (ℕ → ℕ → Option ℕ) → (ℕ → Option ℕ) → Type 0
 AreQuietLines tape line found = (program : ℕ) → IsLeast (LineFrom tape line program) (found program)
 
+-- the line of the first part, if there is one
 abbrev pub first_of : Lines → Option ℕ
 first_of [] = None
 first_of (line ∷ lines) = line

@@ -1,6 +1,6 @@
-//! Which programs call a quiet program.
-//!
-//! Only time hangs on it: what is found by it is looked at again.
+//! Which programs call a quiet program. Only time depends on it: what is found by it is looked at
+//! again.
+//! For this crate alone.
 
 use block_order::{BlockOrder, Callers, Control, ControlProgram};
 use nc_number::NoMemory;

@@ -1,4 +1,6 @@
-//! The blocks that are looked for.
+//! The blocks that are looked for, as a trait: race_report says of each block whether it is one,
+//! and its line.
+//! race_report keeps the trait.
 ghost use Rattle.std.specs.Prelude.{◌≡◌, ℕ, Option};
 
 /// The blocks of a tape that are looked for.

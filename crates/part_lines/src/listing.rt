@@ -1,4 +1,5 @@
 //! The least lines of a path: each program's once, joined by the calls.
+//! race_report uses it.
 ghost use Rattle.std.specs.Prelude.{◌≡◌, Some, None, Option, IfOk, OnOk};
 ghost use Rattle.block_order.specs.declared.control.Control.TheVariants as Control;
 ghost use Rattle.loud_calls.specs.Calls.{IsReady, IsShort, IsShortCall};

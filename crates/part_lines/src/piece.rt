@@ -1,4 +1,5 @@
-//! The least lines of one program.
+//! The least lines of one program, part by part, as they grow; listing.rt joins them.
+//! For this crate alone.
 ghost use Rattle.std.specs.Prelude.{◌≡◌, ◌<◌, ◌∷◌, None, OnOk, IfOk};
 ghost use Rattle.part_lines.specs.Lines.{Lines};
 ghost use Rattle.part_lines.specs.Pieces.{shown, stop_of, IsSeen, AreJoined, AreAdded};

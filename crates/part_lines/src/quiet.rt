@@ -2,6 +2,7 @@
 //!
 //! A path may come to any block of a quiet program that it calls, and none of them waits: all that
 //! is opened from a block is in the part of that block.
+//! For this crate alone.
 ghost use Rattle.std.specs.Prelude.{◌≡◌, ◌≢◌, ◌↔◌, ℕ, true, Some, None, Option, IsTrue, IfOk, OnOk};
 ghost use Rattle.block_order.specs.Loud.{loud};
 ghost use Rattle.block_order.specs.Order.{blocks};

@@ -1,4 +1,5 @@
--- The items ahead of a place, as its running frame moves.
+-- The items ahead of a place, as its running frame moves. A frame is an open program: its number,
+-- its block and its repeats left.
 use Rattle.std.proofs.Common.{◌≡◌, ℕ, zero, suc, ◌+◌, Bool, true, false, List, [], ◌∷◌, ◌++◌, length, take, drop, Some, refl, ap, sym, ◌∙◌, arith}
 use Rattle.std.proofs.lemmas.List.{length-append}
 use Rattle.block_order.specs.declared.control.Control.{Control}
@@ -15,16 +16,18 @@ use Rattle.block_order.specs.Moves.{at}
 use Rattle.block_order.proofs.MarksFrom.{marks-at, marks-drop}
 use Rattle.part_order.specs.Parts.{Item, Stretch, Meets, times, items, whole, items_from, stretch_at, behind, ahead}
 
+-- the items ahead of a frame that counts: its own, and what comes once it has returned
 pub ahead-counts : (tape : List ControlProgram) (f : Frame) (stack : List Frame) → counts tape f.program stack ≡ true
     → ahead tape (f ∷ stack)
     ≡ items_from tape (room stack) f.program (stretch_at tape f.program f.block) f.left (behind tape stack)
 ahead-counts tape f stack e = rw e
 
+-- a frame of a quiet program has none of its own
 pub ahead-quiet : (tape : List ControlProgram) (f : Frame) (stack : List Frame) → counts tape f.program stack ≡ false
     → ahead tape (f ∷ stack) ≡ ahead tape stack
 ahead-quiet tape f stack e = rw e
 
--- behind a block stand the marks before it and its own
+-- after a block stand the marks before it and its own
 pub stretch_next : (ld : ℕ → Bool) (bs : List ControlBlock) (i : ℕ) (c : Control) → control_at bs i ≡ Some c
     → stretch ld bs (suc i) ≡ length (mark_of ld c) + stretch ld bs i
 stretch_next ld [] i c e = absurd cc
@@ -48,6 +51,7 @@ moves_kept tape f stack block same = go (counts tape f.program stack) refl
         rw e (ap (λ k. items_from tape (room stack) f.program k f.left (behind tape stack)) (same e))
     go false e = rw e refl
 
+-- the block after one that is no mark is in the same stretch
 pub unmarked_next : (tape : List ControlProgram) (p block : ℕ) (c : Control) → control_at (blocks tape p) block ≡ Some c
     → mark_of (loud tape) c ≡ [] → stretch_at tape p (suc block) ≡ stretch_at tape p block
 unmarked_next tape p block c is none =
@@ -55,7 +59,7 @@ unmarked_next tape p block c is none =
     let none' = ap length none in
     omega arith
 
--- behind a mark begins the next stretch
+-- after a mark begins the next stretch
 pub marked_next : (tape : List ControlProgram) (p block : ℕ) (c : Control) (m : Mark) → control_at (blocks tape p) block ≡ Some c
     → mark_of (loud tape) c ≡ m ∷ [] → stretch_at tape p (suc block) ≡ suc (stretch_at tape p block)
 marked_next tape p block c m is one =
@@ -82,7 +86,7 @@ stretch_first tape called p s (mark.Call q r ∷ ms) rest = (times r (called q) 
 stretch_first tape called p s (mark.Back ∷ ms) rest = (rest, refl)
 stretch_first tape called p s (mark.Past ∷ ms) rest = ([], refl)
 
--- a call of a loud program opens behind its stretch
+-- a call of a loud program opens after its stretch
 pub call_opens : (tape : List ControlProgram) (n m p block left q more : ℕ) (rest : List Item) → n ≡ suc m
     → control_at (blocks tape p) block ≡ Some (Call q (suc more)) → loud tape q ≡ true
     → items_from tape n p (stretch_at tape p block) left rest
@@ -106,12 +110,13 @@ pub repeat_begins : (tape : List ControlProgram) (n p block left : ℕ) (rest : 
 unfolding whole
 repeat_begins tape n p block left rest is = rw (marks_here tape p block Back is) refl
 
--- a last return leads to what stands behind
+-- a last return leads to what comes after it
 pub last_returns : (tape : List ControlProgram) (n p block : ℕ) (rest : List Item)
     → control_at (blocks tape p) block ≡ Some Back
     → items_from tape n p (stretch_at tape p block) 0 rest ≡ Stretch p (stretch_at tape p block) ∷ rest
 last_returns tape n p block rest is = rw (marks_here tape p block Back is) refl
 
+-- at a wait the items are its stretch, the wait, and those after it
 pub wait_begins : (tape : List ControlProgram) (n p block left code : ℕ) (rest : List Item)
     → control_at (blocks tape p) block ≡ Some (Wait code)
     → items_from tape n p (stretch_at tape p block) left rest

@@ -1,3 +1,4 @@
+-- The files of proofs, each after those that it uses.
 pub mod ItemsAhead
 pub mod KeepsItems
 pub mod Standing

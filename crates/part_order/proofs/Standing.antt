@@ -1,4 +1,5 @@
--- Behind n waits a path stands in part n.
+-- After n waits a path stands in part n: the law `each_block_stands_in_its_part` (src/laws.rt).
+-- race_order takes the facts too.
 use Rattle.std.proofs.Common.{◌≡◌, ℕ, suc, Bool, true, false, List, [], ◌∷◌, drop, refl, subst, ◌∙◌}
 use Rattle.block_order.specs.declared.frame.Frame.{Frame}
 use Rattle.block_order.specs.declared.program.ControlProgram.{ControlProgram}
@@ -33,11 +34,13 @@ in_part tape n f (g ∷ stack) place s =
         listed f.program f.block own.0 (subst (Follows (path_items tape) n) (ahead-counts tape f (g ∷ stack) e ∙ own.1) s)
     go false e below = called g.program g.block f.program f.block place.0 (below e) place.1 e
 
+-- a step leads on in the items
 step_stands : (tape : List ControlProgram) → IsUnforked tape → (n : ℕ) (from to : List Frame) → IsPlace tape from
     → Step tape from to → Stands tape n from → Stands tape n to
 step_stands tape un n [] to place step s = absurd place
 step_stands tape un n (f ∷ stack) to place (c, is, goes) s = goes_stands tape (are_loud tape) un n f stack place c is to goes s
 
+-- wherever a path comes after n waits, it stands in part n
 pub reached_stands : (tape : List ControlProgram) → IsUnforked tape → (n : ℕ) (place : List Frame) → IsReached tape n place
     → IsPlace tape place × Stands tape n place
 reached_stands tape un _ _ starts = ((refl, refl), first)
@@ -48,6 +51,7 @@ reached_stands tape un _ _ (passes n code from before is) =
     let at = reached_stands tape un n from before in
     (next_stays tape from at.0, passed_stands tape (are_loud tape) n code from is at.1)
 
+-- the law: each block that a path comes to after n waits is in part n
 pub stands_in_parts : (tape : List ControlProgram) → IsUnforked tape → StandsInParts tape
 stands_in_parts tape un n f stack reached =
     let at = reached_stands tape un n (f ∷ stack) reached in in_part tape n f stack at.0 at.1

@@ -1,5 +1,8 @@
 -- The parts of a path: the blocks that its list, with all calls unfolded, has between one wait and
--- the next. Which block runs there hangs on the variables; which block may run there does not.
+-- the next. Which block runs there depends on the variables; which block may run there does not. A
+-- program is loud if it, or one that it calls, has a wait or an end; others are quiet. A stretch is
+-- the blocks of a loud program up to its next mark. part_lines, race_order and race_report cite
+-- this.
 use Rattle.std.specs.Prelude.{◌≡◌, ℕ, zero, suc, ◌+◌, ◌<◌, false, List, [], ◌∷◌, drop, Some, if◌then◌else◌}
 use Rattle.block_order.specs.declared.control.Control.TheVariants.{Wait, Call}
 use Rattle.block_order.specs.declared.frame.Frame.{Frame}
@@ -13,8 +16,11 @@ use Rattle.block_order.specs.Steps.{Step, standing, place_behind}
 
 -- What stands in the list: a stretch of a program, a wait, or that the list begins anew.
 pub data Item : Type 0 where
+  -- a stretch: the program and its number there, from 0
   Stretch : (program number : ℕ) → Item
+  -- a wait
   Meets : Item
+  -- the main program returns, and the list begins anew
   Anew : Item
 
 -- what the program gives n times, one after another
@@ -23,7 +29,7 @@ times zero f rest = rest
 times (suc n) f rest = f (times n f rest)
 
 -- The items of a program's marks from a stretch on, where called gives those of a called program,
--- and rest follows behind the return. Each mark ends a stretch.
+-- and rest follows after the return. Each mark ends a stretch.
 abbrev pub items : (ℕ → List Item → List Item) → ℕ → ℕ → List Mark → List Item → List Item
 items called program number [] rest = Stretch program number ∷ []
 items called program number (mark.Wait code ∷ ms) rest =
@@ -34,7 +40,7 @@ items called program number (mark.Call q repeats ∷ ms) rest =
 items called program number (mark.Back ∷ ms) rest = Stretch program number ∷ rest
 items called program number (mark.Past ∷ ms) rest = Stretch program number ∷ []
 
--- the items of a program that is called with n further calls left, and rest behind them
+-- the items of a program that is called with n further calls left, and rest after them
 unfoldable pub whole : List ControlProgram → ℕ → ℕ → List Item → List Item
 whole tape zero program rest = rest
 whole tape (suc n) program rest = items (λ q k. whole tape n q k) program 0 (marks (loud tape) (blocks tape program)) rest
@@ -78,35 +84,46 @@ waits_in (Anew ∷ xs) = 0
 abbrev pub path_waits : List ControlProgram → ℕ
 path_waits tape = waits_in (path_items tape)
 
--- Behind n waits of the list, which begins anew wherever it says so, these items follow.
+-- After n waits of the list, which begins anew wherever it says so, these items follow.
 pub data Follows (all : List Item) : ℕ → List Item → Type 0 where
+  -- before the first wait all items follow
   first : Follows all 0 all
+  -- past a stretch the items after it follow
   behind_stretch : (n program number : ℕ) (rest : List Item) → Follows all n (Stretch program number ∷ rest) → Follows all n rest
+  -- past a wait those after it follow, and one wait more is passed
   behind_wait : (n : ℕ) (rest : List Item) → Follows all n (Meets ∷ rest) → Follows all (suc n) rest
+  -- where the list begins anew, all items follow
   anew : (n : ℕ) (rest : List Item) → Follows all n (Anew ∷ rest) → Follows all n all
 
--- The block is in part n of the path: its stretch stands behind n waits of the list, or it is a
+-- The block is in part n of the path: its stretch stands after n waits of the list, or it is a
 -- block of a quiet program that a block of part n calls.
 pub data IsInPart (tape : List ControlProgram) (n : ℕ) : ℕ → ℕ → Type 0 where
+  -- its stretch stands after n waits of the list
   listed : (program block : ℕ) (rest : List Item)
       → Follows (path_items tape) n (Stretch program (stretch_at tape program block) ∷ rest) → IsInPart tape n program block
+  -- a block of part n calls its program, which is quiet
   called : (caller there program block repeats : ℕ) → IsInPart tape n caller there
       → control_at (blocks tape caller) there ≡ Some (Call program repeats) → loud tape program ≡ false → IsInPart tape n program block
 
 -- some steps of the path, and n waits that it passed, lead from its start to the place
 pub data IsReached (tape : List ControlProgram) : ℕ → List Frame → Type 0 where
+  -- at the start no wait is passed
   starts : IsReached tape 0 (start tape)
+  -- a step passes no wait
   steps : (n : ℕ) (from to : List Frame) → IsReached tape n from → Step tape from to → IsReached tape n to
+  -- at a wait the path goes on, and one wait more is passed
   passes : (n code : ℕ) (from : List Frame) → IsReached tape n from → standing tape from ≡ Some (Wait code)
       → IsReached tape (suc n) (place_behind from)
 
--- behind n waits each block that a path may come to is in part n
+-- after n waits each block that a path may come to is in part n
 abbrev pub StandsInParts : List ControlProgram → Type 0
 StandsInParts tape =
     (n : ℕ) (f : Frame) (stack : List Frame) → IsReached tape n (f ∷ stack) → IsInPart tape n f.program f.block
 
--- Behind more waits than the list has, the parts are those of a round before; without a wait all is
+-- After more waits than the list has, the parts are those of a round before; without a wait all is
 -- part 0.
 pub record PartsRepeat (tape : List ControlProgram) : Type 0 where
+  -- a part after more waits than the list has is that of a round before
   pub before : (n program block : ℕ) → 0 < n → IsInPart tape (n + path_waits tape) program block → IsInPart tape n program block
+  -- without a wait there is part 0 alone
   pub alone : (n program block : ℕ) → path_waits tape ≡ 0 → IsInPart tape n program block → n ≡ 0

@@ -1,10 +1,11 @@
-//! What holds of every tape, for the crates above: who calls the function has the law.
+//! What holds of every tape. race_order, race_report and part_lines take the proofs of these laws
+//! instead of calling them.
 ghost use Rattle.std.specs.Prelude.{◌≡◌, List};
 ghost use Rattle.block_order.specs.declared.program.ControlProgram.{ControlProgram};
 ghost use Rattle.block_order.specs.Labels.{IsUnforked, list};
 ghost use Rattle.part_order.specs.Parts.{StandsInParts, PartsRepeat, path_waits};
 
-/// Wherever a path comes behind n waits, whatever its variables hold, the block there is one of its
+/// Wherever a path comes after n waits, whatever its variables hold, the block there is one of its
 /// part n.
 pub fn each_block_stands_in_its_part()
     ensures { (tape : List ControlProgram) → IsUnforked tape → StandsInParts tape }

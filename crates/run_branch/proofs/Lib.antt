@@ -1,3 +1,4 @@
+-- The files of proofs, each after those that it uses.
 mod Points
 mod Made
 mod Opened

@@ -36,6 +36,7 @@ prefix_small entries k =
     let bytes : length (records_bytes entries) ≡ length (records_bytes (front ++ behind)) = ap (λ (l : List Entry). length (records_bytes l)) split in
     omega (arith, ap length split, length-append front behind, joined, length-append (records_bytes front) (records_bytes behind), bytes)
 
+-- the bodies of a branch end where it may end at most
 filled_end : (header : Header) (entries : List Entry) (k : ℕ) (bodies : List (List ℕ)) → IsFilled (newest header) (take k entries) bodies
     → ends_at bodies + 1 ≤ branch_end header entries
 filled_end header entries k bodies filled =
@@ -45,6 +46,7 @@ filled_end header entries k bodies filled =
     ap (λ (l : List Entry). length (records_bytes l)) filled.run.joins in
     omega (arith, end, front, records, ap length filled.run.joins, pieces_end Two filled.pieces filled.run.are, prefix_small entries k)
 
+-- a branch of these records at their n-th meeting
 module _ {E : Type 0} (state : E → DiskState) (header : Header) (entries : List Entry) (n : ℕ) where
   -- the disk is not called
   pub no_meeting : (disk : E) → IsCoherent (state disk) → meetings entries < n → Branches state header entries n disk disk (Err NoMeeting)
@@ -62,6 +64,7 @@ module _ {E : Type 0} (state : E → DiskState) (header : Header) (entries : Lis
     uses = uses_none 12 (branch_end header entries) (state disk);
   }
 
+  -- without memory the disk is not called either
   pub no_memory : (disk : E) → IsCoherent (state disk) → n ≤ meetings entries → Branches state header entries n disk disk (Err NoMemory)
   no_memory disk coherent some = record {
     no_meeting = (λ (is : NoMemory ≡ NoMeeting). absurd cc, λ fewer. absurd (omega (arith, some, fewer)));
@@ -77,27 +80,34 @@ module _ {E : Type 0} (state : E → DiskState) (header : Header) (entries : Lis
     uses = uses_none 12 (branch_end header entries) (state disk);
   }
 
+  -- the branch has k records, and these are its bodies
   module _ (k : ℕ) (point : branch_point n entries ≡ Some k) (bodies : List (List ℕ)) (filled : IsFilled (newest header) (take k entries) bodies) where
+    -- an image of these bytes is the branch
     stands : (c : List ℕ) → Spells bodies c → IsBranch header entries n c
     stands c spells =
         (k, point, (filled.pieces, filled.run, subst (λ (l : List (List ℕ)). Spells l c) filled.are spells))
 
+    -- a disk that keeps them leaves the branch only
     kept : (disk : DiskState) (end : ℕ) → Keeps bodies disk end → (c : List ℕ) → disk.image c → IsBranch header entries n c
     kept disk end keeps c image =
         stands c (subst (Spells bodies) (sym (keeps.only c image)) (0 ∷ keeps.behind, keeps.opens, (keeps.behind, refl)))
 
+    -- a crash at any moment leaves what was before, or no run, or the branch
     moments : (old new : DiskState) → LeavesOnly (IsBeginning old.image bodies) old new
         → LeavesOnly (IsBranching old.image header entries n) old new
     moments old new run = widened (IsBeginning old.image bodies) (IsBranching old.image header entries n) old new run (λ c. elim_each c) where
+      -- each image of a file of gates that is begun so is one of those
       elim_each : (c : List ℕ) → IsBeginning old.image bodies c → IsBranching old.image header entries n c
       elim_each c (inl before) = inl before
       elim_each c (inr (inl none)) = inr (inl none)
       elim_each c (inr (inr spells)) = inr (inr (stands c spells))
 
+    -- the calls of the disk and the bytes that a branch takes
     uses : (old new : DiskState) → Uses 12 (ends_at bodies + 1) old new → Uses 12 (branch_end header entries) old new
     uses old new used =
         uses_widened 12 12 (ends_at bodies + 1) (branch_end header entries) old new used (omega arith) (filled_end header entries k bodies filled)
 
+    -- if the file of gates is begun, the branch is made
     pub made : (before after : E) (file : Gate E) → Begins bodies (state before) (state after) (Ok file)
         → Branches state header entries n before after (Ok k)
     made before after file begins = record {
@@ -114,6 +124,7 @@ module _ {E : Type 0} (state : E → DiskState) (header : Header) (entries : Lis
       uses = uses (state before) (state after) begins.uses;
     }
 
+    -- if it is refused, the branch is refused for the same reason
     refused_for : (before after : E) (fault : GateFault) (answer : BranchFault) → Begins {A = Gate E} bodies (state before) (state after) (Err fault)
         → (answer ≡ NoMeeting → ⊥) → RefusesBranch answer (state before) (state after)
         → ((answer ≡ NewDisk → ⊥) → (state after).faults ≡ (state before).faults)
@@ -132,6 +143,7 @@ module _ {E : Type 0} (state : E → DiskState) (header : Header) (entries : Lis
       uses = uses (state before) (state after) begins.uses;
     }
 
+    -- a branch whose file of gates is refused answers that fault
     pub not_made : (before after : E) (fault : GateFault) (answer : BranchFault) → IsFaultOf fault answer
         → Begins {A = Gate E} bodies (state before) (state after) (Err fault) → Branches state header entries n before after (Err answer)
     not_made before after DiskFault answer is begins =
@@ -148,6 +160,7 @@ module _ {E : Type 0} (state : E → DiskState) (header : Header) (entries : Lis
     not_made before after NoRun answer is begins = absurd is
     not_made before after (Cut at) answer is begins = absurd is
 
+    -- the fault is one of a file that is begun
     pub of_beginning : (before after : DiskState) (fault : GateFault) → Begins {A = Gate E} bodies before after (Err fault) → IsOfBeginning fault
     of_beginning before after DiskFault begins = tt
     of_beginning before after GateThere begins = tt

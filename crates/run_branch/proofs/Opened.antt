@@ -1,4 +1,4 @@
--- A branch is opened as what it is.
+-- A branch is opened as what it is: the law `a_branch_opens_as_its_records` (src/laws.rt).
 use Rattle.std.proofs.Common.{◌≡◌, inl, inr, ℕ, List, take, Ok, Err, refl, Result}
 use Rattle.disk_model.specs.Device.{DiskState, Reads}
 use Rattle.run_records.specs.declared.header.Header.{Header}
@@ -11,11 +11,14 @@ use Rattle.run_journal.specs.Opening.{FindsRun, Found}
 use Rattle.run_branch.specs.Branches.{IsBranch}
 use Rattle.run_branch.specs.Openings.{OpensAsBranch}
 
+-- an image stands for one thing, and this one for the branch
 module _ (one : (image : List ℕ) (a b : Meaning) → StandsFor a image → StandsFor b image → a ≡ b) (header : Header) (entries : List Entry) (n : ℕ)
     (bytes : List ℕ) (is : IsBranch header entries n bytes) where
+  -- what it stands for: the run up to its n-th meeting
   abbrev whole : Meaning
   whole = a_run (newest header) (take is.0 entries)
 
+  -- an opening finds the branch, or the disk fails, or memory runs out
   pub opened : (old new : DiskState) (result : Result Found JournalFault) → Reads old bytes → FindsRun old new result
       → OpensAsBranch header entries n result
   opened old new (Ok found) reads finds =

@@ -1,5 +1,5 @@
 -- What it does to a disk to make a branch there: a second journal, which stands for a run up to its
--- n-th meeting.
+-- n-th meeting. lathe_top cites it.
 use Rattle.std.specs.Prelude.{◌≡◌, ◌⊎◌, ◌↔◌, ℕ, ◌+◌, ◌*◌, ◌≤◌, ◌<◌, List, length, take, Some, Result, Ok, Err, IfOk, OnOk, IfErr}
 use Rattle.disk_model.specs.Device.{DiskState, Reads, Rose, IsSettled}
 use Rattle.disk_model.specs.Moments.{LeavesOnly, Unwritten, Uses}
@@ -29,10 +29,12 @@ IsBranching image header entries n file = image file ⊎ (IsNoRun file ⊎ IsBra
 abbrev pub branch_end : Header → List Entry → ℕ
 branch_end header entries = 6 + length (header_bytes header) + length (records_bytes entries) + 6 * length entries
 
+-- the answer is that the run has fewer meetings
 abbrev pub IsNoMeeting : {A : Type 0} → Result A BranchFault → Type 0
 IsNoMeeting (Ok answer) = ⊥
 IsNoMeeting (Err fault) = fault ≡ NoMeeting
 
+-- the answer is a fault of the new journal's disk
 abbrev pub IsNewDisk : {A : Type 0} → Result A BranchFault → Type 0
 IsNewDisk (Ok answer) = ⊥
 IsNewDisk (Err fault) = fault ≡ NewDisk
@@ -52,16 +54,22 @@ pub record Branches {E : Type 0} (state : E → DiskState) (header : Header) (en
   -- `NoMeeting` is answered exactly where the records have fewer meetings, and then the disk was
   -- not called
   pub no_meeting : IsNoMeeting result ↔ (meetings entries < n)
+  -- then the disk is as it was
   pub uncalled : IsNoMeeting result → after ≡ before
+  -- an Ok says how many records the branch has
   pub count : IfOk result (λ k. branch_point n entries ≡ Some k)
   -- after an Ok whatever a crash may leave of the disk stands for the branch
   pub whole : OnOk result ((bytes : List ℕ) → Reads (state before) bytes → (c : List ℕ) → (state after).image c
       → IsBranch header entries n c)
+  -- after an Ok there was no run before
   pub vacant : OnOk result ((bytes : List ℕ) → Reads (state before) bytes → IsRunThere bytes → ⊥)
   -- a run that is there stays as it is, whatever the answer
   pub spares : (bytes : List ℕ) → Reads (state before) bytes → IsRunThere bytes → Unwritten (state before) (state after)
+  -- an error says why
   pub refused : IfErr result (λ fault. RefusesBranch fault (state before) (state after))
+  -- the count of faults of the disk does not fall
   pub later : (state before).faults ≤ (state after).faults
+  -- it rises only if the answer is a fault of the disk
   pub calm : (IsNewDisk result → ⊥) → (state after).faults ≡ (state before).faults
   -- a crash at any moment of the call leaves an image from before it, or no run, or the whole
   -- branch

@@ -1,4 +1,5 @@
--- Which faults of a file of gates a branch may meet, and what it answers for them.
+-- Which faults of a file of gates a branch may meet, and what it answers for them. For this crate
+-- alone.
 use Rattle.std.specs.Prelude.{◌≡◌}
 use Rattle.gate_file.specs.declared.fault.GateFault.{GateFault}
 use Rattle.gate_file.specs.declared.fault.GateFault.TheVariants.{DiskFault, NoRun, RunThere as GateThere, Cut, NoMemory as GateMemory}
@@ -13,6 +14,7 @@ IsOfBeginning GateThere = Unit {0}
 IsOfBeginning (Cut at) = ⊥
 IsOfBeginning GateMemory = Unit {0}
 
+-- the answer for a fault of the file
 abbrev pub IsFaultOf : GateFault → BranchFault → Type 0
 IsFaultOf DiskFault fault = fault ≡ NewDisk
 IsFaultOf NoRun fault = ⊥

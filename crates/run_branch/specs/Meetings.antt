@@ -1,4 +1,4 @@
--- The meetings of a run, and how far a branch reaches.
+-- The meetings of a run, and how far a branch reaches. lathe_top cites it.
 use Rattle.std.specs.Prelude.{◌≡◌, ℕ, zero, suc, ◌+◌, ◌≤◌, ◌<◌, List, [], ◌∷◌, length, take, Option, Some, None, if◌then◌else◌}
 use Rattle.std.specs.Option.{option_map}
 use Rattle.run_records.specs.Entries.{Entry, is_meeting}
@@ -17,6 +17,9 @@ branch_point (suc n) (entry ∷ entries) =
 
 -- the prefix of this length has n meetings, and each shorter one has fewer
 pub record IsBranchPoint (n : ℕ) (entries : List Entry) (k : ℕ) : Type 0 where
+  -- it is a prefix of the records
   pub within : k ≤ length entries
+  -- it has n meetings
   pub has : meetings (take k entries) ≡ n
+  -- each shorter one has fewer
   pub least : (j : ℕ) → j < k → meetings (take j entries) < n

@@ -1,4 +1,4 @@
--- How a branch is opened.
+-- How a branch is opened: as its header and its records. The law of src/laws.rt says it.
 use Rattle.std.specs.Prelude.{◌≡◌, ◌⊎◌, ℕ, List, take, Some, Result, Ok, Err}
 use Rattle.run_records.specs.declared.header.Header.{Header}
 use Rattle.run_records.specs.Entries.{Entry}
@@ -10,13 +10,17 @@ use Rattle.run_branch.specs.Meetings.{branch_point}
 
 -- what is found is the branch
 pub record IsBranchFound (header : Header) (entries : List Entry) (n : ℕ) (found : Found) : Type 0 where
+  -- how many records the branch has
   pub k : ℕ
+  -- they are the shortest prefix with n meetings
   pub point : branch_point n entries ≡ Some k
+  -- the header has the same texts, in version 2
   pub header_is : found.header ≡ newest header
+  -- the records are that prefix
   pub entries_are : found.entries ≡ take k entries
 
--- An opening finds the branch, or is refused for a fault of the disk or for want of memory: there
--- is a run, and it is whole.
+-- An opening finds the branch, or is refused because the disk failed or memory ran out: there is a
+-- run, and it is whole.
 abbrev pub OpensAsBranch : Header → List Entry → ℕ → Result Found JournalFault → Type 0
 OpensAsBranch header entries n (Ok found) = IsBranchFound header entries n found
 OpensAsBranch header entries n (Err fault) = (fault ≡ DiskFault) ⊎ (fault ≡ NoMemory)

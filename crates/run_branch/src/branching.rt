@@ -1,4 +1,4 @@
-//! How a branch is made.
+//! How a branch is made: the shortest prefix with n meetings, written at once onto another disk.
 ghost use Rattle.std.specs.Prelude.{◌≡◌, ◌-◌, ◌^◌, ◌<◌, length, if◌then◌else◌};
 ghost use Rattle.run_records.specs.Entries.{is_meeting};
 ghost use Rattle.run_records.specs.Headers.{IsShort};
@@ -59,7 +59,7 @@ fn branch_point(entries: &EntryList, n: u32) -> Option<usize>
     Some(index)
 }
 
-/// How many of the meetings are left behind a record of this kind.
+/// How many of the meetings are left after a record of this kind.
 fn left_behind(left: u32, kind: &EntryKind) -> u32
     requires { 0 < left }
     ensures { result ≡ (if is_meeting kind.now then left - 1 else left) }

@@ -1,4 +1,4 @@
-//! Why a branch is not made.
+//! Why a branch is not made. lathe_top tells it on.
 ghost use Rattle.run_branch.specs.Faults.{IsFaultOf, IsOfBeginning};
 
 use gate_file::GateFault;
@@ -21,7 +21,7 @@ pub enum BranchFault {
     NoMemory,
 }
 
-/// Why a branch is not made whose file of gates is not begun.
+/// Why a branch is not made, by why its file of gates is not begun.
 pub(crate) fn fault_of(fault: GateFault) -> BranchFault
     requires { IsOfBeginning fault }
     ensures { IsFaultOf fault result }

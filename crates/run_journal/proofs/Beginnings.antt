@@ -13,22 +13,27 @@ use Rattle.run_records.specs.Headers.{header_bytes, IsShort}
 use Rattle.run_journal.specs.Batches.{IsRun}
 use Rattle.run_journal.specs.Beginning.{IsRunBeginning, BeginsRun}
 
+-- a short header alone is a run without a record
 no_record : (header : Header) → IsShort header → IsRun header [] []
 no_record header short = record { short = short; are = tt; joins = refl }
 
+-- an image from before, of no run or of the first body alone is one while a journal is begun
 begins : (image : List ℕ → Type 0) (header : Header) → IsShort header → (c : List ℕ) → IsBeginning image (header_bytes header ∷ []) c → IsRunBeginning image header c
 begins image header short c (inl before) = inl before
 begins image header short c (inr (inl none)) = inr (inl none)
 begins image header short c (inr (inr spells)) = inr (inr ([], no_record header short, spells))
 
--- the header alone ends behind it
+-- the header alone ends after it
 header_end : (body : List ℕ) → ends_at (body ∷ []) ≡ 5 + length body
 header_end body = omega arith
 
+-- the calls of the disk and the bytes that the first body takes
 header_used : (body : List ℕ) (old new : DiskState) → Uses 12 (ends_at (body ∷ []) + 1) old new → Uses 12 (length body + 6) old new
 header_used body old new uses = uses_widened 12 12 _ (length body + 6) old new uses (omega arith) (omega (arith, header_end body))
 
+-- the header is the first body of the file of gates
 module _ {A B : Type 0} (header : Header) (short : IsShort header) (body : List ℕ) (is : body ≡ header_bytes header) (old new : DiskState) where
+  -- if the file of gates was created with the header, the journal is begun
   pub begun : (a : A) (b : B) → Begins (body ∷ []) old new (Ok b) → BeginsRun header old new (Ok a)
   begun a b call =
       let first : List ℕ = header_bytes header in
@@ -44,6 +49,7 @@ module _ {A B : Type 0} (header : Header) (short : IsShort header) (body : List 
         uses = header_used first old new same.uses;
       }
 
+  -- if it was refused, the journal is refused for the same reason
   pub not_begun : (fault : GateFault) → Begins {A = B} (body ∷ []) old new (Err fault) → BeginsRun {A = A} header old new (Err fault)
   not_begun fault call =
       let first : List ℕ = header_bytes header in

@@ -1,4 +1,5 @@
--- Where a journal ends.
+-- Where a journal ends: five bytes and the header, six bytes beside its own for each record, and
+-- eight for a mark. run_branch takes `pieces_end`.
 use Rattle.std.proofs.Common.{◌≡◌, ℕ, ◌+◌, ◌*◌, ◌≤◌, List, [], ◌∷◌, length, map, ap, arith, length-append}
 use Rattle.std.proofs.lemmas.List.Concat.{flat_map-append}
 use Rattle.disk_model.specs.Device.{DiskState}
@@ -18,10 +19,12 @@ abbrev mark_size : Version → ℕ
 mark_size One = 8
 mark_size Two = 0
 
+-- a mark takes at most eight bytes
 small_mark : (version : Version) → mark_size version ≤ 8
 small_mark One = omega arith
 small_mark Two = omega arith
 
+-- the pieces take the bytes of their records, six more a record, and those of a mark
 pub pieces_end : (version : Version) (pieces : List Piece) → ArePieces version pieces → ends_at (map piece_bytes pieces) ≤ length (records_bytes (records_of pieces)) + 6 * length (records_of pieces) + mark_size version
 pieces_end version [] are = omega arith
 pieces_end version (a_batch batch ∷ pieces) are =
@@ -31,6 +34,7 @@ pieces_end version (the_mark ∷ pieces) are =
     let eight : mark_size version ≡ 8 = ap mark_size are.0 in
     omega (arith, pieces_end Two pieces are.1, eight)
 
+-- a journal that the disk holds takes no more than that and its header
 pub held_end : (header : Header) (version : Version) (entries : List Entry) (disk : DiskState) (end : ℕ) → Holds header version entries disk end → end ≤ 13 + length (header_bytes header) + length (records_bytes entries) + 6 * length entries
 held_end header version entries disk end holds =
     let records : length (records_bytes entries) ≡ length (records_bytes (records_of holds.0)) = ap (λ (l : List Entry). length (records_bytes l)) holds.1.joins in

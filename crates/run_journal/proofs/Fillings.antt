@@ -1,4 +1,5 @@
--- Records in batches of 64, one batch more behind those that are there.
+-- Records in batches of 64, one batch more after those that are there: the loop of
+-- `journal_bodies`.
 use Rattle.std.proofs.Common.{◌≡◌, ℕ, ◌+◌, ◌-◌, ◌≤◌, ◌<◌, List, [], ◌∷◌, ◌++◌, length, take, drop, get_or, refl, sym, ap, subst, arith, ◌∙◌, length-drop}
 use Rattle.std.proofs.Math.Seq.{take-add}
 use Rattle.std.proofs.lemmas.List.{get_or-drop, take_more, length-take-le}
@@ -12,6 +13,7 @@ use Rattle.run_journal.specs.Filled.{newest, AreFull, IsFilled}
 use Rattle.run_journal.specs.Stands.{Pends}
 use Rattle.run_journal.proofs.Batches.{pieces_push, joined_push, bodies_push}
 
+-- the records from start up to index, and the one at index, are those up to the next index
 pub one_more : (items : List Entry) (start index : ℕ) (e : Entry) → start ≤ index → index < length items
     → e ≡ get_or items index e
     → take (index + 1 - start) (drop start items) ≡ take (index - start) (drop start items) ++ e ∷ []
@@ -32,10 +34,14 @@ AreWhole (piece ∷ pieces) = (length (records_in piece) ≡ 64) × AreWhole pie
 -- The bodies are those of a header of version 2 and these records; where more records are to come
 -- each batch has 64.
 pub record IsFilling (header : Header) (at upto : ℕ) (items : List Entry) (bodies : List (List ℕ)) : Type 0 where
+  -- at most all of them are filled in
   pub within : at ≤ upto
+  -- the bodies are those of the records so far
   pub filled : IsFilled (newest header) (take at items) bodies
+  -- if more are to come, each batch has 64
   pub whole : at < upto → AreWhole filled.pieces
 
+-- a journal of version 2 stays one of version 2
 stays_two : (pieces : List Piece) → ArePieces Two pieces → version_behind Two pieces ≡ Two
 stays_two [] are = refl
 stays_two (a_batch batch ∷ pieces) are = stays_two pieces are.1
@@ -43,16 +49,20 @@ stays_two (the_mark ∷ pieces) are = absurd (two_is_not_one are.0) where
   two_is_not_one : Two ≡ One → ⊥
   two_is_not_one same = absurd (cc)
 
+-- after pieces of 64 records each, the last piece may have fewer
 full_push : (pieces : List Piece) (piece : Piece) → AreWhole pieces → AreFull (pieces ++ piece ∷ [])
 full_push [] piece whole = tt
 full_push (x ∷ []) piece whole = (whole.0, tt)
 full_push (x ∷ y ∷ pieces) piece whole = (whole.0, full_push (y ∷ pieces) piece whole.1)
 
+-- pieces of 64 records each, with one more of 64, are such pieces
 whole_push : (pieces : List Piece) (piece : Piece) → AreWhole pieces → length (records_in piece) ≡ 64 → AreWhole (pieces ++ piece ∷ [])
 whole_push [] piece whole is = (is, tt)
 whole_push (x ∷ pieces) piece whole is = (whole.0, whole_push pieces piece whole.1 is)
 
+-- the first `upto` of these records are written under this header
 module _ (header : Header) (upto : ℕ) (items : List Entry) where
+  -- the header alone is the journal's bodies of no record
   pub none_filled : (bodies : List (List ℕ)) → IsShort header → bodies ≡ bodies_of (newest header) [] → IsFilling header 0 upto items bodies
   none_filled bodies short are = record {
     within = omega arith;
@@ -60,6 +70,7 @@ module _ (header : Header) (upto : ℕ) (items : List Entry) where
     whole = λ less. tt;
   }
 
+  -- one batch more, of 64 or of all that are left, gives the bodies up to its end
   pub batch_filled : (at end : ℕ) (bodies new : List (List ℕ)) (batch : List ℕ) → IsFilling header at upto items bodies
       → at < end → end ≤ upto → end ≤ at + 64 → (end < upto → end ≡ at + 64) → upto ≤ length items
       → Pends Two (take (end - at) (drop at items)) batch → new ≡ bodies ++ batch ∷ [] → IsFilling header end upto items new
@@ -90,6 +101,7 @@ module _ (header : Header) (upto : ℕ) (items : List Entry) where
         whole = λ less. whole_push was.pieces (a_batch more) (filling.whole (omega arith)) (omega (arith, size, all less));
       }
 
+  -- once all records are in batches, the bodies are those of the filled journal
   pub all_filled : (at : ℕ) (bodies : List (List ℕ)) → IsFilling header at upto items bodies → upto ≤ at
       → IsFilled (newest header) (take upto items) bodies
   all_filled at bodies filling past =

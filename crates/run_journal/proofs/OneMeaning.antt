@@ -1,4 +1,4 @@
--- An image stands for one thing.
+-- An image stands for one thing: it can't be read as two runs, as bad for two causes, or as both.
 use Rattle.std.proofs.Common.{◌≡◌, ◌⊎◌, inl, inr, ℕ, ◌+◌, ◌<◌, List, [], ◌∷◌, ◌++◌, length, drop, map, get_or, refl, sym, ◌∙◌, ap, subst, arith, append_assoc, Option, Some, None, false, not}
 use Rattle.std.specs.Prelude.{if◌then◌else◌}
 use Rattle.std.proofs.lemmas.Bool.{ne_eqb}
@@ -26,6 +26,7 @@ use Rattle.run_journal.specs.Stands.{Stands}
 behind_first : (e : Entry) (entries : List Entry) (rest : List ℕ) → records_bytes (e ∷ entries) ++ rest ≡ entry_bytes e ++ (records_bytes entries ++ rest)
 behind_first e entries rest = append_assoc (entry_bytes e) (records_bytes entries) rest
 
+-- bytes that begin with a record begin with no other
 one_first : (e f : Entry) (entries others : List Entry) (rest more : List ℕ) → IsEntry e → IsEntry f → records_bytes (e ∷ entries) ++ rest ≡ records_bytes (f ∷ others) ++ more → (e ≡ f) × (records_bytes entries ++ rest ≡ records_bytes others ++ more)
 one_first e f entries others rest more is also same =
     one_entry e f (records_bytes entries ++ rest) (records_bytes others ++ more) is also (sym (behind_first e entries rest) ∙ same ∙ behind_first f others more)
@@ -52,13 +53,14 @@ module _ (version : Version) where
       let later = one_records entries others rest more are.1 also.1 (omega (arith, size)) first.1 in
       ((λ i. first.0 i ∷ later.0 i), later.1)
 
-  -- behind fewer of the records that are there stands one more
+  -- after fewer of the records that are there stands one more
   more_behind : (entries others : List Entry) (rest more : List ℕ) → AreEntries version entries → AreEntries version others → length entries < length others → records_bytes entries ++ rest ≡ records_bytes others ++ more → cause_for version rest ≡ None
   more_behind entries [] rest more are also fewer same = absurd (omega (arith, fewer))
   more_behind [] (f ∷ others) rest more are also fewer same = ap (cause_for version) (same ∙ behind_first f others more) ∙ no_cause_for version f (records_bytes others ++ more) also.0.0 also.0.1
   more_behind (e ∷ entries) (f ∷ others) rest more are also fewer same =
       more_behind entries others rest more are.1 also.1 (omega (arith, fewer)) (one_first e f entries others rest more are.0.0 also.0.0 same).1
 
+  -- what has a cause is not without one
   some_none : (cause : BadRecord) (found : Option BadRecord) → found ≡ Some cause → found ≡ None → ⊥
   some_none cause found some none = let clash : Some cause ≡ None = sym some ∙ none in absurd (cc)
 
@@ -81,13 +83,16 @@ module _ (version : Version) where
     same_records : records_bytes whole ++ rest ≡ records_bytes others ++ more
     same_records = ap (drop 1) (sym is.bytes ∙ also.bytes)
 
+  -- a body that counts no record or more than 64 is not one of a count from 1 to 64
   counted_apart : (count other : ℕ) (whole : List Entry) (records rest body : List ℕ) → body ≡ count ∷ records → (count ≡ 0) ⊎ (64 < count) → Begins version other whole rest body → ⊥
   counted_apart count other whole records rest body is (inl none) begins = omega (arith, none, begins.some, ap (λ (l : List ℕ). get_or l 0 0) (sym is ∙ begins.bytes))
   counted_apart count other whole records rest body is (inr many) begins = omega (arith, many, begins.few, ap (λ (l : List ℕ). get_or l 0 0) (sym is ∙ begins.bytes))
 
+  -- an empty body has no count
   empty_apart : (count : ℕ) (records body : List ℕ) → body ≡ [] → body ≡ count ∷ records → ⊥
   empty_apart count records body none some = omega (arith, ap length (sym none ∙ some))
 
+  -- a body in which a record is missing is not one with bytes after its last record
   unread_late : (count : ℕ) (whole others : List Entry) (rest more body : List ℕ) (cause : BadRecord) → Begins version count whole rest body → length whole < count → cause_for version rest ≡ Some cause → Begins version (length others) others more body → ⊥
   unread_late count whole others rest more body cause is fewer bad also =
       let size = same_count count (length others) whole others rest more body is also in
@@ -115,6 +120,7 @@ module _ (version : Version) where
   one_bad body _ _ _ _ (late others more also left) (unread count whole rest cause is fewer bad) = absurd (unread_late count whole others rest more body cause is fewer bad also)
   one_bad body _ _ _ _ (late whole rest is left) (late others more also left') = (refl, refl)
 
+  -- a batch's body is its count and its records, with nothing after them
   batch_begins : (batch : List Entry) → IsBatch version batch → Begins version (length batch) batch [] (batch_bytes batch)
   batch_begins batch is = record { some = is.some; few = is.few; are = is.are; bytes = ap (λ (l : List ℕ). length batch ∷ l) (sym (append-nil (records_bytes batch))) }
 
@@ -127,6 +133,7 @@ module _ (version : Version) where
       let size = same_count (length whole) (length batch) whole batch rest [] (batch_bytes batch) begins (batch_begins batch is) in
       left (one_records whole batch rest [] begins.are is.are size (same_records (length whole) (length batch) whole batch rest [] (batch_bytes batch) begins (batch_begins batch is))).1
 
+  -- a body is that of one batch
   one_batch : (batch other : List Entry) → IsBatch version batch → IsBatch version other → batch_bytes batch ≡ batch_bytes other → batch ≡ other
   one_batch batch other is also same =
       let size : length batch ≡ length other = ap (λ (l : List ℕ). get_or l 0 0) same in
@@ -215,26 +222,32 @@ run_not_bad header pieces entries bodies _ _ run same (broken header' before bod
     let worse = subst (λ v. IsBadPiece (version_behind v before) body place cause) (sym versions) bad in
     never_ends header.version pieces before body after place cause run.are alike (ap (drop 1) both) worse
 
+-- bodies are those of one header and one list of records
 one_run : (header header' : Header) (pieces pieces' : List Piece) (entries entries' : List Entry) → IsRun header pieces entries → IsRun header' pieces' entries' → bodies_of header pieces ≡ bodies_of header' pieces' → (header ≡ header') × (entries ≡ entries')
 one_run header header' pieces pieces' entries entries' run run' same =
     let headers = one_header header header' run.short run'.short (ap (λ (l : List (List ℕ)). get_or l 0 []) same) in
     let alike = subst (λ (h : Header). ArePieces h.version pieces') (sym headers) run'.are in
     (headers, run.joins ∙ ap records_of (one_pieces header.version pieces pieces' run.are alike (ap (drop 1) same)) ∙ sym run'.joins)
 
+-- bodies that are bad are at least one
 bad_some : (bodies : List (List ℕ)) (offset : ℕ) (cause : BadRecord) → IsBadRun bodies offset cause → bodies ≡ [] → ⊥
 bad_some bodies _ _ (unheaded first others is none) empty_bodies = omega (arith, ap length (sym is ∙ empty_bodies))
 bad_some bodies _ _ (broken header before body after place cause short are split bad) empty_bodies = omega (arith, ap length (sym split ∙ empty_bodies))
 
+-- an image of no run is not bad
 none_bad : (image : List ℕ) (offset : ℕ) (cause : BadRecord) → IsNoRun image → IsBadAt offset cause image → ⊥
 none_bad image offset cause none bad = bad_some bad.0 offset cause bad.2 (none_spelled image bad.0 none bad.1)
 
+-- an image of no run stands for no records
 none_stands : (image : List ℕ) (header : Header) (entries : List Entry) → IsNoRun image → Stands header entries image → ⊥
 none_stands image header entries none stands = omega (arith, ap length (none_spelled image (bodies_of header stands.0) none stands.2))
 
+-- an image that is bad stands for no records
 bad_stands : (image : List ℕ) (offset : ℕ) (cause : BadRecord) (header : Header) (entries : List Entry) → IsBadAt offset cause image → Stands header entries image → ⊥
 bad_stands image offset cause header entries bad stands =
     run_not_bad header stands.0 entries bad.0 offset cause stands.1 (one_list image (bodies_of header stands.0) bad.0 stands.2 bad.1) bad.2
 
+-- the law: what an image stands for is one thing
 pub one_meaning : (image : List ℕ) (a b : Meaning) → StandsFor a image → StandsFor b image → a ≡ b
 one_meaning image no_run no_run is also = refl
 one_meaning image no_run (cut_at o) is also = absurd (none_uncut image o is also)

@@ -1,4 +1,5 @@
--- A journal is opened as its file of gates is, and its bodies are read.
+-- A journal is opened as its file of gates is, and its bodies are read. nc_restart takes
+-- `kept_settled`.
 use Rattle.std.proofs.Common.{◌≡◌, ℕ, ◌+◌, ◌*◌, List, [], ◌∷◌, length, take, get_or, refl, sym, ◌∙◌, ap, subst, arith, Some, Ok, Err}
 use Rattle.std.proofs.lemmas.List.{length-map}
 use Rattle.disk_model.specs.Device.{DiskState, IsCoherent, Reads, Only}
@@ -22,6 +23,7 @@ use Rattle.run_journal.specs.Batches.{piece_bytes}
 use Rattle.run_journal.specs.Opening.{RefusesRun, IsFaultOf, FindsRun}
 use Rattle.run_journal.specs.Reading.{IsContents, RefusesBodies}
 
+-- if the first body is no header, the bodies are bad at offset 5
 pub no_header : (bodies : List (List ℕ)) (offset : ℕ) → (bodies ≡ [] → ⊥) → offset ≡ ends_at (take 0 bodies) + 5 → ((header : Header) → IsShort header → get_or bodies 0 [] ≡ header_bytes header → ⊥) → IsBadRun bodies offset NoHeader
 no_header [] offset some here none = absurd (some refl)
 no_header (body ∷ bodies) offset some here none =
@@ -35,6 +37,7 @@ kept_settled bodies disk end bytes keeps reads =
     let same : keeps.bytes ≡ bytes = cc in
     subst (λ (l : List ℕ). Only l disk.image) same keeps.only
 
+-- without memory a journal is not opened, and the disk is as it was
 pub none_opened : (disk : DiskState) → IsCoherent disk → FindsRun disk disk (Err NoMemory)
 none_opened disk coherent = record {
   found = tt;
@@ -45,7 +48,9 @@ none_opened disk coherent = record {
   uses = λ bytes reads. uses_opening disk disk [] bytes bytes 0 reads refl (uses_none 0 0 disk) (omega arith);
 }
 
+-- the disk before and after the opening of its file of gates
 module _ (old new : DiskState) where
+  -- if the file of gates is refused, so is the journal, for the same reason
   refused_alike : (gate : GateFault) (fault : JournalFault) → IsFaultOf gate fault → RefusesOpening gate old new → RefusesRun fault old new
   refused_alike GateDisk fault same refused = subst (λ (f : JournalFault). RefusesRun f old new) (sym same) refused
   refused_alike GateNone fault same refused = subst (λ (f : JournalFault). RefusesRun f old new) (sym same) refused
@@ -53,6 +58,7 @@ module _ (old new : DiskState) where
   refused_alike (GateCut at) fault same refused = subst (λ (f : JournalFault). RefusesRun f old new) (sym same) refused
   refused_alike GateMemory fault same refused = subst (λ (f : JournalFault). RefusesRun f old new) (sym same) tt
 
+  -- an opening whose file of gates is refused answers that fault
   pub not_opened : (gate : GateFault) (fault : JournalFault) → Finds old new (Err gate) → IsFaultOf gate fault → FindsRun old new (Err fault)
   not_opened gate fault finds same = record {
     found = tt;
@@ -63,7 +69,9 @@ module _ (old new : DiskState) where
     uses = finds.uses;
   }
 
+  -- the file of gates has these bodies and ends here
   module _ (bodies : List (List ℕ)) (end : ℕ) (finds : Finds old new (Ok (bodies, end))) where
+    -- if the bodies are refused, so is the journal, for the same reason
     bad_refused : (fault : JournalFault) → RefusesBodies bodies fault → RefusesRun fault old new
     bad_refused (Bad offset cause) bad = (
       (λ bytes reads. kept_settled bodies new end bytes (finds.found bytes (sym finds.unwritten.same ∙ reads)).1 reads),
@@ -74,6 +82,7 @@ module _ (old new : DiskState) where
     bad_refused NoRun bad = absurd bad
     bad_refused (Cut at) bad = absurd bad
 
+    -- an opening whose bodies are refused answers that fault
     pub not_read : (fault : JournalFault) → RefusesBodies bodies fault → FindsRun old new (Err fault)
     not_read fault bad = record {
       found = tt;
@@ -84,6 +93,7 @@ module _ (old new : DiskState) where
       uses = finds.uses;
     }
 
+    -- if the bodies are a run, the answer is what it holds
     pub run_found : (header : Header) (version : Version) (entries : List Entry) (offsets : List ℕ) → IsContents header version entries offsets bodies
         → FindsRun old new (Ok (record { header = header; version = version; entries = entries; offsets = offsets; end = end }))
     run_found header version entries offsets is =

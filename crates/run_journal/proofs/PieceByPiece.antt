@@ -1,4 +1,4 @@
--- The pieces of a journal, read one by one.
+-- The pieces of a journal, read one by one: the loop of `read_pieces`.
 use Rattle.std.proofs.Common.{◌≡◌, ℕ, ◌+◌, ◌<◌, List, [], ◌∷◌, ◌++◌, length, take, drop, map, get_or, refl, sym, ◌∙◌, ap, subst, arith, append_assoc, take-append-drop}
 use Rattle.std.proofs.lemmas.List.{append-nil, take_more, map-append}
 use Rattle.gate_file.specs.Chain.{ends_at}
@@ -14,6 +14,7 @@ use Rattle.run_journal.specs.Places.{record_places, places}
 use Rattle.run_journal.specs.Reading.{IsPieceRead, AreRead, RefusesBody, RefusesBodies}
 use Rattle.run_journal.proofs.Batches.{pieces_push, behind_push, joined_push}
 
+-- bodies end after those of their first part, and then those of their second
 pub ends_append : (before after : List (List ℕ)) → ends_at (before ++ after) ≡ ends_at before + ends_at after
 ends_append [] after = omega arith
 ends_append (body ∷ before) after = omega (arith, ends_append before after)
@@ -28,6 +29,7 @@ places_piece gate (first ∷ pieces) piece at here =
     ap (λ (l : List ℕ). record_places (gate + 6) (records_in first) ++ l) (places_piece next pieces piece at later)
     ∙ sym (append_assoc (record_places (gate + 6) (records_in first)) (places next pieces) (record_places (at + 1) (records_in piece)))
 
+-- before the first piece nothing is read
 pub none_are_read : (version : Version) (bodies : List (List ℕ)) (index : ℕ) → index ≡ 1 → AreRead version version bodies index [] []
 none_are_read version bodies index is = record {
   pieces = [];
@@ -38,11 +40,14 @@ none_are_read version bodies index is = record {
   offsets_are = refl;
 }
 
+-- the pieces up to an index are read, and this body comes next
 module _ (version now : Version) (bodies : List (List ℕ)) (index : ℕ) (entries : List Entry) (offsets : List ℕ) (read : AreRead version now bodies index entries offsets) (within : index < length bodies) (body : List ℕ) (is : body ≡ get_or bodies index [])
     (at : ℕ) (here : at ≡ ends_at (take index bodies) + 5) where
+  -- the bodies up to the next index are those before and this one
   step : take (index + 1) bodies ≡ take index bodies ++ body ∷ []
   step = take_more bodies index [] within ∙ ap (λ (b : List ℕ). take index bodies ++ b ∷ []) (sym is)
 
+  -- once this body is read as a piece, all up to the next index are read
   pub more_are_read : (behind : Version) (entries_more : List Entry) (offsets_more : List ℕ) → IsPieceRead now behind at body entries entries_more offsets offsets_more → AreRead version behind bodies (index + 1) entries_more offsets_more
   more_are_read behind entries_more offsets_more more =
       let gate : ℕ = ends_at (take 1 bodies) in
@@ -59,19 +64,25 @@ module _ (version now : Version) (bodies : List (List ℕ)) (index : ℕ) (entri
         offsets_are = more.offsets ∙ ap (λ (l : List ℕ). l ++ record_places (at + 1) (records_in more.piece)) read.offsets_are ∙ sym (places_piece gate read.pieces more.piece at stands);
       }
 
+  -- the first body is this header
   module _ (header : Header) (short : IsShort header) (same : header.version ≡ version) (first : take 1 bodies ≡ header_bytes header ∷ []) where
+    -- the bodies before are those of the header and the pieces that are read
     before : take index bodies ≡ bodies_of header read.pieces
     before = read.bodies_are ∙ ap (λ (l : List (List ℕ)). l ++ map piece_bytes read.pieces) first
 
+    -- all bodies are those, this one and the others after it
     split : bodies ≡ bodies_of header read.pieces ++ body ∷ drop (index + 1) bodies
     split = sym (take-append-drop (index + 1) bodies) ∙ ap (λ (l : List (List ℕ)). l ++ drop (index + 1) bodies) (step ∙ ap (λ (l : List (List ℕ)). l ++ body ∷ []) before) ∙ append_assoc (bodies_of header read.pieces) (body ∷ []) (drop (index + 1) bodies)
 
+    -- the pieces before may stand where they stand
     are : ArePieces header.version read.pieces
     are = subst (λ v. ArePieces v read.pieces) (sym same) read.are
 
+    -- the version by now is that after these pieces
     version_is : now ≡ version_behind header.version read.pieces
     version_is = sym read.version_is ∙ ap (λ v. version_behind v read.pieces) (sym same)
 
+    -- if this body is refused, so are the bodies, for the same cause at its offset
     pub not_read : (fault : JournalFault) → RefusesBody now at body fault → RefusesBodies bodies fault
     not_read (Bad offset cause) (place, stands, bad) =
         let there : ends_at (bodies_of header read.pieces) + 5 + place ≡ offset = omega (arith, stands, here, ap ends_at before) in

@@ -1,4 +1,5 @@
--- Why a body is no piece, and why a file of gates is no run.
+-- Why a body is no piece, and why a file of gates is no run. nc_restart cites it too; which causes
+-- a record by itself has is in run_records.
 use Rattle.std.specs.Prelude.{◌≡◌, ◌⊎◌, ℕ, ◌+◌, ◌≤◌, ◌<◌, Bool, false, not, ◌&&◌, List, [], ◌∷◌, ◌++◌, length, Option, Some, if◌then◌else◌}
 use Rattle.nc_number.specs.declared.limits.TheConstants.{MOST_PENDING}
 use Rattle.gate_file.specs.Chain.{Spells, ends_at}
@@ -22,11 +23,15 @@ is_early_edit Two bytes = false
 abbrev pub cause_for : Version → List ℕ → Option BadRecord
 cause_for version bytes = if is_early_edit version bytes then Some NoKind else cause_of bytes
 
--- a body of a count from 1 to 64, so many whole records, and what stands behind them
+-- a body of a count from 1 to 64, so many whole records, and what stands after them
 pub record Begins (version : Version) (count : ℕ) (whole : List Entry) (rest body : List ℕ) : Type 0 where
+  -- at least one record is counted
   pub some : 1 ≤ count
+  -- at most 64 are
   pub few : count ≤ MOST_PENDING
+  -- the whole records may stand in a journal of this version
   pub are : AreEntries version whole
+  -- the body is its count, these records and the rest
   pub bytes : body ≡ count ∷ (records_bytes whole ++ rest)
 
 -- A body is no batch that may stand in a journal of this version, for this cause at this place of
@@ -36,18 +41,20 @@ pub data IsBadBatch (version : Version) (body : List ℕ) : ℕ → BadRecord �
   empty : body ≡ [] → IsBadBatch version body 0 WrongCount
   -- it counts no records, or more than 64
   uncounted : (count : ℕ) (rest : List ℕ) → body ≡ count ∷ rest → (count ≡ 0) ⊎ (MOST_PENDING < count) → IsBadBatch version body 0 WrongCount
-  -- behind fewer whole records than it counts stands none
+  -- after fewer whole records than it counts stands none
   unread : (count : ℕ) (whole : List Entry) (rest : List ℕ) (cause : BadRecord) → Begins version count whole rest body
       → length whole < count → cause_for version rest ≡ Some cause
       → IsBadBatch version body (1 + length (records_bytes whole)) cause
-  -- all its records are whole, and it goes on behind them
+  -- all its records are whole, and it goes on after them
   late : (whole : List Entry) (rest : List ℕ) → Begins version (length whole) whole rest body → (rest ≡ [] → ⊥)
       → IsBadBatch version body 0 WrongLength
 
 -- A body is no piece: it is not the mark in a journal of version 1, and it is no batch, for this
 -- cause at this place of it.
 pub record IsBadPiece (version : Version) (body : List ℕ) (place : ℕ) (cause : BadRecord) : Type 0 where
+  -- the body is not a mark that may stand there
   pub unmarked : version ≡ One → body ≡ raising_mark → ⊥
+  -- it is no batch
   pub batch : IsBadBatch version body place cause
 
 -- Bodies are no run, for this cause at this offset of their file: the first one that is bad
@@ -56,7 +63,7 @@ pub data IsBadRun (bodies : List (List ℕ)) : ℕ → BadRecord → Type 0 wher
   -- the first body is no header
   unheaded : (first : List ℕ) (others : List (List ℕ)) → bodies ≡ first ∷ others
       → ((header : Header) → IsShort header → first ≡ header_bytes header → ⊥) → IsBadRun bodies 5 NoHeader
-  -- behind a header and some pieces stands a body that is none
+  -- after a header and some pieces stands a body that is none
   broken : (header : Header) (before : List Piece) (body : List ℕ) (after : List (List ℕ)) (place : ℕ) (cause : BadRecord)
       → IsShort header → ArePieces header.version before → bodies ≡ bodies_of header before ++ body ∷ after
       → IsBadPiece (version_behind header.version before) body place cause

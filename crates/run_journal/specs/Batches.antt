@@ -1,5 +1,6 @@
 -- Records in batches, the mark by which a journal is raised, and the bodies of a journal: its
--- header, and then these pieces.
+-- header, and then these pieces. What the header's and a record's bytes are is in run_records; the
+-- gates between the bodies are in gate_file.
 use Rattle.std.specs.Prelude.{◌≡◌, ℕ, ◌≤◌, List, [], ◌∷◌, length, map, None}
 use Rattle.std.specs.List.{flat_map}
 use Rattle.nc_number.specs.declared.limits.TheConstants.{MOST_PENDING}
@@ -10,7 +11,7 @@ use Rattle.run_records.specs.Entries.{Entry, edit_of}
 use Rattle.run_records.specs.Headers.{header_bytes, IsShort}
 use Rattle.run_records.specs.Spelling.{entry_bytes, IsEntry}
 
--- the bytes of records, one behind another
+-- the bytes of records, one after another
 abbrev pub records_bytes : List Entry → List ℕ
 records_bytes entries = flat_map entry_bytes entries
 
@@ -18,15 +19,18 @@ records_bytes entries = flat_map entry_bytes entries
 abbrev pub batch_bytes : List Entry → List ℕ
 batch_bytes batch = length batch ∷ records_bytes batch
 
--- the body that raises a journal to version 2
+-- the body that raises a journal to version 2: 255, which counts no batch, and 2 in two bytes
 abbrev pub raising_mark : List ℕ
 raising_mark = 255 ∷ 0 ∷ 2 ∷ []
 
--- what a body behind the header is
+-- what a body after the header is
 pub data Piece : Type 0 where
+  -- a batch of records
   a_batch : List Entry → Piece
+  -- the mark that raises the journal
   the_mark : Piece
 
+-- the body that a piece is
 abbrev pub piece_bytes : Piece → List ℕ
 piece_bytes (a_batch batch) = batch_bytes batch
 piece_bytes the_mark = raising_mark
@@ -55,8 +59,11 @@ AreEntries version (entry ∷ entries) = (IsEntry entry × MayStand version entr
 
 -- a batch has 1 to 64 records
 pub record IsBatch (version : Version) (batch : List Entry) : Type 0 where
+  -- at least one record
   pub some : 1 ≤ length batch
+  -- at most 64
   pub few : length batch ≤ MOST_PENDING
+  -- a journal of this version may have them
   pub are : AreEntries version batch
 
 -- a piece that may stand in a journal of this version: the mark stands in version 1 alone
@@ -64,12 +71,12 @@ abbrev pub IsPiece : Version → Piece → Type 0
 IsPiece version (a_batch batch) = IsBatch version batch
 IsPiece version the_mark = version ≡ One
 
--- the version of a journal behind a piece
+-- the version of a journal after a piece
 abbrev pub version_after : Version → Piece → Version
 version_after version (a_batch batch) = version
 version_after version the_mark = Two
 
--- the version of a journal behind pieces
+-- the version of a journal after pieces
 abbrev pub version_behind : Version → List Piece → Version
 version_behind version [] = version
 version_behind version (piece ∷ pieces) = version_behind (version_after version piece) pieces
@@ -81,6 +88,9 @@ ArePieces version (piece ∷ pieces) = IsPiece version piece × ArePieces (versi
 
 -- a run: a short header, and pieces whose records join to these
 pub record IsRun (header : Header) (pieces : List Piece) (entries : List Entry) : Type 0 where
+  -- the header's texts fit
   pub short : IsShort header
+  -- the pieces may stand where they stand
   pub are : ArePieces header.version pieces
+  -- the records are those of the pieces, in order
   pub joins : entries ≡ records_of pieces

@@ -1,4 +1,5 @@
--- A journal that is written at once: a header, and records in batches of 64.
+-- A journal that is written at once: a header, and records in batches of 64. run_branch writes
+-- branches so.
 use Rattle.std.specs.Prelude.{◌≡◌, ℕ, List, [], ◌∷◌, length}
 use Rattle.nc_number.specs.declared.limits.TheConstants.{MOST_PENDING}
 use Rattle.run_records.specs.declared.header.Header.{Header}
@@ -18,7 +19,11 @@ AreFull (piece ∷ next ∷ pieces) = (length (records_in piece) ≡ MOST_PENDIN
 
 -- the bodies are those of this header and these records, of which each batch but the last has 64
 pub record IsFilled (header : Header) (entries : List Entry) (bodies : List (List ℕ)) : Type 0 where
+  -- the pieces after the header
   pub pieces : List Piece
+  -- they are a run of this header and these records
   pub run : IsRun header pieces entries
+  -- each but the last has 64 records
   pub full : AreFull pieces
+  -- the bodies are those of the header and the pieces
   pub are : bodies ≡ bodies_of header pieces

@@ -1,3 +1,4 @@
+-- What a journal of a run is and what its calls promise. Reading is for this crate alone.
 pub mod Bad
 pub mod Batches
 pub mod Beginning

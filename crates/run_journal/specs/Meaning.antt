@@ -1,4 +1,5 @@
--- What an image of a journal stands for.
+-- What an image of a journal stands for: one of four things. nc_restart, run_branch and lathe_top
+-- cite it.
 use Rattle.std.specs.Prelude.{ℕ, List}
 use Rattle.gate_file.specs.Chain.{IsNoRun, IsCutAt}
 use Rattle.run_records.specs.declared.bad_record.BadRecord.{BadRecord}
@@ -7,12 +8,16 @@ use Rattle.run_records.specs.declared.header.Header.{Header}
 use Rattle.run_journal.specs.Stands.{Stands}
 use Rattle.run_journal.specs.Bad.{IsBadAt}
 
+-- what an image may stand for; a run has a header and records
 pub data Meaning : Type 0 where
+  -- no run
   no_run : Meaning
   cut_at : ℕ → Meaning  -- an open gate at this offset has no whole body
   bad_at : ℕ → BadRecord → Meaning  -- its bodies are no run, for this cause at this offset
+  -- a run: its header and its records
   a_run : Header → List Entry → Meaning
 
+-- the image stands for this
 abbrev pub StandsFor : Meaning → List ℕ → Type 0
 StandsFor no_run image = IsNoRun image
 StandsFor (cut_at offset) image = IsCutAt offset image

@@ -1,4 +1,4 @@
--- Where the records of a journal begin.
+-- Where the records of a journal begin. nc_restart tells the offset of a bad record by these.
 use Rattle.std.specs.Prelude.{ℕ, ◌+◌, List, [], ◌∷◌, ◌++◌, length}
 use Rattle.run_records.specs.Entries.{Entry}
 use Rattle.run_records.specs.Spelling.{entry_bytes}
@@ -10,7 +10,7 @@ record_places at [] = []
 record_places at (entry ∷ entries) = at ∷ record_places (at + length (entry_bytes entry)) entries
 
 -- the same of the records in pieces, where the gate of the first piece stands at this offset:
--- behind the gate come four bytes of length, and, of a batch, the count
+-- after the gate come four bytes of length, and, of a batch, the count
 abbrev pub places : ℕ → List Piece → List ℕ
 places gate [] = []
 places gate (piece ∷ pieces) =

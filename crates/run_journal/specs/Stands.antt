@@ -1,4 +1,5 @@
--- Which records a journal holds.
+-- Which records a journal holds: of an image, and of a disk that keeps it. The crates of the run
+-- cite it.
 use Rattle.std.specs.Prelude.{◌≡◌, ◌⊎◌, ℕ, List, ◌++◌}
 use Rattle.disk_model.specs.Device.{DiskState}
 use Rattle.gate_file.specs.Chain.{Spells}
@@ -28,5 +29,7 @@ StandsEither header entries pending image = Stands header entries image ⊎ Stan
 -- The body that is to be written next spells these records, or counts none; a journal of this
 -- version may have them.
 pub record Pends (version : Version) (pending : List Entry) (batch : List ℕ) : Type 0 where
+  -- the body is their batch
   pub bytes : batch ≡ batch_bytes pending
+  -- a journal of this version may have them
   pub are : AreEntries version pending

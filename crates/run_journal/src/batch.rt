@@ -1,4 +1,4 @@
-//! The batch that is to be written next.
+//! The batch that is to be written next: the body of records that are not yet on the disk.
 
 ghost use Rattle.std.specs.Prelude.{◌≡◌, ◌+◌, ◌≤◌, ◌<◌, ◌++◌, [], ◌∷◌, List, ℕ, length, drop, slice_index, IfOk, vec_capacity};
 ghost use Rattle.nc_number.specs.declared.limits.TheConstants.{MOST_PENDING};
@@ -21,6 +21,7 @@ use std::marker::Model;
 /// batch.
 #[derive(Drop)]
 pub(crate) struct Batch {
+    /// The count, and the records.
     bytes: Vec<u8>,
 }
 
@@ -37,7 +38,7 @@ impl Model for Batch {
 }
 
 impl Batch {
-    /// A batch without a record.
+    /// A batch without a record, with room for 64.
     pub(crate) fn empty(alloc: Global) -> Result<Batch, NoMemory>
         ensures { IfOk result (λ batch. batch ≡ 0 ∷ []) }
     {
@@ -54,7 +55,7 @@ impl Batch {
         self.bytes[0] as usize
     }
 
-    /// Puts a record behind the others.
+    /// Puts a record after the others.
     pub(crate) fn put(&mut self, entry: &Entry)
         requires { pending_in self.old < MOST_PENDING }
         ensures { (version : Version) (pending : List Entry) → MayStand version entry.now → Pends version pending self.old
@@ -80,7 +81,7 @@ impl Batch {
     }
 }
 
-/// Puts a record behind those of a body, and counts it.
+/// Puts a record after those of a body, and counts it.
 fn put_behind(body: &mut Vec<u8>, entry: &Entry)
     requires has { HasBatch body.old.items }
     requires few { pending_in body.old.items < MOST_PENDING }

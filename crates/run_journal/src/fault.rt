@@ -1,4 +1,5 @@
-//! What can go wrong with a journal.
+//! What can go wrong with a journal: it is full, or can't be opened. nc_restart tells the latter
+//! on.
 
 ghost use Rattle.std.specs.Prelude.{◌≡◌};
 ghost use Rattle.gate_file.specs.declared.fault.GateFault.TheVariants.{RunThere};
@@ -22,7 +23,7 @@ pub enum JournalFault {
     /// The file has at most one byte, or its first gate is shut.
     #[error("no run")]
     NoRun,
-    /// The entry of the open gate at this offset, with the gate behind it, does not end inside the
+    /// The entry of the open gate at this offset, with the gate after it, does not end inside the
     /// file.
     #[error("cut short at {0}")]
     Cut(u64),
@@ -36,7 +37,7 @@ pub enum JournalFault {
     NoMemory,
 }
 
-/// Why a journal is not opened whose file of gates is not opened.
+/// Why a journal is not opened, by why its file of gates is not. It never asks of `RunThere`.
 pub(crate) fn fault_of(fault: GateFault) -> JournalFault
     requires { fault ≡ RunThere → ⊥ }
     ensures { IsFaultOf fault result }

@@ -1,4 +1,5 @@
-//! The bodies of a journal that is written at once.
+//! The bodies of a journal that is written at once. run_branch writes a branch so; a journal that
+//! grows is in journal.rt.
 
 ghost use Rattle.std.specs.Prelude.{◌≡◌, ◌+◌, ◌-◌, ◌≤◌, ◌<◌, ℕ, List, length, take, drop, IfOk};
 ghost use Rattle.nc_number.specs.declared.limits.TheConstants.{MOST_PENDING};
@@ -51,7 +52,7 @@ fn newest_header(alloc: Global, header: &Header) -> Result<Vec<u8>, NoMemory>
     Ok(bytes)
 }
 
-/// Has a batch spell the records from one index up to another.
+/// Fills a batch with the records from one index up to another.
 fn gather(batch: &mut Batch, entries: &EntryList, start: usize, end: usize)
     requires order { (start ≤ end) × (end ≤ length entries.now.items) }
     requires few { end ≤ start + MOST_PENDING }

@@ -30,9 +30,13 @@ pub(crate) const RAISING_MARK: [u8; 3] = [0xFF, 0, 2];
 /// be written as long as it is live.
 #[derive(Drop)]
 pub struct Journal<D: Disk> {
+    /// The file of gates on the disk.
     file: GateFile<D>,
+    /// The records that are to be written next.
     batch: Batch,
+    /// How many records there are, those to be written counted.
     count: usize,
+    /// The version by now.
     version: Version,
 }
 
@@ -143,7 +147,7 @@ impl<D: Disk> Journal<D> {
     /// to be opened again.
     pub fn flush(&mut self) -> Result<(), DiskFault>
         requires { IsTrue self.old.file.live }
-        // After an Ok the disk holds the records that were to be written behind those that it held,
+        // After an Ok the disk holds the records that were to be written after those that it held,
         // whichever those were.
         ensures acknowledged { OnOk result ((header : Header) (entries pending : List Entry)
             → Pends self.old.version pending self.old.batch

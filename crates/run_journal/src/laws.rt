@@ -1,4 +1,5 @@
-//! What holds of journals, whatever made them.
+//! What holds of journals, whatever made them; none of these calls does anything. The crates of the
+//! run take these laws.
 
 ghost use Rattle.std.specs.Prelude.{◌≡◌, ◌+◌, ◌*◌, ◌≤◌, List, ℕ, length};
 ghost use Rattle.run_records.specs.Entries.{Entry};

@@ -1,4 +1,4 @@
-//! The journal of a run: records that are gathered in batches, and written as bodies behind gates.
+//! The journal of a run: records that are gathered in batches, and written as bodies after gates.
 //!
 //! The first body is the header of the run, and each other one is a batch of 1 to 64 records, or
 //! the mark that raises a journal of version 1 to version 2: edits stand in version 2 alone.

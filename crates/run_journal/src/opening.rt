@@ -1,4 +1,5 @@
-//! How a journal is opened.
+//! How a journal is opened: its file of gates, and then its bodies (reading.rt). nc_restart opens a
+//! run so.
 
 ghost use Rattle.std.specs.Prelude.{◌≡◌, length, IfOk};
 ghost use Rattle.run_journal.specs.Kept.{IsFresh};
@@ -21,8 +22,11 @@ pub type OffsetList = ListOf<u64>;
 /// An opened journal, with what it holds.
 #[derive(Drop)]
 pub struct Opened<D: Disk> {
+    /// The journal, which may be written.
     pub journal: Journal<D>,
+    /// The header of the run.
     pub header: Header,
+    /// The records, in order.
     pub entries: EntryList,
     /// For each record, where its first byte stands in the file.
     pub offsets: OffsetList,

@@ -1,4 +1,4 @@
-//! How the bodies of a journal are read.
+//! How the bodies of a journal are read: the header, the pieces, and of each batch the records.
 
 ghost use Rattle.std.specs.Prelude.{◌≡◌, ◌↔◌, ◌+◌, ◌*◌, ◌^◌, ◌≤◌, ◌<◌, ◌++◌, [], ◌∷◌, List, ℕ, length, drop, take, None, Some, IsTrue, IfOk, IfErr, OnOk, vec_capacity};
 ghost use Rattle.run_records.specs.declared.header.Header.{Header};
@@ -20,13 +20,17 @@ use std::alloc::Global;
 /// What a journal holds, and its version by now.
 #[derive(Drop)]
 pub(crate) struct Contents {
+    /// The header of the run.
     pub(crate) header: Header,
+    /// The version after the last piece.
     pub(crate) version: Version,
+    /// The records, in order.
     pub(crate) entries: EntryList,
+    /// For each record, where its first byte stands in the file.
     pub(crate) offsets: OffsetList,
 }
 
-/// What the bodies of a file hold, of which there is one at least.
+/// Reads the bodies of a file, of which there is one at least; or tells the first that is bad.
 pub(crate) fn read_contents(alloc: Global, bodies: &BodyList) -> Result<Contents, JournalFault>
     requires { bodies.now ≡ [] → ⊥ }
     ensures contents { IfOk result (λ found. IsContents found.header found.version found.entries.items found.offsets bodies.now) }
@@ -54,8 +58,8 @@ pub(crate) fn read_contents(alloc: Global, bodies: &BodyList) -> Result<Contents
     }
 }
 
-/// Reads the pieces behind the first body, that of a header of this version, and answers the
-/// version behind them.
+/// Reads the pieces after the first body, that of a header of this version, and answers the
+/// version after them.
 fn read_pieces(
     version: Version,
     bodies: &BodyList,
@@ -82,7 +86,7 @@ fn read_pieces(
 }
 
 /// Reads the piece that this body is, whose first byte stands at an offset of a journal that has
-/// this version so far, puts its records behind the others, and answers the version behind it.
+/// this version so far, puts its records after the others, and answers the version after it.
 fn read_piece(
     version: Version,
     body: &[u8],
@@ -112,7 +116,7 @@ fn is_mark(body: &[u8]) -> bool
 }
 
 /// Reads the batch that this body is, whose first byte stands at an offset, and puts its records
-/// behind the others.
+/// after the others.
 fn read_batch(
     version: Version,
     body: &[u8],
@@ -158,9 +162,11 @@ fn wrong_count(at: u64) -> JournalFault
     JournalFault::BadRecord { offset: at, cause }
 }
 
-/// No record stands at a place behind the count of a body, for this cause.
+/// No record stands at a place after the count of a body, for this cause.
 struct Unread {
+    /// How many bytes of whole records stand before it.
     place: usize,
+    /// Why the bytes there are no record.
     cause: BadRecord,
 }
 

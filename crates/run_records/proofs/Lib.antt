@@ -1,3 +1,4 @@
+-- The lemmas of this crate, each file by its subject. Other crates use OneSpelling and Texts.
 pub mod EditsSpelled
 mod HeadsStand
 pub mod OneSpelling

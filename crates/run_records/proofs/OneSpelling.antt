@@ -1,4 +1,5 @@
 -- A record has one spelling, and whatever follows it there is no cause why it is none.
+-- run_journal and two_path use these lemmas.
 use Rattle.std.proofs.Common.{◌≡◌, ℕ, ◌+◌, ◌*◌, ◌≤◌, List, ◌∷◌, ◌++◌, length, drop, get_or, refl, sym, ◌∙◌, ap, subst, arith, length-append, true, false, Some, None, Option, ◌||◌}
 use Rattle.std.specs.Prelude.{◌==◌, is_some, is_none, if◌then◌else◌}
 use Rattle.std.proofs.lemmas.Bool.{ne_eqb}
@@ -17,6 +18,7 @@ use Rattle.run_records.specs.Spelling.{kind_number, stamp_bytes, numbers_bytes, 
 use Rattle.run_records.proofs.EditsSpelled.{numbers_again, are_spelled, edit_again, one_edit}
 use Rattle.run_records.proofs.Stamps.{length-stamp_bytes, one_list}
 
+-- paths of one number are the same
 one_path : (a b : Path) → number_of a ≡ number_of b → a ≡ b
 one_path One One same = refl
 one_path Two Two same = refl
@@ -27,6 +29,7 @@ one_path Two One same = absurd (omega arith)
 abbrev step_with : ℕ → EntryKind
 step_with n = if n == 1 then Did else if n == 2 then Arrived else if n == 3 then Met else if n == 4 then Ended else Alarmed
 
+-- the step of a kind's number is the kind,
 step_again : (kind : EntryKind) → edit_of kind ≡ None → step_with (kind_number kind) ≡ kind
 step_again Did is = refl
 step_again Arrived is = refl
@@ -35,6 +38,7 @@ step_again Ended is = refl
 step_again Alarmed is = refl
 step_again (Edited edit) is = absurd (none-some edit (sym is))
 
+-- so steps of one number are the same
 pub one_step : (a b : EntryKind) → edit_of a ≡ None → edit_of b ≡ None → kind_number a ≡ kind_number b → a ≡ b
 one_step a b is also same = sym (step_again a is) ∙ ap step_with same ∙ step_again b also
 
@@ -74,6 +78,7 @@ parts entry other rest more (Some edit) None e f is also number same =
     let six = ap kind_number (edited_kind entry.kind edit e) in
     absurd (omega arith)
 
+-- two records whose bytes begin one list are the same, and so is what follows them
 pub one_entry : (entry other : Entry) (rest more : List ℕ) → IsEntry entry → IsEntry other → entry_bytes entry ++ rest ≡ entry_bytes other ++ more → (entry ≡ other) × (rest ≡ more)
 one_entry entry other rest more is also same =
     let path = one_path entry.path other.path (ap (λ (l : List ℕ). get_or l 0 0) same) in
@@ -81,6 +86,7 @@ one_entry entry other rest more is also same =
     let behind = parts entry other rest more (edit_of entry.kind) (edit_of other.kind) refl refl is also number (ap (drop 2) same) in
     (λ i. record { path = path i; kind = behind.0 i; stamps = behind.1 i }, behind.2)
 
+-- the byte of a path is 1 or 2
 pub path_fits : (path : Path) → (number_of path == 1 || number_of path == 2) ≡ true
 path_fits One = refl
 path_fits Two = refl
@@ -115,6 +121,7 @@ no_cause_of_edit path edit rest is =
     ap (λ numbers. is_none (edit_with numbers)) (numbers_again (numbers_of edit) rest (are_spelled edit is)) ∙ ap is_none (edit_again edit is) in
     no_cause_holds bytes a_path a_kind some whole good
 
+-- so the bytes of a record, whatever follows them, hold no cause
 pub no_cause : (entry : Entry) (rest : List ℕ) → IsEntry entry → cause_of (entry_bytes entry ++ rest) ≡ None
 no_cause entry rest is = go (edit_of entry.kind) refl
   where

@@ -16,6 +16,7 @@ put_next front back old now mid buf k m long room is mid_is buf_is =
     ∙ ap (λ (l : List ℕ). front ++ (buf ++ l)) none
     ∙ ap (λ (l : List ℕ). front ++ l) (append-nil buf ∙ buf_is ∙ ap (λ (l : List ℕ). back ++ drop m l) left ∙ ap (λ (l : List ℕ). back ++ l) (drop-drop m k old))
 
+-- a byte is written to the front,
 pub set_front : (old : List ℕ) (x : ℕ) → 1 ≤ length old → set old 0 x ≡ x ∷ drop 1 old
 set_front [] x some = absurd (omega arith)
 set_front (y ∷ old) x some = refl
@@ -24,11 +25,13 @@ set_front (y ∷ old) x some = refl
 pub set_third : (old : List ℕ) (x : ℕ) → 3 ≤ length old → set old 2 x ≡ (take 2 old ++ x ∷ []) ++ drop 3 old
 set_third old x some = set_split old 2 x (omega arith) ∙ sym (append_assoc (take 2 old) (x ∷ []) (drop 3 old))
 
+-- path, kind and one byte more are three bytes
 pub length_third : (old : List ℕ) (x : ℕ) → 3 ≤ length old → length (take 2 old ++ x ∷ []) ≡ 3
 length_third old x some = omega (arith, length-append (take 2 old) (x ∷ []), length-take-le 2 old (omega arith))
 
 -- behind path and kind stands the rest of a record
 module _ (p k : ℕ) (body old one new : List ℕ) (size : ℕ) (long : size ≡ suc (suc (length body))) (head : one ≡ p ∷ k ∷ drop 2 old) (is : new ≡ take 2 one ++ (body ++ drop size one)) where
+  -- the slice is the record, and then what stood behind its place
   put_all : new ≡ (p ∷ k ∷ body) ++ drop size old
   put_all =
       let front : take 2 one ≡ p ∷ k ∷ [] = ap (take 2) head in
@@ -37,8 +40,10 @@ module _ (p k : ℕ) (body old one new : List ℕ) (size : ℕ) (long : size ≡
       ap (λ n. drop n one) long ∙ ap (drop (suc (suc (length body)))) head ∙ drop-drop (length body) 2 old ∙ ap (λ n. drop n old) all in
       is ∙ (λ i. front i ++ (body ++ behind i))
 
+  -- the bytes in front are the record's,
   pub put_front : take size new ≡ p ∷ k ∷ body
   put_front = ap (take size) put_all ∙ take_at (p ∷ k ∷ body) (drop size old) size (omega (arith, long))
 
+  -- and those behind them are as they were
   pub put_back : drop size new ≡ drop size old
   put_back = ap (drop size) put_all ∙ drop_at (p ∷ k ∷ body) (drop size old) size (omega (arith, long))

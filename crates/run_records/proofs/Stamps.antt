@@ -9,10 +9,12 @@ use Rattle.byteorder.specs.Endian.{big_bytes, big_number}
 use Rattle.run_records.specs.Spelling.{stamp_bytes}
 use Rattle.run_records.specs.Stamps.{AreStamps, AreFew}
 
+-- each stamp has four bytes
 pub length-stamp_bytes : (stamps : List ℕ) → length (stamp_bytes stamps) ≡ 4 * length stamps
 length-stamp_bytes [] = refl
 length-stamp_bytes (s ∷ stamps) = omega (arith, length-stamp_bytes stamps, length-append (big_bytes 4 s) (stamp_bytes stamps))
 
+-- the bytes of one stamp more are its own, behind the others'
 pub stamp_bytes-push : (stamps : List ℕ) (s : ℕ) → stamp_bytes (stamps ++ s ∷ []) ≡ stamp_bytes stamps ++ big_bytes 4 s
 stamp_bytes-push [] s = refl
 stamp_bytes-push (x ∷ stamps) s = ap (λ (l : List ℕ). big_bytes 4 x ++ l) (stamp_bytes-push stamps s) ∙ sym (append_assoc (big_bytes 4 x) (stamp_bytes stamps) (big_bytes 4 s))
@@ -23,12 +25,14 @@ bytes_read front size fits =
     let same : big_number 4 front ≡ from_be_bytes w32 front = omega arith in
     be_bytes_4 front (big_number 4 front) size fits same
 
+-- two stamps whose four bytes begin one list are the same,
 one_stamp : (a b : ℕ) (rest more : List ℕ) → a < 2 ^ 32 → b < 2 ^ 32 → big_bytes 4 a ++ rest ≡ big_bytes 4 b ++ more → (a ≡ b) × (rest ≡ more)
 one_stamp a b rest more fits also same = (
   sym (from_be_bytes-to_be_bytes_4 a fits) ∙ ap (λ (l : List ℕ). from_be_bytes w32 (take 4 l)) same ∙ from_be_bytes-to_be_bytes_4 b also,
   ap (drop 4) same,
 )
 
+-- and so are two lists of stamps of one length
 pub one_list : (a b rest more : List ℕ) → AreStamps a → AreStamps b → length a ≡ length b → stamp_bytes a ++ rest ≡ stamp_bytes b ++ more → (a ≡ b) × (rest ≡ more)
 one_list [] [] rest more fits also size same = (refl, same)
 one_list [] (y ∷ b) rest more fits also size same = absurd (omega arith)
@@ -64,6 +68,7 @@ fits_front bytes n fits i = elim (cases_lt i n) [
   | inr past ↦ let none = get_or_past (take n bytes) i 0 (omega (arith, length-take n bytes)) in omega (arith, none)
 ]
 
+-- and in what is left of it
 pub fits_back : (bytes : List ℕ) (n : ℕ) → ((i : ℕ) → get_or bytes i 0 < 256) → (i : ℕ) → get_or (drop n bytes) i 0 < 256
 fits_back bytes n fits i = let same = get_or-drop n bytes i 0 in omega (arith, same, fits (n + i))
 
@@ -82,9 +87,11 @@ stamp_read stamps more rest front after bytes stamp so_far long fits front_is af
     ∙ ap (λ (l : List ℕ). stamp_bytes stamps ++ l) (take-append-drop 4 rest)
     ∙ so_far
 
+-- one stamp more of four bytes leaves all so,
 pub are_push : (stamps : List ℕ) (stamp : ℕ) → AreStamps stamps → stamp < 2 ^ 32 → AreStamps (stamps ++ stamp ∷ [])
 are_push [] stamp are fits = (fits, tt)
 are_push (s ∷ stamps) stamp are fits = (are.0, are_push stamps stamp are.1 fits)
 
+-- and, if there were fewer than 32, few enough for a record
 pub few_push : (stamps : List ℕ) (stamp : ℕ) → AreFew stamps → length stamps < 32 → stamp < 2 ^ 32 → AreFew (stamps ++ stamp ∷ [])
 few_push stamps stamp are room fits = (omega (arith, length-append stamps (stamp ∷ [])), are_push stamps stamp are.1 fits)

@@ -1,4 +1,5 @@
 -- Texts behind their lengths, and headers of three of them.
+-- run_journal uses these lemmas.
 use Rattle.std.proofs.Common.{◌≡◌, ℕ, ◌+◌, ◌^◌, ◌<◌, List, [], ◌++◌, length, take, drop, get_or, refl, sym, ◌∙◌, ap, arith, append_assoc, length-append}
 use Rattle.std.proofs.lemmas.List.{take_at, drop_at, append-nil}
 use Rattle.std.proofs.lemmas.Nat.{from_be_bytes-to_be_bytes_4}
@@ -18,12 +19,14 @@ one_text text other rest more short also same =
       sym (drop_at text rest (length other) size) ∙ ap (drop (length other)) behind ∙ drop_at other more (length other) refl,
     )
 
+-- versions of one number are the same
 one_version : (a b : Version) → version_number a ≡ version_number b → a ≡ b
 one_version One One same = refl
 one_version Two Two same = refl
 one_version One Two same = absurd (omega arith)
 one_version Two One same = absurd (omega arith)
 
+-- a header is its mark and then three texts, each behind the one before
 nested : (header : Header) → header_bytes header ≡ header_mark header.version ++ (text_bytes header.settings ++ (text_bytes header.left ++ text_bytes header.right))
 nested header =
     append_assoc (header_mark header.version ++ text_bytes header.settings) (text_bytes header.left) (text_bytes header.right)
@@ -31,22 +34,27 @@ nested header =
 
 -- what stands behind the mark, behind the settings, and behind the left tape
 module _ (header : Header) (bytes : List ℕ) (short : IsShort header) (is : bytes ≡ header_bytes header) where
+  -- of a short header: what stands behind the mark,
   pub behind_mark : (version : Version) (rest : List ℕ) → bytes ≡ header_mark version ++ rest → rest ≡ text_bytes header.settings ++ (text_bytes header.left ++ text_bytes header.right)
   behind_mark version rest split = ap (drop 6) (sym split ∙ is ∙ nested header)
 
+  -- behind the settings,
   pub behind_settings : (version : Version) (rest settings after : List ℕ) → bytes ≡ header_mark version ++ rest → rest ≡ text_bytes settings ++ after → length settings < 2 ^ 32 → after ≡ text_bytes header.left ++ text_bytes header.right
   behind_settings version rest settings after split first fits =
       (one_text settings header.settings after (text_bytes header.left ++ text_bytes header.right) fits (omega (arith, short)) (sym first ∙ behind_mark version rest split)).1
 
+  -- behind the left tape,
   pub behind_left : (version : Version) (rest settings after left last : List ℕ) → bytes ≡ header_mark version ++ rest → rest ≡ text_bytes settings ++ after → length settings < 2 ^ 32 → after ≡ text_bytes left ++ last → length left < 2 ^ 32 → last ≡ text_bytes header.right ++ []
   behind_left version rest settings after left last split first fits second also =
       (one_text left header.left last (text_bytes header.right) also (omega (arith, short)) (sym second ∙ behind_settings version rest settings after split first fits)).1 ∙ sym (append-nil (text_bytes header.right))
 
+  -- and behind the right one, where nothing stands
   pub behind_right : (version : Version) (rest settings after left last right end : List ℕ) → bytes ≡ header_mark version ++ rest → rest ≡ text_bytes settings ++ after → length settings < 2 ^ 32 → after ≡ text_bytes left ++ last → length left < 2 ^ 32
       → last ≡ text_bytes right ++ end → length right < 2 ^ 32 → end ≡ []
   behind_right version rest settings after left last right end split first fits second also third too =
       (one_text right header.right end [] too (omega (arith, short)) (sym third ∙ behind_left version rest settings after left last split first fits second also)).1
 
+-- a header has one spelling
 pub one_header : (header other : Header) → IsShort header → IsShort other → header_bytes header ≡ header_bytes other → header ≡ other
 one_header header other short also same =
     let nested_same = sym (nested header) ∙ same ∙ nested other in
@@ -57,6 +65,7 @@ one_header header other short also same =
     let third = one_text header.right other.right [] [] (omega (arith, short)) (omega (arith, also)) (append-nil (text_bytes header.right) ∙ second.1 ∙ sym (append-nil (text_bytes other.right))) in
     λ i. record { version = version i; settings = first.0 i; left = second.0 i; right = third.0 i }
 
+-- a header has 18 bytes beside its texts: 6 of the mark, and a length of 4 before each text
 pub length-header : (header : Header) → length (header_bytes header) ≡ 18 + length header.settings + length header.left + length header.right
 length-header header =
     let first = length-append (header_mark header.version) (text_bytes header.settings) in

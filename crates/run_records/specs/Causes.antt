@@ -1,4 +1,5 @@
 -- Why bytes begin with no record.
+-- run_journal uses these words.
 use Rattle.std.specs.Prelude.{ℕ, ◌+◌, ◌*◌, ◌==◌, ◌||◌, ◌&&◌, not, nat_lt, Bool, List, length, drop, slice_index, Option, Some, None, is_none, if◌then◌else◌}
 use Rattle.std.specs.Int.{w64, cast_signed}
 use Rattle.nc_number.specs.declared.limits.TheConstants.{MOST_READS}
@@ -8,6 +9,7 @@ use Rattle.run_records.specs.declared.bad_record.BadRecord.TheVariants.{NoPath, 
 use Rattle.run_records.specs.declared.numbers.EditNumbers.{EditNumbers}
 use Rattle.run_records.specs.Edits.{edit_with}
 
+-- the number of the cause, from 1 to 10; of several causes of one record the least is told
 abbrev pub cause_number : BadRecord → ℕ
 cause_number NoPath = 1
 cause_number NoKind = 2
@@ -33,7 +35,8 @@ numbers_in bytes = record {
   b = cast_signed w64 (big_number 8 (drop 11 bytes));
 }
 
--- how many bytes the record has
+-- how many bytes the record has: an edit 21 (path, kind and 19 of its numbers), a step 3 and 4 for
+-- each stamp
 abbrev pub record_size : List ℕ → ℕ
 record_size bytes = if is_edit bytes then 21 else 3 + 4 * slice_index bytes 2
 

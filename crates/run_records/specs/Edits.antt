@@ -1,5 +1,6 @@
 -- An edit as the four numbers that its record has: what is set, by its kind and its number, and two
 -- numbers for what it gets.
+-- For this crate alone.
 use Rattle.std.specs.Prelude.{ℕ, ◌≤◌, ◌==◌, ℤ, pos, Option, Some, None, if◌then◌else◌}
 use Rattle.std.specs.Option.{option_map, option_and_then}
 use Rattle.std.specs.Ordering.{int_eq}
@@ -47,6 +48,7 @@ abbrev pub variable_numbers : ℕ → Var → EditNumbers
 variable_numbers variable Vacant = record { what = 4; number = variable; a = pos 0; b = pos 0 }
 variable_numbers variable (Is value) = record { what = 4; number = variable; a = pos 1; b = value }
 
+-- the four numbers of an edit
 abbrev pub numbers_of : Edit → EditNumbers
 numbers_of (Offset slot to) = offset_numbers slot to
 numbers_of (Common variable to) = variable_numbers variable to
@@ -66,11 +68,13 @@ var_of a b =
     else if int_eq a (pos 1) then (if is_in_range b then Some (Is b) else None)
     else None
 
+-- the edit of an offset that these numbers are, if they name one and X and Z are in their range
 abbrev pub offset_edit : EditNumbers → Option Edit
 offset_edit numbers =
     option_and_then (λ slot. option_map (Offset slot) (offset_of (record { x = numbers.a; z = numbers.b })))
     (slot_of numbers.what numbers.number)
 
+-- the edit of a variable that these numbers are, if it is a common one and may be that
 abbrev pub variable_edit : EditNumbers → Option Edit
 variable_edit numbers =
     option_and_then (λ variable. option_map (Common variable) (var_of numbers.a numbers.b)) (common_number numbers.number)

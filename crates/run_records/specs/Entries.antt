@@ -1,4 +1,6 @@
 -- What clauses see of a record of a run.
+-- lathe_calls, lathe_looks, lathe_top, move_list, nc_restart, run_branch, run_edits, run_journal,
+-- run_table, trace_list, turn_order, turret_run, two_path and zone_check use these words.
 use Rattle.std.specs.Prelude.{◌≡◌, ℕ, Bool, true, false, List, [], Option, Some, None, IsSome}
 use Rattle.nc_number.specs.declared.path.Path.{Path}
 use Rattle.run_records.specs.declared.edit.Edit.{Edit}

@@ -1,11 +1,13 @@
 -- How a header is spelled: `TWIN`, the version, and three texts, each behind its length in four
 -- bytes.
+-- lathe_top, nc_restart, run_branch, run_edits, run_journal and run_table use these words.
 use Rattle.std.specs.Prelude.{ℕ, ◌+◌, ◌^◌, ◌<◌, List, [], ◌∷◌, ◌++◌, length, codes}
 use Rattle.byteorder.specs.Endian.{big_bytes}
 use Rattle.run_records.specs.declared.header.Header.{Header}
 use Rattle.run_records.specs.declared.version.Version.{Version}
 use Rattle.run_records.specs.declared.version.Version.TheVariants.{One, Two}
 
+-- a text behind its length in four bytes
 abbrev pub text_bytes : List ℕ → List ℕ
 text_bytes text = big_bytes 4 (length text) ++ text
 
@@ -18,10 +20,12 @@ version_number Two = 2
 abbrev pub header_mark : Version → List ℕ
 header_mark version = codes "TWIN" ++ 0 ∷ version_number version ∷ []
 
+-- the mark and then the settings, the tape of path 1 and that of path 2
 abbrev pub header_bytes : Header → List ℕ
 header_bytes header =
     header_mark header.version ++ text_bytes header.settings ++ text_bytes header.left ++ text_bytes header.right
 
--- the mark, the three lengths and the three texts are together fewer bytes than a body may have
+-- the mark (6 bytes), the three lengths (12) and the three texts are together fewer bytes than a
+-- body may have
 abbrev pub IsShort : Header → Type 0
 IsShort header = 18 + length header.settings + length header.left + length header.right < 2 ^ 32

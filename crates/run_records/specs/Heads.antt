@@ -1,5 +1,6 @@
 -- What the heads of records stand for, over the stamps and the edits of all of them, and for how
 -- many more there is room.
+-- For this crate alone.
 use Rattle.std.specs.Prelude.{◌≡◌, ℕ, ◌+◌, ◌-◌, ◌*◌, ◌≤◌, ◌<◌, List, [], ◌∷◌, length, map, take, drop, slice_index_or, Option, Some, None, is_none, if◌then◌else◌}
 use Rattle.nc_number.specs.declared.limits.TheConstants.{MOST_READS}
 use Rattle.nc_number.specs.declared.value.Var.TheVariants.{Vacant}
@@ -42,6 +43,7 @@ entry_of stamps edits head = record {
   stamps = take head.count (drop head.first stamps);
 }
 
+-- the records of all heads
 abbrev pub entries_of : List ℕ → List Edit → List Head → List Entry
 entries_of stamps edits heads = map (entry_of stamps edits) heads
 
@@ -59,6 +61,7 @@ pub record StandsIn (stamps : List ℕ) (edits : List Edit) (head : Head) : Type
 -- There is room for so many records in all: for the head of each, and for an edit and the most
 -- stamps of each that is to come.
 pub record HasRoom (room heads most_heads stamps most_stamps edits most_edits : ℕ) : Type 0 where
+  -- no more records than fit
   pub few : heads ≤ room
   pub for_heads : room ≤ most_heads
   pub for_stamps : stamps + MOST_READS * (room - heads) ≤ most_stamps

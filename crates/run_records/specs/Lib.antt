@@ -1,3 +1,5 @@
+-- The words in which contracts speak of records, edits and headers, and of their bytes. Other
+-- crates cite Causes, Entries, Headers, Room and Spelling.
 pub mod Causes
 pub mod Edits
 pub mod Entries

@@ -1,5 +1,6 @@
 -- How a record is spelled: path and kind, and behind them, of a step, the number of stamps, and
 -- each stamp in four bytes, of an edit its four numbers. The high byte of a number comes first.
+-- lathe_top, run_branch, run_edits, run_journal and run_table use these words.
 use Rattle.std.specs.Prelude.{ℕ, ◌≤◌, List, [], ◌∷◌, ◌++◌, length, Option, Some, None}
 use Rattle.std.specs.Int.{w64, cast_unsigned}
 use Rattle.byteorder.specs.Endian.{big_bytes}
@@ -13,6 +14,7 @@ use Rattle.run_records.specs.Edits.{numbers_of, IsEdit}
 use Rattle.run_records.specs.Entries.{Entry, edit_of, MayHave}
 use Rattle.run_records.specs.Stamps.{AreStamps}
 
+-- the byte of a kind: 1 to 5 for a step, 6 for an edit
 abbrev pub kind_number : EntryKind → ℕ
 kind_number Did = 1
 kind_number Arrived = 2
@@ -21,6 +23,7 @@ kind_number Ended = 4
 kind_number Alarmed = 5
 kind_number (Edited edit) = 6
 
+-- each stamp in four bytes
 abbrev pub stamp_bytes : List ℕ → List ℕ
 stamp_bytes [] = []
 stamp_bytes (stamp ∷ stamps) = big_bytes 4 stamp ++ stamp_bytes stamps
@@ -36,6 +39,7 @@ abbrev pub bytes_behind : Option Edit → List ℕ → List ℕ
 bytes_behind None stamps = length stamps ∷ stamp_bytes stamps
 bytes_behind (Some edit) stamps = numbers_bytes (numbers_of edit)
 
+-- the bytes of a record
 abbrev pub entry_bytes : Entry → List ℕ
 entry_bytes entry = number_of entry.path ∷ kind_number entry.kind ∷ bytes_behind (edit_of entry.kind) entry.stamps
 

@@ -1,10 +1,13 @@
 -- What is true of the stamps of every record.
+-- For this crate alone.
 use Rattle.std.specs.Prelude.{ℕ, ◌^◌, ◌≤◌, ◌<◌, List, [], ◌∷◌, length}
 use Rattle.nc_number.specs.declared.limits.TheConstants.{MOST_READS}
 
+-- each stamp fits four bytes
 abbrev pub AreStamps : List ℕ → Type 0
 AreStamps [] = Unit {0}
 AreStamps (stamp ∷ stamps) = (stamp < 2 ^ 32) × AreStamps stamps
 
+-- there are 32 of them at most, and each fits four bytes
 abbrev pub AreFew : List ℕ → Type 0
 AreFew stamps = (length stamps ≤ MOST_READS) × AreStamps stamps

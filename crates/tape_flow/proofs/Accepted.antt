@@ -1,4 +1,5 @@
 -- A tape that is accepted has no refused block and no fault of its order, so it is not refused.
+-- wait_verify takes `no_fault`, flow_laws takes `nothing_found`.
 use Rattle.std.proofs.Common.{◌≡◌, ℕ, List, [], ◌∷◌, refl, subst, Option, None, Result, Ok, Err, All}
 use Rattle.std.proofs.lemmas.List.Elements.{All-nil, All-cons, All-contains}
 use Rattle.nc_number.specs.declared.cause.Cause.{Cause}
@@ -19,6 +20,7 @@ use Rattle.tape_flow.proofs.FirstRefused.{refusal_or, first_refusal, Tells, prog
 abbrev IsRead : Dialect → Block → Type 0
 IsRead dialect block = (number : ℕ) → block_or_refusal dialect block ≡ Err number → ⊥
 
+-- a block that is not refused reads, and the others too,
 read_at : (dialect : Dialect) (block : Block) (blocks : List Block) (read : Result BlockForm ℕ)
     → block_or_refusal dialect block ≡ read → refusal_or (at_line block.line read) (first_refusal dialect blocks) ≡ None
     → (first_refusal dialect blocks ≡ None → All (IsRead dialect) blocks) → All (IsRead dialect) (block ∷ blocks)
@@ -26,21 +28,25 @@ read_at dialect block blocks (Ok form) is clear rest =
     All-cons (IsRead dialect) block blocks (λ number refusal. cc) (rest clear)
 read_at dialect block blocks (Err own) is clear rest = cc
 
+-- so all blocks read, if none is refused
 all_read : (dialect : Dialect) (blocks : List Block) → first_refusal dialect blocks ≡ None → All (IsRead dialect) blocks
 all_read dialect [] clear = All-nil (IsRead dialect)
 all_read dialect (block ∷ blocks) clear =
     read_at dialect block blocks (block_or_refusal dialect block) refl clear (λ rest. all_read dialect blocks rest)
 
+-- a reading that succeeds found no refusal
 pub nothing_found : {A : Type 0} (read : Result A FlowFault) (forms : A) (first : Option FlowFault)
     → Tells read first None → read ≡ Ok forms → first ≡ None
 nothing_found read forms first told is = rw is at told
 
+-- a sound order has no fault
 pub no_fault : (order : List ControlProgram) (stage : Stage) (line : ℕ) (cause : Cause) → IsSound order
     → HasFault order stage line cause → ⊥
 no_fault order Fitting line cause sound fault = sound.fits line cause fault
 no_fault order Finding line cause sound fault = sound.finds line cause fault
 no_fault order Waiting line cause sound fault = sound.waits line cause fault
 
+-- no tape is both accepted and refused
 pub not_both : (dialect : Dialect) (tape : List Program) (programs : List ProgramForm) (line number : ℕ)
     → IsAccepted dialect tape programs → IsRefused dialect tape line number → ⊥
 not_both dialect tape programs line number accepted (by_block has least) =

@@ -1,5 +1,6 @@
 -- Where reading a tape ends at a block, that block is the first one that is refused, and every
 -- other one stands behind it.
+-- open_order and flow_laws take the lemmas on readings.
 use Rattle.std.proofs.Common.{◌≡◌, ℕ, ◌≤◌, List, [], ◌∷◌, ◌++◌, map, refl, ap, arith, Option, Some, None, Result, Ok, Err, All, Contains}
 use Rattle.std.proofs.lemmas.List.Elements.{All-nil, All-cons, All-weaker, All-contains, Contains-append_left, Contains-append_right, Contains-push}
 use Rattle.nc_number.specs.Results.{◌>>=◌}
@@ -33,11 +34,13 @@ abbrev pub Tells : {A : Type 0} → Result A FlowFault → Option FlowFault → 
 Tells (Ok read) first rest = first ≡ rest
 Tells (Err fault) first rest = first ≡ Some fault
 
+-- reading a block comes to its refusal, or hands over to what follows it
 pub block_tells : {A B : Type 0} (read : Result A FlowFault) (go : A → Result B FlowFault) (rest more : Option FlowFault)
     → ((form : A) → Tells (go form) rest more) → Tells (read >>= go) (refusal_or read rest) more
 block_tells (Ok form) go rest more behind = behind form
 block_tells (Err fault) go rest more behind = refl
 
+-- so does a list of blocks
 blocks_tell : (dialect : Dialect) (blocks more : List Block) (done : List BlockForm)
     → Tells (blocks_from dialect done blocks) (first_refusal dialect (blocks ++ more)) (first_refusal dialect more)
 blocks_tell dialect [] more done = refl
@@ -46,12 +49,14 @@ blocks_tell dialect (block ∷ blocks) more done =
     (first_refusal dialect (blocks ++ more)) (first_refusal dialect more)
     (λ form. blocks_tell dialect blocks more (done ++ form ∷ []))
 
+-- reading a program comes to its first refusal, or hands over to what follows it
 pub program_tells : {A B C : Type 0} (read : Result A FlowFault) (make : A → B) (go : B → Result C FlowFault)
     (first rest more : Option FlowFault) → Tells read first rest → ((form : B) → Tells (go form) rest more)
     → Tells ((read >>= (λ blocks. Ok (make blocks))) >>= go) first more
 program_tells (Ok blocks) make go first rest more told behind = rw told (behind (make blocks))
 program_tells (Err fault) make go first rest more told behind = told
 
+-- a tape that reads has no refused block, else its first one
 pub programs_tell : (dialect : Dialect) (tape : List Program) (done : List ProgramForm)
     → Tells (programs_from dialect done tape) (first_refusal dialect (blocks_in tape)) None
 programs_tell dialect [] done = refl
@@ -63,10 +68,12 @@ programs_tell dialect (program ∷ programs) done =
     (blocks_tell dialect program.blocks (blocks_in programs) [])
     (λ form. programs_tell dialect programs (done ++ form ∷ []))
 
+-- rising lines rise from a lower bound too
 lower : (ns : List ℕ) (low high : ℕ) → low ≤ high → RiseFrom high ns → RiseFrom low ns
 lower [] low high below rise = tt
 lower (n ∷ ns) low high below rise = (omega (arith, rise.0), rise.1)
 
+-- without its O number's line a program's lines still rise
 thinned : (blocks : List Block) (programs : List Program) (low : ℕ)
     → ((from : ℕ) → RiseFrom from (lines_in programs) → RiseFrom from (map (λ block. block.line) (blocks_in programs)))
     → RiseFrom low (map (λ block. block.line) blocks ++ lines_in programs)
@@ -82,6 +89,7 @@ block_lines_rise (program ∷ programs) low rise =
     lower (map (λ block. block.line) (program.blocks ++ blocks_in programs)) low program.line (omega (arith, rise.0))
     (thinned program.blocks programs program.line (λ from. block_lines_rise programs from) rise.1)
 
+-- rising lines are all at the bound or after it
 pub all_behind : (blocks : List Block) (low : ℕ) → RiseFrom low (map (λ block. block.line) blocks)
     → All (λ block. low ≤ block.line) blocks
 all_behind [] low rise = All-nil (λ block. low ≤ block.line)
@@ -94,6 +102,7 @@ all_behind (block ∷ blocks) low rise =
 abbrev IsNoEarlier : Dialect → FlowFault → Block → Type 0
 IsNoEarlier dialect fault block = (number : ℕ) → block_or_refusal dialect block ≡ Err number → fault.line ≤ block.line
 
+-- the first refusal is no later than that of this block,
 least_at : (dialect : Dialect) (block : Block) (blocks : List Block) (fault : FlowFault) (read : Result BlockForm ℕ)
     → block_or_refusal dialect block ≡ read → refusal_or (at_line block.line read) (first_refusal dialect blocks) ≡ Some fault
     → All (λ other. block.line ≤ other.line) blocks
@@ -111,6 +120,7 @@ least_at dialect block blocks fault (Err own) is first behind rest =
     line_in None = 0
     line_in (Some found) = found.line
 
+-- nor than that of any block
 least : (dialect : Dialect) (blocks : List Block) (low : ℕ) (fault : FlowFault) → first_refusal dialect blocks ≡ Some fault
     → RiseFrom low (map (λ block. block.line) blocks) → All (IsNoEarlier dialect fault) blocks
 least dialect [] low fault first rise = All-nil (IsNoEarlier dialect fault)
@@ -124,6 +134,7 @@ IsThere dialect blocks fault =
     (block : Block) × Contains blocks block × (block.line ≡ fault.line)
     × (block_or_refusal dialect block ≡ Err fault.number)
 
+-- a refusal found in the list stands there with this block more
 there_at : (dialect : Dialect) (block : Block) (blocks : List Block) (fault : FlowFault) (read : Result BlockForm ℕ)
     → block_or_refusal dialect block ≡ read → refusal_or (at_line block.line read) (first_refusal dialect blocks) ≡ Some fault
     → (first_refusal dialect blocks ≡ Some fault → IsThere dialect blocks fault) → IsThere dialect (block ∷ blocks) fault
@@ -138,12 +149,14 @@ there_at dialect block blocks fault (Err own) is first rest =
       rw is (ap (λ f. Err f.number) found),
     )
 
+-- the first refusal is that of a block of the list
 there : (dialect : Dialect) (blocks : List Block) (fault : FlowFault) → first_refusal dialect blocks ≡ Some fault
     → IsThere dialect blocks fault
 there dialect [] fault first = cc
 there dialect (block ∷ blocks) fault first =
     there_at dialect block blocks fault (block_or_refusal dialect block) refl first (λ rest. there dialect blocks fault rest)
 
+-- a reading that fails came to the first refusal
 pub comes_to : {A : Type 0} (read : Result A FlowFault) (fault : FlowFault) (first : Option FlowFault)
     → Tells read first None → read ≡ Err fault → first ≡ Some fault
 comes_to read fault first told is = rw is at told
@@ -161,13 +174,13 @@ refused_by_block dialect tape fault shape failed =
     All-contains (IsNoEarlier dialect fault) (blocks_in tape) has.0 all has.1 other has.3 in
     omega (arith, later, has.2))
 
--- the same of a reading that may also lack memory
+-- a reading that fails, for a refusal and not for memory, tells the refusal of the tape
 pub refused_by_reading : (dialect : Dialect) (tape : List Program) (error : Failing FlowFault) → IsTapeShape tape
     → Fails error (programs_read dialect tape) → IfFault error (λ fault. IsRefused dialect tape fault.line fault.number)
 refused_by_reading dialect tape (Fault fault) shape failed = refused_by_block dialect tape fault shape failed
 refused_by_reading dialect tape NoMemory shape failed = tt
 
--- and where all blocks read by the first fault of their order
+-- if all blocks read, the first fault of their order is the refusal of the tape
 pub refused_by_order : (dialect : Dialect) (tape : List Program) (programs : List ProgramForm) (error : Failing FlowFault)
     → programs_read dialect tape ≡ Ok programs
     → IfFault error (λ fault. IsOrderFault (controls programs) fault.line fault.number)

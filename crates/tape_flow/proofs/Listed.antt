@@ -1,5 +1,6 @@
 -- The programs of a tape that was read stand in the text as the tape does: as many, on the same
 -- lines, of as many blocks.
+-- open_order takes `bound` and `text_lines`.
 use Rattle.std.proofs.Common.{◌≡◌, ℕ, ◌+◌, List, [], ◌∷◌, ◌++◌, length, map, refl, ap, sym, ◌∙◌, arith, Result, Ok, Err, IfOk, append_assoc, length-append, subst}
 use Rattle.std.proofs.lemmas.List.{map-append, length-map, append-nil}
 use Rattle.std.proofs.lemmas.Simd.{map-map}
@@ -23,13 +24,16 @@ pub bound : {A B E : Type 0} (read : Result A E) (go : A → Result B E) (P : A 
 bound (Ok x) go P Q holds step = step x holds
 bound (Err e) go P Q holds step = tt
 
+-- what a block says stands at its line,
 line_kept_at : (block : Block) (read : Result Form ℕ) → IfOk (at_line block.line (block_at block read)) (λ form. form.line ≡ block.line)
 line_kept_at block (Ok form) = refl
 line_kept_at block (Err number) = tt
 
+-- as it reads
 line_kept : (dialect : Dialect) (block : Block) → IfOk (block_read dialect block) (λ form. form.line ≡ block.line)
 line_kept dialect block = line_kept_at block (form_or_refusal dialect block.body)
 
+-- the lines of blocks that were read
 abbrev form_lines : List BlockForm → List ℕ
 form_lines forms = map (λ form. form.line) forms
 
@@ -37,6 +41,7 @@ form_lines forms = map (λ form. form.line) forms
 abbrev pub text_lines : List Block → List ℕ
 text_lines blocks = map (λ block. block.line) blocks
 
+-- one block more moves its line from those ahead to those read
 one_line_more : (done : List BlockForm) (form : BlockForm) (block : Block) (blocks : List Block) (whole : List ℕ)
     → form.line ≡ block.line → form_lines done ++ text_lines (block ∷ blocks) ≡ whole
     → form_lines (done ++ form ∷ []) ++ text_lines blocks ≡ whole
@@ -47,6 +52,7 @@ one_line_more done form block blocks whole same is =
       same,
     ) is
 
+-- blocks that are read keep their lines
 blocks_kept : (dialect : Dialect) (blocks : List Block) (done : List BlockForm) (whole : List ℕ)
     → form_lines done ++ text_lines blocks ≡ whole
     → IfOk (blocks_from dialect done blocks) (λ forms. form_lines forms ≡ whole)
@@ -58,9 +64,12 @@ blocks_kept dialect (block ∷ blocks) done whole is =
 
 -- a program's form stands in the text as the program does
 record IsLike (program : Program) (form : ProgramForm) : Type 0 where
+  -- the O number is on the same line
   line : form.line ≡ program.line
+  -- and each block
   lines : form_lines form.blocks ≡ text_lines program.blocks
 
+-- a program that is read is like it
 program_kept : (dialect : Dialect) (program : Program) → IfOk (program_read dialect program) (IsLike program)
 program_kept dialect program =
     bound (blocks_from dialect [] program.blocks)
@@ -69,6 +78,7 @@ program_kept dialect program =
     (blocks_kept dialect program.blocks [] (text_lines program.blocks) refl)
     (λ forms same. record { line = refl; lines = same })
 
+-- so it has the same lines
 lines_like : (program : Program) (form : ProgramForm) → IsLike program form
     → order.lines_of_program (control_program form) ≡ tape.lines_of_program program
 lines_like program form like =
@@ -76,6 +86,7 @@ lines_like program form like =
     map-map (λ block. block.line) control_block form.blocks in
     rw (e, like.lines, like.line) refl
 
+-- and as many blocks
 count_like : (program : Program) (form : ProgramForm) → IsLike program form
     → length (map control_block form.blocks) ≡ length program.blocks
 count_like program form like =
@@ -85,10 +96,14 @@ count_like program form like =
 -- the programs that are read, and those that follow, have these lines and so many blocks, and are
 -- so many
 record IsSplit (done : List ProgramForm) (rest : List Program) (lines : List ℕ) (blocks programs : ℕ) : Type 0 where
+  -- all lines are these
   lines_are : order.lines_in (controls done) ++ tape.lines_in rest ≡ lines
+  -- there are so many blocks
   blocks_are : length (order.blocks_in (controls done)) + length (tape.blocks_in rest) ≡ blocks
+  -- and so many programs
   programs_are : length done + length rest ≡ programs
 
+-- one program more is read
 split_more : (done : List ProgramForm) (form : ProgramForm) (program : Program) (rest : List Program) (lines : List ℕ)
     (blocks programs : ℕ) → IsLike program form → IsSplit done (program ∷ rest) lines blocks programs
     → IsSplit (done ++ form ∷ []) rest lines blocks programs
@@ -121,6 +136,7 @@ split_more done form program rest lines blocks programs like split =
       programs_are = rw (length-append done (form ∷ [])) (omega (arith, split.programs_are));
     }
 
+-- all are read
 programs_kept : (dialect : Dialect) (rest : List Program) (done : List ProgramForm) (lines : List ℕ) (blocks programs : ℕ)
     → IsSplit done rest lines blocks programs
     → IfOk (programs_from dialect done rest) (λ forms. IsSplit forms [] lines blocks programs)

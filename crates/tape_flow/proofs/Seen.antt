@@ -1,4 +1,5 @@
 -- The programs and blocks of a flow, seen as far as the order of blocks goes.
+-- path_state and race_report take `block_seen` and `program_seen`.
 use Rattle.std.proofs.Common.{◌≡◌, ℕ, zero, suc, ◌+◌, Bool, true, false, ◌==◌, List, [], ◌∷◌, map, Option, Some, None, slice_get, refl, ap, sym, ◌∙◌, arith, if◌then◌else◌, Bor}
 use Rattle.std.specs.Option.{option_map, option_copied}
 use Rattle.block_forms.specs.declared.block.FlowBlock.{FlowBlock}
@@ -11,6 +12,7 @@ use Rattle.tape_flow.specs.Forms.{program_form}
 use Rattle.tape_flow.specs.Controls.{control_block, control_program, controls}
 use Rattle.tape_flow.specs.Places.{flow_program, flow_blocks, flow_block}
 
+-- a block of the flow, seen as one of the order
 pub block_seen : (blocks : List FlowBlock) (k : ℕ)
     → option_map (λ block. control_block (block_form block)) (slice_get blocks k)
     ≡ slice_get (map control_block (map block_form blocks)) k
@@ -18,6 +20,7 @@ block_seen [] k = refl
 block_seen (block ∷ blocks) zero = refl
 block_seen (block ∷ blocks) (suc k) = block_seen blocks k
 
+-- the first program or one of the rest, so seen
 one_seen : (is : Bool) (program : FlowProgram) (rest : Option FlowProgram)
     → option_map (λ p. control_program (program_form p)) (if is then Some program else rest)
     ≡ (if is then Some (control_program (program_form program))
@@ -25,6 +28,7 @@ one_seen : (is : Bool) (program : FlowProgram) (rest : Option FlowProgram)
 one_seen true program rest = refl
 one_seen false program rest = refl
 
+-- a program that an O number finds, so seen
 pub program_seen : (programs : List FlowProgram) (number : ℕ)
     → option_map (λ p. control_program (program_form p)) (flow_program programs number)
     ≡ program_of (controls (map program_form programs)) number
@@ -40,10 +44,12 @@ lent_seen view (Some lent) = refl
 
 -- a program of the flow stands at the place that the order keeps of its number
 record IsThere (programs : List FlowProgram) (from number place : ℕ) : Type 0 where
+  -- how many programs stand before it, from the given place on
   behind : ℕ
   at : place ≡ from + behind
   is : slice_get programs behind ≡ flow_program programs number
 
+-- a number that has a place in the order has its program there
 there : (programs : List FlowProgram) (from number place : ℕ)
     → place_from (controls (map program_form programs)) from number ≡ Some place → IsThere programs from number place
 there [] from number place e = absurd cc
@@ -59,6 +65,7 @@ there (program ∷ programs) from number place e = go (λ h. there programs (suc
         let found = rest (rw named at e) in
         record { behind = suc found.behind; at = (let at = found.at in omega arith); is = rw named found.is }
 
+-- a place of the order is that of the flow's program
 pub program_there : (programs : List FlowProgram) (number place : ℕ)
     → Some place ≡ place_of (controls (map program_form programs)) number → slice_get programs place ≡ flow_program programs number
 program_there programs number place e =
@@ -67,6 +74,7 @@ program_there programs number place e =
     let same : place ≡ found.behind = omega arith in
     ap (λ k. slice_get programs k) same ∙ found.is
 
+-- a number that has no place
 not_there : (programs : List FlowProgram) (from number : ℕ)
     → place_from (controls (map program_form programs)) from number ≡ None → flow_program programs number ≡ None
 not_there [] from number e = refl
@@ -77,11 +85,12 @@ not_there (program ∷ programs) from number e = go (λ h. not_there programs (s
     go rest true named = absurd (let both : ◌≡◌ {A = Option ℕ} (Some from) None = rw named at e in cc)
     go rest false named = rw named (rest (rw named at e))
 
+-- a number without a place in the order has no program in the flow
 pub no_program_there : (programs : List FlowProgram) (number : ℕ)
     → None ≡ place_of (controls (map program_form programs)) number → flow_program programs number ≡ None
 no_program_there programs number e = not_there programs 0 number (sym e)
 
--- the block of a place in the flow and in the order
+-- the block at a place of the flow, seen without what it says, is that of the order
 pub block_in_order : (programs : List FlowProgram) (order : List ControlProgram) (number place : ℕ)
     → order ≡ controls (map program_form programs)
     → option_map (λ block. control_block (block_form block)) (flow_block programs number place) ≡ slice_get (blocks order number) place

@@ -1,4 +1,5 @@
 -- Which tapes are accepted, and the one refusal of every other tape.
+-- nc_verify, wait_verify, open_order, path_state and flow_laws cite this.
 use Rattle.std.specs.Prelude.{◌≡◌, ℕ, ◌≤◌, List, Ok, Err, Contains}
 use Rattle.nc_number.specs.declared.cause.Cause.{Cause}
 use Rattle.nc_number.specs.Causes.{cause_number}
@@ -29,15 +30,19 @@ IsOrderFault order line number = (cause : Cause) × IsFirst order line cause × 
 
 -- all blocks read so, and nothing is wrong with their order
 pub record IsAccepted (dialect : Dialect) (tape : List Program) (programs : List ProgramForm) : Type 0 where
+  -- all blocks read so
   pub reads : programs_read dialect tape ≡ Ok programs
+  -- and nothing is wrong with their order
   pub sound : IsSound (controls programs)
 
 -- The refusal of a tape: the first block that is refused, or, where all blocks read, the first
 -- fault of their order.
 pub data IsRefused (dialect : Dialect) (tape : List Program) (line number : ℕ) : Type 0 where
+  -- the first block that is refused
   block : HasBlockFault dialect tape line number
       → ((other_line other : ℕ) → HasBlockFault dialect tape other_line other → line ≤ other_line)
       → IsRefused dialect tape line number
+  -- the first fault of the order, if all blocks read
   order : (programs : List ProgramForm) → programs_read dialect tape ≡ Ok programs
       → IsOrderFault (controls programs) line number
       → IsRefused dialect tape line number

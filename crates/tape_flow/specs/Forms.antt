@@ -1,4 +1,6 @@
 -- The blocks of a tape as they read one by one, or the first of them that is refused.
+-- What one block says, and its refusal, is defined in block_forms.
+-- The layers above cite this.
 use Rattle.std.specs.Prelude.{ℕ, List, [], ◌∷◌, ◌++◌, map, Result, Ok, Err}
 use Rattle.nc_number.specs.Results.{◌>>=◌}
 use Rattle.nc_text.specs.declared.tape.Block.{Block}
@@ -11,17 +13,23 @@ use Rattle.tape_flow.specs.declared.program.FlowProgram.{FlowProgram}
 
 -- a program, and what its blocks say
 pub record ProgramForm : Type 0 where
+  -- the O number
   pub number : ℕ
+  -- the line of the O number, from 1
   pub line : ℕ
+  -- what its blocks say
   pub blocks : List BlockForm
 
+-- the form of a program of the flow
 abbrev pub program_form : FlowProgram → ProgramForm
 program_form program = record { number = program.number; line = program.line; blocks = map block_form program.blocks }
 
+-- the refusal of a block is told at its line
 abbrev pub at_line : ℕ → Result BlockForm ℕ → Result BlockForm FlowFault
 at_line line (Ok form) = Ok form
 at_line line (Err number) = Err (record { number = number; line = line })
 
+-- a block as it reads, or its refusal
 abbrev pub block_read : Dialect → Block → Result BlockForm FlowFault
 block_read dialect block = at_line block.line (block_or_refusal dialect block)
 
@@ -32,11 +40,13 @@ blocks_from dialect done (block ∷ blocks) = do
   form ← block_read dialect block
   blocks_from dialect (done ++ form ∷ []) blocks
 
+-- a program as it reads, or its first refusal
 abbrev pub program_read : Dialect → Program → Result ProgramForm FlowFault
 program_read dialect program = do
   blocks ← blocks_from dialect [] program.blocks
   Ok (record { number = program.number; line = program.line; blocks = blocks })
 
+-- the programs behind those that are read, or the first refusal
 abbrev pub programs_from : Dialect → List ProgramForm → List Program → Result (List ProgramForm) FlowFault
 programs_from dialect done [] = Ok done
 programs_from dialect done (program ∷ programs) = do

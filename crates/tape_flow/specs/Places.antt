@@ -1,5 +1,6 @@
 -- What a flow tells of a place: its block, its line, the label that a path comes to there, and the
 -- mark of a block.
+-- label_list, path_state, two_path and the crates of races cite this.
 use Rattle.std.specs.Prelude.{ℕ, ◌-◌, ◌==◌, ◌||◌, List, [], ◌∷◌, length, find, Option, Some, None, slice_get, if◌then◌else◌}
 use Rattle.block_order.specs.declared.control.Control.{Control}
 use Rattle.block_order.specs.declared.control.Control.TheVariants.{Wait, End, Back}
@@ -20,6 +21,7 @@ use Rattle.tape_flow.specs.declared.program.FlowProgram.{FlowProgram}
 abbrev pub flow_program : List FlowProgram → ℕ → Option FlowProgram
 flow_program programs number = find (λ program. program.number == number) programs
 
+-- the blocks of a program, and none of no program
 abbrev pub flow_blocks : Option FlowProgram → List FlowBlock
 flow_blocks None = []
 flow_blocks (Some program) = program.blocks
@@ -77,5 +79,6 @@ mark_in tape number None block = None
 mark_in tape number (Some program) block =
     if block == length program.blocks then Some Past else mark_of_block tape number (control_at program.blocks block)
 
+-- the mark at a place of the program with this O number
 abbrev pub mark_at : List ControlProgram → ℕ → ℕ → Option Mark
 mark_at tape number block = mark_in tape number (program_of tape number) block

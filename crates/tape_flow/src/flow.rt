@@ -1,4 +1,5 @@
 //! A tape, checked.
+//! What it lends of its places is in lending.rt. path_state and label_list go by it.
 ghost use Rattle.std.specs.Prelude.{◌≡◌, map, IfOk, IfErr};
 ghost use Rattle.block_order.specs.Answers.{IfFault};
 ghost use Rattle.tape_flow.specs.Forms.{program_form};
@@ -19,7 +20,9 @@ use std::alloc::Global;
 /// the blocks run.
 #[derive(Drop)]
 pub struct Flow {
+    /// The programs, with what their blocks say.
     pub programs: FlowProgramList,
+    /// The order of the same blocks.
     pub order: BlockOrder,
     ghost agrees: { order ≡ controls (map program_form programs) },
 }

@@ -1,4 +1,5 @@
 //! What holds of every tape, for the crates above: who calls the function has the law.
+//! nc_verify calls it.
 ghost use Rattle.std.specs.Prelude.{ℕ, List};
 ghost use Rattle.nc_text.specs.declared.tape.Program.{Program};
 ghost use Rattle.block_words.specs.declared.dialect.Dialect.{Dialect};

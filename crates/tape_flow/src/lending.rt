@@ -1,4 +1,5 @@
 //! What a flow lends to the layers above: its blocks, and what a place of it is.
+//! path_state, two_path and label_list ask for these; label_list takes `last_line` too.
 ghost use Rattle.std.specs.Prelude.{◌≡◌, ◌==◌, Some, length, slice_get};
 ghost use Rattle.std.specs.Option.{option_copied, option_map};
 ghost use Rattle.block_forms.specs.Blocks.{block_form};
@@ -14,21 +15,22 @@ use crate::program::FlowProgram;
 use block_forms::FlowBlock;
 use block_order::{BlockOrder, Control, ControlProgram, Frame, Label, Mark, Place};
 
-/// A place comes from the order, whose programs stand as the flow's do.
+/// The program at a place of the tape, which comes from the order: its programs stand as the flow's
+/// do.
 fn get_program(programs: &[FlowProgram], place: usize) -> Option<&FlowProgram>
     ensures { option_copied result ≡ slice_get programs.now place }
 {
     programs.get(place)
 }
 
-/// Past the last block there is none.
+/// The block at a place of a program; none past its last block.
 fn get_block(blocks: &[FlowBlock], place: usize) -> Option<&FlowBlock>
     ensures { option_copied result ≡ slice_get blocks.now place }
 {
     blocks.get(place)
 }
 
-/// No program has no block.
+/// The block of a program, if there is one.
 fn block_of(program: Option<&FlowProgram>, block: u32) -> Option<&FlowBlock>
     ensures { option_copied result ≡ slice_get (flow_blocks (option_copied program.entry)) block }
 {
@@ -49,7 +51,7 @@ pub fn last_line(program: &ControlProgram) -> u32
     }
 }
 
-/// A path that ran past the last block of a program stands at its last line.
+/// The line of a block. A path that ran past the last block of a program stands at its last line.
 fn line_in(program: &ControlProgram, block: u32) -> u32
     ensures { result ≡ line_in (Some program.now) block }
 {
@@ -59,14 +61,14 @@ fn line_in(program: &ControlProgram, block: u32) -> u32
     }
 }
 
-/// The one place behind the last block, where a path runs off.
+/// Whether this is the one place after the last block, where a path runs off.
 fn is_past(program: &ControlProgram, block: u32) -> bool
     ensures { result ≡ (block == length program.now.blocks) }
 {
     block as usize == program.blocks.as_slice().len()
 }
 
-/// What a path comes to by the block alone: without a caller it runs the main program.
+/// The label of a block: without a caller it is one of the main program.
 fn label_of(caller: Option<Frame>, control: Option<Control>) -> Option<Label>
     ensures { result ≡ label_of caller control }
 {
@@ -79,7 +81,8 @@ fn label_of(caller: Option<Frame>, control: Option<Control>) -> Option<Label>
     }
 }
 
-/// A call is marked only where its program is loud: where it reaches a wait or an end.
+/// The mark of a block, if it is one. A call is marked only if its program reaches a wait or an
+/// end.
 fn mark_of(order: &BlockOrder, control: Control) -> Option<Mark>
     ensures { result ≡ only (mark_of (loud order.now) control) }
 {
@@ -169,7 +172,7 @@ impl Flow {
         label_of(at.caller(), self.control(running.program, running.block))
     }
 
-    /// A program that no wait and no end can be reached from has no marks.
+    /// The mark of a block of this program. A program that reaches no wait and no end has no marks.
     fn mark_of_block(&self, program: u16, control: Option<Control>) -> Option<Mark>
         ensures { result ≡ mark_of_block self.now.order program control }
     {

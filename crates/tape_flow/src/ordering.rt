@@ -1,4 +1,7 @@
 //! The programs of a flow, as far as the order of their blocks goes.
+//! The check of the order is in block_order and wait_order. The only other error is that memory
+//! runs out.
+//! For flow.rt.
 ghost use Rattle.std.specs.Prelude.{◌≡◌, map, IfOk, IfErr};
 ghost use Rattle.block_order.specs.Answers.{IfFault};
 ghost use Rattle.block_order.specs.Faults.{IsSound};
@@ -16,7 +19,7 @@ use nc_number::{Failing, NoMemory};
 use std::alloc::Global;
 use wait_order::check_order;
 
-/// A block without what it says.
+/// A block without what it says: its line, its number and its control.
 pub(crate) fn control_of(block: &FlowBlock) -> ControlBlock
     ensures { result ≡ control_block (block_form block.now) }
 {
@@ -27,7 +30,7 @@ pub(crate) fn control_of(block: &FlowBlock) -> ControlBlock
     }
 }
 
-/// As many blocks, on the same lines.
+/// The controls of these blocks, in their order.
 fn controls_of(alloc: Global, blocks: &[FlowBlock]) -> Result<Vec<ControlBlock>, NoMemory>
     ensures { IfOk result (λ controls. controls.items
         ≡ map (λ block. control_block (block_form block)) blocks.now) }
@@ -51,7 +54,7 @@ fn ordered(alloc: Global, program: &FlowProgram) -> Result<ControlProgram, NoMem
     })
 }
 
-/// The list is handed over to the order, which keeps it.
+/// The programs as the check of the order takes them. The order keeps this list.
 fn control_programs(
     alloc: Global,
     programs: &[FlowProgram],

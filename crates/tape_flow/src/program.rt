@@ -1,4 +1,6 @@
 //! The programs of a flow.
+//! What a block says is in block_forms.
+//! turret_run, race_report and move_list look at them.
 use block_forms::FlowBlock;
 use nc_number::ListOf;
 
@@ -12,6 +14,7 @@ pub struct FlowProgram {
     pub number: u16,
     /// The line of the O number.
     pub line: u32,
+    /// Its blocks, with what they say.
     pub blocks: FlowBlockList,
 }
 

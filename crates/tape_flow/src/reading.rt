@@ -1,4 +1,6 @@
 //! The blocks of a tape, each read by itself.
+//! What a block says, and when it is refused, is in block_forms.
+//! For flow.rt.
 ghost use Rattle.std.specs.Prelude.{◌≤◌, [], map};
 ghost use Rattle.nc_number.specs.Answers.{Gives};
 ghost use Rattle.nc_text.specs.Shape.{IsTapeShape};
@@ -14,7 +16,7 @@ use nc_number::Failing;
 use nc_text::{Block, Program};
 use std::alloc::Global;
 
-/// The refusal of a block is told at its line.
+/// A block as it reads. Errors: its refusal at its line, or memory.
 fn read_at_line(
     alloc: Global,
     block: &Block,
@@ -32,7 +34,7 @@ fn read_at_line(
     }
 }
 
-/// Reading ends at the first refusal, so no later one is told.
+/// The blocks of a program. Errors: the first refusal, since reading ends there, or memory.
 fn read_blocks(
     alloc: Global,
     blocks: &[Block],
@@ -50,7 +52,8 @@ fn read_blocks(
     Ok(read)
 }
 
-/// The O number of a tape has at most four digits.
+/// A program with its blocks read. Its O number has at most four digits, so it fits 16 bits.
+/// Errors: its first refusal, or memory.
 fn read_program(
     alloc: Global,
     program: &Program,
@@ -69,7 +72,8 @@ fn read_program(
     }
 }
 
-/// The programs as they stand in the text, the main program first.
+/// The programs in the order of the text, the main program first. Errors: the first refusal, or
+/// memory.
 fn read_programs(
     alloc: Global,
     programs: &[Program],

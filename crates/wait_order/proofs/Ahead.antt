@@ -1,4 +1,4 @@
--- The blocks that search ahead of each place, one place more.
+-- The lists of the blocks that search are filled from the last place back: one place more.
 use Rattle.std.proofs.Common.{◌≡◌, ◌≢◌, ℕ, suc, ◌<◌, ◌≤◌, ◌⊎◌, inl, inr, Bool, List, ◌∷◌, length, drop, slice_index, slice_index_or, slice_set, refl, sym, subst, ◌∙◌, arith}
 use Rattle.std.proofs.Math.Seq.{drop-cons}
 use Rattle.std.proofs.Math.ListN.{length-set}
@@ -9,9 +9,11 @@ use Rattle.block_order.specs.declared.program.ControlBlock.{ControlBlock}
 use Rattle.block_order.specs.Loud.{mark_of}
 use Rattle.wait_order.specs.Searchers.{next_searcher, later_searcher, behind_marks, AreNext, AreLater}
 
+-- A number that is not below m is m or above it.
 pub at_or_above : (m n : ℕ) → m ≤ n → (n ≡ m) ⊎ (suc m ≤ n)
 at_or_above m n h = grind arith
 
+-- With the entry of one place more the list of later searchers holds from that place on.
 later_step : (ld : ℕ → Bool) (q : Control → Bool) (bs : List ControlBlock) (next later : List ℕ) (place value : ℕ) (d : ControlBlock)
     → AreNext q bs 0 next → AreLater ld q bs (suc place) later → place < length bs
     → value ≡ behind_marks (length (mark_of ld (slice_index_or bs place d).control)) (slice_index next (suc place)) (slice_index later (suc place))
@@ -37,7 +39,7 @@ later_step ld q bs next later place value d nexts laters within made = record {
         let other : j ≢ place = (λ e. absurd (omega arith)) in
         get_or-set_other later place j value 0 other ∙ laters.each j above to
 
--- the lists are filled from the last place back, one place more
+-- The entry of one place more is set, and the list of later searchers holds from that place on.
 pub later_filled : (ld : ℕ → Bool) (q : Control → Bool) (bs : List ControlBlock) (next later : List ℕ) (place from to i marks seen value : ℕ) (d : ControlBlock)
     → AreNext q bs 0 next → AreLater ld q bs from later → place < length bs → from ≡ suc place → to ≡ place → i ≡ suc place
     → marks ≡ length (mark_of ld (slice_index_or bs place d).control) → seen ≡ slice_index_or later i seen

@@ -1,4 +1,4 @@
--- The flags of the programs that are called.
+-- What the flags of the called programs stand for after one block, one program, or one call more.
 use Rattle.std.proofs.Common.{◌≡◌, ◌↔◌, ℕ, zero, suc, ◌+◌, ◌<◌, ◌⊎◌, inl, inr, Bool, true, false, ◌==◌, List, [], ◌∷◌, ◌++◌, take, drop, length, replicate, Option, Some, None, slice_get, slice_index_or, slice_set, refl, ap, sym, subst, ◌∙◌, arith}
 use Rattle.std.proofs.lemmas.Bool.Decides.{nat_tests}
 use Rattle.block_order.specs.declared.control.Control.{Control}
@@ -18,6 +18,7 @@ use Rattle.block_order.proofs.Faultless.{block_of_control}
 use Rattle.wait_order.proofs.Strayed.{control_of_block}
 use Rattle.block_order.proofs.Opened.{within_control}
 
+-- To set the flag of the program that a block calls adds exactly the loud program of that call.
 pub flag_loud : (tape : List ControlProgram) (flags : List Bool) (control : Control) (number repeats place : ℕ)
     → control ≡ Call number repeats → loud tape number ≡ true → place_of tape number ≡ Some place → place < length flags
     → (q : ℕ) → (flagged tape (slice_set flags place true) q ≡ true) ↔ ((flagged tape flags q ≡ true) ⊎ IsLoudCall tape control q)
@@ -35,7 +36,7 @@ flag_loud tape flags control number repeats place called is_loud is within q = (
     number_of : IsLoudCall tape control q → q ≡ number
     number_of (r, e, l) = let both : Call q r ≡ Call number repeats = sym e ∙ called in cc
 
--- one block more
+-- The first i + 1 blocks call what the first i do, or what the block i calls.
 calls_more : (tape : List ControlProgram) (bs : List ControlBlock) (i q : ℕ) (d : ControlBlock) → i < length bs
     → HasLoudCallBelow tape bs (i + 1) q ↔ (HasLoudCallBelow tape bs i q ⊎ IsLoudCall tape (slice_index_or bs i d).control q)
 calls_more tape bs i q d within = (λ h. there h, λ h. back h)
@@ -56,6 +57,7 @@ calls_more tape bs i q d within = (λ h. there h, λ h. back h)
     back (inl (k, r, below, at, l)) = (k, r, omega arith, at, l)
     back (inr (r, e, l)) = (i, r, omega arith, here ∙ ap (λ c. Some c) e, l)
 
+-- The flags after one block more stand for the loud programs that the first i + 1 blocks call.
 pub flags_more : (tape : List ControlProgram) (bs : List ControlBlock) (i q : ℕ) (d : ControlBlock) (first now new : Bool) → i < length bs
     → (now ≡ true) ↔ ((first ≡ true) ⊎ HasLoudCallBelow tape bs i q)
     → (new ≡ true) ↔ ((now ≡ true) ⊎ IsLoudCall tape (slice_index_or bs i d).control q)
@@ -72,7 +74,7 @@ flags_more tape bs i q d first now new within before step =
       ],
     )
 
--- one program more
+-- The flags after one program more stand for what the first i + 1 reached programs call.
 pub called_more : (tape : List ControlProgram) (reached : List Bool) (i q : ℕ) (p : ControlProgram) (first now new : Bool)
     → slice_get tape i ≡ Some p → (now ≡ true) ↔ ((first ≡ true) ⊎ IsCalledBelow tape reached i q)
     → (new ≡ true) ↔ ((now ≡ true) ⊎ ((flagged tape reached p.number ≡ true) × HasLoudCall tape p.blocks q))
@@ -98,7 +100,7 @@ called_more tape reached i q p first now new is before step = (λ t. there (step
       | inr less ↦ step.1 (inl (before.1 (inr (k, r, less, at, f, h))))
     ]
 
--- all programs
+-- The flags after all programs are those of the programs that one call more reaches.
 pub called_all : (tape : List ControlProgram) (reached next : List Bool) → AreProgramsOf tape → length next ≡ length tape
     → ((q : ℕ) → (flagged tape next q ≡ true) ↔ IsCalledBelow tape reached (length tape) q) → IsCalledFrom tape reached next
 called_all tape reached next own count each = record {
@@ -125,7 +127,7 @@ called_all tape reached next own count each = record {
           subst (λ bs. HasLoudCall tape bs q) e (k, r, below, at, l),
         )
 
--- one call more
+-- What n calls reach and then one call more is what n + 1 calls reach.
 pub reached_more : (tape : List ControlProgram) (reached next : List Bool) (n : ℕ) → AreReached tape n reached
     → IsCalledFrom tape reached next → AreReached tape (n + 1) next
 reached_more tape reached next n before called = record {
@@ -144,20 +146,23 @@ reached_more tape reached next n before called = record {
     back q (caller, k, r, before', at, l) =
         (caller, (before.each caller).1 before', (k, r, within_control (blocks tape caller) k (Call q r) at, at, l))
 
+-- A list of false entries has no flag.
 none_flagged : (n i : ℕ) → slice_index_or (replicate n false) i false ≡ false
 none_flagged zero i = refl
 none_flagged (suc n) zero = refl
 none_flagged (suc n) (suc i) = none_flagged n i
 
+-- No place in a list of false entries has a flag.
 no_flag : (n : ℕ) (o : Option ℕ) → flag_at (replicate n false) o ≡ false
 no_flag n None = refl
 no_flag n (Some i) = none_flagged n i
 
+-- Such a list has its length.
 length_none : (n : ℕ) → length (replicate n false) ≡ n
 length_none zero = refl
 length_none (suc n) = let e = length_none n in omega arith
 
--- the flags of those that are called, where none was flagged before
+-- The flags stand for the called programs, if none was set before.
 pub called_new : (tape : List ControlProgram) (reached old new next : List Bool) → AreProgramsOf tape → old ≡ replicate (length tape) false
     → length next ≡ length tape → next ≡ new
     → ((q : ℕ) → (flagged tape new q ≡ true) ↔ ((flagged tape old q ≡ true) ⊎ IsCalledBelow tape reached (length tape) q))
@@ -175,7 +180,7 @@ called_new tape reached old new next own none count same each = called_all tape 
       λ h. subst (λ fs. flagged tape fs q ≡ true) (sym same) ((each q).1 (inr h)),
     )
 
--- a slice that was lent whole
+-- A list that was lent as a whole slice is afterwards what the slice became.
 pub lent_whole : (old new : List Bool) (n : ℕ) → n ≡ length old → length new ≡ length old
     → take n (new ++ drop (length new) old) ≡ new
 lent_whole old new n e f =
@@ -194,10 +199,13 @@ lent_whole old new n e f =
     take_all (x ∷ xs) zero h = absurd (omega arith)
     take_all (x ∷ xs) (suc k) h = ap (λ ys. x ∷ ys) (take_all xs k (omega arith))
 
+-- The main program is the first of the tape.
 main_place : (tape : List ControlProgram) → 0 < length tape → place_of tape (main_number tape) ≡ Some 0
 main_place [] some = absurd (omega arith)
 main_place (p ∷ ps) some = let same : (p.number == p.number) ≡ true = grind (arith, nat_tests) in rw same refl
 
+-- If only the first flag is set, the flags are those of what no call at all reaches: the main
+-- program.
 pub main_flagged : (tape : List ControlProgram) (flags : List Bool) → 0 < length tape → flags ≡ replicate (length tape) false
     → length (slice_set flags 0 true) ≡ length tape → AreReached tape 0 (slice_set flags 0 true)
 main_flagged tape flags some none count = record {

@@ -11,20 +11,21 @@ use Rattle.wait_order.specs.Waiting.{IsStrayLine, IsLeast}
 use Rattle.nc_number.specs.Options.{lesser}
 use Rattle.wait_order.proofs.Least.{least_same, least_none, least_either}
 
--- labels hang on each program in which a block may pass a wait
+-- Only a program on which labels hang (the main one, or a loud one) has blocks that may pass a
+-- wait.
 pub strays_count : (tape : List ControlProgram) (program place : ℕ) (b : ControlBlock) → Strays tape program place b → Counts tape program
 strays_count tape program place b (jump target counts is apart) = counts
 strays_count tape program place b (loop head counts is apart) = counts
 strays_count tape program place b (back n is_loud other e) = inr is_loud
 
--- where none hang on it
+-- A program on which no labels hang has no line that may pass a wait.
 pub least_uncounted : (tape : List ControlProgram) (program : ℕ) → (Counts tape program → ⊥) → IsLeast (IsStrayLine tape program) None
 least_uncounted tape program not_so = least_none {P = IsStrayLine tape program} none
   where
     none : (n : ℕ) → IsStrayLine tape program n → ⊥
     none n (place, b, stands, strays, e) = not_so (strays_count tape program place b strays)
 
--- one program more
+-- The lesser of the first lines of the first i programs and of one more is that of the first i + 1.
 pub least_program : (tape : List ControlProgram) (i : ℕ) (p : ControlProgram) (a b : Option ℕ) → slice_get tape i ≡ Some p
     → IsLeast (IsStrayLineBelow tape i) a → IsLeast (IsStrayLine tape p.number) b → IsLeast (IsStrayLineBelow tape (i + 1)) (lesser a b)
 least_program tape i p a b at l r =
@@ -46,10 +47,11 @@ least_program tape i p a b at l r =
       | inr less ↦ inl (t, q, less, is, h)
     ]
 
+-- No programs have no such line.
 pub least_no_program : (tape : List ControlProgram) → IsLeast (IsStrayLineBelow tape 0) None
 least_no_program tape = least_none {P = IsStrayLineBelow tape 0} (λ n h. (let below = h.2 in absurd (omega arith)))
 
--- a program that has blocks stands on the tape
+-- A program of this O number stands on the tape.
 pub record IsOnTape (tape : List ControlProgram) (q : ℕ) : Type 0 where
   pub place : ℕ
   pub program : ControlProgram
@@ -57,6 +59,7 @@ pub record IsOnTape (tape : List ControlProgram) (q : ℕ) : Type 0 where
   pub at : slice_get tape place ≡ Some program
   pub number : program.number ≡ q
 
+-- A number whose program has a block is that of a program on the tape.
 pub on_tape : (tape : List ControlProgram) (q place : ℕ) (b : ControlBlock) → slice_get (blocks tape q) place ≡ Some b → IsOnTape tape q
 on_tape [] q place b e = absurd cc
 on_tape (p ∷ ps) q place b e = go (λ h. on_tape ps q place b h) (p.number == q) refl
@@ -67,7 +70,7 @@ on_tape (p ∷ ps) q place b e = go (λ h. on_tape ps q place b h) (p.number == 
         let r = rest (rw y at e) in
         record { place = suc r.place; program = r.program; within = (let within = r.within in omega arith); at = r.at; number = r.number }
 
--- all programs
+-- The first line among all programs is that of the tape.
 pub least_tape : (tape : List ControlProgram) (a : Option ℕ) → IsLeast (IsStrayLineBelow tape (length tape)) a
     → IsLeast (IsTapeStrayLine tape) a
 least_tape tape a l = least_same {R = IsTapeStrayLine tape} a l (λ n h. (h.1.number, h.4)) from

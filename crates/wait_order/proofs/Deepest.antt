@@ -17,10 +17,11 @@ use Rattle.wait_order.proofs.Least.{least_same, least_none, least_either}
 use Rattle.wait_order.proofs.Strayed.{control_of_block}
 use Rattle.block_order.proofs.Opened.{within_control}
 
--- none of the first blocks is a call of a loud program
+-- None of the first i blocks is a call of a loud program.
 abbrev pub NoneBelow : List ControlProgram → List ControlBlock → ℕ → Type 0
 NoneBelow tape bs i = (k q : ℕ) (b : ControlBlock) → k < i → slice_get bs k ≡ Some b → IsLoudCall tape b.control q → ⊥
 
+-- If the block i calls a loud program and none before it does, its line is the first such line.
 pub call_here : (tape : List ControlProgram) (bs : List ControlBlock) (i : ℕ) (d : ControlBlock) → i < length bs → HasRisingLines bs
     → (q : ℕ) × IsLoudCall tape (slice_index_or bs i d).control q → NoneBelow tape bs i
     → IsLeast (IsCallLine tape bs) (Some (slice_index_or bs i d).line)
@@ -42,6 +43,7 @@ call_here tape bs i d within rising call none = record {
       | inr less ↦ absurd (none k q b less at l)
     ]
 
+-- If the block i calls none either, none of the first i + 1 does.
 pub none_more : (tape : List ControlProgram) (bs : List ControlBlock) (i : ℕ) (d : ControlBlock) (is : Bool) → i < length bs
     → IsTrue is ↔ ((q : ℕ) × IsLoudCall tape (slice_index_or bs i d).control q) → is ≡ false → NoneBelow tape bs i
     → NoneBelow tape bs (i + 1)
@@ -54,6 +56,7 @@ none_more tape bs i d is within means not_so none k q b below at l = elim (last_
   | inr less ↦ none k q b less at l
 ]
 
+-- If none of the blocks calls a loud program, they have no such line.
 pub call_nowhere : (tape : List ControlProgram) (bs : List ControlBlock) (n : ℕ) → n ≡ length bs → NoneBelow tape bs n
     → IsLeast (IsCallLine tape bs) None
 call_nowhere tape bs n all none = least_none {P = IsCallLine tape bs} no_line
@@ -62,7 +65,7 @@ call_nowhere tape bs n all none = least_none {P = IsCallLine tape bs} no_line
     no_line m (k, b, q, at, l, e) =
         none k q b (let within = within_control bs k b.control (control_of_block bs k b at) in omega arith) at l
 
--- one program more
+-- The lesser of the first lines of the first i programs and of one more is that of the first i + 1.
 pub deep_more : (tape : List ControlProgram) (reached : List Bool) (i : ℕ) (p : ControlProgram) (a b : Option ℕ) → slice_get tape i ≡ Some p
     → IsLeast (IsDeepBelow tape reached i) a → IsLeast (IsReachedLine tape reached p) b
     → IsLeast (IsDeepBelow tape reached (i + 1)) (lesser a b)
@@ -82,7 +85,7 @@ deep_more tape reached i p a b at l r =
       | inr less ↦ inl (t, q, less, is, h)
     ]
 
--- all programs
+-- The first line among all programs that eight calls reach is that of the first ninth call.
 pub deep_all : (tape : List ControlProgram) (reached : List Bool) (n : ℕ) (a : Option ℕ) → n ≡ length tape → AreProgramsOf tape
     → AreReached tape 8 reached → IsLeast (IsDeepBelow tape reached n) a → IsLeast (IsDeepLine tape) a
 deep_all tape reached n a all own are l = least_same {R = IsDeepLine tape} a l to from

@@ -1,4 +1,4 @@
--- Tests of the code and what they say of stretches.
+-- The tests of src/ways.rt on numbers, and what they say of stretches.
 use Rattle.std.proofs.Common.{◌≡◌, ◌≢◌, ◌↔◌, ℕ, ◌-◌, ◌<◌, Bool, true, false, not, nat_eq, List, length, Option, Some, None, Result, Ok, Err, slice_index, sym, refl, ap, ◌∙◌, arith, zero-add}
 use Rattle.std.specs.Prelude.{IsTrue}
 use Rattle.std.proofs.lemmas.Bool.Decides.{nat_tests}
@@ -13,6 +13,7 @@ use Rattle.block_order.proofs.Opened.{close_within}
 use Rattle.block_order.proofs.Searches.{led, loop_facts}
 use Rattle.block_order.proofs.Targets.{seek_stands}
 
+-- The test for unequal numbers says that they differ.
 pub differ : (a b : ℕ) → IsTrue (not (nat_eq a b)) ↔ (a ≢ b)
 differ a b = (λ t e. grind (arith, nat_tests), λ d. go d (nat_eq a b) refl)
   where
@@ -20,7 +21,7 @@ differ a b = (λ t e. grind (arith, nat_tests), λ d. go d (nat_eq a b) refl)
     go d true e = absurd (let same : a ≡ b = grind (arith, nat_tests) in d same)
     go d false e = refl
 
--- the stretches that the table gives differ where the blocks' stretches do
+-- The stretches in the list differ exactly if the stretches of the two blocks do.
 pub apart_is : (ld : ℕ → Bool) (bs : List ControlBlock) (ss : List ℕ) (one other x y : ℕ) → ss ≡ stretches_from ld 0 bs
     → one < length bs → other < length bs → x ≡ slice_index ss one → y ≡ slice_index ss other
     → IsTrue (not (nat_eq x y)) ↔ (stretch ld bs one ≢ stretch ld bs other)
@@ -29,7 +30,7 @@ apart_is ld bs ss one other x y e a b ex ey =
     let ey' : y ≡ stretch ld bs other = ey ∙ (ap (λ s. slice_index s other) e ∙ (stretches_are ld bs 0 other 0 b ∙ zero-add (stretch ld bs other))) in
     rw (ex', ey') (differ (stretch ld bs one) (stretch ld bs other))
 
--- where the last block lies in the first stretch, no search leads to another one
+-- If the last block lies in the first stretch, no jump leads to another one.
 pub one_stretch : (ld : ℕ → Bool) (bs : List ControlBlock) (ss : List ℕ) (block n last : ℕ) → ss ≡ stretches_from ld 0 bs
     → last ≡ slice_index ss (length bs - 1) → last ≡ 0 → block < length bs → LeadsElsewhere ld bs block n → ⊥
 one_stretch ld bs ss block n last e is first within (target, leads, differs) =
@@ -41,7 +42,8 @@ one_stretch ld bs ss block n last e is first within (target, leads, differs) =
     let other = stretch_rises ld bs target end (omega (arith, found)) in
     differs (omega arith)
 
--- a jump leads to a target
+-- If a jump to n leads to a target, it leads elsewhere exactly if the target lies in another
+-- stretch.
 pub leads_where : (ld : ℕ → Bool) (bs : List ControlBlock) (block n target : ℕ) (apart : Bool) → Leads bs block n target
     → IsTrue apart ↔ (stretch ld bs block ≢ stretch ld bs target)
     → IsTrue apart ↔ LeadsElsewhere ld bs block n
@@ -53,7 +55,7 @@ leads_where ld bs block n target apart leads is = (λ t. (target, leads, is.0 t)
         let it : other ≡ target = cc in
         is.1 (λ e. differs (e ∙ ap (λ k. stretch ld bs k) (sym it)))
 
--- a jump that leads nowhere
+-- A jump to n that finds no target does not lead elsewhere.
 pub leads_nowhere : (ld : ℕ → Bool) (bs : List ControlBlock) (block n : ℕ) (cause : Cause) → target_of bs block n ≡ Err cause
     → IsTrue false ↔ LeadsElsewhere ld bs block n
 leads_nowhere ld bs block n cause nowhere = (λ t. absurd cc, λ l. absurd (back l))
@@ -61,7 +63,8 @@ leads_nowhere ld bs block n cause nowhere = (λ t. absurd cc, λ l. absurd (back
     back : LeadsElsewhere ld bs block n → ⊥
     back (other, leads, differs) = let clash : ◌≡◌ {A = Result ℕ Cause} (Ok other) (Err cause) = sym leads ∙ nowhere in cc
 
--- the loop that ends here begins at one head
+-- If the loop that ends here begins at `head`, it leads elsewhere exactly if that lies in another
+-- stretch.
 pub closes_where : (ld : ℕ → Bool) (bs : List ControlBlock) (head close : ℕ) (apart : Bool)
     → ((other : ℕ) → (Some head ≡ Some other) ↔ IsLoop bs other close)
     → (head < length bs → close < length bs → IsTrue apart ↔ (stretch ld bs head ≢ stretch ld bs close))
@@ -82,9 +85,11 @@ closes_where ld bs head close apart heads is = (λ t. (head, loop, decides.0 t),
         let it : head ≡ other = cc in
         decides.1 (λ e. differs (ap (λ k. stretch ld bs k) (sym it) ∙ e))
 
+-- A block that ends no loop does not lead elsewhere by one.
 pub closes_nowhere : (ld : ℕ → Bool) (bs : List ControlBlock) (close : ℕ)
     → ((other : ℕ) → (◌≡◌ {A = Option ℕ} None (Some other)) ↔ IsLoop bs other close) → IsTrue false ↔ ClosesElsewhere ld bs close
 closes_nowhere ld bs close heads = (λ t. absurd cc, λ l. absurd (let e : ◌≡◌ {A = Option ℕ} None (Some l.0) = (heads l.0).1 l.1 in cc))
 
+-- False is not true.
 pub false_is_not_true : IsTrue false → ⊥
 false_is_not_true t = absurd cc

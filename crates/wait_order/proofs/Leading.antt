@@ -1,4 +1,5 @@
--- The blocks from which a search leads to a target are at most two rows of places.
+-- The blocks from which a search for a number leads to a target lie in at most two rows of places:
+-- one before the target, and one after from which the search begins anew at the program's start.
 use Rattle.std.proofs.Common.{◌≡◌, ◌↔◌, ℕ, zero, suc, ◌+◌, ◌<◌, ◌≤◌, ◌⊎◌, inl, inr, Bool, true, false, List, [], ◌∷◌, length, slice_get, slice_index_or, Option, Some, None, refl, ap, sym, subst, ◌∙◌, arith}
 use Rattle.block_order.specs.declared.control.Control.{Control}
 use Rattle.block_order.specs.declared.loops.Reach.{Reach}
@@ -14,24 +15,28 @@ use Rattle.block_order.proofs.Searches.{led, leads_to}
 use Rattle.block_order.proofs.Targets.{seek_stands}
 use Rattle.wait_order.proofs.Nearest.{searcher_within}
 
--- what the tables say of the searches that lead to a target
+-- What the tables of block_order say of the searches that lead to a target.
 pub record Known (ld : ℕ → Bool) (bs : List ControlBlock) (n target : ℕ) (finders : Finders) (reach : Reach) : Type 0 where
   pub few : length bs ≤ 20000
+  -- Which blocks a search for n leads to the target.
   pub finds : (block : ℕ) → (seek bs block n ≡ Some target) ↔ IsFinder finders block
+  -- From which blocks a jump to the target is permitted.
   pub reaches : (block : ℕ) → block < length bs → IsPermitted bs block target ↔ IsWithin reach block
 
+-- A block of the first row is led to the target.
 ahead_leads : (ld : ℕ → Bool) (q : Control → Bool) (bs : List ControlBlock) (n target : ℕ) (finders : Finders) (reach : Reach) → Known ld bs n target finders reach
     → (b : ℕ) → IsOtherIn ld q bs finders.low finders.high reach target b → IsLedTo ld q bs n target b
 ahead_leads ld q bs n target finders reach known b (from, to, within, at, apart) =
     (at, leads_to bs b n target ((known.finds b).1 (inl (from, to))) ((known.reaches b (searcher_within q bs b at)).1 within), apart)
 
+-- A block of the second row is led to the target.
 around_leads : (ld : ℕ → Bool) (q : Control → Bool) (bs : List ControlBlock) (n target low high : ℕ) (finders : Finders) (reach : Reach)
     → Known ld bs n target finders reach → finders.around ≡ Some low
     → (b : ℕ) → IsOtherIn ld q bs low high reach target b → IsLedTo ld q bs n target b
 around_leads ld q bs n target low high finders reach known around b (from, to, within, at, apart) =
     (at, leads_to bs b n target ((known.finds b).1 (inr (low, around, from))) ((known.reaches b (searcher_within q bs b at)).1 within), apart)
 
--- both rows, where the search begins anew at the program's start
+-- With two rows the lesser of the first blocks of both is the first that is led to the target.
 pub least_around : (ld : ℕ → Bool) (q : Control → Bool) (bs : List ControlBlock) (n target low high : ℕ) (finders : Finders) (reach : Reach) (a b : Option ℕ)
     → Known ld bs n target finders reach → finders.around ≡ Some low → 20000 < high
     → IsLeast (IsOtherIn ld q bs finders.low finders.high reach target) a → IsLeast (IsOtherIn ld q bs low high reach target) b
@@ -56,7 +61,7 @@ least_around ld q bs n target low high finders reach a b known around wide first
               inr (omega arith, omega arith, within, at, apart)
         ]
 
--- one row, where it does not
+-- With one row its first block is the first that is led to the target.
 pub least_ahead : (ld : ℕ → Bool) (q : Control → Bool) (bs : List ControlBlock) (n target : ℕ) (finders : Finders) (reach : Reach) (a : Option ℕ)
     → Known ld bs n target finders reach → finders.around ≡ None
     → IsLeast (IsOtherIn ld q bs finders.low finders.high reach target) a → IsLeast (IsLedTo ld q bs n target) a
@@ -72,12 +77,13 @@ least_ahead ld q bs n target finders reach a known around p =
           | inr h ↦ absurd (let same : ◌≡◌ {A = Option ℕ} None (Some h.0) = sym around ∙ h.1 in cc)
         ]
 
+-- A place within the blocks has a block.
 pub stands_at : (bs : List ControlBlock) (i : ℕ) (d : ControlBlock) → i < length bs → slice_get bs i ≡ Some (slice_index_or bs i d)
 stands_at [] i d within = absurd (omega arith)
 stands_at (b ∷ bs) zero d within = refl
 stands_at (b ∷ bs) (suc i) d within = stands_at bs i d (omega arith)
 
--- the number of a block is the one that it has
+-- The sequence number of the block at a place is the one that the block has.
 pub numbered_as : (bs : List ControlBlock) (i : ℕ) (d : ControlBlock) → i < length bs
     → (n : ℕ) → IsNumbered bs i n ↔ ((slice_index_or bs i d).sequence ≡ Some n)
 numbered_as bs i d within n = (λ h. there h, λ e. (slice_index_or bs i d, stands_at bs i d within, e))
@@ -88,6 +94,8 @@ numbered_as bs i d within n = (λ h. there h, λ e. (slice_index_or bs i d, stan
         let same : slice_index_or bs i d ≡ b = cc in
         ap (λ x. x.sequence) same ∙ is
 
+-- If the target's number is sought, the blocks that are led to it by that number are those that may
+-- be led to it.
 pub least_numbered : (ld : ℕ → Bool) (q : Control → Bool) (may : ℕ → Bool) (bs : List ControlBlock) (number target : ℕ) (sequence a : Option ℕ)
     → ((n : ℕ) → IsNumbered bs target n ↔ (sequence ≡ Some n)) → sequence ≡ Some number → may number ≡ true
     → IsLeast (IsLedTo ld q bs number target) a → IsLeast (MayLeadTo ld q may bs target) a
@@ -101,7 +109,7 @@ least_numbered ld q may bs number target sequence a is e sought least =
         let same : m ≡ number = cc in
         (at, subst (λ k. Leads bs b k target) same leads, apart)
 
--- a number that is not sought
+-- No block may be led to a target whose number is not sought.
 pub least_unsought : (ld : ℕ → Bool) (q : Control → Bool) (may : ℕ → Bool) (bs : List ControlBlock) (number target : ℕ) (sequence : Option ℕ)
     → ((n : ℕ) → IsNumbered bs target n ↔ (sequence ≡ Some n)) → sequence ≡ Some number → may number ≡ false
     → IsLeast (MayLeadTo ld q may bs target) None
@@ -115,6 +123,7 @@ least_unsought ld q may bs number target sequence is e unsought = least_none {P 
         let not_so : may m ≡ false = ap may same ∙ unsought in
         absurd cc
 
+-- No block may be led to a target without a number.
 pub least_unnumbered : (ld : ℕ → Bool) (q : Control → Bool) (may : ℕ → Bool) (bs : List ControlBlock) (target : ℕ) (sequence : Option ℕ)
     → ((n : ℕ) → IsNumbered bs target n ↔ (sequence ≡ Some n)) → sequence ≡ None → IsLeast (MayLeadTo ld q may bs target) None
 least_unnumbered ld q may bs target sequence is e = least_none {P = MayLeadTo ld q may bs target} none
@@ -125,7 +134,8 @@ least_unnumbered ld q may bs target sequence is e = least_none {P = MayLeadTo ld
         let both : ◌≡◌ {A = Option ℕ} None (Some m) = sym e ∙ own in
         absurd cc
 
--- one target more
+-- The lesser of the first blocks for the first n targets and for one more is that for the first n +
+-- 1.
 pub least_more : (ld : ℕ → Bool) (q : Control → Bool) (may : ℕ → Bool) (bs : List ControlBlock) (n : ℕ) (a b : Option ℕ) → IsLeast (MayLeadBelow ld q may bs n) a
     → IsLeast (MayLeadTo ld q may bs n) b → IsLeast (MayLeadBelow ld q may bs (n + 1)) (lesser a b)
 least_more ld q may bs n a b first second =
@@ -142,10 +152,11 @@ least_more ld q may bs n a b first second =
         go (inl e) = inr (subst (λ j. MayLeadTo ld q may bs j k) e h)
         go (inr less) = inl (t, less, h)
 
+-- For no targets there is no such block.
 pub least_no_target : (ld : ℕ → Bool) (q : Control → Bool) (may : ℕ → Bool) (bs : List ControlBlock) → IsLeast (MayLeadBelow ld q may bs 0) None
 least_no_target ld q may bs = least_none {P = MayLeadBelow ld q may bs 0} (λ k h. (let below = h.1 in absurd (omega arith)))
 
--- all targets
+-- The first block for all targets is the first of the search that may lead to another stretch.
 pub least_all : (ld : ℕ → Bool) (q : Control → Bool) (may : ℕ → Bool) (bs : List ControlBlock) (a : Option ℕ) → IsLeast (MayLeadBelow ld q may bs (length bs)) a
     → IsLeast (IsSearchStray ld q may bs) a
 least_all ld q may bs a p = least_same {R = IsSearchStray ld q may bs} a p to back
@@ -156,7 +167,7 @@ least_all ld q may bs a p = least_same {R = IsSearchStray ld q may bs} a p to ba
     back : (k : ℕ) → IsSearchStray ld q may bs k → MayLeadBelow ld q may bs (length bs) k
     back k (at, n, is_so, (target, leads, apart)) = (target, (seek_stands bs k n target (led bs k n target leads).0).0, (n, is_so, (at, leads, apart)))
 
--- the block at a place as a target
+-- The same step as the loop over the blocks makes it, with its count of places.
 pub target_step : (ld : ℕ → Bool) (q : Control → Bool) (may : ℕ → Bool) (bs : List ControlBlock) (i place : ℕ) (d : ControlBlock) (first nearest : Option ℕ)
     → i < length bs → place ≡ i → IsLeast (MayLeadBelow ld q may bs i) first
     → (place < length bs → ((n : ℕ) → IsNumbered bs place n ↔ ((slice_index_or bs i d).sequence ≡ Some n))

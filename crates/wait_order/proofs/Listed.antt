@@ -1,4 +1,4 @@
--- The programs of a tape that is listed and whose programs and loops fit together.
+-- What block_order's check says of a tape's programs is what this crate needs of each.
 use Rattle.std.proofs.Common.{◌≡◌, ℕ, zero, suc, ◌<◌, ◌≤◌, ◌⊎◌, inl, inr, List, [], ◌∷◌, length, Some, slice_index_or, refl, ap, sym, ◌∙◌, arith}
 use Rattle.std.specs.List.{slice_get, Contains}
 use Rattle.nc_number.proofs.Counts.{same_or_below}
@@ -15,11 +15,14 @@ use Rattle.block_order.proofs.Findable.{own_blocks}
 use Rattle.block_order.proofs.Lines.{rise-own, block-order, blocks-few}
 use Rattle.block_order.proofs.Mismatched.{mismatch-within}
 
+-- A program at a place of the tape is one of its programs.
 among : (tape : List ControlProgram) (i : ℕ) (p : ControlProgram) → slice_get tape i ≡ Some p → Contains tape p
 among [] i p e = absurd cc
 among (x ∷ xs) zero p e = let same : x ≡ p = cc in (0, omega arith, same)
 among (x ∷ xs) (suc i) p e = let r = among xs i p e in let within = r.1 in (suc r.0, omega arith, r.2)
 
+-- Each program of a listed tape whose programs and loops fit is the first of its number, with few
+-- blocks, fitting loops and rising lines.
 pub programs_are : (tape : List ControlProgram) → IsListed tape → IsClear tape Fitting → AreProgramsOf tape
 programs_are tape listed clear i p at = record {
   own = own_blocks tape i p clear at;

@@ -1,4 +1,4 @@
--- The lists of blocks that search say which is the nearest one in another stretch.
+-- The lists of blocks that search say which is the nearest one in another stretch than a target.
 use Rattle.std.proofs.Common.{◌≡◌, ◌≢◌, ℕ, zero, suc, ◌+◌, ◌-◌, ◌<◌, ◌≤◌, Bool, true, false, List, [], ◌∷◌, length, drop, Some, None, slice_index, refl, ap, sym, subst, ◌∙◌, arith, zero-add, length-drop}
 use Rattle.block_order.specs.declared.control.Control.{Control}
 use Rattle.block_order.specs.declared.program.ControlBlock.{ControlBlock}
@@ -13,12 +13,14 @@ use Rattle.wait_order.proofs.Least.{least_none}
 use Rattle.wait_order.proofs.Stretched.{stretch_behind, stretches_are, stretch_rises}
 use Rattle.block_order.proofs.Opened.{within_control}
 
+-- The control after n blocks is that n places further on.
 pub control_drop : (bs : List ControlBlock) (n i : ℕ) → control_at (drop n bs) i ≡ control_at bs (n + i)
 control_drop bs zero i = ap (λ k. control_at bs k) (omega arith)
 control_drop [] (suc n) i = refl
 control_drop (b ∷ bs) (suc n) i =
     control_drop bs n i ∙ (let e : suc (n + i) ≡ suc n + i = omega arith in ap (λ k. control_at (b ∷ bs) k) e)
 
+-- The marks before a block are those of the first n blocks and those from there on.
 stretch_drop : (ld : ℕ → Bool) (bs : List ControlBlock) (n i : ℕ)
     → stretch ld bs (n + i) ≡ stretch ld bs n + stretch ld (drop n bs) i
 stretch_drop ld bs zero i = let e : 0 + i ≡ i = omega arith in ap (λ k. stretch ld bs k) e ∙ sym (zero-add (stretch ld bs i))
@@ -29,25 +31,28 @@ stretch_drop ld (b ∷ bs) (suc n) i =
     ap (λ k. stretch ld (b ∷ bs) k) e
     ∙ omega (arith, stretch_behind ld b bs (n + i), stretch_behind ld b bs n, stretch_drop ld bs n i)
 
--- a block that searches, counted from the start or from a place on
+-- A block that searches after the first n searches, counted from the start.
 searcher_behind : (q : Control → Bool) (bs : List ControlBlock) (n i k : ℕ) → k ≡ n + i → IsSearcherAt q (drop n bs) i
     → IsSearcherAt q bs k
 searcher_behind q bs n i k e (c, at, is) = (c, ap (λ j. control_at bs j) e ∙ (sym (control_drop bs n i) ∙ at), is)
 
+-- The same the other way round.
 searcher_ahead : (q : Control → Bool) (bs : List ControlBlock) (n i k : ℕ) → n + i ≡ k → IsSearcherAt q bs k
     → IsSearcherAt q (drop n bs) i
 searcher_ahead q bs n i k e (c, at, is) = (c, control_drop bs n i ∙ (ap (λ j. control_at bs j) e ∙ at), is)
 
+-- A block that searches is one of the blocks.
 pub searcher_within : (q : Control → Bool) (bs : List ControlBlock) (k : ℕ) → IsSearcherAt q bs k → k < length bs
 searcher_within q bs k (c, at, is) = within_control bs k c at
 
+-- A first block that does not search is no searcher.
 not_searcher : (q : Control → Bool) (b : ControlBlock) (bs : List ControlBlock) → q b.control ≡ false → IsSearcherAt q (b ∷ bs) 0 → ⊥
 not_searcher q b bs e (c, at, is) =
     let same : b.control ≡ c = cc in
     let f : q b.control ≡ true = ap q same ∙ is in
     absurd cc
 
--- the nearest searcher, that many places ahead
+-- `found` is the nearest block that searches, `ahead` places from `place` on, or the end.
 record IsNext (q : Control → Bool) (bs : List ControlBlock) (place found : ℕ) : Type 0 where
   ahead : ℕ
   at : found ≡ place + ahead
@@ -55,6 +60,7 @@ record IsNext (q : Control → Bool) (bs : List ControlBlock) (place found : ℕ
   is : ahead < length bs → IsSearcherAt q bs ahead
   first : (k : ℕ) → IsSearcherAt q bs k → ahead ≤ k
 
+-- That is what `next_searcher` gives.
 next_is : (q : Control → Bool) (bs : List ControlBlock) (place : ℕ) → IsNext q bs place (next_searcher q bs place)
 next_is q [] place = record { ahead = 0; at = omega arith; within = omega arith; is = λ lt. absurd (omega arith); first = λ k e. omega arith }
 next_is q (b ∷ bs) place = go (next_is q bs (suc place)) (q b.control) refl
@@ -81,7 +87,8 @@ next_is q (b ∷ bs) place = go (next_is q bs (suc place)) (q b.control) refl
       first = λ k e. behind r y k r e;
     })
 
--- the nearest searcher behind the stretch, that many places ahead
+-- `found` is the nearest block that searches after the stretch, `ahead` places from `place` on, or
+-- the end.
 record IsLater (ld : ℕ → Bool) (q : Control → Bool) (bs : List ControlBlock) (place found : ℕ) : Type 0 where
   ahead : ℕ
   at : found ≡ place + ahead
@@ -89,6 +96,7 @@ record IsLater (ld : ℕ → Bool) (q : Control → Bool) (bs : List ControlBloc
   is : ahead < length bs → (IsSearcherAt q bs ahead) × (0 < stretch ld bs ahead)
   first : (k : ℕ) → IsSearcherAt q bs k → 0 < stretch ld bs k → ahead ≤ k
 
+-- That is what `later_searcher` gives.
 later_is : (ld : ℕ → Bool) (q : Control → Bool) (bs : List ControlBlock) (place : ℕ) → IsLater ld q bs place (later_searcher ld q bs place)
 later_is ld q [] place = record { ahead = 0; at = omega arith; within = omega arith; is = λ lt. absurd (omega arith); first = λ k e s. omega arith }
 later_is ld q (b ∷ bs) place = go (later_is ld q bs (suc place)) (length (mark_of ld b.control)) refl
@@ -123,13 +131,14 @@ later_is ld q (b ∷ bs) place = go (later_is ld q bs (suc place)) (length (mark
           first = λ k e s. behind_next n k e s;
         }
 
--- the nearest searcher at or behind a place
+-- `near` is the nearest block that searches at `from` or after it, or the end.
 record IsNear (q : Control → Bool) (bs : List ControlBlock) (from near : ℕ) : Type 0 where
   within : near ≤ length bs
   behind : from ≤ near
   is : near < length bs → IsSearcherAt q bs near
   first : (block : ℕ) → from ≤ block → IsSearcherAt q bs block → near ≤ block
 
+-- That is what the list has for a place.
 near_is : (q : Control → Bool) (bs : List ControlBlock) (next : List ℕ) (from near : ℕ) → AreNext q bs 0 next → from ≤ length bs
     → near ≡ slice_index next from → IsNear q bs from near
 near_is q bs next from near nexts to e =
@@ -147,12 +156,13 @@ near_is q bs next from near nexts to e =
           omega arith;
     }
 
+-- The list of stretches has the stretch of each block.
 stretch_seen : (ld : ℕ → Bool) (bs : List ControlBlock) (ss : List ℕ) (place x : ℕ) → ss ≡ stretches_from ld 0 bs → place < length bs
     → x ≡ slice_index ss place → x ≡ stretch ld bs place
 stretch_seen ld bs ss place x e within ex =
     ex ∙ (ap (λ s. slice_index s place) e ∙ (stretches_are ld bs 0 place 0 within ∙ zero-add (stretch ld bs place)))
 
--- the nearest one lies in another stretch
+-- If the nearest block that searches lies in another stretch than the target, it is the first such.
 pub near_other : (ld : ℕ → Bool) (q : Control → Bool) (bs : List ControlBlock) (next ss : List ℕ) (from target near x y : ℕ) → AreNext q bs 0 next
     → ss ≡ stretches_from ld 0 bs → from ≤ length bs → target < length bs → near ≡ slice_index next from
     → x ≡ slice_index ss near → y ≡ slice_index ss target → x ≢ y → IsFirstOther ld q bs from target near
@@ -168,7 +178,7 @@ near_other ld q bs next ss from target near x y nexts e to within en ex ey diffe
       first = λ b le c d. n.first b le c;
     }
 
--- the nearest one lies in the stretch of the target
+-- If it lies in the stretch of the target, the first such is the one listed after that stretch.
 pub near_same : (ld : ℕ → Bool) (q : Control → Bool) (bs : List ControlBlock) (next later ss : List ℕ) (from target near x y found : ℕ) → AreNext q bs 0 next
     → AreLater ld q bs 0 later → ss ≡ stretches_from ld 0 bs → from ≤ length bs → target < length bs → near ≡ slice_index next from
     → x ≡ slice_index ss near → y ≡ slice_index ss target → x ≡ y → found ≡ slice_index later near → IsFirstOther ld q bs from target found
@@ -219,7 +229,8 @@ near_same ld q bs next later ss from target near x y found nexts laters e to wit
         let less = r.first k (searcher_ahead q bs near k b sum c) more in
         omega (arith, less, at, sum)
 
--- the first one lies between two places and within reach
+-- A first block in another stretch that lies within both bounds and within reach is the least
+-- there.
 pub first_inside : (ld : ℕ → Bool) (q : Control → Bool) (bs : List ControlBlock) (low high target from found : ℕ) (reach : Reach)
     → IsFirstOther ld q bs from target found → low ≤ from → reach.low ≤ from → found < length bs → (found < high) × (found ≤ reach.high)
     → ((b : ℕ) → low ≤ b → reach.low ≤ b → from ≤ b) → IsLeast (IsOtherIn ld q bs low high reach target) (Some found)
@@ -235,7 +246,7 @@ first_inside ld q bs low high target from found reach first above above_reach wi
         let under = below.1 in
         (omega arith, below.0, (omega arith, under), is.1, is.2)
 
--- no one does
+-- If it lies beyond them, there is none within.
 pub none_inside : (ld : ℕ → Bool) (q : Control → Bool) (bs : List ControlBlock) (low high target from found : ℕ) (reach : Reach)
     → IsFirstOther ld q bs from target found → ((b : ℕ) → low ≤ b → reach.low ≤ b → from ≤ b)
     → ((b : ℕ) → b < length bs → found ≤ b → b < high → b ≤ reach.high → ⊥)

@@ -1,5 +1,5 @@
--- Blocks that search alike, and what the numbers of returns and the searches of a tape are, one
--- more at a time.
+-- Which blocks search alike, the numbers of a program's returns, and the searches of a tape, each
+-- with one block, program or search more.
 use Rattle.std.proofs.Common.{◌≡◌, ℕ, zero, suc, ◌+◌, ◌<◌, ◌⊎◌, inl, inr, Bool, true, false, ◌||◌, ◌==◌, List, [], ◌∷◌, ◌++◌, length, drop, Option, Some, None, slice_get, slice_index_or, refl, ap, sym, subst, ◌∙◌, arith}
 use Rattle.std.specs.List.{list_any}
 use Rattle.std.proofs.lemmas.Bool.Decides.{nat_tests}
@@ -19,10 +19,12 @@ use Rattle.wait_order.specs.Waiting.{HasBack, IsSearchStray, IsLeast}
 use Rattle.nc_number.specs.Options.{lesser}
 use Rattle.wait_order.proofs.Least.{least_none, least_either}
 
+-- Either of three, in either grouping.
 or_or : (x y z : Bool) → ((x || y) || z) ≡ (x || (y || z))
 or_or true y z = refl
 or_or false y z = refl
 
+-- A control that passes the test is a GOTO to a calculated number.
 pub computed_is : (c : Control) → is_computed c ≡ true → c ≡ Goto None
 computed_is (Goto None) e = refl
 computed_is (Goto (Some n)) e = absurd cc
@@ -36,6 +38,7 @@ computed_is (Call p r) e = absurd cc
 computed_is Back e = absurd cc
 computed_is (BackTo n) e = absurd cc
 
+-- A control that passes the test is a call of that program.
 pub call_is : (called : ℕ) (c : Control) → is_call_of called c ≡ true → (repeats : ℕ) × (c ≡ Call called repeats)
 call_is called (Call p r) e = (r, ap (λ k. Call k r) (equal p called e))
 call_is called (Goto n) e = absurd cc
@@ -48,6 +51,7 @@ call_is called End e = absurd cc
 call_is called Back e = absurd cc
 call_is called (BackTo n) e = absurd cc
 
+-- A control that passes the test is an M99 with that number.
 back_is : (n : ℕ) (c : Control) → is_back_to n c ≡ true → c ≡ BackTo n
 back_is n (BackTo own) e = ap (λ k. BackTo k) (sym (equal n own e))
 back_is n (Call p r) e = absurd cc
@@ -60,9 +64,11 @@ back_is n (Wait code) e = absurd cc
 back_is n End e = absurd cc
 back_is n Back e = absurd cc
 
+-- Each number equals itself.
 pub same_as_itself : (a : ℕ) → (a == a) ≡ true
 same_as_itself a = grind (arith, nat_tests)
 
+-- Blocks that pass the test have an M99 with that number.
 pub has_back : (bs : List ControlBlock) (n : ℕ) → has_back_to bs n ≡ true → HasBack bs n
 has_back [] n e = absurd cc
 has_back (b ∷ bs) n e = go (λ h. has_back bs n h) (is_back_to n b.control) refl
@@ -74,6 +80,7 @@ has_back (b ∷ bs) n e = go (λ h. has_back bs n h) (is_back_to n b.control) re
         let r = behind rest in
         (suc r.0, r.1)
 
+-- Blocks with an M99 of that number pass the test.
 pub back_has : (bs : List ControlBlock) (n inner : ℕ) → control_at bs inner ≡ Some (BackTo n) → has_back_to bs n ≡ true
 back_has [] n inner e = absurd cc
 back_has (b ∷ bs) n zero e =
@@ -84,6 +91,7 @@ back_has (b ∷ bs) n (suc inner) e =
     let rest : has_back_to bs n ≡ true = back_has bs n inner e in
     rw rest (or_true (is_back_to n b.control))
 
+-- If a block at some place searches, one among the blocks does.
 pub any_searcher : (q : Control → Bool) (bs : List ControlBlock) (place : ℕ) → IsSearcherAt q bs place
     → list_any (λ b. q b.control) bs ≡ true
 any_searcher q [] place (c, at, is) = absurd cc
@@ -93,7 +101,8 @@ any_searcher q (b ∷ bs) zero (c, at, is) =
     rw here refl
 any_searcher q (b ∷ bs) (suc place) (c, at, is) = rw (any_searcher q bs place (c, at, is)) (or_true (q b.control))
 
--- the numbers of the returns of one block more
+-- The numbers noted so far and those of the blocks ahead are those of all blocks, also after one
+-- block more.
 pub noted_more : (bs : List ControlBlock) (i : ℕ) (d : ControlBlock) (n : ℕ) (old new : Bool) → i < length bs
     → new ≡ (old || is_back_to n (slice_index_or bs i d).control) → (old || has_back_to (drop i bs) n) ≡ has_back_to bs n
     → (new || has_back_to (drop (i + 1) bs) n) ≡ has_back_to bs n
@@ -106,29 +115,33 @@ noted_more bs i d n old new within e before =
     ∙ (ap (λ x. x || rest) e
     ∙ (or_or old (is_back_to n b.control) rest ∙ (ap (λ x. old || x) (sym cut) ∙ before)))
 
--- a list with one entry more
+-- A list with one entry more has its old entries and the new one.
 get_push : {X : Type 0} (xs : List X) (y x : X) (i : ℕ) → slice_get (xs ++ y ∷ []) i ≡ Some x → (slice_get xs i ≡ Some x) ⊎ (x ≡ y)
 get_push [] y x zero e = inr (let same : y ≡ x = cc in sym same)
 get_push [] y x (suc i) e = absurd cc
 get_push (z ∷ xs) y x zero e = inl e
 get_push (z ∷ xs) y x (suc i) e = get_push xs y x i e
 
+-- It keeps its old entries.
 get_kept : {X : Type 0} (xs : List X) (y x : X) (i : ℕ) → slice_get xs i ≡ Some x → slice_get (xs ++ y ∷ []) i ≡ Some x
 get_kept [] y x i e = absurd cc
 get_kept (z ∷ xs) y x zero e = e
 get_kept (z ∷ xs) y x (suc i) e = get_kept xs y x i e
 
+-- Its last entry is the new one.
 get_last : {X : Type 0} (xs : List X) (y : X) → slice_get (xs ++ y ∷ []) (length xs) ≡ Some y
 get_last [] y = refl
 get_last (z ∷ xs) y = get_last xs y
 
+-- One place has one program.
 same_program : (tape : List ControlProgram) (i n : ℕ) (p q : ControlProgram) → slice_get tape n ≡ Some p → slice_get tape i ≡ Some q
     → i ≡ n → q ≡ p
 same_program tape i n p q at is e =
     let both : Some q ≡ Some p = sym is ∙ (ap (λ k. slice_get tape k) e ∙ at) in
     cc
 
--- the searches of one program more, which is not a long quiet one
+-- The searches of the first n + 1 programs are those of the first n, if one more is no long quiet
+-- program.
 pub searches_same : (tape : List ControlProgram) (n : ℕ) (p : ControlProgram) (searches : List Search) → slice_get tape n ≡ Some p
     → (IsLongQuiet tape p.number → ⊥) → AreSearchesBelow tape n searches → AreSearchesBelow tape (n + 1) searches
 searches_same tape n p searches at not_so are = record {
@@ -140,7 +153,7 @@ searches_same tape n p searches at not_so are = record {
   ];
 }
 
--- the same where it is one
+-- If it is one, the search of its calls is added at the end.
 pub searches_more : (tape : List ControlProgram) (n : ℕ) (p : ControlProgram) (searches : List Search) (search : Search)
     → slice_get tape n ≡ Some p → IsLongQuiet tape p.number → IsCallSearch p.number (blocks tape p.number) search
     → AreSearchesBelow tape n searches → AreSearchesBelow tape (n + 1) (searches ++ search ∷ [])
@@ -167,7 +180,7 @@ searches_more tape n p searches search at long serves are = record {
     each i s (inl e) = are.each i s e
     each i s (inr e) = inr (p.number, subst (λ x. IsReturnSearch tape p.number x) (sym e) own)
 
--- at first the computed GOTOs alone
+-- The search of the computed GOTOs is that of no programs.
 pub searches_none : (tape : List ControlProgram) → AreSearchesBelow tape 0 (Computed ∷ [])
 searches_none tape = record {
   each = λ i s e. inl (first i s e);
@@ -179,7 +192,8 @@ searches_none tape = record {
     first zero s e = let same : Computed ≡ s = cc in sym same
     first (suc i) s e = absurd cc
 
--- one search more
+-- The lesser of the first blocks of the first i searches and of one more is that of the first i +
+-- 1.
 pub least_search : (ld : ℕ → Bool) (bs : List ControlBlock) (searches : List Search) (i : ℕ) (s : Search) (a b : Option ℕ)
     → slice_get searches i ≡ Some s → IsLeast (IsSearchStrayBelow ld searches i bs) a
     → IsLeast (IsSearchStray ld (is_searcher s) (is_sought s) bs) b
@@ -202,7 +216,7 @@ least_search ld bs searches i s a b at l r =
       | inr less ↦ inl (t, q, less, is, h)
     ]
 
--- where no block searches
+-- If no block searches, none may lead to another stretch by that search.
 pub least_unsearched : (ld : ℕ → Bool) (bs : List ControlBlock) (s : Search) → list_any (λ b. is_searcher s b.control) bs ≡ false
     → IsLeast (IsSearchStray ld (is_searcher s) (is_sought s) bs) None
 least_unsearched ld bs s e = least_none {P = IsSearchStray ld (is_searcher s) (is_sought s) bs} none

@@ -1,5 +1,5 @@
 -- A block that may lead to another stretch does so by one of the tape's searches, or by its one
--- number or few returns.
+-- number or few returns. So the first of both kinds is the first of all.
 use Rattle.std.proofs.Common.{◌≡◌, ◌≢◌, IsTrue, ℕ, ◌+◌, ◌<◌, ◌≤◌, ◌⊎◌, inl, inr, false, List, length, Option, Some, None, slice_get, slice_index_or, refl, ap, sym, subst, ◌∙◌, arith}
 use Rattle.std.proofs.lemmas.Option.{slice_get_within}
 use Rattle.nc_number.proofs.Counts.{last_or_before}
@@ -25,10 +25,12 @@ use Rattle.wait_order.proofs.Leading.{stands_at}
 use Rattle.wait_order.proofs.Searching.{computed_is, call_is, same_as_itself, has_back, back_has}
 use Rattle.block_order.proofs.Opened.{within_control}
 
+-- The control at a place is that of the block there.
 pub control_of_block : (bs : List ControlBlock) (place : ℕ) (b : ControlBlock) → slice_get bs place ≡ Some b
     → control_at bs place ≡ Some b.control
 control_of_block bs place b e = ap (λ o. control_of o) e
 
+-- What leads to another stretch without a search for several numbers may pass a wait.
 pub fixed_strays : (tape : List ControlProgram) (program place : ℕ) (b : ControlBlock) (c : Control) → b.control ≡ c → Counts tape program
     → IsFixedStray tape program place c → Strays tape program place b
 fixed_strays tape program place b (Goto None) e counts h = absurd h
@@ -48,10 +50,11 @@ fixed_strays tape program place b (Wait code) e counts h = absurd h
 fixed_strays tape program place b End e counts h = absurd h
 fixed_strays tape program place b Back e counts h = absurd h
 
+-- There are at most 64, or more.
 few_or_many : (n : ℕ) → (n ≤ 64) ⊎ (64 < n)
 few_or_many n = grind arith
 
--- what leads to another stretch by a search of the tape
+-- What leads to another stretch by a search of the tape may pass a wait.
 search_strays : (tape : List ControlProgram) (program place : ℕ) (search : Search) → Counts tape program
     → (search ≡ Computed) ⊎ ((called : ℕ) × IsReturnSearch tape called search)
     → IsSearchStray (loud tape) (is_searcher search) (is_sought search) (blocks tape program) place → IsStray tape program place
@@ -69,7 +72,8 @@ search_strays tape program place search counts (inr (called, r)) ((c, at, is), n
           (subst (λ x. IsTarget tape program place x target) (sym b.2) (r.program.quiet, returns.0, n, returns.1, leads)) apart,
     )
 
--- a call of a long quiet program is found by the search of its calls
+-- A call of a long quiet program that may return to another stretch is found by the search of its
+-- calls.
 call_searched : (tape : List ControlProgram) (searches : List Search) (program place called repeats : ℕ) → AreSearches tape searches
     → control_at (blocks tape program) place ≡ Some (Call called repeats) → 64 < length (blocks tape called) → loud tape called ≡ false
     → (n inner : ℕ) → control_at (blocks tape called) inner ≡ Some (BackTo n)
@@ -93,7 +97,7 @@ call_searched tape searches program place called repeats are at long quiet n inn
       ),
     )
 
--- the rule on each block, from the two kinds
+-- A jump to another stretch is of one of the two kinds.
 split_jump : (tape : List ControlProgram) (searches : List Search) (program place target : ℕ) (c : Control) → AreSearches tape searches
     → control_at (blocks tape program) place ≡ Some c → IsTarget tape program place c target
     → stretch (loud tape) (blocks tape program) place ≢ stretch (loud tape) (blocks tape program) target
@@ -117,6 +121,7 @@ split_jump tape searches program place target (Wait code) are at is apart = absu
 split_jump tape searches program place target End are at is apart = absurd is
 split_jump tape searches program place target Back are at is apart = absurd is
 
+-- So is each block that may pass a wait.
 split_strays : (tape : List ControlProgram) (searches : List Search) (program place : ℕ) (b : ControlBlock) → AreSearches tape searches
     → Stands tape program place b → Strays tape program place b
     → IsFixedStrayAt tape program place ⊎ IsSearchStrayBelow (loud tape) searches (length searches) (blocks tape program) place
@@ -127,7 +132,7 @@ split_strays tape searches program place b are stands (loop head counts is apart
 split_strays tape searches program place b are stands (back n is_loud other e) =
     inl (BackTo n, control_of_block (blocks tape program) place b stands ∙ ap (λ c. Some c) e, inl other)
 
--- the lesser of the first blocks of both kinds is the first one that may lead to another stretch
+-- The lesser of the first blocks of both kinds is the first one that may lead to another stretch.
 pub least_stray : (tape : List ControlProgram) (searches : List Search) (program : ℕ) (fixed searching : Option ℕ) → Counts tape program
     → AreSearches tape searches → IsLeast (IsFixedStrayAt tape program) fixed
     → IsLeast (IsSearchStrayBelow (loud tape) searches (length searches) (blocks tape program)) searching
@@ -144,6 +149,7 @@ least_stray tape searches program fixed searching counts are p q =
     right : (k : ℕ) → IsSearchStrayBelow (loud tape) searches (length searches) (blocks tape program) k → IsStray tape program k
     right k (i, search, below, at, h) = search_strays tape program k search counts (are.each i search at) h
 
+-- The line of the first block that may pass a wait is the first such line, as lines rise.
 pub least_line : (tape : List ControlProgram) (program place : ℕ) (bs : List ControlBlock) (b : ControlBlock) → blocks tape program ≡ bs
     → HasRisingLines bs → IsLeast (IsStray tape program) (Some place) → slice_get bs place ≡ Some b
     → IsLeast (IsStrayLine tape program) (Some b.line)
@@ -163,6 +169,7 @@ least_line tape program place bs b own rising least at = record {
         subst (λ m. b.line ≤ m) e
         (rising place k b other (least.least k (other, stands, strays)) at (sym (ap (λ xs. slice_get xs k) own) ∙ stands))
 
+-- If no block may pass a wait, there is no such line.
 pub least_no_line : (tape : List ControlProgram) (program : ℕ) → IsLeast (IsStray tape program) None
     → IsLeast (IsStrayLine tape program) None
 least_no_line tape program least = least_none {P = IsStrayLine tape program} none
@@ -170,7 +177,7 @@ least_no_line tape program least = least_none {P = IsStrayLine tape program} non
     none : (n : ℕ) → IsStrayLine tape program n → ⊥
     none n (k, other, stands, strays, e) = least.least k (other, stands, strays)
 
--- of no block up to this one, where it is so of none before it
+-- If P holds of no block before this one and not of this one, it holds of none up to this one.
 pub none_more : (P : ℕ → Control → Type 0) (bs : List ControlBlock) (i place : ℕ) (d : ControlBlock) → place ≡ i → i < length bs
     → (P place (slice_index_or bs i d).control → IsTrue false)
     → ((k : ℕ) (c : Control) → k < i → control_at bs k ≡ Some c → P k c → ⊥)
@@ -184,7 +191,7 @@ none_more P bs i place d same within here before k c l at p = elim (last_or_befo
   | inr less ↦ before k c less at p
 ]
 
--- the first such block stands in the program
+-- The first block that may pass a wait stands in the program.
 pub stray_within : (tape : List ControlProgram) (program place : ℕ) (bs : List ControlBlock) → blocks tape program ≡ bs
     → IsLeast (IsStray tape program) (Some place) → place < length bs
 stray_within tape program place bs own least = go (least.holds place refl)
@@ -194,6 +201,7 @@ stray_within tape program place bs own least = go (least.holds place refl)
         subst (λ xs. place < length xs) own
         (within_control (blocks tape program) place b.control (control_of_block (blocks tape program) place b stands))
 
+-- A block that is read at a place within the blocks stands there.
 pub stands_there : (bs : List ControlBlock) (place : ℕ) (b : ControlBlock) → place < length bs → b ≡ slice_index_or bs place b
     → slice_get bs place ≡ Some b
 stands_there bs place b within e = stands_at bs place b within ∙ ap (λ x. Some x) (sym e)

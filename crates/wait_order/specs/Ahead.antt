@@ -1,4 +1,5 @@
--- What is kept of the blocks that search, ahead of each place.
+-- What is kept of the blocks that search, ahead of each place, and which of them is the first in
+-- another stretch. For this crate alone.
 use Rattle.std.specs.Prelude.{◌≢◌, ℕ, ◌<◌, ◌≤◌, Bool, List, length}
 use Rattle.block_order.specs.declared.control.Control.{Control}
 use Rattle.wait_order.specs.declared.searchers.SearchersAhead.{SearchersAhead}
@@ -6,13 +7,14 @@ use Rattle.block_order.specs.declared.program.ControlBlock.{ControlBlock}
 use Rattle.block_order.specs.Loud.{stretch}
 use Rattle.wait_order.specs.Searchers.{AreNext, AreLater, IsSearcherAt}
 
--- the lists are those of the blocks that search
+-- The kept lists name, for each place, the next block that searches, and the next one after the
+-- stretch of that place.
 pub record AreAhead (loud : ℕ → Bool) (searches : Control → Bool) (bs : List ControlBlock) (ahead : SearchersAhead) : Type 0 where
   pub next : AreNext searches bs 0 ahead.next.items
   pub later : AreLater loud searches bs 0 ahead.later.items
 
--- the first block from a place on that searches and lies in another stretch than the target, or the
--- place behind the last block
+-- `found` is the first block from `from` on that searches and lies in another stretch than the
+-- target, or the place after the last block if there is none.
 pub record IsFirstOther (loud : ℕ → Bool) (searches : Control → Bool) (bs : List ControlBlock) (from target found : ℕ) : Type 0 where
   pub within : found ≤ length bs
   pub is : found < length bs → (from ≤ found) × IsSearcherAt searches bs found × (stretch loud bs found ≢ stretch loud bs target)

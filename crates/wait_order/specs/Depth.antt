@@ -1,4 +1,6 @@
--- Calls of loud programs, and which programs are flagged as called.
+-- Which programs chains of calls reach, of the loud ones: those that have a wait or an end, or call
+-- one that has. A program's flag is its entry in a list that has one for each program of the tape.
+-- For this crate alone.
 use Rattle.std.specs.Prelude.{◌≡◌, ◌↔◌, ℕ, ◌<◌, Bool, true, List, length, Some, slice_get}
 use Rattle.block_order.specs.declared.control.Control.{Control}
 use Rattle.block_order.specs.declared.control.Control.TheVariants.{Call}
@@ -9,30 +11,31 @@ use Rattle.block_order.specs.Loud.{loud}
 use Rattle.block_order.specs.Faults.{IsReachedBy}
 use Rattle.block_order.specs.ProgramPlaces.{flagged}
 
--- a call of the program, which is loud
+-- The control is a call of the program, which is loud.
 abbrev pub IsLoudCall : List ControlProgram → Control → ℕ → Type 0
 IsLoudCall tape control program = (repeats : ℕ) × (control ≡ Call program repeats) × (loud tape program ≡ true)
 
--- one of the first n blocks calls the program, which is loud
+-- One of the first n blocks calls the program, which is loud.
 abbrev pub HasLoudCallBelow : List ControlProgram → List ControlBlock → ℕ → ℕ → Type 0
 HasLoudCallBelow tape bs n program =
     (place repeats : ℕ) × (place < n) × (control_at bs place ≡ Some (Call program repeats)) × (loud tape program ≡ true)
 
+-- One of these blocks calls the program, which is loud.
 abbrev pub HasLoudCall : List ControlProgram → List ControlBlock → ℕ → Type 0
 HasLoudCall tape bs program = HasLoudCallBelow tape bs (length bs) program
 
--- those flags are of the programs that programs with these flags call, of the loud ones
+-- `next` flags exactly the loud programs that a program flagged in `reached` calls.
 pub record IsCalledFrom (tape : List ControlProgram) (reached next : List Bool) : Type 0 where
   pub count : length next ≡ length tape
   pub each : (program : ℕ) → (flagged tape next program ≡ true)
       ↔ ((caller : ℕ) × (flagged tape reached caller ≡ true) × HasLoudCall tape (blocks tape caller) program)
 
--- the flags are of the programs that are reached by n calls of loud programs from the main one
+-- The flags are those of the programs that n calls of loud programs reach from the main one.
 pub record AreReached (tape : List ControlProgram) (n : ℕ) (flags : List Bool) : Type 0 where
   pub count : length flags ≡ length tape
   pub each : (program : ℕ) → (flagged tape flags program ≡ true) ↔ IsReachedBy tape n (main_number tape) program
 
--- one of the first n programs with these flags calls the program, which is loud
+-- One of the first n programs is flagged as reached and calls the program, which is loud.
 abbrev pub IsCalledBelow : List ControlProgram → List Bool → ℕ → ℕ → Type 0
 IsCalledBelow tape reached n program =
     (place : ℕ) × (caller : ControlProgram) × (place < n) × (slice_get tape place ≡ Some caller)

@@ -1,4 +1,5 @@
--- What searches on a tape for any of several numbers.
+-- The searches of a tape for any of several sequence numbers: those of the computed GOTOs, and
+-- those of the calls of each long quiet program. For this crate alone.
 use Rattle.std.specs.Prelude.{◌≡◌, ℕ, ◌<◌, ◌⊎◌, Bool, false, List, length, Some, slice_get}
 use Rattle.block_order.specs.declared.control.Control.{Control}
 use Rattle.block_order.specs.declared.program.ControlBlock.{ControlBlock}
@@ -10,27 +11,29 @@ use Rattle.block_order.specs.Loud.{loud}
 use Rattle.wait_order.specs.Searchers.{is_searcher, is_sought, is_call_of, has_back_to}
 use Rattle.wait_order.specs.Waiting.{IsSearchStray}
 
--- a quiet program of more blocks than each call of it looks at
+-- The program is quiet (it comes to no wait and no end) and has more than 64 blocks, so that its
+-- returns are gathered once for all its calls.
 pub record IsLongQuiet (tape : List ControlProgram) (called : ℕ) : Type 0 where
   pub long : 64 < length (blocks tape called)
   pub quiet : loud tape called ≡ false
 
--- the calls of a program of these blocks search for the numbers of its returns
+-- The search is that of the calls of this program of these blocks, for the numbers of its M99.
 pub record IsCallSearch (called : ℕ) (bs : List ControlBlock) (search : Search) : Type 0 where
   pub calls : (c : Control) → is_searcher search c ≡ is_call_of called c
   pub numbers : (n : ℕ) → is_sought search n ≡ has_back_to bs n
 
--- the search of the calls of a long quiet program
+-- The search is that of the calls of a long quiet program.
 pub record IsReturnSearch (tape : List ControlProgram) (called : ℕ) (search : Search) : Type 0 where
   pub program : IsLongQuiet tape called
   pub serves : IsCallSearch called (blocks tape called) search
 
--- one of these searches is that of the program's calls
+-- One of these searches is that of the program's calls.
 abbrev pub HasReturnSearch : List ControlProgram → ℕ → List Search → Type 0
 HasReturnSearch tape called searches =
     (i : ℕ) × (search : Search) × (slice_get searches i ≡ Some search) × IsReturnSearch tape called search
 
--- These are the computed GOTOs, and the calls of each long quiet program of the first n.
+-- The searches are that of the computed GOTOs and those of the calls of each long quiet program
+-- among the first n.
 pub record AreSearchesBelow (tape : List ControlProgram) (n : ℕ) (searches : List Search) : Type 0 where
   pub each : (i : ℕ) (search : Search) → slice_get searches i ≡ Some search
       → (search ≡ Computed) ⊎ ((called : ℕ) × IsReturnSearch tape called search)
@@ -38,10 +41,11 @@ pub record AreSearchesBelow (tape : List ControlProgram) (n : ℕ) (searches : L
   pub calls : (i : ℕ) (program : ControlProgram) → i < n → slice_get tape i ≡ Some program
       → IsLongQuiet tape program.number → HasReturnSearch tape program.number searches
 
+-- The searches are all those of the tape.
 abbrev pub AreSearches : List ControlProgram → List Search → Type 0
 AreSearches tape searches = AreSearchesBelow tape (length tape) searches
 
--- a block that may lead to another stretch by one of the first n searches
+-- The block at `place` may lead to another stretch by one of the first n searches.
 abbrev pub IsSearchStrayBelow : (ℕ → Bool) → List Search → ℕ → List ControlBlock → ℕ → Type 0
 IsSearchStrayBelow loud searches n bs place =
     (i : ℕ) × (search : Search) × (i < n) × (slice_get searches i ≡ Some search)

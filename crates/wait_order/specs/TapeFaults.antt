@@ -1,26 +1,28 @@
--- The faults of waits over a whole tape.
+-- What is known of each program of a tape, and the lines of the tape that may pass a wait. For this
+-- crate alone.
 use Rattle.std.specs.Prelude.{◌≡◌, ℕ, ◌<◌, ◌≤◌, List, length, Some, slice_get}
 use Rattle.block_order.specs.declared.program.ControlProgram.{ControlProgram}
 use Rattle.block_order.specs.Order.{blocks}
 use Rattle.block_order.specs.Fitting.{Fits}
 use Rattle.wait_order.specs.Waiting.{IsStrayLine, HasRisingLines}
 
--- a program of the tape that is the first of its number, has not too many blocks, loops that fit,
--- and lines that rise
+-- The program is the first of its number on the tape, has at most 20,000 blocks, loops that fit
+-- together, and lines that rise.
 pub record IsProgramOf (tape : List ControlProgram) (program : ControlProgram) : Type 0 where
   pub own : blocks tape program.number ≡ program.blocks
   pub few : length program.blocks ≤ 20000
   pub fits : Fits program.blocks
   pub rising : HasRisingLines program.blocks
 
+-- That holds of each program of the tape.
 abbrev pub AreProgramsOf : List ControlProgram → Type 0
 AreProgramsOf tape = (place : ℕ) (program : ControlProgram) → slice_get tape place ≡ Some program → IsProgramOf tape program
 
--- the line of a block of the tape that may pass a wait
+-- This is the line of a block of the tape that may pass a wait.
 abbrev pub IsTapeStrayLine : List ControlProgram → ℕ → Type 0
 IsTapeStrayLine tape line = (program : ℕ) × IsStrayLine tape program line
 
--- the same in one of the first programs
+-- This is the line of a block that may pass a wait, in one of the first n programs.
 abbrev pub IsStrayLineBelow : List ControlProgram → ℕ → ℕ → Type 0
 IsStrayLineBelow tape n line =
     (place : ℕ) × (program : ControlProgram) × (place < n) × (slice_get tape place ≡ Some program)

@@ -1,4 +1,4 @@
--- That a view of a program says what the program is.
+-- That a view of a program says what the program is. For this crate alone.
 use Rattle.std.specs.Prelude.{◌≡◌}
 use Rattle.wait_order.specs.declared.view.ProgramView.{ProgramView}
 use Rattle.block_order.specs.Order.{blocks, main_number}
@@ -7,7 +7,8 @@ use Rattle.block_order.specs.Numbers.{KnowsPlaces}
 use Rattle.block_order.specs.Heard.{heard}
 use Rattle.wait_order.specs.Ways.{AreWays}
 
--- the program of its number on its tape, its ways and the loud programs
+-- The view has the programs' places, the loud programs, the main program's number, and the blocks
+-- and ways of its own program.
 pub record IsView (view : ProgramView) : Type 0 where
   pub places : KnowsPlaces view.programs.now view.loud.now.numbers
   pub heard_loud : heard view.loud.now ≡ loud view.programs.now

@@ -1,4 +1,6 @@
-//! The check of a tape's order, over all stages.
+//! The check of a tape's order, over all stages. What is wrong with programs, loops and jumps is
+//! found in block_order; what is wrong with waits in `waiting`. open_order and tape_flow call
+//! `check_order`.
 ghost use Rattle.std.specs.Prelude.{◌≡◌, IfOk, IfErr};
 ghost use Rattle.block_order.specs.Answers.{IfFault};
 ghost use Rattle.block_order.specs.Faults.{Fitting, Finding, Waiting, IsClear, IsSound, IsFirst};
@@ -10,7 +12,8 @@ use block_order::{BlockOrder, ControlProgram, DraftOrder, OrderFault};
 use nc_number::{Failing, NoMemory};
 use std::alloc::Global;
 
-/// The first fault of waits of an order that is a draft.
+/// The first fault of waits in an order whose programs, loops and jumps are in order; `None` if
+/// there is none. The only error is out of memory.
 fn fault_of(alloc: Global, draft: &DraftOrder) -> Result<Option<OrderFault>, NoMemory>
     ensures fits { IsClear draft.now Fitting }
     ensures finds { IsClear draft.now Finding }
@@ -21,10 +24,10 @@ fn fault_of(alloc: Global, draft: &DraftOrder) -> Result<Option<OrderFault>, NoM
     Ok(fault)
 }
 
-/// The order of these programs, or the first fault: of programs and loops that don't fit
-/// together, 60 and 52; else of jumps and calls that don't find what they name, 50, 51 and 53;
-/// else of jumps that may pass a wait, 65, and of a wait that a ninth call leads to, 66. Each time
-/// the least line is told, and on it the least number.
+/// The order of these programs, or the first fault: of programs and loops that don't fit together,
+/// 60 and 52; else of jumps and calls that don't find what they name, 50, 51 and 53; else of jumps
+/// that may pass a wait, 65, and of a wait that a ninth call leads to, 66. Each time the least line
+/// is told, and on it the least number. `NoMemory`: out of memory.
 pub fn check_order(
     alloc: Global,
     programs: Vec<ControlProgram>,

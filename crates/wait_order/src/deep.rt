@@ -1,4 +1,5 @@
-//! The first call that is a ninth one of a chain of calls of loud programs.
+//! The first call that is the ninth of a chain of calls of loud programs (a loud program has a wait
+//! or an end, or calls one that has). Which programs eight calls reach: `depth`.
 ghost use Rattle.std.specs.Prelude.{◌↔◌, ℕ, IsTrue, List};
 ghost use Rattle.wait_order.specs.Deep.{IsCallLine, IsReachedLine, IsDeepLine};
 ghost use Rattle.wait_order.specs.Depth.{IsLoudCall, AreReached};
@@ -24,7 +25,7 @@ fn is_loud_call(loud: &LoudPrograms, control: &Control) -> bool
     }
 }
 
-/// The line of the first call of a loud program.
+/// The line of the first of these blocks that calls a loud program, if one does.
 fn first_call_line(loud: &LoudPrograms, blocks: &[ControlBlock]) -> Option<u32>
     ensures { (tape : List ControlProgram) → IsKnown tape loud.now → HasRisingLines blocks.now
         → IsLeast (IsCallLine tape blocks.now) result }
@@ -37,7 +38,7 @@ fn first_call_line(loud: &LoudPrograms, blocks: &[ControlBlock]) -> Option<u32>
     None
 }
 
-/// The same in a program that is flagged.
+/// The line of the first call of a loud program in this one, if it is flagged as reached.
 fn reached_line(loud: &LoudPrograms, reached: &[bool], program: &ControlProgram) -> Option<u32>
     ensures { (tape : List ControlProgram) → IsKnown tape loud.now → HasRisingLines program.now.blocks
         → IsLeast (IsReachedLine tape reached.now program.now) result }
@@ -49,8 +50,8 @@ fn reached_line(loud: &LoudPrograms, reached: &[bool], program: &ControlProgram)
     }
 }
 
-/// The line of the first ninth call of a chain, where the programs that eight calls reach are
-/// flagged.
+/// The line of the first ninth call of a chain, if there is one. `reached` flags the programs that
+/// eight calls reach.
 pub(crate) fn deep_line(
     programs: &[ControlProgram],
     loud: &LoudPrograms,

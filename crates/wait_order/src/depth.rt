@@ -1,4 +1,5 @@
-//! Which programs are reached by eight calls of loud programs from the main one.
+//! Which programs are reached by eight calls of loud programs from the main one. A program's flag
+//! is its entry in a list with one for each program of the tape.
 ghost use Rattle.std.specs.Prelude.{◌≡◌, ◌↔◌, ◌⊎◌, ◌<◌, ℕ, true, List, IfOk, length};
 ghost use Rattle.wait_order.specs.Depth.{IsLoudCall, HasLoudCall, IsCalledBelow, IsCalledFrom, AreReached};
 ghost use Rattle.block_order.specs.ProgramPlaces.{flagged};
@@ -10,7 +11,7 @@ use block_order::{Control, ControlBlock, ControlProgram, LoudPrograms};
 use nc_number::NoMemory;
 use std::alloc::Global;
 
-/// Flags the program that a block calls, if that is loud.
+/// Flags the program that a block of this control calls, if that is loud.
 fn flag_called(flags: &mut [bool], loud: &LoudPrograms, control: &Control)
     ensures { (tape : List ControlProgram) → IsKnown tape loud.now → length flags.old ≡ length tape
         → (q : ℕ) → (flagged tape flags.new q ≡ true) ↔ ((flagged tape flags.old q ≡ true) ⊎ IsLoudCall tape control.now q) }
@@ -30,7 +31,7 @@ fn flag_called(flags: &mut [bool], loud: &LoudPrograms, control: &Control)
     }
 }
 
-/// Flags besides the loud programs that these blocks call.
+/// Flags the loud programs that these blocks call. Other flags stay.
 fn flag_calls(flags: &mut [bool], loud: &LoudPrograms, blocks: &[ControlBlock])
     ensures { (tape : List ControlProgram) → IsKnown tape loud.now → length flags.old ≡ length tape
         → (q : ℕ)
@@ -41,7 +42,7 @@ fn flag_calls(flags: &mut [bool], loud: &LoudPrograms, blocks: &[ControlBlock])
     }
 }
 
-/// The programs that a flagged program calls, of the loud ones.
+/// Flags the loud programs that this one calls, if it is flagged as reached. Other flags stay.
 fn flag_from(next: &mut [bool], loud: &LoudPrograms, reached: &[bool], program: &ControlProgram)
     ensures { (tape : List ControlProgram) → IsKnown tape loud.now → length next.old ≡ length tape
         → (q : ℕ) → (flagged tape next.new q ≡ true) ↔ ((flagged tape next.old q ≡ true)
@@ -52,7 +53,7 @@ fn flag_from(next: &mut [bool], loud: &LoudPrograms, reached: &[bool], program: 
     }
 }
 
-/// The programs that flagged programs call, of the loud ones.
+/// Flags the loud programs that the reached programs call. Other flags stay.
 fn flag_all(next: &mut [bool], loud: &LoudPrograms, reached: &[bool], programs: &[ControlProgram])
     requires known { IsKnown programs.now loud.now }
     requires count { length next.old ≡ length programs.now }
@@ -64,7 +65,7 @@ fn flag_all(next: &mut [bool], loud: &LoudPrograms, reached: &[bool], programs: 
     }
 }
 
-/// The programs that are reached by one call more.
+/// The flags of the programs that one call more reaches. The only error is out of memory.
 fn called_from(
     alloc: Global,
     programs: &[ControlProgram],
@@ -80,7 +81,7 @@ fn called_from(
     Ok(next)
 }
 
-/// The main program alone.
+/// The flags of which only the main program's is set. The only error is out of memory.
 fn main_reached(alloc: Global, programs: &[ControlProgram]) -> Result<Vec<bool>, NoMemory>
     requires some { 0 < length programs.now }
     ensures { IfOk result (λ reached. AreReached programs.now 0 reached.items) }
@@ -90,8 +91,8 @@ fn main_reached(alloc: Global, programs: &[ControlProgram]) -> Result<Vec<bool>,
     Ok(reached)
 }
 
-/// The programs that are reached by eight calls of loud programs from the main one, by their
-/// places.
+/// The flags of the programs that eight calls of loud programs reach from the main one, in the
+/// order of the tape. The only error is out of memory.
 pub(crate) fn reached_by_eight(
     alloc: Global,
     programs: &[ControlProgram],

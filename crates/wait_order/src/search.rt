@@ -1,4 +1,5 @@
-//! Blocks that search alike for any of several sequence numbers.
+//! Blocks that search alike for any of several sequence numbers. Where such a search may lead:
+//! `search_strays`; which searches a tape has: `searches`.
 ghost use Rattle.std.specs.Prelude.{◌≡◌, ◌||◌, ℕ, nat_eq, IfOk, OnOk};
 ghost use Rattle.std.specs.List.{list_any};
 ghost use Rattle.std.specs.HashSet.{contains};
@@ -13,7 +14,9 @@ use std::alloc::Global;
 /// program for the numbers of its returns.
 #[derive(Drop)]
 pub(crate) enum Search {
+    /// Each computed GOTO, for every number.
     Computed,
+    /// Each call of the program with this O number, for the numbers of its M99.
     Calls(u16, IndexSet<u32>),
 }
 
@@ -40,7 +43,7 @@ fn is_call_of(called: u16, control: &Control) -> bool
     }
 }
 
-/// Puts the number of a return to the others.
+/// Puts the number of an M99, if the control is one, to the others.
 fn note_return(numbers: &mut IndexSet<u32>, control: &Control) -> Result<(), NoMemory>
     ensures { OnOk result ((n : ℕ) → contains nat_eq numbers.new n
         ≡ (contains nat_eq numbers.old n || is_back_to n control.now)) }
@@ -51,7 +54,7 @@ fn note_return(numbers: &mut IndexSet<u32>, control: &Control) -> Result<(), NoM
     Ok(())
 }
 
-/// The numbers of the returns among these blocks.
+/// The numbers of the M99 among these blocks. The only error is out of memory.
 fn return_numbers(alloc: Global, blocks: &[ControlBlock]) -> Result<IndexSet<u32>, NoMemory>
     ensures { IfOk result (λ numbers. (n : ℕ) → contains nat_eq numbers n ≡ has_back_to blocks.now n) }
 {
@@ -66,7 +69,7 @@ impl Search {
     ghost use Rattle.wait_order.specs.Searchers.{is_searcher, is_sought};
     ghost use Rattle.wait_order.specs.Searches.{IsCallSearch};
 
-    /// The search of the calls of a program of these blocks.
+    /// The search of the calls of a program of these blocks. The only error is out of memory.
     pub(crate) fn calls(
         alloc: Global,
         called: u16,
@@ -88,7 +91,7 @@ impl Search {
         }
     }
 
-    /// Whether it may search for this number.
+    /// Whether the search may be for this sequence number.
     pub(crate) fn is_sought(&self, number: u32) -> bool
         ensures { result ≡ is_sought self.now number }
     {

@@ -1,4 +1,5 @@
-//! The first block of a program that may lead to another stretch, of those that search alike.
+//! The first block of a program that may lead to another stretch, of those that search alike. A
+//! stretch is the run of blocks up to a mark; places are indices of blocks.
 ghost use Rattle.std.specs.Prelude.{◌≡◌, ◌↔◌, Some, ◌<◌, ◌≤◌, ℕ, Bool, length};
 ghost use Rattle.wait_order.specs.Ahead.{AreAhead};
 ghost use Rattle.block_order.specs.Places.{IsNumbered};
@@ -13,8 +14,8 @@ use crate::ways::ProgramWays;
 use block_order::Reach;
 use nc_number::lesser;
 
-/// The first block that searches from `low` on, before `high`, from where the target is within
-/// reach and lies in another stretch.
+/// The first block that searches, from `low` up to and without `high`, from where the target is
+/// within reach and lies in another stretch.
 fn first_in(
     ways: &ProgramWays,
     ahead: &SearchersAhead,
@@ -41,8 +42,8 @@ fn first_in(
     }
 }
 
-/// The first block that searches and is led by this number to the target, a block of the number in
-/// another stretch.
+/// The first block that searches and that a search for this number leads to the target, which lies
+/// in another stretch. A search begins after its block and goes on at the program's start.
 fn first_to(ways: &ProgramWays, ahead: &SearchersAhead, number: u32, target: u32) -> Option<u32>
     requires { length ways.now.blocks.now ≤ 20000 }
     ensures { (loud : ℕ → Bool) (searches : Control → Bool) → AreWays loud ways.now
@@ -62,7 +63,8 @@ fn first_to(ways: &ProgramWays, ahead: &SearchersAhead, number: u32, target: u32
     }
 }
 
-/// The first block that searches and may lead to the block of this sequence number, if it has one.
+/// The first block that searches and may be led to the target, whose sequence number is given, in
+/// another stretch; `None` also if the target has no number.
 fn first_of_block(
     ways: &ProgramWays,
     ahead: &SearchersAhead,

@@ -1,4 +1,5 @@
-//! The blocks of a program that search alike, ahead of each of its places.
+//! The next block that searches, and the next one after its stretch, ahead of each place of a
+//! program.
 ghost use Rattle.std.specs.Prelude.{◌≡◌, ◌+◌, ◌<◌, ◌≤◌, ℕ, Bool, List, IfOk, length, slice_index};
 ghost use Rattle.block_order.specs.declared.control.Control.{Control};
 ghost use Rattle.wait_order.specs.Searchers.{is_searcher, behind_marks, AreNext, AreLater};
@@ -10,7 +11,8 @@ use block_order::{ControlBlock, LoudPrograms};
 use nc_number::NoMemory;
 use std::alloc::{AllocError, Global};
 
-/// A list for each place of so many blocks and the one behind them, with that last place everywhere.
+/// A list of `len + 1` entries, all of them `len`: the place after the last block. The only error
+/// is out of memory.
 fn places_behind(alloc: Global, len: usize) -> Result<Vec<usize>, NoMemory>
     requires { len ≤ 20000 }
     ensures { IfOk result (λ places. (length places.items ≡ len + 1) × (slice_index places.items len ≡ len)) }
@@ -19,8 +21,8 @@ fn places_behind(alloc: Global, len: usize) -> Result<Vec<usize>, NoMemory>
     Ok(places)
 }
 
-/// The first block that searches at or behind each place; the place behind the last block where
-/// there is none.
+/// For each place the first block that searches at it or after it; the place after the last block
+/// if there is none. The only error is out of memory.
 fn next_searchers(
     alloc: Global,
     blocks: &[ControlBlock],
@@ -42,15 +44,15 @@ fn next_searchers(
     Ok(next)
 }
 
-/// The next place where the block has a mark, and the later one where it has none.
+/// `next` if the block is a mark, else `later`.
 fn behind_marks(marks: usize, next: usize, later: usize) -> usize
     ensures { result ≡ behind_marks marks next later }
 {
     if marks == 0 { later } else { next }
 }
 
-/// The first block that searches behind the stretch of each place; the place behind the last block
-/// where there is none.
+/// For each place the first block that searches after its stretch; the place after the last block
+/// if there is none. The only error is out of memory.
 fn later_searchers(
     alloc: Global,
     loud: &LoudPrograms,
@@ -75,11 +77,13 @@ fn later_searchers(
 /// The blocks of a program that search alike, by the places ahead of which they stand.
 #[derive(Drop)]
 pub(crate) struct SearchersAhead {
+    /// For each place the first block that searches at it or after it.
     next: Vec<usize>,
+    /// For each place the first block that searches after its stretch.
     later: Vec<usize>,
 }
 
-/// The number that is listed for a place.
+/// The entry of a place, or 0 if the list has none.
 fn value_at(list: &[usize], place: usize) -> usize
     ensures { result ≡ slice_index list.now place }
 {
@@ -93,7 +97,7 @@ impl SearchersAhead {
     ghost use Rattle.block_order.specs.declared.control.Control.{Control};
     ghost use Rattle.block_order.specs.declared.program.ControlBlock.{ControlBlock};
 
-    /// Those of these blocks.
+    /// The lists for these blocks and this search. The only error is out of memory.
     pub(crate) fn of(
         alloc: Global,
         loud: &LoudPrograms,

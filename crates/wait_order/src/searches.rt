@@ -1,4 +1,5 @@
-//! What searches on a tape for any of several numbers.
+//! Which blocks of a tape search for any of several numbers: the computed GOTOs, and the calls of
+//! each long quiet program.
 ghost use Rattle.std.specs.Prelude.{◌≡◌, ◌↔◌, ◌+◌, ℕ, List, Some, IsTrue, IfOk, OnOk, slice_get};
 ghost use Rattle.wait_order.specs.Waiting.{IsShort};
 ghost use Rattle.wait_order.specs.Searches.{IsLongQuiet, AreSearches, AreSearchesBelow};
@@ -11,17 +12,19 @@ use block_order::{ControlBlock, ControlProgram, LoudPrograms};
 use nc_number::NoMemory;
 use std::alloc::Global;
 
-/// From how many blocks on the numbers of a program's returns are gathered once for all its calls.
+/// A program of at least so many blocks is long: the numbers of its returns are gathered once for
+/// all its calls.
 const MANY_BLOCKS: usize = 65;
 
-/// Whether these are so few blocks that each call of their program looks at all of them.
+/// Whether these are at most 64 blocks, so few that each call of their program looks at all of
+/// them.
 pub(crate) fn is_short(blocks: &[ControlBlock]) -> bool
     ensures { IsTrue result ↔ IsShort blocks.now }
 {
     blocks.len() < MANY_BLOCKS
 }
 
-/// Whether the program is quiet and has more blocks.
+/// Whether the program comes to no wait and no end and has more than 64 blocks.
 fn is_long_quiet(loud: &LoudPrograms, program: &ControlProgram) -> bool
     ensures { (tape : List ControlProgram) → IsKnown tape loud.now → IsProgramOf tape program.now
         → IsTrue result ↔ IsLongQuiet tape program.now.number }
@@ -29,7 +32,8 @@ fn is_long_quiet(loud: &LoudPrograms, program: &ControlProgram) -> bool
     !is_short(program.blocks.as_slice()) && !loud.is_loud(program.number)
 }
 
-/// Puts the search of the program's calls behind the others, if it is a long quiet one.
+/// Adds the search of the program's calls at the end, if it is a long quiet one. The only error is
+/// out of memory.
 fn note_calls(
     alloc: Global,
     loud: &LoudPrograms,
@@ -47,7 +51,8 @@ fn note_calls(
     Ok(())
 }
 
-/// The searches of a tape without programs: the computed GOTOs alone.
+/// The searches of a tape without programs: that of the computed GOTOs alone. The only error is out
+/// of memory.
 fn computed_alone(alloc: Global) -> Result<Vec<Search>, NoMemory>
     ensures { (tape : List ControlProgram) → IfOk result (λ searches. AreSearchesBelow tape 0 searches.items) }
 {
@@ -56,7 +61,8 @@ fn computed_alone(alloc: Global) -> Result<Vec<Search>, NoMemory>
     Ok(searches)
 }
 
-/// The computed GOTOs, and the calls of each long quiet program.
+/// The searches of a tape: the computed GOTOs, and the calls of each long quiet program. The only
+/// error is out of memory.
 pub(crate) fn searches(
     alloc: Global,
     programs: &[ControlProgram],

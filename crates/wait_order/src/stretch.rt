@@ -1,4 +1,5 @@
-//! The stretches of a program between its marks.
+//! The stretches of a program. A stretch is the run of blocks up to a mark; a mark is a wait, an
+//! end, an M99 without a number or a call that leads to a wait or an end.
 ghost use Rattle.std.specs.Prelude.{◌≡◌, ◌≤◌, length, IfOk};
 ghost use Rattle.block_order.specs.Loud.{mark_of};
 ghost use Rattle.block_order.specs.Heard.{heard};
@@ -8,7 +9,7 @@ use block_order::{Control, ControlBlock, LoudPrograms};
 use nc_number::NoMemory;
 use std::alloc::Global;
 
-/// How many marks the block is: 1, or none.
+/// How many marks a block of this control is: 1 or 0.
 pub(crate) fn mark_count(loud: &LoudPrograms, control: &Control) -> usize
     ensures is { result ≡ length (mark_of (heard loud.now) control.now) }
     ensures few { result ≤ 1 }
@@ -23,7 +24,8 @@ pub(crate) fn mark_count(loud: &LoudPrograms, control: &Control) -> usize
     }
 }
 
-/// The stretch of each block of a program: how many marks stand before it.
+/// The stretch of each block of a program: how many marks stand before it. The only error is out of
+/// memory.
 pub(crate) fn stretches(
     alloc: Global,
     loud: &LoudPrograms,

@@ -1,4 +1,5 @@
-//! One program of a tape that counts for the order of waits.
+//! One program of a tape on which labels hang, and its first block that may pass a wait. What a
+//! single jump of it leads to: `ways`.
 ghost use Rattle.std.specs.Prelude.{◌↔◌, ◌<◌, ℕ, Bool, IsTrue, length};
 ghost use Rattle.block_order.specs.Order.{blocks};
 ghost use Rattle.wait_order.specs.Waiting.{ReturnsElsewhere};
@@ -16,16 +17,20 @@ use std::alloc::Global;
 /// A program, among the programs of its tape.
 #[derive(Clone, Copy)]
 pub(crate) struct ProgramView<'a> {
+    /// All programs of the tape.
     pub(crate) programs: &'a [ControlProgram],
+    /// The places of the programs, and which of them are loud.
     pub(crate) loud: &'a LoudPrograms,
     /// The O number of the main program.
     pub(crate) main: u16,
     /// The program's own O number.
     pub(crate) number: u16,
+    /// Its own blocks and their tables.
     pub(crate) ways: ProgramWays<'a>,
 }
 
-/// One of these blocks is an M99 with a number that leads from the block to another stretch.
+/// Whether one of the called blocks is an M99 with a number that leads from the block at `place` to
+/// another stretch.
 fn returns_elsewhere(ways: &ProgramWays, place: u32, called: &[ControlBlock]) -> bool
     ensures { (loud : ℕ → Bool) → AreWays loud ways.now → place < length ways.now.blocks.now
         → IsTrue result ↔ ReturnsElsewhere loud ways.now.blocks.now place called.now }
@@ -52,8 +57,8 @@ impl ProgramView<'_> {
     ghost use Rattle.wait_order.specs.Waiting.{CallsElsewhere, IsShort, IsSearchStray, IsFixedStray, IsFixedStrayAt, IsStray, IsStrayLine, IsLeast, HasRisingLines};
     ghost use Rattle.wait_order.specs.View.{IsView};
 
-    /// Whether a return from this program, if it is quiet and short, leads from the call to another
-    /// stretch.
+    /// Whether a return from the called program, if that is quiet and short, leads from the call at
+    /// `place` to another stretch.
     fn calls_elsewhere(&self, place: u32, called: u16) -> bool
         requires view { IsView self.now }
         requires within { place < length self.now.ways.blocks.now }
@@ -66,8 +71,8 @@ impl ProgramView<'_> {
             && returns_elsewhere(&self.ways, place, blocks)
     }
 
-    /// Whether the block of this control, and no search for several numbers, may lead to another
-    /// stretch.
+    /// Whether the block at `place`, of this control, may lead to another stretch without a search
+    /// for several numbers.
     fn is_fixed_stray(&self, place: u32, control: &Control) -> bool
         requires view { IsView self.now }
         requires within { place < length self.now.ways.blocks.now }
@@ -87,7 +92,8 @@ impl ProgramView<'_> {
         }
     }
 
-    /// The first block, and no search for several numbers, that may lead to another stretch.
+    /// The place of the first block that may lead to another stretch without a search for several
+    /// numbers.
     fn first_fixed_stray(&self) -> Option<u32>
         requires view { IsView self.now }
         requires few { length self.now.ways.blocks.now ≤ 20000 }
@@ -103,7 +109,8 @@ impl ProgramView<'_> {
         None
     }
 
-    /// The first block of this search that may lead to another stretch.
+    /// The place of the first block of this search that may lead to another stretch. The only error
+    /// is out of memory.
     fn first_of_search(&self, alloc: Global, search: &Search) -> Result<Option<u32>, NoMemory>
         requires view { IsView self.now }
         requires few { length self.now.ways.blocks.now ≤ 20000 }
@@ -121,7 +128,8 @@ impl ProgramView<'_> {
         Ok(first)
     }
 
-    /// The first block of one of these searches that may lead to another stretch.
+    /// The place of the first block of any of these searches that may lead to another stretch. The
+    /// only error is out of memory.
     fn first_of_searches(&self, alloc: Global, searches: &[Search]) -> Result<Option<u32>, NoMemory>
         requires view { IsView self.now }
         requires few { length self.now.ways.blocks.now ≤ 20000 }
@@ -136,7 +144,8 @@ impl ProgramView<'_> {
         Ok(first)
     }
 
-    /// The first block that may lead to another stretch.
+    /// The place of the first block that may lead to another stretch. The only error is out of
+    /// memory.
     fn first_stray(&self, alloc: Global, searches: &[Search]) -> Result<Option<u32>, NoMemory>
         requires view { IsView self.now }
         requires few { length self.now.ways.blocks.now ≤ 20000 }
@@ -150,7 +159,7 @@ impl ProgramView<'_> {
         Ok(first)
     }
 
-    /// The line of this block, if it is one.
+    /// The line of the block at a place; `None` for no place.
     fn line_of(&self, place: Option<u32>) -> Option<u32>
         requires view { IsView self.now }
         requires rising { HasRisingLines self.now.ways.blocks.now }
@@ -166,7 +175,8 @@ impl ProgramView<'_> {
         }
     }
 
-    /// The line of the first block that may lead to another stretch.
+    /// The line of the first block that may lead to another stretch. The only error is out of
+    /// memory.
     pub(crate) fn stray_line(
         &self,
         alloc: Global,

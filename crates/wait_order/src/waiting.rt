@@ -1,4 +1,5 @@
-//! The faults of waits: a jump that may pass a wait, and a chain of calls that is too deep for one.
+//! The faults of waits: a jump that may pass a wait (65), and a chain of calls that is too deep for
+//! one (66). The other faults of the order are found in block_order.
 ghost use Rattle.std.specs.Prelude.{◌≡◌, ◌<◌, IfOk, List};
 ghost use Rattle.block_order.specs.Labels.{Counts};
 ghost use Rattle.block_order.specs.Loud.{loud};
@@ -26,7 +27,7 @@ use block_order::{ControlProgram, LoudPrograms, OrderFault, ProgramTables};
 use nc_number::{Cause, NoMemory, lesser};
 use std::alloc::Global;
 
-/// The O number of the main program.
+/// The O number of the main program, which is the first; 0 if there is none.
 fn main_of(programs: &[ControlProgram]) -> u16
     ensures { result ≡ main_number programs.now }
 {
@@ -36,7 +37,8 @@ fn main_of(programs: &[ControlProgram]) -> u16
     }
 }
 
-/// The line of the first block of a program that may pass a wait; labels hang on the program.
+/// The line of the first block of a program that may pass a wait. The program is the main one or
+/// loud. The only error is out of memory.
 fn program_line<'a>(
     alloc: Global,
     programs: &'a [ControlProgram],
@@ -70,7 +72,8 @@ fn program_line<'a>(
     Ok(line)
 }
 
-/// The same of any program; where no labels hang on it nothing passes a wait.
+/// The same of any program; if it is neither the main one nor loud, none of its blocks passes a
+/// wait.
 fn counted_line<'a>(
     alloc: Global,
     programs: &'a [ControlProgram],
@@ -92,7 +95,7 @@ fn counted_line<'a>(
     }
 }
 
-/// The line of the tape's first block that may pass a wait.
+/// The line of the tape's first block that may pass a wait. The only error is out of memory.
 fn stray_line(
     alloc: Global,
     programs: &[ControlProgram],
@@ -114,7 +117,7 @@ fn stray_line(
     Ok(first)
 }
 
-/// 65 at a line.
+/// The fault 65 at a line: a jump that may pass a wait.
 fn branch_at_wait(line: u32) -> OrderFault
     ensures line { result.line ≡ line }
     ensures cause { result.cause ≡ Cause.BranchAtWait }
@@ -125,7 +128,7 @@ fn branch_at_wait(line: u32) -> OrderFault
     }
 }
 
-/// 66 at a line.
+/// The fault 66 at a line: a ninth call that leads to a wait.
 fn wait_too_deep(line: u32) -> OrderFault
     ensures line { result.line ≡ line }
     ensures cause { result.cause ≡ Cause.WaitTooDeep }
@@ -136,7 +139,7 @@ fn wait_too_deep(line: u32) -> OrderFault
     }
 }
 
-/// The fault of the lesser line, and on one line the jump.
+/// The fault of the lesser line of the two, and on one line the jump; `None` if neither is given.
 fn first_fault(stray: Option<u32>, deep: Option<u32>) -> Option<OrderFault>
     ensures { (tape : List ControlProgram) → IsLeast (IsTapeStrayLine tape) stray → IsLeast (IsDeepLine tape) deep
         → IsFirstOf tape Waiting result }
@@ -156,8 +159,8 @@ fn first_fault(stray: Option<u32>, deep: Option<u32>) -> Option<OrderFault>
 }
 
 /// The first fault of waits on a tape, whose O numbers are given once and whose loops fit together:
-/// of the least line, and on one line the one with the lesser number; `None` exactly where there is
-/// none.
+/// of the least line, and on one line the one with the lesser number; `None` exactly if there is
+/// none. The only error is out of memory.
 pub(crate) fn waiting_fault(
     alloc: Global,
     programs: &[ControlProgram],

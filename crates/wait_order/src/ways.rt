@@ -1,4 +1,5 @@
-//! Where the jumps of one program lead, and in which stretch its blocks lie.
+//! Where the jumps of one program lead, and in which stretch its blocks lie. A stretch is the run
+//! of blocks up to a mark.
 
 use block_order::{ControlBlock, ProgramTables};
 
@@ -6,7 +7,9 @@ use block_order::{ControlBlock, ProgramTables};
 #[derive(Clone, Copy)]
 pub(crate) struct ProgramWays<'a> {
     pub(crate) blocks: &'a [ControlBlock],
+    /// The stretch of each block: how many marks stand before it.
     pub(crate) stretches: &'a [usize],
+    /// The sequence numbers and loops of the blocks.
     pub(crate) tables: &'a ProgramTables,
 }
 
@@ -16,14 +19,14 @@ impl ProgramWays<'_> {
     ghost use Rattle.block_order.specs.Loud.{stretch};
     ghost use Rattle.wait_order.specs.Ways.{AreWays};
 
-    /// The stretch of the block at a place.
+    /// The stretch of the block at a place; 0 after the last block.
     pub(crate) fn stretch_at(&self, place: u32) -> usize
         ensures { result ≡ slice_index self.now.stretches.now place }
     {
         self.stretches.get(place as usize).copied().unwrap_or(0)
     }
 
-    /// The stretch of the last block.
+    /// The stretch of the last block; 0 if there is none.
     fn last_stretch(&self) -> usize
         ensures { result ≡ slice_index self.now.stretches.now (length self.now.blocks.now - 1) }
     {

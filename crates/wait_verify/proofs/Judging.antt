@@ -1,4 +1,4 @@
--- What is answered of three texts, from the answers to their parts.
+-- What is answered of three texts, by the answers to their parts.
 use Rattle.std.proofs.Common.{◌≡◌, ℕ, List, Ok, subst, sym}
 use Rattle.nc_number.specs.declared.fault.Failing.{Failing}
 use Rattle.nc_number.specs.declared.path.Path.{Path}
@@ -19,14 +19,16 @@ use Rattle.wait_verify.specs.Asked.{Asked}
 use Rattle.wait_verify.specs.Verdict.{premises_of, IsOrderOf, IsTapeRefusal, Judged, AreOrders, IsRefusalOf, IsTold}
 use Rattle.wait_verify.specs.Verdict.IsRefusalOf.{left, right, pair}
 
--- the premises are those of the cell
+-- The premises that the code made are those of the cell.
 pub record IsPremises (asked : Asked) (cell : Cell) (premises : Premises) : Type 0 where
   pub dialect : premises.dialect ≡ dialect_in cell
   pub outside : premises.outside ≡ asked.outside
 
+-- They are the premises of the question.
 same : (asked : Asked) (cell : Cell) (premises : Premises) → IsPremises asked cell premises → premises ≡ premises_of asked cell
 same asked cell premises is = λ i. record { dialect = is.dialect i; outside = is.outside i }
 
+-- An order by these premises is one of the question.
 order_is : (asked : Asked) (cell : Cell) (premises : Premises) (skips : ℕ) (path : Path) (text : List ℕ) (tape : List Program)
     (own : List ControlProgram) → IsPremises asked cell premises → skips ≡ skips_of path cell
     → IsOrderOf premises skips text tape own → IsOrderOf (premises_of asked cell) (skips_of path cell) text tape own
@@ -34,6 +36,7 @@ order_is asked cell premises skips path text tape own is switches ordered =
     subst (λ p. IsOrderOf p (skips_of path cell) text tape own) (same asked cell premises is)
     (subst (λ n. IsOrderOf premises n text tape own) switches ordered)
 
+-- A refusal by these premises is one of the question.
 refusal_is : (asked : Asked) (cell : Cell) (premises : Premises) (skips : ℕ) (path : Path) (text : List ℕ) (told : Refusal)
     → IsPremises asked cell premises → skips ≡ skips_of path cell → IsTapeRefusal premises skips path text told
     → IsTapeRefusal (premises_of asked cell) (skips_of path cell) path text told
@@ -41,7 +44,7 @@ refusal_is asked cell premises skips path text told is switches refused =
     subst (λ p. IsTapeRefusal p (skips_of path cell) path text told) (same asked cell premises is)
     (subst (λ n. IsTapeRefusal premises n path text told) switches refused)
 
--- path 1's tape is refused
+-- If path 1's tape is refused, the pair is.
 pub left_refused : (asked : Asked) (cell : Cell) (premises : Premises) (skips : ℕ) (error : Failing Refusal)
     → settings_of asked.texts.settings ≡ Ok cell → IsPremises asked cell premises → skips ≡ skips_of One cell
     → IfFault error (IsTapeRefusal premises skips One asked.texts.left) → IfFault error (IsRefusalOf asked)
@@ -49,7 +52,7 @@ left_refused asked cell premises skips error read is switches refused =
     by_refusal (IsTapeRefusal premises skips One asked.texts.left) (IsRefusalOf asked) error
     (λ told own. left cell read (refusal_is asked cell premises skips One asked.texts.left told is switches own)) refused
 
--- path 2's tape is refused
+-- If path 1's tape has an order and path 2's tape is refused, the pair is.
 pub right_refused : (asked : Asked) (cell : Cell) (premises : Premises) (first skips : ℕ) (tape : List Program)
     (own : List ControlProgram) (error : Failing Refusal) → settings_of asked.texts.settings ≡ Ok cell
     → IsPremises asked cell premises → first ≡ skips_of One cell → IsOrderOf premises first asked.texts.left tape own
@@ -60,7 +63,7 @@ right_refused asked cell premises first skips tape own error read is switches or
     (λ told fault. right cell tape own read (order_is asked cell premises first One asked.texts.left tape own is switches ordered)
     (refusal_is asked cell premises skips Two asked.texts.right told is others fault)) refused
 
--- the orders of both tapes
+-- Both tapes have orders.
 pub orders_are : (asked : Asked) (judged : Judged) (premises : Premises) (first second : ℕ)
     → settings_of asked.texts.settings ≡ Ok judged.cell → IsPremises asked judged.cell premises → first ≡ skips_of One judged.cell
     → second ≡ skips_of Two judged.cell → IsOrderOf premises first asked.texts.left judged.left_tape judged.left
@@ -71,13 +74,13 @@ orders_are asked judged premises first second read is switches others one two = 
   right_is = order_is asked judged.cell premises second Two asked.texts.right judged.right_tape judged.right is others two;
 }
 
--- the two orders are no accepted pair
+-- If the two orders are no accepted pair, the pair is refused.
 pub pair_refused : (asked : Asked) (judged : Judged) (error : Failing Refusal) → AreOrders asked judged
     → IfFault error (IsPairRefusal judged.left judged.right) → IfFault error (IsRefusalOf asked)
 pair_refused asked judged error orders refused =
     by_refusal (IsPairRefusal judged.left judged.right) (IsRefusalOf asked) error (λ told own. pair judged orders own) refused
 
--- what is told of an accepted pair
+-- The labels and the trust of an accepted pair are what is told of it.
 pub pair_told : (asked : Asked) (judged : Judged) (premises : Premises) (l r : List Labelled) (trust : TrustView) → AreOrders asked judged
     → IsPremises asked judged.cell premises → IsAcceptedPair judged.left judged.right → l ≡ path_labels judged.left
     → r ≡ path_labels judged.right

@@ -1,4 +1,4 @@
--- No pair is both accepted and refused.
+-- No pair is both accepted and refused. lathe_top takes lemmas of this file.
 use Rattle.std.proofs.Common.{◌≡◌, ℕ, List, Result, Ok, Err, Option, Some, None, sym, subst, ◌∙◌}
 use Rattle.nc_number.specs.declared.path.Path.{Path}
 use Rattle.nc_number.specs.declared.path.Path.TheVariants.{One, Two}
@@ -24,10 +24,11 @@ use Rattle.wait_verify.specs.Verdict.{premises_of, IsOrderOf, IsTapeRefusal, IsL
 use Rattle.wait_verify.specs.Verdict.IsTapeRefusal.{reading as tape_reading, order as tape_order}
 use Rattle.wait_verify.specs.Verdict.IsRefusalOf.{settings, left, right, pair}
 
+-- One reading has one order.
 pub one_order : (a b : List ControlProgram) (r : Result (List ControlProgram) FlowFault) → r ≡ Ok a → r ≡ Ok b → a ≡ b
 one_order a b r p q = let e : ◌≡◌ {A = Result (List ControlProgram) FlowFault} (Ok a) (Ok b) = sym p ∙ q in cc
 
--- no tape has an order and is refused
+-- No tape has an order and is refused.
 pub not_both_order : (premises : Premises) (programs : List Program) (own : List ControlProgram) (line number : ℕ)
     → IsOrdered premises programs own → IsRefused premises programs line number → ⊥
 not_both_order premises programs own line number x (block failed) =
@@ -42,17 +43,19 @@ not_both_order premises programs own line number x (contour other reads sound fa
     let here = subst (λ o. contour_fault o programs ≡ Some (refusal line number)) same fault in
     absurd (let e : ◌≡◌ {A = Option FlowFault} None (Some (refusal line number)) = sym x.contours ∙ here in cc)
 
--- a text has one tape, and one order of its blocks
+-- A text has one tape.
 pub same_programs : (premises : Premises) (skips : ℕ) (text : List ℕ) (a b : List Program) (oa ob : List ControlProgram)
     → IsOrderOf premises skips text a oa → IsOrderOf premises skips text b ob → a ≡ b
 same_programs premises skips text a b oa ob x y = one_tape a b (tape_of skips (opened text)) x.reads y.reads
 
+-- A text has one order of its blocks.
 pub same_order : (premises : Premises) (skips : ℕ) (text : List ℕ) (a b : List Program) (oa ob : List ControlProgram)
     → IsOrderOf premises skips text a oa → IsOrderOf premises skips text b ob → oa ≡ ob
 same_order premises skips text a b oa ob x y =
     let same : a ≡ b = same_programs premises skips text a b oa ob x y in
     one_order oa ob (programs_read premises b) (subst (λ t. programs_read premises t ≡ Ok oa) same x.ordered.reads) y.ordered.reads
 
+-- No text has an order and is refused.
 pub not_both_tape : (premises : Premises) (skips : ℕ) (path : Path) (text : List ℕ) (programs : List Program)
     (own : List ControlProgram) (told : Refusal) → IsOrderOf premises skips text programs own
     → IsTapeRefusal premises skips path text told → ⊥
@@ -62,6 +65,7 @@ not_both_tape premises skips path text programs own told x (tape_order other lin
     let same : programs ≡ other = one_tape programs other (tape_of skips (opened text)) x.reads reads in
     not_both_order premises other own line number (subst (λ t. IsOrdered premises t own) same x.ordered) refused
 
+-- No pair is both accepted and refused, if a pair is accepted by its lists of labels.
 pub not_both : ByLists → (asked : Asked) (judged : Judged) (told : Refusal) → AreAccepted asked judged → IsRefusalOf asked told → ⊥
 not_both lists asked judged told ok (settings s) =
     absurd (let e : ◌≡◌ {A = Result Cell ℕ} (Ok judged.cell) (Err s.line) = sym ok.orders.settings_are ∙ s.refused in cc)

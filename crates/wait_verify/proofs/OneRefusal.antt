@@ -1,4 +1,4 @@
--- A pair has one refusal at most.
+-- A pair has one refusal at most: first the tape of a path, then the pair.
 use Rattle.std.proofs.Common.{◌≡◌, ℕ, List, Option, Some, Result, Ok, Err, ap, sym, subst, ◌∙◌}
 use Rattle.nc_number.specs.Causes.{cause_number}
 use Rattle.nc_number.specs.declared.path.Path.{Path}
@@ -31,30 +31,37 @@ use Rattle.wait_verify.proofs.NotBoth.{one_order, same_order, not_both_tape}
 
 -- The tape of a path.
 
+-- Faults that are the same have the same line and number.
 same_fault : (line number other_line other : ℕ) → ◌≡◌ {A = FlowFault} (refusal line number) (refusal other_line other)
     → (line ≡ other_line) × (number ≡ other)
 same_fault line number other_line other e = (ap (λ (f : FlowFault). f.line) e, ap (λ (f : FlowFault). f.number) e)
 
+-- One reading has one error.
 same_error : (r : Result (List ControlProgram) FlowFault) (a b : FlowFault) → r ≡ Err a → r ≡ Err b → a ≡ b
 same_error r a b p q = let e : ◌≡◌ {A = Result (List ControlProgram) FlowFault} (Err a) (Err b) = sym p ∙ q in cc
 
+-- One answer has one fault.
 same_some : (o : Option FlowFault) (a b : FlowFault) → o ≡ Some a → o ≡ Some b → a ≡ b
 same_some o a b p q = let e : ◌≡◌ {A = Option FlowFault} (Some a) (Some b) = sym p ∙ q in cc
 
+-- No reading is both an order and an error.
 read_or_not : (r : Result (List ControlProgram) FlowFault) (own : List ControlProgram) (fault : FlowFault) → r ≡ Ok own
     → r ≡ Err fault → ⊥
 read_or_not r own fault p q =
     absurd (let e : ◌≡◌ {A = Result (List ControlProgram) FlowFault} (Ok own) (Err fault) = sym p ∙ q in cc)
 
+-- An order has one first fault at most.
 one_of_orders : HasOneFirst → (own : List ControlProgram) (line number other_line other : ℕ) → IsOrderFault own line number
     → IsOrderFault own other_line other → (line ≡ other_line) × (number ≡ other)
 one_of_orders law own line number other_line other x y =
     let same = law own line other_line x.0 y.0 x.1 y.1 in
     (same.0, x.2 ∙ ap cause_number same.1 ∙ sym y.2)
 
+-- A sound order has no fault.
 faulty_is_unsound : (own : List ControlProgram) (line number : ℕ) → IsSound own → IsOrderFault own line number → ⊥
 faulty_is_unsound own line number sound fault = no_fault own fault.1.stage line fault.0 sound fault.1.holds
 
+-- A tape that reads has one refusal at most.
 one_of_refused : HasOneFirst → (premises : Premises) (programs : List Program) (line number other_line other : ℕ)
     → IsRefused premises programs line number → IsRefused premises programs other_line other
     → (line ≡ other_line) × (number ≡ other)
@@ -84,6 +91,7 @@ one_of_refused law premises programs line number other_line other (contour own r
     (same_some (contour_fault own' programs) (refusal line number) (refusal other_line other)
     (subst (λ o. contour_fault o programs ≡ Some (refusal line number)) same fault) fault')
 
+-- A text has one refusal at most.
 one_of_tape : HasOneFirst → (premises : Premises) (skips : ℕ) (path : Path) (text : List ℕ) (a b : Refusal)
     → IsTapeRefusal premises skips path text a → IsTapeRefusal premises skips path text b → a ≡ b
 one_of_tape law premises skips path text a b (tape_reading fault e is) (tape_reading other f own) =
@@ -102,13 +110,15 @@ one_of_tape law premises skips path text a b (tape_order programs line number re
 
 -- A pair.
 
--- the tape of a path, under the settings of one text
+-- The text of a path has this tape and order, under the settings of a cell.
 abbrev IsPathOrder : Asked → Path → List ℕ → Cell → List Program → List ControlProgram → Type 0
 IsPathOrder asked path text cell programs own = IsOrderOf (premises_of asked cell) (skips_of path cell) text programs own
 
+-- The text of a path is refused, under the settings of a cell.
 abbrev IsPathRefusal : Asked → Path → List ℕ → Cell → Refusal → Type 0
 IsPathRefusal asked path text cell told = IsTapeRefusal (premises_of asked cell) (skips_of path cell) path text told
 
+-- Under one text of settings no path's text has an order and is refused.
 not_both_path : (asked : Asked) (path : Path) (text : List ℕ) (cell other : Cell) (programs : List Program)
     (own : List ControlProgram) (told : Refusal) → settings_of asked.texts.settings ≡ Ok cell
     → settings_of asked.texts.settings ≡ Ok other → IsPathOrder asked path text cell programs own
@@ -118,6 +128,7 @@ not_both_path asked path text cell other programs own told read again ordered re
     not_both_tape (premises_of asked other) (skips_of path other) path text programs own told
     (subst (λ c. IsPathOrder asked path text c programs own) same ordered) refused
 
+-- Under one text of settings a path's text has one refusal at most.
 one_of_path : HasOneFirst → (asked : Asked) (path : Path) (text : List ℕ) (cell other : Cell) (a b : Refusal)
     → settings_of asked.texts.settings ≡ Ok cell → settings_of asked.texts.settings ≡ Ok other
     → IsPathRefusal asked path text cell a → IsPathRefusal asked path text other b → a ≡ b
@@ -126,6 +137,7 @@ one_of_path law asked path text cell other a b read again x y =
     one_of_tape law (premises_of asked other) (skips_of path other) path text a b
     (subst (λ c. IsPathRefusal asked path text c a) same x) y
 
+-- Two orders as a pair have one refusal at most.
 one_of_two : (asked : Asked) (one' other : Judged) (a b : Refusal) → AreOrders asked one' → AreOrders asked other
     → IsPairRefusal one'.left one'.right a → IsPairRefusal other.left other.right b → a ≡ b
 one_of_two asked one' other a b orders others x y =
@@ -140,6 +152,7 @@ one_of_two asked one' other a b orders others x y =
     one_of_pair other.left other.right a b
     (subst (λ z. IsPairRefusal other.left z a) rr (subst (λ z. IsPairRefusal z one'.right a) ll x)) y
 
+-- A pair has one refusal at most, if an order has one first fault at most.
 pub one_refusal : HasOneFirst → (asked : Asked) (a b : Refusal) → IsRefusalOf asked a → IsRefusalOf asked b → a ≡ b
 one_refusal law asked a b (settings x) (settings y) = one_of_settings asked.texts.settings a b x y
 one_refusal law asked a b (settings x) (left cell read y) = absurd (not_both_settings asked.texts.settings cell a x read)

@@ -1,18 +1,19 @@
--- Texts that are put in pieces.
+-- Texts that are made of pieces, one after another.
 use Rattle.std.proofs.Common.{◌≡◌, ℕ, zero, suc, ◌≤◌, min, List, [], ◌∷◌, ◌++◌, length, drop, Result, Ok, Err, OnOk, refl, ap, ◌∙◌, arith, append_assoc}
 use Rattle.label_list.specs.declared.labelled.Labelled.{Labelled}
 use Rattle.wait_verify.specs.Printed.{meetings_text}
 
+-- Two pieces that are added one after another are added as one.
 two : (old a b x y : List ℕ) → x ≡ old ++ a → y ≡ x ++ b → y ≡ old ++ (a ++ b)
 two old a b x y first second = second ∙ ap (λ (l : List ℕ). l ++ b) first ∙ append_assoc old a b
 
--- three pieces
+-- The same of three pieces, of which the last may fail.
 pub three : {T E : Type 0} (result : Result T E) (old a b c x y z : List ℕ) → x ≡ old ++ a → y ≡ x ++ b
     → OnOk result (z ≡ y ++ c) → OnOk result (z ≡ old ++ ((a ++ b) ++ c))
 three (Ok done) old a b c x y z first second third = two old (a ++ b) c y z (two old a b x y first second) third
 three (Err fault) old a b c x y z first second third = tt
 
--- after the shorter list nothing follows
+-- After the shorter list of labels no line follows.
 pub no_more : (left right : List Labelled) (n : ℕ) → min (length left) (length right) ≤ n
     → meetings_text (drop n left) (drop n right) ≡ []
 no_more [] right zero over = refl

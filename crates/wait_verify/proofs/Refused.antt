@@ -1,4 +1,4 @@
--- What follows for a tape from the refusal of a part.
+-- What follows for a path's tape if a part of it is refused.
 use Rattle.std.proofs.Common.{◌≡◌, ℕ, List, Ok, subst}
 use Rattle.nc_number.specs.declared.fault.Failing.{Failing}
 use Rattle.nc_number.specs.declared.fault.Failing.TheVariants.{Fault, NoMemory}
@@ -16,14 +16,14 @@ use Rattle.wait_verify.specs.Asked.{opened}
 use Rattle.open_order.specs.Exact.{IsRefused}
 use Rattle.wait_verify.specs.Verdict.{IsTapeRefusal, reading as by_reading, order as by_tape}
 
--- the tape is refused as it is read
+-- The tape is refused as it is read.
 pub tape_refused : (premises : Premises) (skips : ℕ) (path : Path) (text : List ℕ) (error : Failing TextFault) (fault : TextFault)
     (refusal : Refusal) → error ≡ Fault fault → Fails error (tape_of skips (opened text))
     → refusal ≡ at_line path fault.line fault.number → IsTapeRefusal premises skips path text refusal
 tape_refused premises skips path text error fault refusal is fails told =
     by_reading fault (subst (λ e. Fails e (tape_of skips (opened text))) is fails) told
 
--- the order of the tape's blocks is refused
+-- The order of the tape's blocks is refused.
 pub order_refused : (premises : Premises) (skips : ℕ) (path : Path) (text : List ℕ) (tape : List Program) (error : Failing FlowFault)
     (fault : FlowFault) (refusal : Refusal) → error ≡ Fault fault → tape_of skips (opened text) ≡ Ok tape
     → IfFault error (λ f. IsRefused premises tape f.line f.number) → refusal ≡ at_line path fault.line fault.number

@@ -1,4 +1,5 @@
--- No pair is neither accepted nor refused.
+-- No pair is neither accepted nor refused: first the tape of a path, then the pair. `CantBothFail`
+-- says that it can't be that neither of the two holds.
 use Rattle.std.proofs.Common.{◌≡◌, ℕ, List, Option, Some, None, Result, Ok, Err, refl}
 use Rattle.nc_number.specs.Causes.{cause_number}
 use Rattle.nc_number.specs.declared.path.Path.{Path}
@@ -27,6 +28,7 @@ use Rattle.wait_verify.specs.Verdict.IsRefusalOf.{settings, left, right, pair}
 
 -- The tape of a path.
 
+-- A tape of a sound order is ordered, or a contour of it is refused.
 contours_answer : (premises : Premises) (programs : List Program) (own : List ControlProgram) → programs_read premises programs ≡ Ok own
     → IsSound own → CantBothFail (IsOrdered premises programs own)
     ((line : ℕ) × (number : ℕ) × IsRefused premises programs line number)
@@ -36,6 +38,7 @@ contours_answer premises programs own reads sound unordered unrefused = go (cont
     go None is = unordered (record { reads = reads; sound = sound; contours = is })
     go (Some fault) is = unrefused (fault.line, fault.number, contour own reads sound is)
 
+-- A tape has an order, or it is refused.
 order_answer : HasSomeFirst → (premises : Premises) (programs : List Program)
     → CantBothFail ((own : List ControlProgram) × IsOrdered premises programs own)
     ((line : ℕ) × (number : ℕ) × IsRefused premises programs line number)
@@ -48,6 +51,7 @@ order_answer law premises programs unordered unrefused = go (programs_read premi
         (λ sound. contours_answer premises programs own is sound (λ ordered. unordered (own, ordered)) unrefused)
         (λ first. unrefused (first.0, cause_number first.1, order own is (first.1, first.2, refl)))
 
+-- A text has an order, or it is refused.
 tape_answer : HasSomeFirst → (premises : Premises) (skips : ℕ) (path : Path) (text : List ℕ)
     → CantBothFail ((programs : List Program) × (own : List ControlProgram) × IsOrderOf premises skips text programs own)
     ((told : Refusal) × IsTapeRefusal premises skips path text told)
@@ -62,6 +66,7 @@ tape_answer law premises skips path text unordered unrefused = go (tape_of skips
 
 -- A pair.
 
+-- A pair of orders is accepted, or it is refused.
 orders_answer : OneList → ByLists → (asked : Asked) (judged : Judged) → AreOrders asked judged
     → CantBothFail (AreAccepted asked judged) ((told : Refusal) × IsRefusalOf asked told)
 orders_answer unforked lists asked judged orders unaccepted unrefused =
@@ -70,6 +75,7 @@ orders_answer unforked lists asked judged orders unaccepted unrefused =
     (λ own. unaccepted (record { orders = orders; pair = own }))
     (λ own. unrefused (own.0, pair judged orders own.1))
 
+-- A pair is accepted, or it is refused.
 pub some_answer : HasSomeFirst → OneList → ByLists → (asked : Asked)
     → CantBothFail ((judged : Judged) × AreAccepted asked judged) ((told : Refusal) × IsRefusalOf asked told)
 some_answer law unforked lists asked unaccepted unrefused = go (settings_of asked.texts.settings) refl

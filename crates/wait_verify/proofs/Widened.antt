@@ -1,4 +1,5 @@
--- A pair that the verdict on a run accepts is accepted for its waits.
+-- A pair that the verdict on a run (`verify`) accepts is accepted for its waits: from a block to a
+-- program, a tape, and a pair.
 use Rattle.std.proofs.Common.{◌≡◌, ℕ, suc, ◌*◌, Bool, true, false, not, ◌&&◌, ◌||◌, cond, codes, List, [], ◌∷◌, ◌++◌, map, Option, Some, None, Result, Ok, Err, refl, ap, sym, ◌∙◌, subst, All, ℤ, pos}
 use Rattle.std.specs.List.{list_any, filter_map}
 use Rattle.std.proofs.lemmas.List.{map-append}
@@ -53,16 +54,17 @@ use Rattle.wait_verify.specs.Verdict.{IsOrderOf}
 use Rattle.wait_verify.specs.Widening.{ArePlain, IsPlainBlock, IsPlainText, IsWidened}
 use Rattle.open_order.specs.Reading.{Basis, settled, at_line, block_read, blocks_from, program_read, programs_from}
 
--- the law of blocks
+-- The law of open_forms on blocks: one that reads in full leads where it leads for its waits.
 abbrev pub BlockLaw : Type 0
 BlockLaw = (dialect : Dialect) (block : Block) (form : BlockForm) → IsWidenedBlock dialect block form
 
--- and that statements stand as the reader leaves them
+-- The statements of each tape are as the reader leaves them.
 abbrev pub CleanLaw : Type 0
 CleanLaw = (skips : ℕ) (text : List ℕ) (tape : List Program) → tape_of skips text ≡ Ok tape → IsCleanTape tape
 
 -- A block.
 
+-- The form of a block has its line and its sequence number.
 form_is : (block : Block) (read : Result Form ℕ) (form : BlockForm) → block_at block read ≡ Ok form
     → (form.line ≡ block.line) × (form.sequence ≡ block.sequence)
 form_is block (Err number) form e = absurd cc
@@ -70,7 +72,7 @@ form_is block (Ok own) form e =
     let same : form_at block.line block.sequence own (control_of_form own) ≡ form = cc in
     (sym (ap (λ (f : BlockForm). f.line) same), sym (ap (λ (f : BlockForm). f.sequence) same))
 
--- no program is outside
+-- If no program is outside, a control stays as it is.
 none_gone : (c : Control) → settled (λ _. false) c ≡ c
 none_gone control.Next = refl
 none_gone (control.Goto n) = refl
@@ -83,10 +85,11 @@ none_gone (control.Call program repeats) = refl
 none_gone control.Back = refl
 none_gone (control.BackTo n) = refl
 
--- the tape is read without programs outside
+-- The tape is read without programs outside.
 abbrev basis_of : Dialect → List Program → Basis
 basis_of dialect tape = record { premises = record { dialect = dialect; outside = None }; tape = tape }
 
+-- A block that reads in full reads for its waits, with the same control.
 block_widened : BlockLaw → (dialect : Dialect) (tape : List Program) (block : Block) (form : BlockForm) → IsPlainBlock dialect block
     → IsClean block.body → full.block_read dialect block ≡ Ok form → block_read (basis_of dialect tape) block ≡ Ok (control_block form)
 block_widened law dialect tape block form plain clean reads = go (block_or_refusal dialect block) refl reads
@@ -106,20 +109,24 @@ block_widened law dialect tape block form plain clean reads = go (block_or_refus
 
 -- The blocks of a program, and the programs of a tape.
 
+-- What holds of all of two lists holds of all of the first.
 front_of : {X : Type 0} (P : X → Type 0) (xs ys : List X) → All P (xs ++ ys) → All P xs
 front_of P [] ys all = All-nil P
 front_of P (x ∷ xs) ys all = All-cons P x xs (All-head P x (xs ++ ys) all) (front_of P xs ys (All-tail P x (xs ++ ys) all))
 
+-- What holds of all of two lists holds of all of the second.
 back_of : {X : Type 0} (P : X → Type 0) (xs ys : List X) → All P (xs ++ ys) → All P ys
 back_of P [] ys all = all
 back_of P (x ∷ xs) ys all = back_of P xs ys (All-tail P x (xs ++ ys) all)
 
+-- One step of reading in full, and the one for waits beside it.
 step_widened : {A B C D : Type 0} (read : Result A FlowFault) (own : Result B FlowFault) (go : A → Result C FlowFault) (go' : B → Result D FlowFault)
     (see : A → B) (end : C) (end' : D) → ((x : A) → read ≡ Ok x → own ≡ Ok (see x)) → ((x : A) → go x ≡ Ok end → go' (see x) ≡ Ok end')
     → read >>= go ≡ Ok end → own >>= go' ≡ Ok end'
 step_widened (Ok x) own go go' see end end' first rest e = rw (first x refl) (rest x e)
 step_widened (Err fault) own go go' see end end' first rest e = absurd cc
 
+-- The same of the blocks of a program.
 blocks_widened : BlockLaw → (dialect : Dialect) (tape : List Program) (blocks : List Block) (done forms : List BlockForm)
     → All (IsPlainBlock dialect) blocks → AreClean blocks → full.blocks_from dialect done blocks ≡ Ok forms
     → blocks_from (basis_of dialect tape) (map control_block done) blocks ≡ Ok (map control_block forms)
@@ -135,6 +142,7 @@ blocks_widened law dialect tape (block ∷ blocks) done forms plain clean e =
     (blocks_widened law dialect tape blocks (done ++ form ∷ []) forms (All-tail (IsPlainBlock dialect) block blocks plain) clean.1 rest))
     e
 
+-- The same of a program.
 program_widened : BlockLaw → (dialect : Dialect) (tape : List Program) (program : Program) (form : ProgramForm)
     → All (IsPlainBlock dialect) program.blocks → AreClean program.blocks → full.program_read dialect program ≡ Ok form
     → program_read (basis_of dialect tape) program ≡ Ok (control_program form)
@@ -151,6 +159,7 @@ program_widened law dialect tape program form plain clean e =
         ap (λ read. read >>= (λ blocks. Ok (record { number = program.number; line = program.line; blocks = blocks }))) own
         ∙ ap (λ p. Ok (control_program p)) same
 
+-- The same of the programs of a tape.
 programs_widened : BlockLaw → (dialect : Dialect) (tape rest : List Program) (done forms : List ProgramForm)
     → All (IsPlainBlock dialect) (blocks_in rest) → IsCleanTape rest → full.programs_from dialect done rest ≡ Ok forms
     → programs_from (basis_of dialect tape) (controls done) rest ≡ Ok (controls forms)
@@ -169,6 +178,7 @@ programs_widened law dialect tape (program ∷ rest) done forms plain clean e =
 
 -- The contours: a block that reads in full has none.
 
+-- One of the G words has such a code exactly if one of the codes that are written out is such.
 any_of_g : (is_it : Option ℤ → Bool) → is_it None ≡ false → (words : List Word)
     → has_code is_it words ≡ list_any (λ z. is_it (Some z)) (filter_map written (words_of (codes "G") words))
 any_of_g is_it none [] = refl
@@ -182,7 +192,7 @@ any_of_g is_it none (word ∷ words) = go (is_one_of (codes "G") word.letter) (w
     go true None is rest = rw (is, none) rest
     go true (Some z) is rest = rw is (ap (λ b. is_it (Some z) || b) rest)
 
--- G words are written out
+-- In a block that is accepted each G code is written out.
 g_plain : (dialect : Dialect) (words : List FlowWord) → closed.is_not_fixed dialect words ≡ false
     → read.has_computed (codes "G") words ≡ false
 g_plain dialect words fixed = go (purpose_of dialect words) fixed
@@ -196,13 +206,14 @@ g_plain dialect words fixed = go (purpose_of dialect words) fixed
     go purpose.Dwell e = fewer_computed (codes "G") (codes "GNOM") (one_among 71 (codes "GNOM") refl) words e
     go purpose.Other e = fewer_computed (codes "G") (codes "GNOM") (one_among 71 (codes "GNOM") refl) words e
 
--- outside a macro call every G code is one of the system's table
+-- Outside a macro call every G code is one of the system's table.
 known_codes : (system : System) (words : List FlowWord) (b : Bool) → gives system is_macro_call words ≡ b → b ≡ false
     → closed.is_unknown system words ≡ false → list_any (closed.is_unknown_code system) (read.words_of (codes "G") words) ≡ false
 known_codes system words true is no_macro known = absurd cc
 known_codes system words false is no_macro known =
     (neither _ _ (neither _ _ (rw is at known)).0).0
 
+-- A block that is accepted, and is no macro call, has no code of a cycle with a contour.
 no_cycle : (dialect : Dialect) (texts : List Word) (words : List FlowWord) → AreSaid texts words → IsAccepted dialect words
     → is_macro texts ≡ false → has_code is_cycle_code texts ≡ false
 no_cycle dialect texts words are given no_macro =
@@ -214,6 +225,7 @@ no_cycle dialect texts words are given no_macro =
     (same_words_of (codes "G") texts words are)
     (known_codes dialect.system words (gives dialect.system is_macro_call words) refl kind given.known) (g_plain dialect words given.fixed)
 
+-- So its words call no contour.
 no_contour_words : (dialect : Dialect) (texts : List Word) (words : List FlowWord) → AreSaid texts words → IsAccepted dialect words
     → contour_in (Words texts) ≡ None
 no_contour_words dialect texts words are given = go (is_macro texts) refl
@@ -225,6 +237,7 @@ no_contour_words dialect texts words are given = go (is_macro texts) refl
     go true is = rw (macro_is_code, is) refl
     go false is = rw (macro_is_code, is, no_cycle dialect texts words are given is) refl
 
+-- The same of a block that has a form.
 no_contour_form : (dialect : Dialect) (body : Body) (own : Form) → form_or_refusal dialect body ≡ Ok own → contour_in body ≡ None
 no_contour_form dialect (Statement text) own reads = refl
 no_contour_form dialect (Words texts) own reads = go (words_or_refusal dialect texts) refl reads
@@ -235,11 +248,13 @@ no_contour_form dialect (Words texts) own reads = go (words_or_refusal dialect t
         let told = judged_words dialect texts words is in
         no_contour_words dialect texts words (are_said texts words told.0) (accepted dialect words told.1)
 
+-- The same with its place.
 no_contour_block : (dialect : Dialect) (block : Block) (r : Result Form ℕ) (form : BlockForm) → form_or_refusal dialect block.body ≡ r
     → block_at block r ≡ Ok form → contour_in block.body ≡ None
 no_contour_block dialect block (Err number) form is e = absurd cc
 no_contour_block dialect block (Ok own) form is e = no_contour_form dialect block.body own is
 
+-- A block that reads in full calls no contour.
 no_contour : (dialect : Dialect) (block : Block) (form : BlockForm) → full.block_read dialect block ≡ Ok form → contour_in block.body ≡ None
 no_contour dialect block form reads = go (block_or_refusal dialect block) refl reads
   where
@@ -247,10 +262,11 @@ no_contour dialect block form reads = go (block_or_refusal dialect block) refl r
     go (Err number) is e = absurd cc
     go (Ok own) is e = no_contour_block dialect block (form_or_refusal dialect block.body) own refl is
 
--- so no block of a tape that reads in full has one
+-- The block calls no contour.
 abbrev HasNone : Block → Type 0
 HasNone block = contour_in block.body ≡ None
 
+-- No block of a program that reads in full calls a contour.
 none_in_blocks : (dialect : Dialect) (blocks : List Block) (done forms : List BlockForm) → full.blocks_from dialect done blocks ≡ Ok forms
     → All HasNone blocks
 none_in_blocks dialect [] done forms e = All-nil HasNone
@@ -264,12 +280,14 @@ none_in_blocks dialect (block ∷ blocks) done forms e =
     go (Err fault) is f later = absurd cc
     go (Ok form) is f later = All-cons HasNone block blocks (no_contour dialect block form is) (later form f)
 
+-- Blocks without contours have no fault of contours.
 none_of_blocks : (is_loud : ℕ → Bool) (bs : List ControlBlock) (place : ℕ) (blocks : List Block) → All HasNone blocks
     → blocks_fault is_loud bs place blocks ≡ None
 none_of_blocks is_loud bs place [] none = refl
 none_of_blocks is_loud bs place (block ∷ blocks) none =
     rw (All-head HasNone block blocks none) (none_of_blocks is_loud bs (suc place) blocks (All-tail HasNone block blocks none))
 
+-- A tape that reads in full has no fault of contours.
 no_contours : (dialect : Dialect) (order : List ControlProgram) (tape : List Program) (done forms : List ProgramForm)
     → full.programs_from dialect done tape ≡ Ok forms → contour_fault order tape ≡ None
 no_contours dialect order [] done forms e = refl
@@ -288,6 +306,7 @@ no_contours dialect order (program ∷ rest) done forms e =
 
 -- The tape of a path, and a pair.
 
+-- A tape that is accepted for a run has an order for its waits, the same.
 ordered_too : BlockLaw → CleanLaw → (cell : Cell) (path : Path) (text : List ℕ) (forms : List ProgramForm)
     → IsPlainText (dialect_in cell) (skips_of path cell) text → (flow : IsFlowOf cell path text forms)
     → IsOrderOf (record { dialect = dialect_in cell; outside = None }) (skips_of path cell) text flow.tape (controls forms)
@@ -301,6 +320,7 @@ ordered_too law clean cell path text forms plain flow = record {
   };
 }
 
+-- A pair that is accepted for a run is accepted for its waits, with the same lists of labels.
 pub widened : BlockLaw → CleanLaw → (texts : Texts) (cell : Cell) (left right : List ProgramForm) → ArePlain texts cell
     → run.AreAccepted texts cell left right → IsWidened texts cell left right
 widened law clean texts cell left right plain accepted_run = record {

@@ -1,4 +1,5 @@
--- The meetings of an accepted pair as a text.
+-- The text of an accepted pair: its meetings, and what was taken on trust. lathe_calls and
+-- lathe_top read `waits_text`.
 use Rattle.std.specs.Prelude.{ℕ, ◌-◌, nat_le, pos, List, [], ◌∷◌, ◌++◌, length, codes, decimal, if◌then◌else◌}
 use Rattle.nc_number.specs.Printed.{value_text}
 use Rattle.block_order.specs.declared.label.Label.{Label}
@@ -7,49 +8,51 @@ use Rattle.label_list.specs.declared.labelled.Labelled.{Labelled}
 use Rattle.text_pieces.specs.Pieces.{numbered}
 use Rattle.open_order.specs.Trusted.{TrustView, is_nothing}
 
--- a meeting by its code, or how the list ends
+-- A meeting by its code, or how the list of labels ends.
 abbrev pub label_text : Label → List ℕ
 label_text (Wait code) = numbered (codes "M") code
 label_text End = codes "end"
 label_text Again = codes "again"
 label_text Off = codes "off"
 
--- a label of both paths, with the line of each
+-- The line of a label of both paths, with the line of each tape.
 unfoldable pub meeting_text : Labelled → Labelled → List ℕ
 meeting_text one two =
     label_text one.label ++ numbered (codes " path 1 line ") one.line ++ numbered (codes " path 2 line ") two.line ++ codes "\n"
 
--- a line for each label of both lists
+-- A line for each label of both lists, as far as both go.
 abbrev pub meetings_text : List Labelled → List Labelled → List ℕ
 meetings_text [] right = []
 meetings_text (one ∷ left) [] = []
 meetings_text (one ∷ left) (two ∷ right) = meeting_text one two ++ meetings_text left right
 
--- a G code by its millionths, of which there are no more than a value may have
+-- A G code after a blank, from its value in 0.000001. None is greater than a value may be.
 abbrev pub geometry_text : ℕ → List ℕ
 geometry_text micro = if nat_le micro 99999999999999 then codes " G" ++ value_text (pos micro) else []
 
+-- All these G codes.
 abbrev pub geometries_text : List ℕ → List ℕ
 geometries_text [] = []
 geometries_text (micro ∷ rest) = geometry_text micro ++ geometries_text rest
 
--- each number after these bytes
+-- Each number after these bytes.
 abbrev pub numbers_text : List ℕ → List ℕ → List ℕ
 numbers_text before [] = []
 numbers_text before (number ∷ rest) = before ++ decimal number ++ numbers_text before rest
 
+-- The G codes, M codes and programs that were taken on trust, each after a blank.
 abbrev pub codes_text : TrustView → List ℕ
 codes_text trust =
     geometries_text trust.geometry ++ numbers_text (codes " M") trust.auxiliary ++ numbers_text (codes " O") trust.programs
 
--- the line of what was taken on trust, if there is anything
+-- The line `goes on ..` of what was taken on trust; no line if nothing was.
 abbrev pub trust_text : TrustView → List ℕ
 trust_text trust = if is_nothing trust then [] else codes "goes on" ++ codes_text trust ++ codes "\n"
 
--- how often the paths meet: each label but the last is a wait
+-- The line `waits 4`: how often the paths meet. Each label but the last is a wait.
 abbrev pub head_text : List Labelled → List ℕ
 head_text left = numbered (codes "waits ") (length left - 1) ++ codes "\n"
 
--- the text of an accepted pair
+-- The text of an accepted pair.
 unfoldable pub waits_text : List Labelled → List Labelled → TrustView → List ℕ
 waits_text left right trust = head_text left ++ meetings_text left right ++ trust_text trust

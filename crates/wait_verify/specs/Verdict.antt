@@ -1,4 +1,5 @@
--- Which pairs have one order of waits, and the one refusal of all others.
+-- Which pairs have one order of waits, and the one refusal of all others. lathe_calls and lathe_top
+-- read this.
 use Rattle.std.specs.Prelude.{◌≡◌, ℕ, List, Ok, Err}
 use Rattle.nc_number.specs.declared.path.Path.{Path}
 use Rattle.nc_number.specs.declared.path.Path.TheVariants.{One, Two}
@@ -18,31 +19,36 @@ use Rattle.wait_verify.specs.Asked.{Asked, opened}
 use Rattle.open_order.specs.Exact.{IsOrdered, IsRefused}
 use Rattle.open_order.specs.Trusted.{TrustView, no_trust, with_tape}
 
--- by which the tapes are read
+-- How the tapes are read: the code system and waits of these settings, and the programs that they
+-- may lack.
 abbrev pub premises_of : Asked → Cell → Premises
 premises_of asked cell = record { dialect = dialect_in cell; outside = asked.outside }
 
--- the text of a tape reads as this tape, whose blocks have this order
+-- The text of a tape, with a blank for each comma, reads as this tape, whose blocks have this
+-- order. `skips` says which block-skip switches are on.
 pub record IsOrderOf (premises : Premises) (skips : ℕ) (text : List ℕ) (tape : List Program) (order : List ControlProgram) : Type 0 where
   pub reads : tape_of skips (opened text) ≡ Ok tape
   pub ordered : IsOrdered premises tape order
 
--- the refusal of a path's tape: of its reading, or else of the order of its waits
+-- The refusal of a path's tape: of its reading, or else of the order of its blocks.
 pub data IsTapeRefusal (premises : Premises) (skips : ℕ) (path : Path) (text : List ℕ) (refusal : Refusal) : Type 0 where
+  -- A line can't be read.
   reading : (fault : TextFault) → tape_of skips (opened text) ≡ Err fault → refusal ≡ at_line path fault.line fault.number
       → IsTapeRefusal premises skips path text refusal
+  -- The tape reads, but a block or the order of its blocks is refused.
   order : (tape : List Program) (line number : ℕ) → tape_of skips (opened text) ≡ Ok tape
       → IsRefused premises tape line number → refusal ≡ at_line path line number
       → IsTapeRefusal premises skips path text refusal
 
--- the same of the tape of a path, under the settings of a cell
+-- The text of path 1 has this tape and this order, under the settings of a cell.
 abbrev pub IsLeftOrder : Asked → Cell → List Program → List ControlProgram → Type 0
 IsLeftOrder asked cell tape own = IsOrderOf (premises_of asked cell) (skips_of One cell) asked.texts.left tape own
 
+-- The same of path 2.
 abbrev pub IsRightOrder : Asked → Cell → List Program → List ControlProgram → Type 0
 IsRightOrder asked cell tape own = IsOrderOf (premises_of asked cell) (skips_of Two cell) asked.texts.right tape own
 
--- a pair as it is judged: the settings, and for each path its tape and the order of its blocks
+-- A pair as it is judged: the settings, and for each path its tape and the order of its blocks.
 pub record Judged : Type 0 where
   pub cell : Cell
   pub left_tape : List Program
@@ -50,13 +56,13 @@ pub record Judged : Type 0 where
   pub left : List ControlProgram
   pub right : List ControlProgram
 
--- the settings are allowed, and both tapes have orders
+-- The settings are allowed, and both tapes have orders.
 pub record AreOrders (asked : Asked) (judged : Judged) : Type 0 where
   pub settings_are : settings_of asked.texts.settings ≡ Ok judged.cell
   pub left_is : IsLeftOrder asked judged.cell judged.left_tape judged.left
   pub right_is : IsRightOrder asked judged.cell judged.right_tape judged.right
 
--- A pair is accepted if besides both paths come to the same labels, whatever the variables hold.
+-- The pair is accepted: besides, both paths come to the same labels, whatever the variables hold.
 pub record AreAccepted (asked : Asked) (judged : Judged) : Type 0 where
   pub orders : AreOrders asked judged
   pub pair : IsAcceptedPair judged.left judged.right
@@ -64,21 +70,25 @@ pub record AreAccepted (asked : Asked) (judged : Judged) : Type 0 where
 -- The refusal of a pair: of the settings; else of path 1's tape; else of path 2's; else of the two
 -- orders as a pair.
 pub data IsRefusalOf (asked : Asked) (refusal : Refusal) : Type 0 where
+  -- The settings are refused.
   settings : AreRefusedSettings asked.texts.settings refusal → IsRefusalOf asked refusal
+  -- The settings are allowed, and path 1's tape is refused.
   left : (cell : Cell) → settings_of asked.texts.settings ≡ Ok cell
       → IsTapeRefusal (premises_of asked cell) (skips_of One cell) One asked.texts.left refusal → IsRefusalOf asked refusal
+  -- Path 1's tape has an order, and path 2's tape is refused.
   right : (cell : Cell) (tape : List Program) (order : List ControlProgram) → settings_of asked.texts.settings ≡ Ok cell
       → IsLeftOrder asked cell tape order
       → IsTapeRefusal (premises_of asked cell) (skips_of Two cell) Two asked.texts.right refusal → IsRefusalOf asked refusal
+  -- Both tapes have orders, and these are no accepted pair.
   pair : (judged : Judged) → AreOrders asked judged → IsPairRefusal judged.left judged.right refusal → IsRefusalOf asked refusal
 
--- what a pair takes on trust
+-- The codes and calls of both tapes that are taken to go on to the next block.
 abbrev pub trust_of : Asked → Judged → TrustView
 trust_of asked judged =
     with_tape (premises_of asked judged.cell) (with_tape (premises_of asked judged.cell) no_trust judged.left_tape) judged.right_tape
 
--- what is told of an accepted pair: the labels of both paths with their lines, and what was taken
--- on trust
+-- What is told of an accepted pair: the labels of both paths with their lines, and what was taken
+-- on trust.
 pub record IsTold (asked : Asked) (judged : Judged) (left right : List Labelled) (trust : TrustView) : Type 0 where
   pub accepted : AreAccepted asked judged
   pub left_are : left ≡ path_labels judged.left

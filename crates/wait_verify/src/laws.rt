@@ -1,4 +1,5 @@
-//! What holds of every pair, for the crates above: who calls the function has the law.
+//! What holds of every pair, for the crates above: who calls the function has the law. The proofs
+//! stand in proofs/; lathe_top calls two of these.
 ghost use Rattle.std.specs.Prelude.{◌≡◌, List};
 ghost use Rattle.cell_settings.specs.Cell.{Cell};
 ghost use Rattle.tape_flow.specs.Forms.{ProgramForm};

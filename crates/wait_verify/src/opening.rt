@@ -5,7 +5,7 @@ ghost use Rattle.wait_verify.specs.Asked.{without_comma, opened};
 use nc_number::NoMemory;
 use std::alloc::Global;
 
-/// A comma as a blank.
+/// The byte, with a blank for a comma.
 fn without_comma(byte: u8) -> u8
     ensures { result ≡ without_comma byte }
 {
@@ -13,7 +13,8 @@ fn without_comma(byte: u8) -> u8
 }
 
 /// The text of a tape with a blank for each comma: a chamfer or a corner is written `,C1.` or
-/// `,R1.`, and the reader of tapes knows no comma. No line moves.
+/// `,R1.`, and the reader of tapes knows no comma. Each line keeps its number. The only error is
+/// out of memory.
 pub(crate) fn opened(alloc: Global, text: &[u8]) -> Result<Vec<u8>, NoMemory>
     ensures { IfOk result (λ bytes. bytes.items ≡ opened text.now) }
 {

@@ -1,4 +1,4 @@
-//! The verdict on waits, where it is given.
+//! What `waits` says of an accepted pair. How it is printed is in `printing`.
 use label_list::LabelList;
 use nc_number::Both;
 use open_order::Trust;

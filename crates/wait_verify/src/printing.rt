@@ -1,4 +1,5 @@
-//! The text of an accepted pair.
+//! The text of an accepted pair: its meetings, and what was taken on trust. lathe_calls calls
+//! `push_waits`.
 ghost use Rattle.std.specs.Prelude.{◌≡◌, ◌+◌, ◌≤◌, ◌++◌, OnOk, codes, length};
 ghost use Rattle.nc_number.specs.Printed.{value_text};
 ghost use Rattle.text_pieces.specs.Pieces.{numbered};
@@ -13,7 +14,7 @@ use open_order::Trust;
 use std::collections::BTreeSet;
 use text_pieces::Piece;
 
-/// Puts a piece after what a text holds.
+/// Adds a piece at the end of a text. The only error is out of memory.
 fn push_piece(text: &mut Vec<u8>, piece: &Piece) -> Result<(), NoMemory>
     ensures { OnOk result (text.new.items ≡ text.old.items ++ piece.now) }
 {
@@ -21,7 +22,7 @@ fn push_piece(text: &mut Vec<u8>, piece: &Piece) -> Result<(), NoMemory>
     Ok(())
 }
 
-/// Puts a number after these bytes.
+/// Adds these bytes, and a number after them. The only error is out of memory.
 fn push_numbered(text: &mut Vec<u8>, before: &[u8], number: u64) -> Result<(), NoMemory>
     requires { length before.now ≤ 100 }
     ensures { OnOk result (text.new.items ≡ text.old.items ++ numbered before.now number) }
@@ -31,7 +32,7 @@ fn push_numbered(text: &mut Vec<u8>, before: &[u8], number: u64) -> Result<(), N
     push_piece(text, &piece)
 }
 
-/// Adds a meeting by its code, or how the list ends.
+/// Adds a meeting by its code, or how the list of labels ends: at most 21 bytes.
 fn add_label(piece: &mut Piece, label: Label)
     requires { length piece.old + 21 ≤ 512 }
     ensures text { piece.new ≡ piece.old ++ label_text label }
@@ -58,14 +59,14 @@ fn meeting_line(one: &Labelled, two: &Labelled) -> Piece
     piece
 }
 
-/// Puts a label of both paths, with the line of each.
+/// Adds the line of a label of both paths, with the line of each. The only error is out of memory.
 fn push_meeting(text: &mut Vec<u8>, one: &Labelled, two: &Labelled) -> Result<(), NoMemory>
     ensures { OnOk result (text.new.items ≡ text.old.items ++ meeting_text one.now two.now) }
 {
     push_piece(text, &meeting_line(one, two))
 }
 
-/// Puts a line for each label of both lists.
+/// Adds a line for each label of both lists. The only error is out of memory.
 fn push_meetings(text: &mut Vec<u8>, left: &[Labelled], right: &[Labelled]) -> Result<(), NoMemory>
     ensures { OnOk result (text.new.items ≡ text.old.items ++ meetings_text left.now right.now) }
 {
@@ -85,7 +86,8 @@ fn code_piece(value: Value) -> Piece
     piece
 }
 
-/// A G code by its millionths. None has more of them than a value may have.
+/// A G code after a blank, from its value in 0.000001; nothing if that is greater than a value may
+/// be, which no code is.
 fn geometry_piece(micro: u64) -> Piece
     ensures { result ≡ geometry_text micro }
 {
@@ -98,14 +100,14 @@ fn geometry_piece(micro: u64) -> Piece
     }
 }
 
-/// Puts a G code.
+/// Adds a G code after a blank. The only error is out of memory.
 fn push_geometry(text: &mut Vec<u8>, micro: u64) -> Result<(), NoMemory>
     ensures { OnOk result (text.new.items ≡ text.old.items ++ geometry_text micro) }
 {
     push_piece(text, &geometry_piece(micro))
 }
 
-/// Puts the G codes, each after a blank.
+/// Adds the G codes, each after a blank. The only error is out of memory.
 fn push_geometries(text: &mut Vec<u8>, numbers: &BTreeSet<u64>) -> Result<(), NoMemory>
     ensures { OnOk result (text.new.items ≡ text.old.items ++ geometries_text numbers.now.keys) }
 {
@@ -115,7 +117,7 @@ fn push_geometries(text: &mut Vec<u8>, numbers: &BTreeSet<u64>) -> Result<(), No
     Ok(())
 }
 
-/// Puts the M codes, each after a blank.
+/// Adds the M codes, each after a blank. The only error is out of memory.
 fn push_auxiliaries(text: &mut Vec<u8>, numbers: &BTreeSet<u32>) -> Result<(), NoMemory>
     ensures { OnOk result (text.new.items ≡ text.old.items ++ numbers_text (codes " M") numbers.now.keys) }
 {
@@ -125,7 +127,7 @@ fn push_auxiliaries(text: &mut Vec<u8>, numbers: &BTreeSet<u32>) -> Result<(), N
     Ok(())
 }
 
-/// Puts the programs that the tapes lack, each after a blank.
+/// Adds the programs that the tapes lack, each after a blank. The only error is out of memory.
 fn push_programs(text: &mut Vec<u8>, numbers: &BTreeSet<u16>) -> Result<(), NoMemory>
     ensures { OnOk result (text.new.items ≡ text.old.items ++ numbers_text (codes " O") numbers.now.keys) }
 {
@@ -135,7 +137,7 @@ fn push_programs(text: &mut Vec<u8>, numbers: &BTreeSet<u16>) -> Result<(), NoMe
     Ok(())
 }
 
-/// Puts all codes, each after a blank.
+/// Adds all codes and programs, each after a blank. The only error is out of memory.
 fn push_codes(text: &mut Vec<u8>, trust: &Trust) -> Result<(), NoMemory>
     ensures { OnOk result (text.new.items ≡ text.old.items ++ codes_text (seen trust.now)) }
 {
@@ -144,7 +146,7 @@ fn push_codes(text: &mut Vec<u8>, trust: &Trust) -> Result<(), NoMemory>
     push_programs(text, &trust.programs)
 }
 
-/// Puts the line of what was taken on trust, if there is anything.
+/// Adds the line of what was taken on trust, if anything was. The only error is out of memory.
 fn push_trust(text: &mut Vec<u8>, trust: &Trust) -> Result<(), NoMemory>
     ensures { OnOk result (text.new.items ≡ text.old.items ++ trust_text (seen trust.now)) }
 {
@@ -157,7 +159,7 @@ fn push_trust(text: &mut Vec<u8>, trust: &Trust) -> Result<(), NoMemory>
     Ok(())
 }
 
-/// The line of how often the paths meet.
+/// The line of how often the paths meet: each label but the last is a wait.
 fn head_line(left: &[Labelled]) -> Piece
     ensures { result ≡ head_text left.now }
 {
@@ -167,17 +169,17 @@ fn head_line(left: &[Labelled]) -> Piece
     piece
 }
 
-/// Puts how often the paths meet.
+/// Adds that line. The only error is out of memory.
 fn push_head(text: &mut Vec<u8>, left: &[Labelled]) -> Result<(), NoMemory>
     ensures { OnOk result (text.new.items ≡ text.old.items ++ head_text left.now) }
 {
     push_piece(text, &head_line(left))
 }
 
-/// Puts the text of an accepted pair after what a text holds: how often the paths meet; each
-/// meeting with its code and the line of each path; how both paths end, `end`, `again` after an M99
-/// of the main programs, or `off` past their last blocks; and the codes and programs that were
-/// taken on trust.
+/// Adds the text of an accepted pair at the end of a text: how often the paths meet; each meeting
+/// with its code and the line of each path; how both paths end, `end`, `again` after an M99 of the
+/// main programs, or `off` past their last blocks; and the codes and programs that were taken on
+/// trust. The only error is out of memory.
 pub fn push_waits(text: &mut Vec<u8>, pair: &WaitPair) -> Result<(), NoMemory>
     ensures { OnOk result (text.new.items ≡ text.old.items ++ waits_text pair.now.labels.one pair.now.labels.two (seen pair.now.trust)) }
 {

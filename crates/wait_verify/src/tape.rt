@@ -1,4 +1,5 @@
-//! The tape of one path, from its text to the order of its blocks.
+//! The tape of one path, from its text to the order of its blocks. How a block is read for its
+//! order is in open_order.
 ghost use Rattle.std.specs.Prelude.{◌≡◌, ℕ, List, Ok, IfOk, IfErr};
 ghost use Rattle.block_order.specs.Answers.{IfFault};
 ghost use Rattle.nc_number.specs.Answers.{Gives};
@@ -23,7 +24,8 @@ pub(crate) struct OrderedTape {
     pub(crate) order: BlockOrder,
 }
 
-/// The tape of a text with a blank for each comma, where blocks of these switches are skipped.
+/// The tape of a text with a blank for each comma. Blocks of these switches are skipped.
+/// Errors: the first bad line, or out of memory.
 fn read_text(alloc: Global, skips: u16, text: &[u8]) -> Result<Tape, Failing<TextFault>>
     ensures { Gives (λ tape. tape) result (tape_of skips (opened text.now)) }
 {
@@ -31,7 +33,7 @@ fn read_text(alloc: Global, skips: u16, text: &[u8]) -> Result<Tape, Failing<Tex
     read_tape(alloc, skips, bytes.as_slice())
 }
 
-/// The tape of a path, or the refusal of its reading.
+/// The tape of a path. Errors: the refusal of its reading, or out of memory.
 fn tape_of_path(
     alloc: Global,
     skips: u16,
@@ -52,7 +54,7 @@ fn tape_of_path(
     }
 }
 
-/// The order of the blocks of a path's tape, or its refusal.
+/// The order of the blocks of a path's tape. Errors: its refusal, or out of memory.
 fn order_of_path(
     alloc: Global,
     premises: Premises,
@@ -74,7 +76,8 @@ fn order_of_path(
     }
 }
 
-/// The tape of a path and its order, or the refusal of its reading, or else of its order.
+/// The tape of a path and its order. Errors: the refusal of its reading, or else of its order, or
+/// out of memory.
 pub(crate) fn ordered_tape(
     alloc: Global,
     premises: Premises,

@@ -1,4 +1,4 @@
-//! From three texts to the meetings of a pair, or to the reason why there are none.
+//! From three texts to the meetings of a pair, or to its one refusal. lathe_calls calls `verdict`.
 ghost use Rattle.std.specs.Prelude.{◌≡◌, ◌<◌, ◌^◌, length, IfOk, IfErr};
 ghost use Rattle.block_order.specs.Answers.{IfFault};
 ghost use Rattle.cell_settings.specs.View.{view};
@@ -31,7 +31,8 @@ fn premises_of(settings: &Settings, outside: Option<Outside>) -> Premises
     }
 }
 
-/// What two tapes take on trust.
+/// The codes and calls of two tapes that are taken to go on to the next block. The only error is
+/// out of memory.
 fn trust_in(alloc: Global, premises: Premises, left: &Tape, right: &Tape) -> Result<Trust, NoMemory>
     ensures { IfOk result (λ trust. seen trust ≡ with_tape premises (with_tape premises no_trust left.now) right.now) }
 {
@@ -41,7 +42,8 @@ fn trust_in(alloc: Global, premises: Premises, left: &Tape, right: &Tape) -> Res
     Ok(trust)
 }
 
-/// What is told of two tapes with their orders.
+/// The labels and the trust of two tapes with their orders. Errors: the refusal of the two as a
+/// pair, or out of memory.
 fn tell(
     alloc: Global,
     premises: Premises,
@@ -68,8 +70,9 @@ fn tell(
 /// The meetings of a pair: the tape of path 1, that of path 2, the settings of the cell, and which
 /// programs the tapes may lack.
 ///
-/// Their refusal is the first of these: 90 of the settings; that of path 1's tape, of its reading
-/// before the order of its blocks; that of path 2's tape; 70 of path 1, of path 2; 72.
+/// Its refusal is the first of these: 90 of the settings; that of path 1's tape, of its reading
+/// before the order of its blocks; that of path 2's tape; 70 of path 1, of path 2; 72. The only
+/// other error is out of memory.
 pub fn verdict(
     alloc: Global,
     left: &[u8],

@@ -1,3 +1,4 @@
+-- The variables so far fit the room, and those of the words ahead decide (loop of src/reading.rt).
 use Rattle.std.proofs.Common.{◌≡◌, drop, nat_lt}
 use Rattle.block_forms.specs.Forms.{signs_in, has_many_variables}
 use Rattle.block_forms.proofs.reading.names_many_variables.Given as goal

@@ -1,3 +1,4 @@
+-- A block with M98 that calls no macro calls a subprogram (src/words.rt).
 use Rattle.std.proofs.Common.{◌≡◌, true, false, refl, sym, ◌∙◌, ap}
 use Rattle.std.specs.List.{list_any}
 use Rattle.block_words.specs.Codes.{gives, is_macro_call, has_code}

@@ -1,3 +1,4 @@
+-- A jump fails for the cause that the program's tables tell, or leads to a block (src/finding.rt).
 use Rattle.std.proofs.Common.{sym, ◌∙◌}
 use Rattle.block_order.proofs.finding.jump_fault.Goals as goal
 

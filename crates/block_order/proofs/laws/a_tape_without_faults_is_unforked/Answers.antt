@@ -1,3 +1,4 @@
+-- A tape without faults of waits has one list of labels (src/laws.rt).
 use Rattle.block_order.proofs.Faultless.{faultless_unforked}
 use Rattle.block_order.proofs.laws.a_tape_without_faults_is_unforked.Goals as goal
 

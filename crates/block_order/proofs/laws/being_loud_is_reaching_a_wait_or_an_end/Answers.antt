@@ -1,3 +1,4 @@
+-- Being loud is reaching a wait or an end (src/laws.rt).
 use Rattle.block_order.proofs.LoudReaches.{loud_exactly}
 use Rattle.block_order.proofs.laws.being_loud_is_reaching_a_wait_or_an_end.Goals as goal
 

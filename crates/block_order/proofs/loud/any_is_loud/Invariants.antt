@@ -1,3 +1,4 @@
+-- None of the blocks so far is loud: the rest decides (loop of src/loud.rt).
 use Rattle.std.proofs.Common.{◌≡◌, drop}
 use Rattle.block_order.specs.Loud.{has_loud_block}
 use Rattle.block_order.specs.Heard.{flag_known}

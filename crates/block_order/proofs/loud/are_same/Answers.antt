@@ -1,3 +1,4 @@
+-- Two lists of flags that test as equal are equal (src/loud.rt).
 use Rattle.std.proofs.Common.{◌≡◌, Bool, true, false, List, [], ◌∷◌, refl, ap}
 use lib.Pointwise.{pointwise}
 use mathlib.Core.Bool.{beq}

@@ -1,3 +1,4 @@
+-- One flag more, of a program with a loud block, flags a loud program (src/loud.rt).
 use Rattle.std.proofs.Common.{◌≡◌, true, ap, sym, ◌∙◌}
 use Rattle.block_order.specs.Loud.{has_loud_block}
 use Rattle.block_order.specs.Order.{blocks}

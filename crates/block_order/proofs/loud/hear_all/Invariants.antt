@@ -1,3 +1,4 @@
+-- Only loud programs are flagged, however many are looked at again (loop of src/loud.rt).
 use Rattle.block_order.specs.Loud.{loud}
 use Rattle.block_order.specs.ProgramPlaces.{flagged}
 use Rattle.block_order.proofs.LoudReaches.{IsWithin}

@@ -1,3 +1,4 @@
+-- Only loud programs are flagged, of the numbers so far (loop of src/loud.rt).
 use Rattle.block_order.specs.Loud.{loud}
 use Rattle.block_order.specs.ProgramPlaces.{flagged}
 use Rattle.block_order.proofs.LoudReaches.{IsWithin}

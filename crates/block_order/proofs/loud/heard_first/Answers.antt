@@ -1,3 +1,4 @@
+-- At first no program is flagged, so none that is not loud (src/loud.rt).
 use Rattle.std.proofs.Common.{◌∙◌}
 use Rattle.block_order.proofs.HeardFirst.{none_heard}
 use Rattle.block_order.proofs.loud.heard_first.Goals as goal

@@ -1,3 +1,5 @@
+-- Flags that a round leaves as they were, or that as many rounds as programs found, are the loud
+-- ones (src/loud.rt).
 use Rattle.std.proofs.Common.{◌≡◌, length, map, sym, subst, ◌∙◌, arith}
 use Rattle.block_order.specs.Loud.{has_loud_block}
 use Rattle.block_order.specs.Heard.{flag_known}

@@ -1,3 +1,4 @@
+-- The flags hold what so many rounds find, and only loud programs (loop of src/loud.rt).
 use Rattle.block_order.proofs.HeardFirst.{AreBetween}
 use Rattle.block_order.proofs.loud.loud_flags.Given as goal
 

@@ -1,3 +1,5 @@
+-- The blocks so far and the rest have together the misplaced block and the open loops of the whole
+-- (loop of src/mismatch.rt).
 use Rattle.std.proofs.Common.{◌≡◌, [], drop}
 use Rattle.block_order.specs.Order.{or_else}
 use Rattle.block_order.specs.Loops.{open_after}

@@ -1,3 +1,4 @@
+-- A loop of the stack has the name exactly if an open loop has it (src/mismatch.rt).
 use Rattle.std.proofs.Common.{◌==◌, rules, tests, ◌∙◌}
 use Rattle.std.proofs.lemmas.Iterator.{YieldsList-from_slice}
 use Rattle.std.proofs.lemmas.Iterator.Search.{any_from_yields_List}

@@ -1,3 +1,4 @@
+-- The last loop of the stack is the latest open one (src/mismatch.rt).
 use Rattle.std.proofs.Common.{sym, ap, ◌∙◌}
 use Rattle.std.specs.Option.{option_copied}
 use Rattle.block_order.proofs.Seen.{latest-some, latest-none}

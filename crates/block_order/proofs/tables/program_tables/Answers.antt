@@ -1,3 +1,4 @@
+-- The loops of the program fit, so they have a table (src/tables.rt).
 use Rattle.std.proofs.Common.{sym, subst}
 use Rattle.block_order.specs.Fitting.{Fits}
 use Rattle.block_order.proofs.tables.program_tables.Goals as goal

@@ -1,3 +1,4 @@
+-- The programs so far have their tables (loop of src/tables.rt).
 use Rattle.std.proofs.Common.{◌≡◌, length}
 use Rattle.block_order.proofs.MoreTables.{EachTables}
 use Rattle.block_order.proofs.tables.tape_tables.Given as goal

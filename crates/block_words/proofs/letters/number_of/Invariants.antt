@@ -1,3 +1,4 @@
+-- The number so far is that of the last such word so far (loop of src/letters.rt).
 use Rattle.std.proofs.Common.{◌≡◌, ◌≤◌, IfSome, take}
 use Rattle.block_words.specs.Words.{last_whole}
 use Rattle.block_words.specs.Codes.{natural}

@@ -1,3 +1,4 @@
+-- The blocks of a tape that was read stand on rising lines (src/lines.rt).
 use Rattle.flow_laws.proofs.RisingBlocks.{blocks_rise}
 use Rattle.flow_laws.proofs.lines.lines_of_blocks_rise.Goals as goal
 

@@ -1,3 +1,4 @@
+-- No tape is neither sound nor has a first fault (src/order.rt).
 use Rattle.flow_laws.proofs.FirstFault.{sound_or_first}
 use Rattle.flow_laws.proofs.order.no_tape_is_unsound_without_a_fault.Goals as goal
 

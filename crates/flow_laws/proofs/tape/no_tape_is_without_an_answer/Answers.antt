@@ -1,3 +1,4 @@
+-- No tape is neither accepted nor refused (src/tape.rt).
 use Rattle.flow_laws.proofs.Refused.{some_answer}
 use Rattle.flow_laws.proofs.tape.no_tape_is_without_an_answer.Goals as goal
 

@@ -1,3 +1,4 @@
+-- The ends noted so far are those of the entries seen, and the rest is unread (src/body_list.rt).
 use Rattle.std.proofs.Common.{◌≡◌, ◌+◌, ◌-◌, ◌*◌, ◌<◌, ◌≤◌, ◌++◌, List, ℕ, length, take, drop, vec_capacity}
 use Rattle.gate_file.specs.Bodies.{bodies_from, AreEnds}
 use Rattle.gate_file.specs.Chain.{Opens}

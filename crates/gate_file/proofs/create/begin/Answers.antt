@@ -1,3 +1,5 @@
+-- A beginning promises its bodies, or its one error, whichever call of the disk failed
+-- (src/create.rt).
 use Rattle.std.proofs.Common.{rules, [], refl, ◌∙◌, arith}
 use Rattle.std.proofs.lemmas.Result.{err_from_is_err_and}
 use Rattle.gate_file.proofs.Beginning.{not_there, moments_shut, moments_added, kept_anew, begun_used, shut_used}

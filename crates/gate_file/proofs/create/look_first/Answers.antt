@@ -1,3 +1,4 @@
+-- An open first gate is a run; else it is known what stands there (src/create.rt).
 use Rattle.std.proofs.Common.{◌≡◌, ◌<◌, length, sym, ◌∙◌, arith}
 use Rattle.disk_model.proofs.Runs.{unwritten_look, unwritten_more, settled_kept}
 use Rattle.gate_file.proofs.Beginning.{first_read, is_shut, not_shut}

@@ -1,3 +1,5 @@
+-- The bodies are added, and a crash leaves them all or none of them, whichever call failed
+-- (src/gate.rt).
 use Rattle.gate_file.specs.Chain.{IsBeforeOrAfter}
 use Rattle.disk_model.proofs.Runs.{looks_on}
 use Rattle.gate_file.proofs.Appending.{moment_1, reads_2, moment_3, kept_4}

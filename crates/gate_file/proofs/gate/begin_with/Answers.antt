@@ -1,3 +1,4 @@
+-- The file begins with this one body (src/gate.rt).
 use Rattle.std.proofs.Common.{[], ◌∷◌, sym, subst}
 use Rattle.gate_file.specs.Chain.{IsStaged}
 use Rattle.gate_file.proofs.gate.begin_with.Goals as goal

@@ -1,3 +1,4 @@
+-- The shut gate stands where the bodies put it (src/laws.rt).
 use Rattle.gate_file.proofs.Ends.{keeps_end}
 use Rattle.gate_file.proofs.laws.a_file_ends_behind_its_bodies.Goals as goal
 

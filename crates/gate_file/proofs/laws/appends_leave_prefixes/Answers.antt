@@ -1,3 +1,4 @@
+-- A stop leaves the bodies of the first appends, all acknowledged ones among them (src/laws.rt).
 use Rattle.gate_file.proofs.Prefixes.{prefixes}
 use Rattle.gate_file.proofs.laws.appends_leave_prefixes.Goals as goal
 

@@ -1,3 +1,4 @@
+-- A gate with its length, a shut gate, or too few bytes (src/open.rt).
 use Rattle.std.proofs.Common.{rules, ◌≡◌, ℕ, min, length, take, ap, subst, ◌∙◌}
 use Rattle.gate_file.specs.First.{IsHead}
 use Rattle.gate_file.proofs.Windows.{take_front}

@@ -1,3 +1,4 @@
+-- What the opening of a file promises, for each answer of the disk (src/open.rt).
 use Rattle.std.proofs.Common.{rules, ◌+◌, ◌*◌, [], length, refl, ◌∙◌, arith}
 use Rattle.std.proofs.lemmas.Result.{err_from_is_err_and}
 use Rattle.disk_model.proofs.Runs.{unwritten_none, uses_none, uses_widened, peeks_more, settled_kept}

@@ -1,3 +1,4 @@
+-- The bodies so far stand before this offset, and so many calls were made (src/open.rt).
 use Rattle.std.proofs.Common.{◌≡◌, ◌*◌, ◌-◌, ◌<◌, [], List, ℕ, length, drop}
 use Rattle.disk_model.specs.Moments.{Peeks}
 use Rattle.gate_file.specs.Chain.{Opens}

@@ -1,3 +1,4 @@
+-- The fault at the first place where the labels differ, lines aside (src/comparison.rt).
 use Rattle.std.proofs.Common.{arith}
 use Rattle.label_list.proofs.Agreeing.{same_to_end}
 use Rattle.label_list.proofs.comparison.first_difference.Goals as goal

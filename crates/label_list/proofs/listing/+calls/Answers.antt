@@ -1,3 +1,5 @@
+-- Each program's labels are made after those of the programs that it calls; too many in one of
+-- these are too many in all (src/listing.rt).
 use Rattle.std.proofs.Common.{◌+◌, ◌<◌, [], ◌∷◌, get_or, drop, arith}
 use Rattle.block_order.specs.declared.label.Label.TheVariants.{Off}
 use Rattle.label_list.specs.Lists.{at}

@@ -1,3 +1,4 @@
+-- The labels of a path: what its tape comes to that the other path can tell (src/listing.rt).
 use Rattle.std.proofs.Common.{sym, subst}
 use Rattle.label_list.specs.Lists.{IsEnded}
 use Rattle.label_list.proofs.Ended.{path_ended}

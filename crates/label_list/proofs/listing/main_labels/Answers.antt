@@ -1,3 +1,4 @@
+-- The labels of the main program, and of what follows its M99 (src/listing.rt).
 use Rattle.std.proofs.Common.{sym, subst, ◌∙◌}
 use Rattle.label_list.specs.Lists.{path_labels}
 use Rattle.loud_calls.specs.Calls.{IsShort}

@@ -1,3 +1,4 @@
+-- Adds the labels of a call; how the calling program ends there, if it does (src/listing.rt).
 use Rattle.std.proofs.Common.{◌≡◌, ◌<◌, true, Some, None, sym, ◌∙◌, rules, arith}
 use Rattle.block_order.specs.declared.control.Control.TheVariants.{Call}
 use Rattle.block_order.specs.Loud.{loud}

@@ -1,3 +1,4 @@
+-- The labels of a path from the order of its blocks, whatever else the blocks say (src/ordered.rt).
 use Rattle.std.proofs.Common.{sym, subst}
 use Rattle.label_list.specs.Lists.{IsEnded}
 use Rattle.label_list.proofs.Ended.{path_ended}

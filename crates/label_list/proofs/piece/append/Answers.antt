@@ -1,3 +1,4 @@
+-- Adds the labels of a program (src/piece.rt).
 use Rattle.std.proofs.Common.{[], ◌∷◌, get_or}
 use Rattle.block_order.specs.declared.label.Label.TheVariants.{Wait}
 use Rattle.label_list.specs.Lists.{at}

@@ -1,3 +1,4 @@
+-- Adds the labels of a program so many times (src/piece.rt).
 use Rattle.std.proofs.Common.{◌≡◌, ◌++◌, length, ap, sym, ◌∙◌, append_assoc, rules}
 use Rattle.std.proofs.lemmas.List.{append-nil}
 use Rattle.label_list.specs.Pieces.{IsTooLong, repeated}

@@ -1,3 +1,4 @@
+-- No three texts are both accepted and refused (src/laws.rt).
 use Rattle.nc_verify.proofs.NotBoth.{not_both}
 use Rattle.nc_verify.proofs.laws.accepted_texts_are_not_refused.Goals as goal
 

@@ -1,3 +1,4 @@
+-- Three texts are accepted or have a refusal (src/laws.rt).
 use Rattle.nc_verify.proofs.SomeAnswer.{some_answer}
 use Rattle.nc_verify.proofs.laws.no_texts_are_without_an_answer.Goals as goal
 

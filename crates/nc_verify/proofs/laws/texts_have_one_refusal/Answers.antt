@@ -1,3 +1,4 @@
+-- Three texts have one refusal at most (src/laws.rt).
 use Rattle.nc_verify.proofs.OneRefusal.{one_refusal}
 use Rattle.nc_verify.proofs.laws.texts_have_one_refusal.Goals as goal
 

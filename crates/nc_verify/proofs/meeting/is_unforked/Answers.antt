@@ -1,3 +1,4 @@
+-- All runs of an order of blocks come to one list of labels (src/meeting.rt).
 use Rattle.nc_verify.proofs.meeting.is_unforked.Goals as goal
 
 pub returns : goal.returns

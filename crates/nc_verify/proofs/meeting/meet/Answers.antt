@@ -1,3 +1,4 @@
+-- Lists of labels that differ refuse the pair with their mismatch (src/meeting.rt).
 use Rattle.nc_verify.proofs.Refused.{labels_differ}
 use Rattle.nc_verify.proofs.meeting.meet.Goals as goal
 

@@ -1,3 +1,4 @@
+-- A tape that does not read, or whose flow is wrong, is refused with its line (src/tape.rt).
 use Rattle.cell_settings.specs.View.{view}
 use Rattle.nc_verify.proofs.Refused.{tape_refused, flow_refused}
 use Rattle.nc_verify.proofs.tape.flow_of.Goals as goal

@@ -1,3 +1,4 @@
+-- The text is the tape that is read, or is refused (src/tape.rt).
 use Rattle.std.proofs.Common.{[]}
 use Rattle.nc_text.proofs.RefusedAtEnd.{refused_at_end}
 use Rattle.nc_verify.proofs.tape.read_tape.Goals as goal

@@ -1,3 +1,4 @@
+-- Three texts are accepted, or refused for a tape or for labels that differ (src/verifying.rt).
 use Rattle.std.proofs.Common.{map, subst}
 use Rattle.cell_settings.specs.View.{view}
 use Rattle.nc_number.specs.declared.path.Path.TheVariants.{One, Two}

@@ -1,3 +1,4 @@
+-- The line of the verdict is put whole, or a prefix of it is (src/writing.rt).
 use Rattle.nc_verify.proofs.writing.write_verdict.Goals as goal
 
 pub returns : goal.returns

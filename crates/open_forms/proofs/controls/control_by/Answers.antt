@@ -1,3 +1,5 @@
+-- The P and the L of a block that is not refused fit the numbers that the control takes
+-- (src/controls.rt).
 use Rattle.std.proofs.Common.{refl}
 use Rattle.open_forms.proofs.LastWithin.{macro_at_most, repeats_at_most}
 use Rattle.open_forms.proofs.controls.control_by.Goals as goal

@@ -1,3 +1,4 @@
+-- The number so far is that of the last word of these letters so far (loop of src/letters.rt).
 use Rattle.std.proofs.Common.{◌≡◌, ◌≤◌, IfSome, take}
 use Rattle.open_forms.specs.Words.{last_number}
 use Rattle.open_forms.proofs.letters.last_number.Given as goal

@@ -1,3 +1,4 @@
+-- What stands behind a word is the rest of a text that begins with it (src/statement.rt).
 use Rattle.macro_expr.proofs.Prefixes.{behind_prefix}
 use Rattle.open_forms.proofs.statement.behind.Goals as goal
 

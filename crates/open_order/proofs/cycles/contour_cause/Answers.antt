@@ -1,3 +1,4 @@
+-- The first block of a contour lies in the program (src/cycles.rt).
 use Rattle.block_order.specs.Order.{blocks}
 use Rattle.open_order.proofs.Within.{seek_some}
 use Rattle.open_order.proofs.cycles.contour_cause.Goals as goal

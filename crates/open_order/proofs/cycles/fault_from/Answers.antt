@@ -1,3 +1,4 @@
+-- The last block of a contour lies in the program (src/cycles.rt).
 use Rattle.block_order.specs.Order.{blocks}
 use Rattle.open_order.proofs.Within.{last_some}
 use Rattle.open_order.proofs.cycles.fault_from.Goals as goal

@@ -1,4 +1,5 @@
--- The blocks that are read, with the rest as it reads after them, are the whole.
+-- The blocks read so far, and the rest as it reads after them, are the program (loop of
+-- src/reading.rt).
 use Rattle.std.proofs.Common.{◌≡◌, [], drop}
 use Rattle.open_order.specs.Basis.{basis}
 use Rattle.open_order.specs.Reading.{blocks_from}

@@ -1,4 +1,5 @@
--- The programs that are read, with the rest as it reads after them, are the whole.
+-- The programs read so far, and the rest as it reads after them, are the tape (loop of
+-- src/reading.rt).
 use Rattle.std.proofs.Common.{◌≡◌, [], drop}
 use Rattle.open_order.specs.Basis.{basis}
 use Rattle.open_order.specs.Reading.{programs_from}

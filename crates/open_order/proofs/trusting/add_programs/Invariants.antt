@@ -1,4 +1,5 @@
--- What was added, with what the rest adds, is the whole.
+-- The codes of the programs so far, and those that the rest adds, are the codes of the tape (loop
+-- of src/trusting.rt).
 use Rattle.std.proofs.Common.{◌≡◌, drop}
 use Rattle.open_order.specs.Basis.{basis, seen}
 use Rattle.open_order.specs.Trusted.{with_programs}

@@ -1,3 +1,5 @@
+-- Each program's lines are made after those of the programs that it calls, and one block after
+-- another (src/listing.rt).
 use Rattle.std.proofs.Common.{◌≡◌, ◌+◌, ◌≤◌, ◌<◌, suc, length, get_or, drop, ap, subst, ◌∙◌, arith, rules}
 use Rattle.block_order.specs.Loud.{loud}
 use Rattle.loud_calls.specs.Known.{piece_known}

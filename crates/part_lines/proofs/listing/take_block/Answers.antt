@@ -1,3 +1,5 @@
+-- Adds what comes behind a block to the lines of its program; how the program ends there, if it
+-- does (src/listing.rt).
 use Rattle.std.proofs.Common.{subst}
 use Rattle.loud_calls.specs.Calls.{IsReady}
 use Rattle.loud_calls.specs.Known.{piece_known}

@@ -1,3 +1,4 @@
+-- Adds the lines of a call; how the calling program ends there, if it does (src/listing.rt).
 use Rattle.std.proofs.Common.{◌≡◌, true, Some, None, sym, ◌∙◌, rules, arith}
 use Rattle.block_order.specs.Loud.{loud}
 use Rattle.loud_calls.specs.Known.{piece_known}

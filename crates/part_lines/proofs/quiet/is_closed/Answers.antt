@@ -1,3 +1,4 @@
+-- Whether no line is less than what was found (src/quiet.rt).
 use Rattle.std.proofs.Common.{◌≡◌, ◌≤◌, length, slice_get, Some, subst, sym, arith, rules}
 use Rattle.std.proofs.lemmas.Option.{slice_get_within}
 use Rattle.part_lines.specs.Pieces.{quiet_known}

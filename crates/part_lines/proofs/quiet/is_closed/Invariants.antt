@@ -1,4 +1,4 @@
--- The programs before the place are closed.
+-- The programs before the place are closed (loop of src/quiet.rt).
 use Rattle.std.proofs.Common.{◌≡◌, ℕ, ◌<◌, Some, slice_get}
 use Rattle.block_order.specs.declared.program.ControlProgram.{ControlProgram}
 use Rattle.part_lines.specs.Pieces.{quiet_known, IsClosedAt}

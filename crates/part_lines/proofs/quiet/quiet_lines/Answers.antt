@@ -1,3 +1,4 @@
+-- The least line of each program and of the quiet ones that are called from there (src/quiet.rt).
 use Rattle.std.proofs.Common.{IsTrue, rules}
 use Rattle.part_lines.specs.Pieces.{quiet_known}
 use Rattle.part_lines.proofs.Opened.{quiet_least}

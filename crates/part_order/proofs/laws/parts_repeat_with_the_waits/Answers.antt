@@ -1,3 +1,4 @@
+-- Parts repeat with the waits of the list; without a wait all is part 0 (src/laws.rt).
 use Rattle.part_order.proofs.Folded.{parts_repeat}
 use Rattle.part_order.proofs.laws.parts_repeat_with_the_waits.Goals as goal
 

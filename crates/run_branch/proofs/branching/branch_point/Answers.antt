@@ -1,3 +1,4 @@
+-- One record more is looked at, and the search goes on (loop of src/branching.rt).
 use Rattle.std.proofs.Common.{ℕ, ◌+◌, ◌-◌, ◌<◌, ap, sym, ◌∙◌, arith, drop, length, if◌then◌else◌}
 use Rattle.std.specs.Option.{option_map}
 use Rattle.run_records.specs.declared.entry.EntryKind.{EntryKind}

@@ -1,3 +1,4 @@
+-- A disk that stands for a branch opens as its header and records (src/laws.rt).
 use Rattle.run_branch.proofs.Opened.{opened}
 use Rattle.run_branch.proofs.laws.a_branch_opens_as_its_records.Goals as goal
 

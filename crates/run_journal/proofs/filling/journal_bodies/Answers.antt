@@ -1,3 +1,4 @@
+-- One batch more is filled, of 64 or of all records that are left (loop of src/filling.rt).
 use Rattle.std.proofs.Common.{◌∙◌, ◌+◌, ◌++◌, [], ◌∷◌, List, ℕ, ap, arith}
 use Rattle.run_journal.proofs.Fillings.{none_filled, batch_filled}
 use Rattle.run_journal.proofs.filling.journal_bodies.Goals as goal

@@ -1,3 +1,4 @@
+-- The bodies are those of the records so far; fewer are left each time (loop of src/filling.rt).
 use Rattle.std.proofs.Common.{◌-◌}
 use Rattle.run_journal.proofs.Fillings.{IsFilling}
 use Rattle.run_journal.proofs.filling.journal_bodies.Given as goal

@@ -1,3 +1,4 @@
+-- A journal ends within the bytes of its header, its records and their gates (src/laws.rt).
 use Rattle.run_journal.proofs.Ends.{held_end}
 use Rattle.run_journal.proofs.laws.a_held_journal_is_small.Goals as goal
 

@@ -1,3 +1,4 @@
+-- An opening gives what the bodies hold, with an offset for each record (src/opening.rt).
 use Rattle.std.proofs.Common.{◌+◌, length, sym, ap, subst, Ok}
 use Rattle.gate_file.specs.Gate.{Gate}
 use Rattle.gate_file.specs.Opening.{Finds}

@@ -1,3 +1,4 @@
+-- Bodies whose first one is no header are refused for that (src/reading.rt).
 use Rattle.std.proofs.Common.{◌∙◌}
 use Rattle.run_journal.proofs.Openings.{no_header}
 use Rattle.run_journal.proofs.reading.read_contents.Goals as goal

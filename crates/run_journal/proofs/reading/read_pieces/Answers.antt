@@ -1,3 +1,4 @@
+-- One piece more is read, or its body is the first bad one (loop of src/reading.rt).
 use Rattle.std.proofs.Common.{◌<◌, length, arith}
 use Rattle.std.proofs.lemmas.Result.{err_from_is_err_and}
 use Rattle.run_journal.proofs.PieceByPiece.{more_are_read, not_read}

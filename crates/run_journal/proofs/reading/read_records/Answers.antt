@@ -1,3 +1,4 @@
+-- One record more is read, with its offset (loop of src/reading.rt).
 use Rattle.std.proofs.Common.{◌≡◌, ◌+◌, ◌-◌, ◌∷◌, [], ◌++◌, List, ℕ, length, sym, ◌∙◌, ap, refl, arith, length-append}
 use Rattle.run_records.specs.Spelling.{entry_bytes}
 use Rattle.run_journal.proofs.Records.{read_more}

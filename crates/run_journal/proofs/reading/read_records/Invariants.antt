@@ -1,3 +1,4 @@
+-- So many records are read, and there is room for those that are left (loop of src/reading.rt).
 use Rattle.std.proofs.Common.{◌+◌, ◌-◌, ◌≤◌, length, vec_capacity}
 use Rattle.run_journal.specs.Reading.{IsRecordsRead}
 use Rattle.run_journal.proofs.reading.read_records.Given as goal

@@ -1,3 +1,5 @@
+-- One stamp more is written behind the others, and what lies behind them stays (loop of
+-- src/entry.rt).
 use Rattle.std.proofs.Common.{refl}
 use Rattle.run_records.proofs.Stamps.{stamp_put}
 use Rattle.run_records.proofs.entry.put_each.Goals as goal

@@ -1,3 +1,4 @@
+-- The bytes of the record stand at the front, of a step as of an edit (src/entry.rt).
 use Rattle.std.proofs.Common.{◌+◌, ◌*◌, ◌∷◌, None, length, take, sym, ◌∙◌, ap, arith}
 use Rattle.std.specs.Option.{option_copied}
 use Rattle.nc_number.specs.Path.{number_of}

@@ -1,3 +1,4 @@
+-- Two records whose bytes begin one list are the same, and no cause refuses them (src/laws.rt).
 use Rattle.run_records.proofs.OneSpelling.{one_entry, no_cause}
 use Rattle.run_records.proofs.laws.an_entry_has_one_spelling.Goals as goal
 

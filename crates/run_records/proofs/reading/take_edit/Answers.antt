@@ -1,3 +1,4 @@
+-- The record that is read spells the bytes that it was read from (src/reading.rt).
 use Rattle.std.proofs.Common.{sym, ◌∙◌}
 use Rattle.run_records.proofs.Read.{edit_spells}
 use Rattle.run_records.proofs.reading.take_edit.Goals as goal

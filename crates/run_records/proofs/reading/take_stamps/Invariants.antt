@@ -1,3 +1,5 @@
+-- The stamps so far spell the bytes so far, and what is left stands behind them (loop of
+-- src/reading.rt).
 use Rattle.std.proofs.Common.{◌≡◌, ◌<◌, ◌+◌, ◌*◌, ◌++◌, ℕ, length, get_or}
 use Rattle.run_records.specs.Spelling.{stamp_bytes}
 use Rattle.run_records.specs.Stamps.{AreStamps}

@@ -1,4 +1,4 @@
--- A tape is refused by its reading, and one that reads by the order of its blocks.
+-- A tape is refused by its reading, and one that reads by the order of its blocks (src/flow.rt).
 use Rattle.std.proofs.Common.{map, subst, sym}
 use Rattle.nc_text.specs.Shape.{IsTapeShape}
 use Rattle.block_order.specs.Shape.{IsListed}

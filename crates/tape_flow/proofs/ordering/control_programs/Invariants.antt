@@ -1,4 +1,5 @@
--- So many programs are ordered as the loop has passed.
+-- The programs so far are those of the flow, without what their blocks say (loop of
+-- src/ordering.rt).
 use Rattle.std.proofs.Common.{◌≡◌, map, take}
 use Rattle.tape_flow.specs.Forms.{program_form}
 use Rattle.tape_flow.specs.Controls.{control_program}

@@ -1,4 +1,4 @@
--- So many blocks are ordered as the loop has passed.
+-- The blocks so far are those of the program, without what they say (loop of src/ordering.rt).
 use Rattle.std.proofs.Common.{◌≡◌, map, take}
 use Rattle.block_forms.specs.Blocks.{block_form}
 use Rattle.tape_flow.specs.Controls.{control_block}

@@ -1,4 +1,5 @@
--- What is checked are the controls of the programs' forms.
+-- What is checked are the controls of the programs' forms, and its fault is theirs
+-- (src/ordering.rt).
 use Rattle.std.proofs.Common.{sym, ◌∙◌, subst}
 use Rattle.std.proofs.lemmas.Simd.{map-map}
 use Rattle.block_order.specs.Faults.{IsSound, IsFirst}

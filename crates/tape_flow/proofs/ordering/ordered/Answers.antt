@@ -1,4 +1,4 @@
--- The blocks of the ordered program are those of the program's form.
+-- The blocks of the ordered program are those of the program's form (src/ordering.rt).
 use Rattle.std.proofs.Common.{ap, sym}
 use Rattle.std.proofs.lemmas.Simd.{map-map}
 use Rattle.block_forms.specs.Blocks.{block_form}

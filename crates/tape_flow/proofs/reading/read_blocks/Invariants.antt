@@ -1,4 +1,5 @@
--- The blocks that are read, with the rest as it reads behind them, are the whole.
+-- The blocks that are read, with the rest as it reads after them, are the whole (loop of
+-- src/reading.rt).
 use Rattle.std.proofs.Common.{◌≡◌, [], map, drop}
 use Rattle.block_forms.specs.Blocks.{block_form}
 use Rattle.tape_flow.specs.Forms.{blocks_from}

@@ -1,4 +1,5 @@
--- The programs that are read, with the rest as it reads behind them, are the whole.
+-- The programs that are read, with the rest as it reads after them, are the whole (loop of
+-- src/reading.rt).
 use Rattle.std.proofs.Common.{◌≡◌, [], map, drop}
 use Rattle.tape_flow.specs.Forms.{program_form, programs_from}
 use Rattle.tape_flow.proofs.reading.read_programs.Given as goal

@@ -1,4 +1,4 @@
--- The blocks are read as the settings of the cell say.
+-- The blocks are read as the settings of the cell say (src/reading.rt).
 use Rattle.std.proofs.Common.{◌≡◌, map, subst}
 use Rattle.nc_number.specs.Answers.{Gives}
 use Rattle.tape_flow.specs.Forms.{program_form, programs_read}

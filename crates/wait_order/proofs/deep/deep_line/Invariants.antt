@@ -1,3 +1,4 @@
+-- The line so far is that of the first ninth call among the programs before (loop of src/deep.rt).
 use Rattle.wait_order.specs.Deep.{IsDeepBelow}
 use Rattle.wait_order.specs.Waiting.{IsLeast}
 use Rattle.wait_order.proofs.deep.deep_line.Given as goal

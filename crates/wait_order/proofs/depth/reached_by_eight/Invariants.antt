@@ -1,3 +1,4 @@
+-- After so many rounds the flags are those of so many calls (loop of src/depth.rt).
 use Rattle.wait_order.specs.Depth.{AreReached}
 use Rattle.wait_order.proofs.depth.reached_by_eight.Given as goal
 

@@ -1,3 +1,5 @@
+-- A target whose number is sought, one whose number is not, and one without a number
+-- (src/search_strays.rt).
 use Rattle.std.proofs.Common.{sym, ◌∙◌}
 use Rattle.wait_order.specs.Searchers.{is_sought}
 use Rattle.wait_order.proofs.Leading.{least_numbered, least_unsought, least_unnumbered}

@@ -1,3 +1,4 @@
+-- One place more is filled, from the last one back; then all are (src/searchers.rt).
 use Rattle.std.proofs.Common.{◌≡◌, ◌+◌, ◌-◌, ◌<◌, length, None, subst, ◌∙◌, arith}
 use Rattle.std.proofs.Math.ListN.{length-set}
 use Rattle.block_order.specs.declared.control.Control.TheVariants.{Next}

@@ -1,3 +1,4 @@
+-- The list is right for the last `done` places and the end (loop of src/searchers.rt).
 use Rattle.std.proofs.Common.{◌-◌}
 use Rattle.wait_order.specs.Searchers.{is_searcher, AreNext}
 use Rattle.wait_order.proofs.searchers.next_searchers.Given as goal

@@ -1,3 +1,4 @@
+-- In a program of one stretch no return leads elsewhere (src/view.rt).
 use Rattle.wait_order.proofs.Elsewhere.{false_is_not_true}
 use Rattle.wait_order.proofs.view.returns_elsewhere.Goals as goal
 

@@ -1,3 +1,4 @@
+-- Each program of the tape is what the calls below require (src/waiting.rt).
 use Rattle.wait_order.proofs.Listed.{programs_are}
 use Rattle.wait_order.proofs.waiting.waiting_fault.Goals as goal
 

@@ -1,3 +1,4 @@
+-- No pair is neither accepted nor refused, by the lemma of SomeAnswer (src/laws.rt).
 use Rattle.wait_verify.proofs.SomeAnswer.{some_answer}
 use Rattle.wait_verify.proofs.laws.no_pair_is_without_an_answer.Goals as goal
 

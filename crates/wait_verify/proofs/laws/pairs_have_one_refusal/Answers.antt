@@ -1,3 +1,4 @@
+-- A pair has one refusal at most, by the lemma of OneRefusal (src/laws.rt).
 use Rattle.wait_verify.proofs.OneRefusal.{one_refusal}
 use Rattle.wait_verify.proofs.laws.pairs_have_one_refusal.Goals as goal
 

@@ -1,4 +1,5 @@
--- So many bytes are put as the loop has passed.
+-- The bytes so far are those of the text so far, with a blank for each comma (loop of
+-- src/opening.rt).
 use Rattle.std.proofs.Common.{◌≡◌, map, take}
 use Rattle.wait_verify.specs.Asked.{without_comma}
 use Rattle.wait_verify.proofs.opening.opened.Given as goal

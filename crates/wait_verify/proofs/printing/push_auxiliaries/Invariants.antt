@@ -1,4 +1,4 @@
--- What was put, with what the rest puts, is the whole.
+-- The text so far with the M codes ahead is the text with all of them (loop of src/printing.rt).
 use Rattle.std.proofs.Common.{◌≡◌, ◌++◌, codes}
 use Rattle.wait_verify.specs.Printed.{numbers_text}
 use Rattle.wait_verify.proofs.printing.push_auxiliaries.Given as goal

@@ -1,4 +1,5 @@
--- What was put, with what the rest puts, is the whole.
+-- The text so far with the lines of the labels ahead is the text with all of them (loop of
+-- src/printing.rt).
 use Rattle.std.proofs.Common.{◌≡◌, ◌++◌, drop}
 use Rattle.wait_verify.specs.Printed.{meetings_text}
 use Rattle.wait_verify.proofs.printing.push_meetings.Given as goal

@@ -1,3 +1,4 @@
+-- A refusal of the reading or of the order is that of the text (src/tape.rt).
 use Rattle.wait_verify.proofs.tape.ordered_tape.Goals as goal
 
 pub returns-in-Err-clause-refused : goal.returns-in-Err-clause-refused

@@ -1,3 +1,5 @@
+-- The P and the L of a block that is not refused fit the numbers that the control takes
+-- (src/words.rt).
 use Rattle.std.proofs.Common.{refl}
 use Rattle.block_words.specs.declared.purpose.Purpose.TheVariants.{MacroCall, Subprogram}
 use Rattle.block_forms.proofs.Accepted.{number_at_most}

@@ -1,3 +1,4 @@
+-- The END noted at a block is that of its loop (src/loops.rt).
 use Rattle.std.proofs.Common.{◌≡◌, sym, ap, ◌∙◌}
 use Rattle.std.specs.List.{slice_get}
 use Rattle.std.specs.Option.{option_flatten}

@@ -1,3 +1,4 @@
+-- The head noted at a block is that of the innermost loop around it (src/loops.rt).
 use Rattle.std.proofs.Common.{ap, ◌∙◌}
 use Rattle.std.specs.List.{slice_get}
 use Rattle.std.specs.Option.{option_flatten}

@@ -1,3 +1,5 @@
+-- The tables tell the END of a loop, and a number beyond it is left, since a tape has few blocks
+-- (src/order.rt).
 use Rattle.std.proofs.Common.{◌≡◌, ℕ, ◌<◌, ◌≤◌, List, length, Option, Some, None, IfSome, refl, sym, ap, arith}
 use Rattle.block_order.specs.declared.program.ControlBlock.{ControlBlock}
 use Rattle.block_order.specs.Order.{blocks, end_of_loop}

@@ -1,3 +1,4 @@
+-- The length of the bytes is where the shut gate stands (src/body_list.rt).
 use Rattle.std.proofs.Common.{rules, ◌≡◌, length, ap, ◌∙◌}
 use Rattle.gate_file.specs.Chain.{ends_at}
 use Rattle.gate_file.proofs.Bodies.{bytes_end}

@@ -1,3 +1,5 @@
+-- The entries that lie whole in the bytes are taken, and the list still opens its bodies
+-- (src/body_list.rt).
 use Rattle.std.proofs.Common.{rules, ◌≡◌, ◌+◌, ◌++◌, List, ℕ, length, take, drop, sym, subst, ◌∙◌, ap, arith}
 use Rattle.std.proofs.Math.Seq.{take-append-add}
 use Rattle.gate_file.specs.Bodies.{bodies_from, AreEnds, AreBodies}

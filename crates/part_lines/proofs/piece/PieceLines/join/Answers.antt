@@ -1,3 +1,4 @@
+-- Takes the lines of a program that was called once (src/piece.rt).
 use Rattle.std.proofs.Common.{◌+◌, drop, sym, subst}
 use Rattle.part_lines.proofs.Shown.{IsJoinedSoFar, joined_next}
 use Rattle.part_lines.proofs.piece.PieceLines.join.Goals as goal

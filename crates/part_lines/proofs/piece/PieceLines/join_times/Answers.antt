@@ -1,3 +1,4 @@
+-- Takes the lines of a program that was called so many times (src/piece.rt).
 use Rattle.std.proofs.Common.{◌≡◌, length, ap, ◌∙◌, rules}
 use Rattle.part_lines.specs.Pieces.{shown}
 use Rattle.part_lines.proofs.Shown.{empty_is, times_more, waitless_joined}

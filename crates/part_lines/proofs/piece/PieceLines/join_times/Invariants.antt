@@ -1,4 +1,4 @@
--- The lines so far are those before and as many runs as were joined.
+-- The lines so far are those before and as many runs as were joined (loop of src/piece.rt).
 use Rattle.part_lines.specs.Pieces.{AreJoined}
 use Rattle.part_lines.proofs.piece.PieceLines.join_times.Given as goal
 

@@ -1,3 +1,4 @@
+-- A record is put after those that are to be written, and counted (src/batch.rt).
 use Rattle.std.proofs.Common.{◌++◌, [], ◌∷◌, List, ℕ, subst}
 use Rattle.run_records.specs.declared.version.Version.{Version}
 use Rattle.run_records.specs.Entries.{Entry}

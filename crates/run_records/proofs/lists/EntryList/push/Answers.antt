@@ -1,3 +1,4 @@
+-- One record more stands behind the others, with its stamps or its edit (src/lists.rt).
 use Rattle.std.proofs.Common.{rules, ◌≡◌, ◌<◌, ◌≤◌, ◌+◌, ◌++◌, ◌∷◌, [], List, ℕ, length, refl, ◌∙◌, ap, subst, sym, arith}
 use Rattle.std.specs.Prelude.{All, vec_len, vec_capacity}
 use Rattle.std.proofs.lemmas.List.{length-map}

@@ -1,3 +1,4 @@
+-- The block is that of the flow, and seen without what it says that of the order (src/lending.rt).
 use Rattle.std.proofs.Common.{ap, ◌∙◌, slice_get}
 use Rattle.std.specs.Option.{option_map}
 use Rattle.block_forms.specs.Blocks.{block_form}

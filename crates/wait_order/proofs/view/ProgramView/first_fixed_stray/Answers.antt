@@ -1,3 +1,4 @@
+-- No block so far may lead to another stretch by itself; after all of them none may (src/view.rt).
 use Rattle.std.proofs.Common.{◌≡◌, Some, None, sym, ap, ◌∙◌, arith}
 use Rattle.block_order.specs.declared.control.Control.TheVariants.{Next}
 use Rattle.block_order.specs.Order.{control_at}

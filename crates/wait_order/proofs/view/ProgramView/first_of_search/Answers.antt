@@ -1,3 +1,4 @@
+-- A program of one stretch, and one in which no block searches, have no such block (src/view.rt).
 use Rattle.std.proofs.Common.{◌≡◌, false, sym, ◌∙◌}
 use Rattle.block_order.specs.Loud.{loud}
 use Rattle.wait_order.specs.Searchers.{is_searcher, is_sought}

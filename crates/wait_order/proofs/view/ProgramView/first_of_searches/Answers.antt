@@ -1,3 +1,4 @@
+-- One search more is looked at, and the first block so far holds (src/view.rt).
 use Rattle.std.proofs.Common.{length, refl}
 use Rattle.std.proofs.lemmas.Option.{slice_get_read}
 use Rattle.block_order.specs.Loud.{loud}
