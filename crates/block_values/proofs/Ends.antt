@@ -15,41 +15,51 @@ use Rattle.motion_track.specs.Within.{IsMoveWithin, AreMovesWithin}
 use Rattle.block_values.specs.Values.{Values}
 use Rattle.block_values.specs.Moves.{speed_moves, tool_moves, is_auxiliary, auxiliary_moves, all_moves, last_end}
 
+-- the move ends at a position, and reaches no farther than a block may
 abbrev Lies : Move → Type 0
 Lies move = IsMoveWithin LONGEST move
 
+-- the turret stands at the end of the move, or where it stood
 end_after : (end : Option Point) (at : Point) → IsPosition at → IfSome end IsPosition → IsPosition (unwrap_or end at)
 end_after None at here there = here
 end_after (Some to) at here there = there
 
+-- behind moves within range the turret stands at a position
 pub last_end_stands : (at : Point) (moves : List Move) → IsPosition at → AreMovesWithin LONGEST moves → IsPosition (last_end at moves)
 last_end_stands at [] here all = here
 last_end_stands at (move ∷ moves) here all =
     last_end_stands (unwrap_or (end_of move) at) moves (end_after (end_of move) at here (All-head Lies move moves all).0) (All-tail Lies move moves all)
 
+-- no move at all is within range,
 pub none_within : AreMovesWithin LONGEST []
 none_within = All-nil Lies
 
+-- nor does a dwell reach anywhere,
 pub dwell_within : (ms : ℕ) → AreMovesWithin LONGEST (move.Dwell ms ∷ [])
 dwell_within ms = All-cons Lies (move.Dwell ms) [] (tt, tt) (All-nil Lies)
 
+-- nor a speed,
 speed_within : (limits : Bool) (modal : ModalView) (speed : Var) → AreMovesWithin LONGEST (speed_moves limits modal speed)
 speed_within limits modal Vacant = All-nil Lies
 speed_within true modal (Is s) = All-cons Lies _ [] (tt, tt) (All-nil Lies)
 speed_within false modal (Is s) = All-cons Lies _ [] (tt, tt) (All-nil Lies)
 
+-- nor a tool,
 tool_within : (tool : Option ℕ) → AreMovesWithin LONGEST (tool_moves tool)
 tool_within None = All-nil Lies
 tool_within (Some t) = All-cons Lies (move.Tool t) [] (tt, tt) (All-nil Lies)
 
+-- nor an M code
 one_more : (b : Bool) (m : ℕ) → AreMovesWithin LONGEST (if b then move.Aux m ∷ [] else [])
 one_more true m = All-cons Lies (move.Aux m) [] (tt, tt) (All-nil Lies)
 one_more false m = All-nil Lies
 
+-- if there is one
 auxiliary_within : (code : Option ℕ) → AreMovesWithin LONGEST (auxiliary_moves code)
 auxiliary_within None = All-nil Lies
 auxiliary_within (Some m) = one_more (is_auxiliary m) m
 
+-- so all moves of a block reach no farther than its motion
 pub all_within : (limits : Bool) (modal : ModalView) (values : Values) (motion : List Move) (code : Option ℕ) → AreMovesWithin LONGEST motion → AreMovesWithin LONGEST (all_moves limits modal values motion code)
 all_within limits modal values motion code all =
     let behind = All-append Lies motion (auxiliary_moves code) all (auxiliary_within code) in

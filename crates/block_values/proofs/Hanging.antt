@@ -1,4 +1,4 @@
--- What the parts of a block hang on: each on its own words alone.
+-- What the parts of a block depend on: each on its own words alone.
 use Rattle.std.proofs.Common.{◌≡◌, ℕ, Bool, List, Option, refl}
 use Rattle.code_tables.specs.declared.kind.CodeKind.{CodeKind}
 use Rattle.code_tables.specs.declared.kind.CodeKind.TheVariants.{Rapid, Feed, ArcCw, ArcCcw, Thread, CycleTurn, CycleThread, CycleFace, Surface, Spindle, PerMin, PerRev, Inch, Metric, NoseOff, NoseOn, Work, Dwell, Setting, Home, Limit, Machine, MacroCall, Absolute, Incremental, Idle}
@@ -16,16 +16,19 @@ use Rattle.block_values.specs.Moves.{all_moves}
 use Rattle.block_values.specs.InForce.{modal_after, settings_said, modal_behind}
 use Rattle.block_values.specs.Drawn.{motion_said, motion_part}
 
+-- what is in force behind a block depends only on its G codes and on F, S and T
 pub modal_hangs : (modal : ModalView) (system : System) (words : List FlowWord) (values : Values)
     → modal_after modal system words values
     ≡ modal_behind modal (rows system words) (settings_said values.feed values.speed values.tool)
 modal_hangs modal system words values = refl
 
+-- its other moves depend only on S, T and the M code
 pub moves_hang : (limits : Bool) (modal : ModalView) (values : Values) (motion : List Move) (code : Option ℕ)
     → all_moves limits modal values motion code
     ≡ all_moves limits modal (settings_said Vacant values.speed values.tool) motion code
 moves_hang limits modal values motion code = refl
 
+-- its motion depends only on the words that the motion takes
 pub motion_hangs : (home position : Point) (offsets : OffsetTable) (modal : ModalView) (kind : CodeKind) (has_l : Bool)
     (values : Values)
     → motion_of home position offsets modal kind has_l values

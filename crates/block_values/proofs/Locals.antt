@@ -5,5 +5,6 @@ use Rattle.common_vars.proofs.VariableNumbers.{found_by_number}
 use Rattle.modal_state.specs.View.{ModalView}
 use Rattle.block_values.specs.Readings.{if_there, variable_in}
 
+-- `#1` to `#33` are local variables in either system of codes
 pub local_in : (modal : ModalView) (i : ℕ) → 1 ≤ i → i ≤ 33 → variable_in modal i ≡ Some (Local i)
 local_in modal i low high = ap (if_there modal) (found_by_number (Local i) (low, high))

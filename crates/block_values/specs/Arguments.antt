@@ -1,4 +1,5 @@
 -- The arguments of a macro call.
+-- path_state takes `argument_with` and `arguments_with`.
 use Rattle.std.specs.Prelude.{ℕ, Bool, ◌-◌, ◌==◌, ◌&&◌, not, List, [], ◌∷◌, Option, Some, None, Result, ℤ, pos, int_div, slice_set, codes, if◌then◌else◌}
 use Rattle.nc_number.specs.declared.literal.Literal.{Literal}
 use Rattle.nc_number.specs.declared.value.Var.{Var}
@@ -18,7 +19,7 @@ beside [] numbers letter = None
 beside (own ∷ letters) [] letter = None
 beside (own ∷ letters) (number ∷ numbers) letter = if own == letter then Some number else beside letters numbers letter
 
--- which local variable an address of a macro call is
+-- the local variable of an address of a macro call: below each letter stands its number
 abbrev pub local_of : ℕ → Option ℕ
 local_of letter =
     beside (codes "ABCDEFHIJKMQRSTUVWXYZ")
@@ -29,10 +30,12 @@ abbrev pub argument : ℕ → Literal → ℤ
 argument letter literal =
     if not literal.point && is_one_of (codes "XZUWIKR") letter then int_div literal.value (pos 1000) else literal.value
 
+-- the arguments with the one of this local variable, if an address has one
 abbrev pub with_argument : Option ℕ → ℤ → List Var → List Var
 with_argument None value arguments = arguments
 with_argument (Some i) value arguments = slice_set arguments (i - 1) (Is value)
 
+-- the arguments with the value of this address; a vacant one sets none
 abbrev pub with_var : ℕ → Bool → Var → List Var → List Var
 with_var letter minus Vacant arguments = arguments
 with_var letter minus (Is value) arguments = with_argument (local_of letter) (argument letter (computed minus value)) arguments

@@ -1,4 +1,5 @@
 -- What the code's own structs are as records of the definitions.
+-- path_state takes `step_motion` and `step_seen`.
 use Rattle.std.specs.Prelude.{ℕ, List, Some, unwrap_or, Result, Ok, Err}
 use Rattle.motion_track.specs.Centre.{IsLengthWithin}
 use Rattle.nc_moves.specs.declared.motion.Move.{Move}
@@ -46,6 +47,7 @@ pub record AreLengthsWithin (far : ℕ) (words : MotionWords) : Type 0 where
   pub k : IsLengthWithin far words.k
   pub r : IsLengthWithin far words.r
 
+-- a motion of the code
 abbrev pub motion_view : Drawn → Motion
 motion_view motion = record { moves = motion.moves; cycle = motion.cycle; offset = motion.offset }
 

@@ -1,4 +1,5 @@
 -- What is in force behind the codes and words of a block.
+-- path_state, run_table and two more crates take words from here.
 use Rattle.std.specs.Prelude.{ℕ, Bool, true, false, List, Option, Some, None, Result, Ok, Err}
 use Rattle.std.specs.List.{list_any}
 use Rattle.nc_number.specs.declared.value.Var.{Var}
@@ -20,9 +21,11 @@ abbrev pub speed_word : Bool → Var → SpeedWord
 speed_word true s = Limit s
 speed_word false s = Speed s
 
+-- F, S and T of a block, as the modal state takes them
 abbrev pub modal_words : Bool → Values → ModalWords
 modal_words limits values = record { feed = values.feed; speed = speed_word limits values.speed; tool = values.tool }
 
+-- the modal state, or the number of the alarm
 abbrev pub unless_fault : Option ModalFault → ModalView → Result ModalView ℕ
 unless_fault None modal = Ok modal
 unless_fault (Some fault) modal = Err fault.number

@@ -1,3 +1,5 @@
+-- The words of the contracts of block_values, from the value of an operand (Outcomes) to all moves
+-- of a block (Moves). path_state cites all but Drawn's and Seen's inner words.
 pub mod Outcomes
 pub mod Readings
 pub mod Values

@@ -1,4 +1,5 @@
 -- The motion of a block: by its one-shot code if it has one, else by the motion code in force.
+-- path_state, run_table and two more crates take words from here.
 use Rattle.std.specs.Prelude.{ℕ, Bool, true, false, List, [], ◌∷◌, Option, Some, None, unwrap_or, Result, Ok, Err, ℤ}
 use Rattle.nc_number.specs.declared.point.Point.{Point}
 use Rattle.nc_number.specs.declared.axis.Axis.{Axis}
@@ -38,6 +39,7 @@ pub record Motion : Type 0 where
   -- the offset that is set
   pub offset : Option (Slot × Point)
 
+-- a motion of these moves that sets no offset
 abbrev pub moving : Option Point → List Move → Motion
 moving cycle moves = record { moves = moves; cycle = cycle; offset = None }
 
@@ -46,6 +48,7 @@ abbrev pub motion_number : {A : Type 0} → Result A MotionFault → Result A �
 motion_number (Ok value) = Ok value
 motion_number (Err fault) = Err fault.number
 
+-- what was set, or the number of the alarm
 abbrev pub offset_number : {A : Type 0} → Result A OffsetFault → Result A ℕ
 offset_number (Ok value) = Ok value
 offset_number (Err fault) = Err fault.number
@@ -61,13 +64,15 @@ axis_under false word way = axis_of word way
 axis_under true None way = axis_of None way
 axis_under true (Some word) way = By word
 
+-- what the words say of X
 abbrev pub x_axis : ModalView → Values → Axis
 x_axis modal values = axis_under modal.incremental values.x values.u
 
+-- and of Z
 abbrev pub z_axis : ModalView → Values → Axis
 z_axis modal values = axis_under modal.incremental values.z values.w
 
--- what the motion hangs on: the modal state is the one with the block's codes and words taken
+-- what the motion depends on: the modal state is the one with the block's codes and words taken
 abbrev pub block_motion : Point → Point → OffsetTable → ModalView → Values → BlockMotion
 block_motion home position offsets modal values = record {
   start = position;
@@ -88,20 +93,24 @@ abbrev pub form_of : Bool → OffsetForm
 form_of true = WorkOffset
 form_of false = ToolOffset
 
+-- the offset that G10 sets, and its point; or the alarm of why there is none
 abbrev pub setting_of : OffsetTable → ModalView → Bool → Values → Result (Slot × Point) OffsetFault
 setting_of offsets modal has_l values = do
   slot ← slot_named (form_of has_l) values.number
   to ← in_range (changed_point (point_at offsets slot) (x_axis modal values) (z_axis modal values))
   Ok (slot, to)
 
+-- G10 as a motion: it moves nothing
 abbrev pub set_motion : Option Point → Result (Slot × Point) OffsetFault → Result Motion OffsetFault
 set_motion cycle (Ok set) = Ok (record { moves = []; cycle = cycle; offset = Some set })
 set_motion cycle (Err fault) = Err fault
 
+-- a pass of a cycle as a motion, which says where the cycle ends
 abbrev pub passed_motion : Result CyclePass MotionFault → Result Motion MotionFault
 passed_motion (Ok pass) = Ok (moving pass.kept pass.moves)
 passed_motion (Err fault) = Err fault
 
+-- moves of a line, an arc or a thread as a motion
 abbrev pub tracked : Option Point → Result (List Move) MotionFault → Result Motion MotionFault
 tracked cycle (Ok moves) = Ok (moving cycle moves)
 tracked cycle (Err fault) = Err fault

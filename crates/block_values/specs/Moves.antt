@@ -1,4 +1,5 @@
 -- All moves of a block in their order, and where the turret stands behind them.
+-- path_state, run_table and zone_check take words from here.
 use Rattle.std.specs.Prelude.{ℕ, Bool, true, false, not, ◌==◌, ◌&&◌, ◌||◌, nat_le, List, [], ◌∷◌, ◌++◌, Option, Some, None, unwrap_or, ℤ, unsigned_abs, if◌then◌else◌}
 use Rattle.nc_number.specs.declared.point.Point.{Point}
 use Rattle.nc_number.specs.declared.value.Var.{Var}
@@ -10,6 +11,7 @@ use Rattle.nc_moves.specs.Motion.{end_of}
 use Rattle.modal_state.specs.View.{ModalView}
 use Rattle.block_values.specs.Values.{Values}
 
+-- a speed in whole units, or 0 where none is said
 abbrev pub whole_or_zero : Option ℤ → ℕ
 whole_or_zero None = 0
 whole_or_zero (Some n) = unsigned_abs n
@@ -20,6 +22,7 @@ speed_moves limits modal Vacant = []
 speed_moves true modal (Is s) = move.Limit (whole_or_zero (whole_of s)) ∷ []
 speed_moves false modal (Is s) = move.Speed modal.surface (whole_or_zero (whole_of s)) ∷ []
 
+-- T, if it is said
 abbrev pub tool_moves : Option ℕ → List Move
 tool_moves None = []
 tool_moves (Some t) = move.Tool t ∷ []
@@ -29,6 +32,7 @@ tool_moves (Some t) = move.Tool t ∷ []
 abbrev pub is_auxiliary : ℕ → Bool
 is_auxiliary m = nat_le m 999 && not (((m == 2) || (m == 30)) || ((m == 98) || (m == 99)))
 
+-- the M code that the machine gets, if there is one
 abbrev pub auxiliary_moves : Option ℕ → List Move
 auxiliary_moves None = []
 auxiliary_moves (Some m) = if is_auxiliary m then move.Aux m ∷ [] else []

@@ -1,4 +1,5 @@
 -- What the operands of a statement come to, by what a table says of each variable.
+-- named_vars, path_state and two more crates take words from here.
 use Rattle.std.specs.Prelude.{ℕ, Bool, List, Option, Some, None, Result, Ok, Err, ℤ, pos, negsuc}
 use Rattle.nc_number.specs.declared.cause.Cause.{Cause}
 use Rattle.nc_number.specs.declared.cause.Cause.TheVariants.{VariableRange, NoSequence}
@@ -21,6 +22,7 @@ abbrev pub existing : Option Variable → Result Variable Cause
 existing None = Err VariableRange
 existing (Some variable) = Ok variable
 
+-- the variable of a number, or the alarm of a number that is none
 abbrev pub number_named : ModalView → Result ℕ Cause → Result Variable Cause
 number_named modal (Ok n) = existing (variable_in modal n)
 number_named modal (Err cause) = Err cause

@@ -1,5 +1,6 @@
 -- What a step of a block comes to: a value and the reads that are left, the need of a shared
 -- variable, or an alarm.
+-- named_vars, path_state and three more crates take words from here.
 use Rattle.std.specs.Prelude.{ℕ, List, Result, Ok, Err, ℤ, pos}
 use Rattle.nc_number.specs.declared.cause.Cause.{Cause}
 use Rattle.nc_number.specs.declared.value.Var.{Var}
@@ -10,6 +11,7 @@ use Rattle.macro_eval.specs.declared.scope.Look.{Look}
 use Rattle.macro_eval.specs.declared.scope.VarFault.{VarFault}
 use Rattle.macro_eval.specs.Meaning.{Answer, meaning}
 
+-- how a step ends
 pub data Outcome (A : Type 0) : Type 0 where
   Gives : (value : A) → (left : List Var) → Outcome A
   Needs : (variable : ℕ) → Outcome A
@@ -18,11 +20,13 @@ pub data Outcome (A : Type 0) : Type 0 where
 
 -- one step behind the other
 infixl 10 ◌>>=◌
+-- one step and then another, with the reads that the first one left
 abbrev pub ◌>>=◌ : {A B : Type 0} → Outcome A → (A → List Var → Outcome B) → Outcome B
 (Gives value left) >>= next = next value left
 (Needs variable) >>= next = Needs variable
 (Alarms number value) >>= next = Alarms number value
 
+-- the alarm of a cause, with value 0
 abbrev pub alarm : {A : Type 0} → Cause → Outcome A
 alarm cause = Alarms (cause_number cause) (pos 0)
 
@@ -31,6 +35,7 @@ abbrev pub reading_none : {A : Type 0} → Result A Cause → List Var → Outco
 reading_none (Ok value) left = Gives value left
 reading_none (Err cause) left = alarm cause
 
+-- the answer of an expression as an outcome
 abbrev pub answered : Answer → Outcome Var
 answered (Got value, left) = Gives value left
 answered (Need variable, left) = Needs variable

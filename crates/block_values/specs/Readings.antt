@@ -1,4 +1,5 @@
 -- What a number names, and how a variable gives what it holds.
+-- named_vars, path_state and two_path take words from here.
 use Rattle.std.specs.Prelude.{ℕ, Bool, true, Option, Some, None, is_some, ℤ, pos, if◌then◌else◌}
 use Rattle.nc_number.specs.declared.value.Var.{Var}
 use Rattle.nc_number.specs.declared.value.Var.TheVariants.{Vacant, Is}
@@ -18,6 +19,7 @@ abbrev pub is_there : ModalView → Variable → Bool
 is_there modal (variable.Code group) = is_some (code_of modal group)
 is_there modal _ = true
 
+-- the variable, if the system in force has it
 abbrev pub if_there : ModalView → Option Variable → Option Variable
 if_there modal None = None
 if_there modal (Some variable) = if is_there modal variable then Some variable else None
@@ -31,16 +33,20 @@ abbrev pub or_vacant : Option ℤ → Var
 or_vacant None = Vacant
 or_vacant (Some value) = Is value
 
+-- a whole number as the value of a variable
 abbrev pub in_units : ℕ → Var
 in_units n = or_vacant (value_of_units (pos n))
 
+-- a length in 0.001 mm as the value of a variable, which is in millimetres
 abbrev pub in_millimetres : ℤ → Var
 in_millimetres length = or_vacant (value_of_increments length)
 
+-- the code of a modal group as the value of a variable; vacant if none is in force
 abbrev pub code_in_force : Option ℕ → Var
 code_in_force None = Vacant
 code_in_force (Some code) = in_units code
 
+-- X or Z of a point
 abbrev pub part : AxisLetter → Point → ℤ
 part X point = point.x
 part Z point = point.z

@@ -1,4 +1,5 @@
 -- How contracts see what the code keeps.
+-- path_state takes `outcome_of`, `sense_seen` and `values_seen`.
 use Rattle.std.specs.Prelude.{List, Result, Ok, Err}
 use Rattle.nc_number.specs.declared.cause.Cause.{Cause}
 use Rattle.nc_number.specs.declared.value.Var.{Var}
@@ -26,6 +27,7 @@ values_seen said = record {
   rest = said.rest;
 }
 
+-- the sense of the code's own struct
 abbrev pub sense_seen : sensed.Sense → Sense
 sense_seen sense = record { purpose = sense.purpose; arc = sense.arc; setting = sense.setting }
 

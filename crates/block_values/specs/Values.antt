@@ -1,4 +1,5 @@
 -- What the words of a block say once each is evaluated, in the order of the text.
+-- named_vars, path_state and three more crates take words from here.
 use Rattle.std.specs.Prelude.{ℕ, Bool, true, false, not, ◌&&◌, ◌||◌, List, [], ◌∷◌, Option, Some, None, Result, Ok, Err, ℤ, neg_ℤ, unsigned_abs, codes, if◌then◌else◌}
 use Rattle.nc_number.specs.declared.cause.Cause.{Cause}
 use Rattle.nc_number.specs.declared.cause.Cause.TheVariants.{UnknownCode, WordRange}
@@ -38,6 +39,7 @@ pub record Values : Type 0 where
   -- a dwell in milliseconds
   pub rest : Option ℕ
 
+-- no word said anything
 abbrev pub nothing_said : Values
 nothing_said = record {
   x = None;
@@ -67,14 +69,17 @@ abbrev pub is_meant : Sense → ℕ → Bool
 is_meant sense letter =
     not (is_one_of (codes "IKR") letter) || (sense.arc || (sense.setting && is_one_of (codes "R") letter))
 
+-- the block is a dwell
 abbrev pub is_dwell : Purpose → Bool
 is_dwell Dwell = true
 is_dwell _ = false
 
+-- the block sets an offset
 abbrev pub is_offset : Purpose → Bool
 is_offset Setting = true
 is_offset _ = false
 
+-- how long a dwell is
 abbrev pub milliseconds : ℤ → Option ℕ
 milliseconds n = Some (unsigned_abs n)
 

@@ -1,4 +1,5 @@
 -- How long the lengths of a block may be.
+-- path_state takes `AreLengthsSaid`.
 use Rattle.std.specs.Prelude.{ℕ}
 use Rattle.motion_track.specs.Centre.{IsLengthWithin}
 use Rattle.block_values.specs.declared.values.Values.{Values}
@@ -7,6 +8,7 @@ use Rattle.block_values.specs.declared.values.Values.{Values}
 abbrev pub longest_said : ℕ
 longest_said = 100000000000
 
+-- none of the lengths that words said is longer than that
 pub record AreLengthsSaid (said : Values) : Type 0 where
   pub x : IsLengthWithin longest_said said.x
   pub z : IsLengthWithin longest_said said.z

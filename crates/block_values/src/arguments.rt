@@ -1,4 +1,5 @@
-//! The arguments of a macro call.
+//! The arguments of a macro call: which local variable an address is, and its value.
+//! path_state uses it.
 ghost use Rattle.std.specs.Prelude.{◌≡◌, ◌≤◌, IfSome, pos, int_div};
 ghost use Rattle.block_values.specs.Arguments.{local_of, argument, with_argument, with_var, argument_with, arguments_with};
 ghost use Rattle.block_values.specs.Seen.{outcome_of};

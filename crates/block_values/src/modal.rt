@@ -1,4 +1,5 @@
 //! The modal state behind the codes and words of a block.
+//! path_state and tests use it.
 ghost use Rattle.std.specs.Prelude.{◌≡◌};
 ghost use Rattle.block_words.specs.Codes.{rows};
 ghost use Rattle.block_values.specs.InForce.{modal_after, speed_word, settings_said, has_limit, modal_behind};
@@ -55,6 +56,7 @@ fn has_limit(rows: &[Row]) -> bool
     rows.iter().any(|row| matches!(row.kind, CodeKind::Limit))
 }
 
+/// What S of a block says: the highest speed beside G50, else the speed.
 fn speed_word(limits: bool, speed: Var) -> SpeedWord
     ensures { result ≡ speed_word limits speed }
 {

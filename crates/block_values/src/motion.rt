@@ -1,4 +1,5 @@
 //! The motion of a block: by its one-shot code if it has one, else by the motion code in force.
+//! path_state and tests use it.
 ghost use Rattle.std.specs.Prelude.{ℕ, ◌≡◌, ◌≤◌, ◌∷◌, [], codes, length, None, IfOk, IfSome, unsigned_abs};
 ghost use Rattle.nc_number.specs.Axes.{IsAxisWithin};
 ghost use Rattle.nc_number.specs.Position.{IsPosition};
@@ -28,12 +29,19 @@ use turn_cycles::{CycleKind, cycle_pass};
 /// What the words of a block say to its motion. Lengths are in 0.001 mm.
 #[derive(Clone, Copy, Debug, PartialEq, Eq)]
 pub struct MotionWords {
+    /// X where the axis goes to.
     pub x: Option<i64>,
+    /// Z where the axis goes to.
     pub z: Option<i64>,
+    /// How far it goes along X.
     pub u: Option<i64>,
+    /// How far it goes along Z.
     pub w: Option<i64>,
+    /// From the start to the centre of an arc along X.
     pub i: Option<i64>,
+    /// And along Z.
     pub k: Option<i64>,
+    /// The radius of an arc, or the taper of a cycle.
     pub r: Option<i64>,
     /// P of the setting of an offset.
     pub number: Option<i64>,
@@ -65,6 +73,7 @@ impl MotionWords {
 /// What the motion of a block comes to.
 #[derive(Debug, Drop)]
 pub struct Motion {
+    /// The moves, in their order.
     pub moves: MoveList,
     /// Where the cycle in force ends from then on.
     pub cycle: Option<Point>,
@@ -251,6 +260,7 @@ pub fn setting(
     Ok((slot, to))
 }
 
+/// Which kind of offset G10 sets: a work offset with L, else a tool offset.
 fn form_of(has_l: bool) -> OffsetForm
     ensures { result ≡ form_of has_l }
 {
@@ -261,7 +271,7 @@ fn form_of(has_l: bool) -> OffsetForm
     }
 }
 
-/// What the moves of the block hang on.
+/// What the moves of the block depend on.
 fn block_motion(
     position: Point,
     home: Point,

@@ -1,4 +1,5 @@
 //! All moves of a block in their order, and where the turret stands behind them.
+//! path_state and tests use it.
 ghost use Rattle.std.specs.Prelude.{Option, ◌≡◌, ◌≤◌, ◌<◌, ◌+◌, ◌++◌, length};
 ghost use Rattle.nc_number.specs.declared.value.Var.TheVariants.{Vacant};
 ghost use Rattle.nc_number.specs.Arithmetic.{whole_of};
@@ -128,6 +129,7 @@ fn whole_or_zero(speed: &Value) -> u32
     }
 }
 
+/// Adds the tool that the block says, if it says one.
 fn put_tool(moves: &mut MoveList, tool: Option<u16>)
     requires { length moves.old < 8 }
     ensures moves { moves.new ≡ moves.old ++ tool_moves tool }
@@ -138,6 +140,7 @@ fn put_tool(moves: &mut MoveList, tool: Option<u16>)
     }
 }
 
+/// Adds the M code, if the machine gets it.
 fn put_auxiliary(moves: &mut MoveList, code: Option<u32>)
     requires { length moves.old < 8 }
     ensures moves { moves.new ≡ moves.old ++ auxiliary_moves code }

@@ -1,5 +1,6 @@
 //! What the operands of a statement come to: the variable on its left side, a value, a condition,
 //! and the sequence number of a jump.
+//! path_state uses it.
 ghost use Rattle.std.specs.Prelude.{◌≡◌, List, IfOk};
 ghost use Rattle.nc_number.specs.declared.value.Var.{Var};
 ghost use Rattle.common_vars.specs.Variables.{IsVariable};
@@ -62,6 +63,7 @@ fn sequence_number(value: &Var) -> Result<u32, Cause>
     }
 }
 
+/// The sequence number, or the alarm of a number that is none.
 fn sequence_or_stop(number: Result<u32, Cause>) -> Result<u32, Stop>
     ensures { (left : List Var) → outcome_of (λ found. found) result left ≡ reading_none number left }
 {

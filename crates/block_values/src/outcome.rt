@@ -1,4 +1,5 @@
-//! Why a step of a block gives no value.
+//! Why a step of a block gives no value: it needs a shared variable, or raises an alarm.
+//! path_state uses it.
 ghost use Rattle.std.specs.Prelude.{◌≡◌, pos};
 ghost use Rattle.nc_number.specs.Causes.{cause_number};
 

@@ -1,4 +1,5 @@
 //! What the number of a variable names, and how a variable gives what it holds.
+//! path_state uses it.
 ghost use Rattle.std.specs.Prelude.{◌≡◌, ℕ, ◌≤◌, ◌-ℤ◌, unsigned_abs, IfSome};
 ghost use Rattle.nc_number.specs.Position.{IsPosition, IsWithin, travel};
 ghost use Rattle.offset_store.specs.Offsets.{shift_travel};
@@ -76,6 +77,7 @@ fn without(shift: i64, length: i64) -> i64
     length - shift
 }
 
+/// The value, or vacant where none fits.
 fn or_vacant(value: Option<Value>) -> Var
     ensures { result ≡ or_vacant value }
 {

@@ -1,4 +1,6 @@
-//! What decides the meaning of a word.
+//! What decides the meaning of a word in its block: the block's purpose, and whether its motion is
+//! an arc or its code sets an offset.
+//! path_state uses it.
 ghost use Rattle.std.specs.Prelude.{◌≡◌, false};
 ghost use Rattle.block_words.specs.Codes.{is_macro};
 
@@ -7,6 +9,7 @@ use block_words::Purpose;
 /// What decides the meaning of a word in its block, which calls no macro.
 #[derive(Clone, Copy, Debug, PartialEq, Eq)]
 pub struct Sense {
+    /// What the block's codes make of its words.
     pub purpose: Purpose,
     /// An arc is in force behind the block's own codes; beside it I, K and R are read.
     pub arc: bool,

@@ -1,4 +1,5 @@
-//! What the words of a block say.
+//! What the words of a block say once each is evaluated: lengths in 0.001 mm, F, S, T and P.
+//! path_state uses it.
 ghost use Rattle.std.specs.Prelude.{◌≡◌, ◌≤◌, true, codes, unsigned_abs, Ok, Err, IfOk, IfErr, OnOk};
 ghost use Rattle.block_words.specs.Ranges.{fits, range_of};
 ghost use Rattle.block_words.specs.Words.{is_one_of};
@@ -18,11 +19,17 @@ use nc_number::{Cause, Literal, Var};
 pub struct Values {
     /// X, as every length here in 0.001 mm.
     pub x: Option<i64>,
+    /// Z.
     pub z: Option<i64>,
+    /// U, along X.
     pub u: Option<i64>,
+    /// W, along Z.
     pub w: Option<i64>,
+    /// I, along X.
     pub i: Option<i64>,
+    /// K, along Z.
     pub k: Option<i64>,
+    /// R.
     pub r: Option<i64>,
     /// F, in whole units.
     pub feed: Var,

@@ -1,4 +1,5 @@
 //! The words of a block, evaluated one by one.
+//! path_state uses it.
 ghost use Rattle.std.specs.Prelude.{◌≡◌, Result, Ok, Err, IfOk, IfErr, OnOk};
 ghost use Rattle.nc_number.specs.declared.cause.Cause.{Cause};
 ghost use Rattle.block_values.specs.Values.{Values as Said, nothing_said, computed, taken_var, word_with, words_with};

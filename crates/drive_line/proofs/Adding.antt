@@ -1,4 +1,5 @@
 -- What a turret got in several calls, one after another.
+-- turret_run takes these.
 use Rattle.std.proofs.Common.{arith, ◌≡◌, ◌+◌, ℕ, zero, suc, List, [], ◌++◌, refl, ap, sym, ◌∙◌, append_assoc, Option, Some, None}
 use Rattle.std.proofs.lemmas.List.{append-nil}
 use Rattle.nc_outside.specs.declared.got.Got.{Got}
@@ -11,11 +12,13 @@ unfolding counted_on
 counted_both calls n zero = let e : n ≡ n + 0 = omega arith in ap (counted_on calls) e
 counted_both calls n (suc m) = let e : suc (n + m) ≡ n + suc m = omega arith in ap next (counted_both calls n m) ∙ ap (counted_on calls) e
 
+-- nothing in no call
 pub adds_none : (a : Option Received) → Adds a a [] 0 0
 unfolding counted_on
 adds_none None = refl
 adds_none (Some was) = ap (λ l. Some (record { got = l; calls = was.calls; settles = was.settles })) (sym (append-nil was.got))
 
+-- what came in the first calls, and then what came in the others
 pub adds_both : (a b c : Option Received) (xs ys : List Got) (n m s t : ℕ) → Adds a b xs n s → Adds b c ys m t → Adds a c (xs ++ ys) (n + m) (s + t)
 adds_both None None c xs ys n m s t p q = q
 adds_both None (Some was) c xs ys n m s t p q = absurd (cc p)

@@ -1,4 +1,5 @@
 -- The items of a line, one after the other: what the lists of them mean.
+-- path_worker takes the lemmas on two lists of items.
 use Rattle.std.proofs.Common.{arith, ◌≡◌, ◌≤◌, ◌+◌, ℕ, suc, Bool, List, true, false, true≢false, [], ◌∷◌, ◌++◌, length, take, refl, append_assoc, ap, sym, ◌∙◌, subst, All, Contains}
 use Rattle.std.proofs.lemmas.List.{append-nil, take-append-le, length-append}
 use Rattle.std.proofs.lemmas.List.Elements.{All-nil, All-cons, All-append, All-weaker, All-contains, Contains-append_left, Contains-append_right, Contains-push}
@@ -7,22 +8,25 @@ use Rattle.drive_line.specs.declared.item.Item.{Item}
 use Rattle.drive_line.specs.declared.item.Item.TheVariants.{Move, Mark, End}
 use Rattle.drive_line.specs.Line.{moves_among, has_end, EndIsLast, mark_counts, AreTaken, IsSending, IsTaking}
 
--- one more behind what stands behind the first
+-- an item that is added behind a whole list is added behind the part after its front
 pub push_behind : {X : Type 0} (first seen was now : List X) (x : X) → was ≡ first ++ seen → now ≡ was ++ x ∷ [] → now ≡ first ++ (seen ++ x ∷ [])
 push_behind first seen was now x e f = f ∙ ap (λ l. l ++ x ∷ []) e ∙ append_assoc first seen (x ∷ [])
 
+-- the moves of two lists
 pub moves_of_both : (a b : List Item) → moves_among (a ++ b) ≡ moves_among a ++ moves_among b
 moves_of_both [] b = refl
 moves_of_both (Move what ∷ a) b = ap (λ l. what ∷ l) (moves_of_both a b)
 moves_of_both (Mark ∷ a) b = moves_of_both a b
 moves_of_both (End ∷ a) b = moves_of_both a b
 
+-- the end is in the second list, if it is not in the first
 pub end_of_both : (a b : List Item) → has_end a ≡ false → has_end (a ++ b) ≡ has_end b
 end_of_both [] b open_ = refl
 end_of_both (Move what ∷ a) b open_ = end_of_both a b open_
 end_of_both (Mark ∷ a) b open_ = end_of_both a b open_
 end_of_both (End ∷ a) b open_ = absurd (true≢false open_)
 
+-- the marks of two lists, which count the moves of both
 pub counts_of_both : (n : ℕ) (a b : List Item) → mark_counts n (a ++ b) ≡ mark_counts n a ++ mark_counts (n + length (moves_among a)) b
 counts_of_both n [] b = let e : n ≡ n + 0 = omega arith in ap (λ k. mark_counts k b) e
 counts_of_both n (Move what ∷ a) b =
@@ -31,11 +35,12 @@ counts_of_both n (Move what ∷ a) b =
 counts_of_both n (Mark ∷ a) b = ap (λ l. n ∷ l) (counts_of_both n a b)
 counts_of_both n (End ∷ a) b = counts_of_both n a b
 
--- the same where the first are counted by themselves
+-- the marks of two lists, if n is the number of moves in the first
 pub counts_behind : (n : ℕ) (a b : List Item) → n ≡ length (moves_among a) → mark_counts 0 (a ++ b) ≡ mark_counts 0 a ++ mark_counts n b
 counts_behind n a b counted =
     let e : 0 + length (moves_among a) ≡ n = omega (arith, counted) in counts_of_both 0 a b ∙ ap (λ k. mark_counts 0 a ++ mark_counts k b) e
 
+-- nothing follows a single item
 one_is_last : (x : Item) → EndIsLast (x ∷ [])
 one_is_last (Move what) = tt
 one_is_last Mark = tt
@@ -61,12 +66,15 @@ pub whole_of : (sent taken rest : List Item) → sent ≡ taken ++ rest → EndI
 whole_of sent taken rest e is ended =
     let none : rest ≡ [] = rest_is_none taken rest ended (subst EndIsLast e is) in sym (e ∙ ap (λ l. taken ++ l) none ∙ append-nil taken)
 
+-- a move does not end the line,
 pub open_move : (a b : List Item) (what : LinedMove) → b ≡ a ++ Move what ∷ [] → has_end a ≡ false → has_end b ≡ false
 open_move a b what e open_ = ap has_end e ∙ end_of_both a (Move what ∷ []) open_
 
+-- a mark does not end the line
 pub open_mark : (a b : List Item) → b ≡ a ++ Mark ∷ [] → has_end a ≡ false → has_end b ≡ false
 open_mark a b e open_ = ap has_end e ∙ end_of_both a (Mark ∷ []) open_
 
+-- the worker's end still keeps its facts with a move more
 pub kept_move : (n m : ℕ) (a b : List Item) (what : LinedMove) (received : List ℕ) → m ≡ n + 1 → b ≡ a ++ Move what ∷ [] → has_end a ≡ false
     → IsSending n a received → IsSending m b received
 kept_move n m a b what received more e open_ k =
@@ -77,6 +85,7 @@ kept_move n m a b what received more e open_ k =
       answered = subst (All (Contains received)) (sym (ap (mark_counts 0) e ∙ counts_of_both 0 a (Move what ∷ []) ∙ append-nil (mark_counts 0 a))) k.answered;
     }
 
+-- the worker's end still keeps its facts with the end
 pub kept_end : (n : ℕ) (a b : List Item) (received : List ℕ) → b ≡ a ++ End ∷ [] → has_end a ≡ false → IsSending n a received → IsSending n b received
 kept_end n a b received e open_ k = record {
   counted = k.counted ∙ sym (ap (λ l. length (moves_among l)) e ∙ ap length (moves_of_both a (End ∷ []) ∙ append-nil (moves_among a)));
@@ -84,7 +93,7 @@ kept_end n a b received e open_ k = record {
   answered = subst (All (Contains received)) (sym (ap (mark_counts 0) e ∙ counts_of_both 0 a (End ∷ []) ∙ append-nil (mark_counts 0 a))) k.answered;
 }
 
--- a mark, and its answer behind others
+-- the worker's end still keeps its facts with a mark, whose answer came behind others
 pub kept_mark : (n : ℕ) (a b : List Item) (old others new : List ℕ) → b ≡ a ++ Mark ∷ [] → new ≡ old ++ (others ++ n ∷ []) → has_end a ≡ false
     → IsSending n a old → IsSending n b new
 kept_mark n a b old others new e f open_ k =
@@ -119,7 +128,7 @@ taken_of sent taken rest received others e f answered =
     (low, sym (ap (take n) m ∙ take-append-le n moves (moves_among rest) low)))
     (mark_counts 0 sent) answered
 
--- one item more was taken: what the end of the drive keeps
+-- the drive's end still keeps its facts with a move more
 pub took_move : (n m : ℕ) (a b : List Item) (given : List ℕ) (what : LinedMove) → m ≡ n + 1 → b ≡ a ++ Move what ∷ [] → IsTaking n false false a given
     → IsTaking m false false b given
 took_move n m a b given what more e k =
@@ -130,6 +139,7 @@ took_move n m a b given what more e k =
       given_back = k.given_back ∙ sym (ap (mark_counts 0) e ∙ counts_of_both 0 a (Move what ∷ []) ∙ append-nil (mark_counts 0 a));
     }
 
+-- the drive's end still keeps its facts with a mark, which is owed an answer
 pub took_mark : (n : ℕ) (a b : List Item) (given : List ℕ) → b ≡ a ++ Mark ∷ [] → IsTaking n false false a given → IsTaking n false true b given
 took_mark n a b given e k = record {
   counted = k.counted ∙ sym (ap (λ l. length (moves_among l)) e ∙ ap length (moves_of_both a (Mark ∷ []) ∙ append-nil (moves_among a)));
@@ -137,6 +147,7 @@ took_mark n a b given e k = record {
   given_back = ap (λ l. l ++ n ∷ []) (sym (append-nil given) ∙ k.given_back) ∙ sym (ap (mark_counts 0) e ∙ counts_behind n a (Mark ∷ []) k.counted);
 }
 
+-- the drive's end still keeps its facts with the end
 pub took_end : (n : ℕ) (a b : List Item) (given : List ℕ) → b ≡ a ++ End ∷ [] → IsTaking n false false a given → IsTaking n true false b given
 took_end n a b given e k = record {
   counted = k.counted ∙ sym (ap (λ l. length (moves_among l)) e ∙ ap length (moves_of_both a (End ∷ []) ∙ append-nil (moves_among a)));

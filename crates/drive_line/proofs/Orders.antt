@@ -1,4 +1,5 @@
 -- Invariant of a wire: each step on its channel keeps the order.
+-- For the proofs of src/wire.rt.
 use Rattle.std.proofs.Common.{◌≡◌, ◌≢◌, ℕ, zero, suc, true, false, true≢false, List, [], ◌∷◌, ◌++◌, length, set, sym, refl, ap, ◌∙◌, subst, ⊎_elim, append_assoc}
 use mathlib.Core.Option.{some, some-ne-none}
 use lib.ListN.{get_elem?}
@@ -12,12 +13,15 @@ module _ {T : Type 0} where
   abbrev Each : (ℕ → Log T → Type 0) → List (Log T) → Type 0
   Each F logs = (pass : ℕ) (v : Log T) → get_elem? logs pass ≡ some v → F pass v
 
+  -- what this pass sends is all that is sent, and no other pass sends
   abbrev IsSender : ℕ → List T → ℕ → Log T → Type 0
   IsSender sender sent pass v = v.sends ≡ true → (pass ≡ sender) × (v.sent ≡ sent)
 
+  -- what this pass takes is all that is taken, and no other pass takes
   abbrev IsTaker : ℕ → List T → ℕ → Log T → Type 0
   IsTaker taker taken pass v = v.takes ≡ true → (pass ≡ taker) × (v.taken ≡ taken)
 
+  -- the log that is put at the end is the one that is found there
   at_end : (l : List (Log T)) (a b : Log T) (j : ℕ) → get_elem? l j ≢ some b → get_elem? (l ++ a ∷ []) j ≡ some b → j ≡ length l
   at_end [] a b zero n e = refl
   at_end [] a b (suc j) n e = absurd (some-ne-none b (sym e))
@@ -31,6 +35,7 @@ module _ {T : Type 0} where
       ⊎_elim (λ (x : (j ≡ pass) × (w ≡ u)). subst (λ (y : ℕ × Log T). F y.0 y.1) (λ i. (sym x.0 i, x.1 i)) mine)
       (λ (x : (j ≢ pass) × (get_elem? logs j ≡ some u)). others j u x.0 x.1) (at_set logs pass j w u e)
 
+  -- at the start one pass does both, and nothing was sent
   pub begins : IsInOrder {T = T} [] (log true true [] [] ∷ [])
   begins =
       let first : List (Log T) = log true true [] [] ∷ [] in
@@ -45,6 +50,7 @@ module _ {T : Type 0} where
         takes = each_set (IsTaker 0 []) first 0 (log true true [] []) (λ _. (refl, refl)) (λ j u other e. absurd (none j u other e));
       }
 
+  -- an item is sent
   pub sends : (n pass : ℕ) (v : Log T) (x : T) → v.sends ≡ true → Pushes IsInOrder n pass v x (λ w. w ≡ log v.sends v.takes (v.sent ++ x ∷ []) v.taken)
   sends n pass v x may held logs _ h at =
       let w : Log T = log v.sends v.takes (v.sent ++ x ∷ []) v.taken in
@@ -63,6 +69,7 @@ module _ {T : Type 0} where
         refl,
       )
 
+  -- an item is taken
   pub takes : (pass : ℕ) (v : Log T) → v.takes ≡ true → Pops IsInOrder pass v (λ x w. w ≡ log v.sends v.takes v.sent (v.taken ++ x ∷ []))
   takes pass v may x held logs h at =
       let w : Log T = log v.sends v.takes v.sent (v.taken ++ x ∷ []) in

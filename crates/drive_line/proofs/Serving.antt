@@ -1,4 +1,5 @@
 -- A turret that served the moves so far serves those that come behind them.
+-- An invariant of each call of a turret; path_worker takes the start.
 use Rattle.std.proofs.Common.{arith, ◌≡◌, ◌+◌, ◌≤◌, ℕ, true, false, true≢false, IsTrue, List, [], ◌∷◌, ◌++◌, length, map, take, refl, ap, sym, ◌∙◌, subst}
 use Rattle.std.proofs.lemmas.List.{append-nil, length-append, map-append, take_all, take-append-le}
 use Rattle.nc_outside.specs.declared.got.Got.{Got}
@@ -11,10 +12,11 @@ use Rattle.drive_line.specs.declared.phase.Phase.TheVariants.{Moving, Still, Fai
 use Rattle.drive_line.specs.Driving.{DrivenState, fresh, has_failed, most, Serves}
 use Rattle.drive_line.proofs.Adding.{adds_none, adds_both}
 
--- a turret that is on its way does not stand still, nor one that failed
+-- a turret that is on its way does not stand still
 on_its_way : {n : ℕ} → Moving ≡ Still → 1 ≤ n
 on_its_way is = absurd (cc is)
 
+-- one that failed does not stand still
 broken : {n : ℕ} (phase : Phase) → has_failed phase ≡ true → phase ≡ Still → 1 ≤ n
 broken phase failed is = absurd (true≢false (sym failed ∙ ap has_failed is))
 
@@ -38,6 +40,7 @@ failing a b c before more rose =
       kept = λ none. absurd (none refl);
     }
 
+-- one that was handed nothing has served no moves
 pub serves_none : (start : TurretState) → Serves [] start (fresh start)
 serves_none start = record {
   all = refl;

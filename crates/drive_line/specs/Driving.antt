@@ -1,4 +1,5 @@
 -- What the drive of a turret knows of it.
+-- path_worker and turret_run cite this.
 use Rattle.std.specs.Prelude.{◌≡◌, ◌⊎◌, ◌≤◌, ℕ, ◌+◌, Bool, true, false, IsTrue, List, length, map, take}
 use Rattle.nc_outside.specs.declared.got.Got.TheVariants.{Moved}
 use Rattle.nc_outside.specs.declared.lined_move.LinedMove.{LinedMove}
@@ -10,15 +11,20 @@ use Rattle.drive_line.specs.declared.phase.Phase.TheVariants.{Moving, Still, Fai
 -- A turret as its drive has it: its state, how many moves it took, how many it missed since it
 -- failed, and how it stands.
 pub record DrivenState : Type 0 where
+  -- the state of the turret
   pub state : TurretState
+  -- how many moves it took
   pub taken : ℕ
+  -- how many it missed since it failed
   pub missed : ℕ
+  -- how it stands
   pub phase : Phase
 
 -- a turret that was handed nothing
 abbrev pub fresh : TurretState → DrivenState
 fresh state = record { state = state; taken = 0; missed = 0; phase = Moving }
 
+-- it failed, whether the run was halted for that or not
 abbrev pub has_failed : Phase → Bool
 has_failed Moving = false
 has_failed Still = false
@@ -51,12 +57,20 @@ most false = 0
 -- the others: none, unless it failed, at a call for the next move or at a settle. One that stands
 -- still was told to settle.
 pub record Serves (moves : List LinedMove) (old : TurretState) (driven : DrivenState) : Type 0 where
+  -- each move was taken or missed
   pub all : driven.taken + driven.missed ≡ length moves
+  -- one that did not fail missed none
   pub none : has_failed driven.phase ≡ false → driven.missed ≡ 0
   pub at_call : ℕ  -- how many calls failed
+  -- how many calls to settle there were
   pub settles : ℕ
+  -- one at most, and only if it failed
   pub few : at_call ≤ most (has_failed driven.phase)
+  -- the move of such a call was missed
   pub within : at_call ≤ driven.missed
+  -- one that stands still was told to settle
   pub settled : driven.phase ≡ Still → 1 ≤ settles
+  -- what it got since: the moves that it took, in so many calls
   pub received : Adds old.received driven.state.received (map Moved (take driven.taken moves)) (driven.taken + at_call) settles
+  -- the count of its faults rose exactly if it failed
   pub counted : CountsFault old.faults driven.state.faults (IsTrue (has_failed driven.phase))

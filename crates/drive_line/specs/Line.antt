@@ -1,4 +1,5 @@
 -- What the two ends of a drive line mean.
+-- path_worker and turret_run cite this.
 use Rattle.std.specs.Prelude.{◌≡◌, ◌≤◌, ℕ, ◌+◌, suc, Bool, true, false, MatchBool, List, [], ◌∷◌, ◌++◌, length, take, All, Contains, if◌then◌else◌}
 use Rattle.nc_outside.specs.declared.lined_move.LinedMove.{LinedMove}
 use Rattle.drive_line.specs.declared.item.Item.{Item}
@@ -7,7 +8,9 @@ use Rattle.drive_line.specs.Wire.{WireId}
 
 -- Which line an end belongs to: the wire of its items, and the wire of the answers back.
 pub record LineId : Type 0 where
+  -- from the worker to the drive
   pub forth : WireId Item
+  -- from the drive to the worker
   pub back : WireId ℕ
 
 -- The end of the worker: the items that it sent, and the answers that it received.
@@ -21,6 +24,7 @@ pub record Sending : Type 0 where
 pub record Taking : Type 0 where
   pub line : LineId
   pub items : List Item
+  -- the last item is a mark that is not answered yet
   pub asked : Bool
 
 -- the moves among these items
@@ -44,6 +48,7 @@ has_end (Move what ∷ items) = has_end items
 has_end (Mark ∷ items) = has_end items
 has_end (End ∷ items) = true
 
+-- the item is a mark
 abbrev pub is_mark : Item → Bool
 is_mark (Move what) = false
 is_mark Mark = true
@@ -59,8 +64,11 @@ EndIsLast (End ∷ items) = items ≡ []
 -- What the end of the worker keeps, which counts n moves: nothing stands behind the end, and each
 -- mark was answered.
 pub record IsSending (n : ℕ) (items : List Item) (received : List ℕ) : Type 0 where
+  -- n is the number of moves
   pub counted : n ≡ length (moves_among items)
+  -- nothing follows the end
   pub last : EndIsLast items
+  -- each mark has its answer
   pub answered : All (Contains received) (mark_counts 0 items)
 
 -- the answer that is still to be given
@@ -71,7 +79,9 @@ owed asked n = if asked then n ∷ [] else []
 -- whether it owes an answer: it gave the others.
 pub record IsTaking (n : ℕ) (is_ended asked : Bool) (items : List Item) (given : List ℕ) : Type 0 where
   pub counted : n ≡ length (moves_among items)
+  -- it knows whether it took the end
   pub ended : is_ended ≡ has_end items
+  -- it gave the answers of all marks, but for the one that it owes
   pub given_back : given ++ owed asked n ≡ mark_counts 0 items
 
 -- A drain behind so many moves: it sent a mark, and received answers up to one with that number.

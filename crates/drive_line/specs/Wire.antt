@@ -1,4 +1,5 @@
 -- What goes through a wire: first in, first out, from one end to one other.
+-- For this crate alone: the rule of its channel.
 use Rattle.std.specs.Prelude.{◌≡◌, ℕ, Bool, true, List, ◌++◌}
 use mathlib.Core.Option.{some}
 use lib.ListN.{get_elem?}
@@ -18,21 +19,30 @@ log sends takes sent taken = record { sends = sends; takes = takes; sent = sent;
 pub record IsInOrder {T : Type 0} (held : List T) (logs : List (Log T)) : Type 0 where
   pub sender : ℕ  -- the pass that may send
   pub taker : ℕ  -- the pass that may take
+  -- all that was sent
   pub sent : List T
+  -- all that was taken
   pub taken : List T
+  -- what was sent is what was taken, and then what the channel holds
   pub order : sent ≡ taken ++ held
+  -- only the sender may send, and its list is all that was sent
   pub sends : (pass : ℕ) (v : Log T) → get_elem? logs pass ≡ some v → v.sends ≡ true → (pass ≡ sender) × (v.sent ≡ sent)
+  -- only the taker may take, and its list is all that was taken
   pub takes : (pass : ℕ) (v : Log T) → get_elem? logs pass ≡ some v → v.takes ≡ true → (pass ≡ taker) × (v.taken ≡ taken)
 
 -- Which wire an end belongs to, and how many items the wire holds at most.
 pub record WireId (T : Type 0) : Type 0 where
+  -- how many items it holds at most
   pub bound : ℕ
+  -- these two name the channel
   pub table : TableId
   pub key : Badge (Key T)
 
 -- What an end of a wire means: which wire it is, and what went through this end.
 pub record WireEnd (T : Type 0) : Type 0 where
+  -- which wire it is
   pub wire : WireId T
+  -- what went through this end
   pub items : List T
 
 -- the wire of a pass, which holds so many items at most

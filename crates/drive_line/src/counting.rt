@@ -1,4 +1,5 @@
 //! Counts that never wrap.
+//! For the counts of both ends and of a turret.
 ghost use Rattle.std.specs.Prelude.{◌≡◌, ◌+◌};
 
 use std::sync::Wait;

@@ -1,4 +1,5 @@
 //! A turret as its drive has it.
+//! path_worker has one of each turret.
 ghost use Rattle.std.specs.Prelude.{◌≡◌, ◌⊎◌, ◌+◌, ◌++◌, ◌∷◌, [], true, false, List};
 ghost use Rattle.nc_outside.specs.Calls.{IsCalled};
 ghost use Rattle.nc_outside.specs.declared.halt.Halt.TheVariants.{Turret as OfTurret};
@@ -19,9 +20,13 @@ use std::sync::Wait;
 /// means these, with the turret's state. A turret that failed is called no more.
 #[derive(Drop)]
 pub struct Driven<T: Turret> {
+    /// The turret itself.
     turret: T,
+    /// How many moves it took.
     taken: u64,
+    /// How many it missed since it failed.
     missed: u64,
+    /// How it stands.
     phase: Phase,
 }
 

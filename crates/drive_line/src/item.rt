@@ -1,4 +1,5 @@
-//! What goes along a line.
+//! What goes along a line, from the worker to the drive.
+//! path_worker looks at what it takes.
 use nc_outside::LinedMove;
 
 /// What the worker of a path sends to the drive of its turret.

@@ -1,4 +1,5 @@
 //! The end of a line at which the worker of a path sends.
+//! The other end is in line_out.rt. Its worker is in path_worker.
 ghost use Rattle.std.specs.Prelude.{◌≡◌, ℕ, List, false, [], ◌∷◌, ◌+◌, ◌++◌, All, Contains};
 ghost use Rattle.drive_line.specs.Line.{has_end, mark_counts, EndIsLast, IsDrained};
 
@@ -13,12 +14,14 @@ use std::sync::Wait;
 /// second of it.
 #[derive(Debug, Drop)]
 pub struct Drained {
+    /// How many moves were sent before the drain.
     count: u64,
 }
 
 impl Drain for Drained {
     ghost count = { λ d. d.count };
 
+    /// How many moves were sent before the drain.
     fn count(&self) -> u64 {
         self.count
     }
@@ -28,9 +31,13 @@ impl Drain for Drained {
 /// it received. Nothing is sent behind the end, and each mark that was sent has been answered.
 #[derive(Drop)]
 pub struct LineIn<'r, R> {
+    /// What lets a call wait.
     rt: &'r R,
+    /// The wire of the items.
     forth: WireIn<Item>,
+    /// The wire of the answers.
     back: WireOut<u64>,
+    /// How many moves were sent.
     sent: u64,
 }
 

@@ -1,4 +1,5 @@
 //! The end of a line at which the drive of a turret takes.
+//! The other end is in line_in.rt. Its drive is in path_worker.
 ghost use Rattle.std.specs.Prelude.{◌≡◌, ◌++◌, [], true, false, length, List, ℕ};
 ghost use Rattle.drive_line.specs.Driving.{IsAtRest};
 ghost use Rattle.drive_line.specs.Line.{moves_among, mark_counts, has_end, is_mark, Takes};
@@ -15,12 +16,19 @@ use std::sync::Wait;
 /// the moves that it took before.
 #[derive(Drop)]
 pub struct LineOut<'r, R, T: Turret> {
+    /// What lets a call wait.
     rt: &'r R,
+    /// The wire of the items.
     forth: WireOut<Item>,
+    /// The wire of the answers.
     back: WireIn<u64>,
+    /// How many moves were taken.
     taken: u64,
+    /// Whether the end was taken.
     ended: bool,
+    /// Whether the last item is a mark that is not answered yet.
     asked: bool,
+    /// Whose drive takes here.
     of: PhantomData<T>,
 }
 

@@ -1,4 +1,5 @@
-//! How a turret stands.
+//! How a turret stands: what its drive knows between two calls.
+//! turret_run tells from it whether a turret failed.
 
 /// How a turret stands, as its drive knows it.
 #[derive(Clone, Copy, Debug, PartialEq, Eq)]

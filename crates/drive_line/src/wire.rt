@@ -1,4 +1,5 @@
 //! A bounded channel from one end to one other: first in, first out.
+//! For this crate alone: a line is made of two wires, one forth and one back.
 ghost use Rattle.std.specs.Prelude.{◌≡◌, ◌<◌, List, true, [], ◌∷◌, ◌++◌, IfOk, MatchOption};
 ghost use Rattle.crossbeam_channel.specs.Claims.{view, IsSeatAt};
 ghost use Rattle.crossbeam_channel.specs.Ends.{sends_on, receives_on};
@@ -14,13 +15,17 @@ use std::thread;
 
 /// What a pass of the channel may do, and what it has sent and taken. No value of it is made.
 pub struct Log<T> {
+    /// Whether the pass may send.
     pub sends: bool,
+    /// Whether it may take.
     pub takes: bool,
+    /// What it has sent.
     pub sent: LinkedList<T>,
+    /// What it has taken.
     pub taken: LinkedList<T>,
 }
 
-/// The rule of the channel.
+/// The rule of the channel: what was sent is what was taken, and then what the channel holds.
 pub struct FirstOut;
 
 impl<T> Protocol<T, Log<T>> for FirstOut {
@@ -82,11 +87,14 @@ impl<T> Lesson<T, Log<T>> for Whole {
     ghost fact = { λ v items. v.sent ≡ v.taken ++ items };
 }
 
+/// The end of the channel that sends by the rule.
 type Sender<T> = RuledSender<T, Log<T>, FirstOut>;
 
+/// The end that takes by it.
 type Receiver<T> = RuledReceiver<T, Log<T>, FirstOut>;
 
-/// Sends the item. In a full channel it sleeps; a channel whose other end is gone is tried again.
+/// Sends the item, and returns when it is in the channel. In a full channel it sleeps; a channel
+/// whose other end is gone is tried again.
 fn send_on<T: Drop, R: Wait>(rt: &R, sender: &Sender<T>, pass: &mut Pass<T, Log<T>>, item: T)
     requires { IsSeatAt (sends_on sender.now) pass.old × ((view pass.old).sends ≡ true) }
     ensures channel { IsSeatAt (sends_on sender.now) pass.new }
@@ -161,7 +169,9 @@ fn take_on<T: Drop, R: Wait>(rt: &R, receiver: &Receiver<T>, pass: &mut Pass<T, 
 /// The end that sends. It means its wire and what it has sent.
 #[derive(Drop)]
 pub struct WireIn<T: Drop> {
+    /// The channel's end.
     sender: Sender<T>,
+    /// The pass, with what it has sent.
     pass: Pass<T, Log<T>>,
 }
 
@@ -185,7 +195,9 @@ impl<T: Drop> Model for WireIn<T> {
 /// The end that takes. It means its wire and what it has taken.
 #[derive(Drop)]
 pub struct WireOut<T: Drop> {
+    /// The channel's end.
     receiver: Receiver<T>,
+    /// The pass, with what it has taken.
     pass: Pass<T, Log<T>>,
 }
 
@@ -206,7 +218,8 @@ impl<T: Drop> Model for WireOut<T> {
         × (seen e.pass ≡ log false true [] (seen e.pass).taken) };
 }
 
-/// The two ends of a new wire that holds at most `bound` items.
+/// The two ends of a new wire that holds at most `bound` items. The only error is that memory runs
+/// out.
 pub fn new_wire<T: Drop>(alloc: Global, bound: usize) -> Result<(WireIn<T>, WireOut<T>), AllocError>
     requires { 0 < bound }
     ensures one { IfOk result (λ r. r.0.wire ≡ r.1.wire) }

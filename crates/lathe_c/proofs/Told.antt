@@ -1,4 +1,4 @@
--- What an export says is what the call said.
+-- What an export says is what the call of lathe_calls said, of the same texts.
 use Rattle.std.proofs.Common.{◌≡◌, ℕ, List, subst}
 use Rattle.nc_verify.specs.Verdict.{Texts}
 use Rattle.lathe_calls.specs.declared.event.Event.{Event}
@@ -7,11 +7,13 @@ use Rattle.lathe_calls.specs.declared.said.Said.{Said}
 use Rattle.lathe_calls.specs.Due.{IsAnswerTo}
 use Rattle.lathe_calls.specs.Order.{AreToldOf}
 
+-- The same answer to the same texts.
 pub answered : (question : Question) {texts these : Texts} {before after : List ℕ} {it told : Said} → texts ≡ these → it ≡ told
     → IsAnswerTo question texts before after it → IsAnswerTo question these before after told
 answered question {texts} {these} {before} {after} {it} {told} same is answer =
     subst (λ t. IsAnswerTo question t before after told) same (subst (λ i. IsAnswerTo question texts before after i) is answer)
 
+-- The same events of the same texts.
 pub events_told : (order : List ℕ) {texts these : Texts} {before after : List Event} {it told : Said} → texts ≡ these → it ≡ told
     → AreToldOf order texts before after it → AreToldOf order these before after told
 events_told order {texts} {these} {before} {after} {it} {told} same is events =

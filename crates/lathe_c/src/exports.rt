@@ -1,5 +1,10 @@
 //! The calls of `include/lathe.h`. Each is total for every memory that C passes rightly: as many
-//! bytes as the lengths say, and a room and a length of the caller's own.
+//! bytes as the lengths say, and a room and a length of the caller's own. What is answered is in
+//! lathe_calls.
+//!
+//! All answer the same way: the texts are the tape of path 1, the tape of path 2 and the settings;
+//! the result is the exit status; the front of the answer is put into `room`, and its whole length
+//! into `len`. Out of memory has a status of its own.
 ghost use Rattle.std.specs.Prelude.{◌≡◌, Some};
 ghost use Rattle.lathe_calls.specs.declared.question.Question.TheVariants as ask;
 ghost use Rattle.lathe_calls.specs.Due.{IsAnswerTo};
@@ -11,7 +16,7 @@ use lathe_calls::{Event, PairTexts, Question, Said, answer, events};
 use open_order::Outside;
 use std::alloc::Global;
 
-/// The status of what a call said; its length goes where C wants it.
+/// The status of an answer; its length goes to `len`.
 fn told(it: Said, len: &mut usize) -> u8
     ensures { it ≡ said result len.new }
 {
@@ -19,7 +24,7 @@ fn told(it: Said, len: &mut usize) -> u8
     it.status
 }
 
-/// The verdict of two tapes under the settings of the cell.
+/// The verdict of two tapes under the settings of the cell. The length is in bytes.
 #[unsafe(no_mangle)]
 pub extern "C" fn lathe_verify(
     alloc: Global,
@@ -36,7 +41,8 @@ pub extern "C" fn lathe_verify(
     told(answer(alloc, &texts, Question::Verify, room), len)
 }
 
-/// The report of the run whose paths take turns, of so many records at most.
+/// The report of the run whose paths take turns, of at most `limit` records. The length is in
+/// bytes.
 #[unsafe(no_mangle)]
 pub extern "C" fn lathe_run(
     alloc: Global,
@@ -54,7 +60,7 @@ pub extern "C" fn lathe_run(
     told(answer(alloc, &texts, Question::Run(limit), room), len)
 }
 
-/// The trace of that run, and behind it the races of the pair.
+/// The trace of that run, and after it the races of the pair. The length is in bytes.
 #[unsafe(no_mangle)]
 pub extern "C" fn lathe_trace(
     alloc: Global,
@@ -72,7 +78,7 @@ pub extern "C" fn lathe_trace(
     told(answer(alloc, &texts, Question::Trace(limit), room), len)
 }
 
-/// The state of the machine behind the records of that run.
+/// The state of the machine after the records of that run. The length is in bytes.
 #[unsafe(no_mangle)]
 pub extern "C" fn lathe_state(
     alloc: Global,
@@ -91,7 +97,7 @@ pub extern "C" fn lathe_state(
 }
 
 /// The meetings of both tapes, read for their waits alone. They may lack the programs from `least`
-/// to `greatest`.
+/// to `greatest`. The length is in bytes.
 #[unsafe(no_mangle)]
 pub extern "C" fn lathe_waits(
     alloc: Global,
@@ -118,7 +124,8 @@ pub extern "C" fn lathe_waits(
     )
 }
 
-/// The events of the run whose paths get their turns in an order, a byte for each turn, 1 or 2.
+/// The events of the run whose paths get their turns in an order: a byte for each turn, 1 or 2. The
+/// length is a count of events.
 #[unsafe(no_mangle)]
 pub extern "C" fn lathe_events(
     alloc: Global,

@@ -1,5 +1,6 @@
-//! What C calls. Each export is total for every memory that C passes rightly: as many readable
-//! bytes as the lengths say, and a room and a length of the caller's own.
+//! What C calls: one export for each line of `include/lathe.h`, and nothing else. Each is total for
+//! every memory that C passes rightly: as many readable bytes as the lengths say, and a room and a
+//! length of the caller's own. What is answered is in lathe_calls. No crate calls it.
 #![tactic(auto)]
 
 mod exports;

@@ -1,4 +1,5 @@
 -- How a call ends, from what was put and from what is due.
+-- lathe_looks and lathe_top take lemmas from here.
 use Rattle.std.proofs.Common.{ℕ, List, Result, Ok, Err, refl, sym, subst}
 use Rattle.std.proofs.KnownBytes.{Appends-nil}
 use Rattle.nc_outside.specs.declared.sink.PutFault.{PutFault}

@@ -1,3 +1,4 @@
+-- The lemmas of this crate, each file by its subject.
 pub mod Ended
 pub mod VerdictTold
 pub mod TurnsTold

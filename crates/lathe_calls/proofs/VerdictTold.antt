@@ -27,6 +27,6 @@ pub refusing : (error : Failing Refusal) (refusal : Refusal) {text : List ℕ} �
     → IsRefusing error (tells 1 text)
 refusing error refusal {text} is written = subst (λ e. IsRefusing e (tells 1 text)) (sym is) (text, written, refl)
 
--- and for want of memory nothing
+-- and if memory runs out nothing
 pub refusing_nothing : (error : Failing Refusal) → error ≡ NoMemory → IsRefusing error nothing
 refusing_nothing error is = subst (λ e. IsRefusing e nothing) (sym is) refl

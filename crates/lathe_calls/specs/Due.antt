@@ -1,5 +1,6 @@
 -- What is due to three texts and a question, whoever asks: a caller, or a command of the program
 -- over files with these texts.
+-- lathe_c takes `IsAnswerTo`, lathe_looks `IsDueTo` and lathe_top `IsDueTo` and `IsOfPair`.
 use Rattle.std.specs.Prelude.{ℕ, min, List, Some}
 use Rattle.nc_restart.specs.Pair.{IsPairOf, tapes_in, opening_of}
 use Rattle.nc_verify.specs.declared.refusal.Refusal.{Refusal}
@@ -25,20 +26,20 @@ use Rattle.lathe_calls.specs.Said.{IsSaid}
 abbrev pub AreRecordsInTurn : ℕ → Verified → List Entry → Type 0
 AreRecordsInTurn limit pair entries = IsInTurn (tapes_in pair) (opening_of pair) (min limit pair.settings.records) entries
 
--- the report of that run, and how it ended; or nothing for want of memory
+-- the report of that run, and how it ended; or nothing if memory runs out
 pub data IsReportOf (limit : ℕ) (pair : Verified) : Answer → Type 0 where
   ran : (entries : List Entry) → AreRecordsInTurn limit pair entries → IsReportOf limit pair
       (tells (exit.reason_status (end_of pair entries)) (report_of pair entries (end_of pair entries)))
   unran : IsReportOf limit pair nothing
 
--- the state of the machine behind the records of that run; or nothing for want of memory
+-- the state of the machine behind the records of that run; or nothing if memory runs out
 pub data IsStateOf (limit : ℕ) (pair : Verified) : Answer → Type 0 where
   stands : (entries : List Entry) → AreRecordsInTurn limit pair entries
       → IsStateOf limit pair (tells exit.done (state_of pair entries))
   unran : IsStateOf limit pair nothing
 
 -- what is due to the pair of accepted texts; 1 where they are refused, with the line of that;
--- nothing for want of memory
+-- nothing if memory runs out
 pub data IsOfPair (IsDue : Verified → Answer → Type 0) (texts : Texts) : Answer → Type 0 where
   accepted : (pair : Verified) {answer : Answer} → IsPairOf texts pair → IsDue pair answer → IsOfPair IsDue texts answer
   refused : {refusal : Refusal} {text : List ℕ} → IsRefusalOf texts refusal → IsVerdictText (Some refusal) text

@@ -1,4 +1,5 @@
 -- The events of a turn, as C has them.
+-- For this crate alone.
 use Rattle.std.specs.Prelude.{ℕ, Bool, true, false, pos, List, [], ◌∷◌, ◌++◌, map}
 use Rattle.nc_number.specs.declared.path.Path.{Path}
 use Rattle.nc_number.specs.declared.point.Point.{Point}
@@ -37,6 +38,7 @@ kind_number kind.Ended = 13
 kind_number kind.Alarm = 14
 kind_number kind.Read = 15
 
+-- a yes or no as C has it: 1 or 0
 abbrev pub flag : Bool → ℕ
 flag true = 1
 flag false = 0
@@ -61,12 +63,15 @@ bare_event at what = record {
   value = pos 0;
 }
 
+-- an event that tells a number of its kind: an M code or the cause of an alarm
 abbrev pub coded_event : Stamp → Kind → ℕ → Event
 coded_event at what code = record (bare_event at what) { code = code }
 
+-- an event that tells an amount
 abbrev pub counting_event : Stamp → Kind → ℕ → Event
 counting_event at what amount = record (bare_event at what) { amount = amount }
 
+-- an event that leads to this point
 abbrev pub moving_event : Stamp → Kind → Point → Event
 moving_event at what to = record (bare_event at what) { x = to.x; z = to.z }
 
@@ -89,6 +94,7 @@ move_event at (move.Limit s) = counting_event at kind.Limit s
 move_event at (move.Tool t) = coded_event at kind.Tool t
 move_event at (move.Aux m) = coded_event at kind.Aux m
 
+-- an alarm, with its cause and its value
 abbrev pub alarm_event : Stamp → Alarm → Event
 alarm_event at alarm = record (coded_event at kind.Alarm alarm.cause) { value = alarm.value }
 

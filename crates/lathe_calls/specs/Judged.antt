@@ -1,4 +1,5 @@
 -- The verdict that is due to three texts.
+-- lathe_top takes `IsJudged` and `IsRefusing`.
 use Rattle.std.specs.Prelude.{◌≡◌, ℕ, List, Some, None}
 use Rattle.nc_number.specs.declared.fault.Failing.{Failing}
 use Rattle.nc_number.specs.declared.fault.Failing.TheVariants.{Fault, NoMemory}
@@ -11,7 +12,7 @@ use Rattle.lathe_calls.specs.Answers.{Answer, tells, nothing}
 use Rattle.lathe_calls.specs.Statuses as exit
 
 -- the verdict: 0 where the texts are accepted, 1 where they are refused, each with its line;
--- nothing for want of memory
+-- nothing if memory runs out
 pub data IsJudged (texts : Texts) : Answer → Type 0 where
   accepted : {cell : Cell} {left right : List ProgramForm} {text : List ℕ} → AreAccepted texts cell left right
       → IsVerdictText None text → IsJudged texts (tells exit.done text)
@@ -23,7 +24,7 @@ pub data IsJudged (texts : Texts) : Answer → Type 0 where
 abbrev pub IsAcceptance : Answer → Type 0
 IsAcceptance answer = (text : List ℕ) × IsVerdictText None text × (answer ≡ tells exit.done text)
 
--- a refusal is answered by its line; want of memory by nothing
+-- a refusal is answered by its line; running out of memory by nothing
 abbrev pub IsRefusing : Failing Refusal → Answer → Type 0
 IsRefusing (Fault refusal) answer = (text : List ℕ) × IsVerdictText (Some refusal) text × (answer ≡ tells exit.refused text)
 IsRefusing NoMemory answer = answer ≡ nothing

@@ -1,4 +1,5 @@
--- What callers read.
+-- What is due to texts and a question. The first group is what callers read: lathe_top, lathe_looks
+-- and lathe_c. The second is for this crate.
 pub mod Statuses
 pub mod Answers
 pub mod Texts

@@ -1,4 +1,5 @@
 -- The races that are due to the pair of three texts.
+-- lathe_top takes `AreRaces`, `AreRacesOf`, `listed` and `unlisted`.
 use Rattle.std.specs.Prelude.{List}
 use Rattle.nc_verify.specs.declared.verified.Verified.{Verified}
 use Rattle.race_report.specs.declared.race.Race.{Race}
@@ -11,7 +12,7 @@ use Rattle.lathe_calls.specs.Statuses as exit
 abbrev pub AreRaces : Verified → List Race → Type 0
 AreRaces pair races = IsRaceList (shared_by pair.settings) pair.left pair.right races
 
--- 0 and the list of the races of a pair; nothing for want of memory
+-- 0 and the list of the races of a pair; nothing if memory runs out
 pub data AreRacesOf (pair : Verified) : Answer → Type 0 where
   listed : (races : List Race) → AreRaces pair races → AreRacesOf pair (tells exit.done (list_text races))
   unlisted : AreRacesOf pair nothing

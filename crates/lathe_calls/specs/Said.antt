@@ -1,4 +1,5 @@
 -- What a call says, and what it leaves in the room that it was given.
+-- lathe_c takes `said`.
 use Rattle.std.specs.Prelude.{◌≡◌, ◌≢◌, ℕ, true, false, List, ◌++◌, length, take, drop}
 use Rattle.nc_verify.specs.Verdict.{Texts}
 use Rattle.lathe_calls.specs.Statuses as exit

@@ -1,4 +1,5 @@
 -- The trace that is due to three texts.
+-- lathe_top takes `IsTraceOf` and `IsTraced`.
 use Rattle.std.specs.Prelude.{ℕ, min, List, ◌++◌, Some}
 use Rattle.nc_outside.specs.declared.reason.Reason.{Reason}
 use Rattle.nc_restart.specs.Pair.{IsPairOf, tapes_in, opening_of}
@@ -25,15 +26,15 @@ abbrev pub end_of : Verified → List Entry → Reason
 end_of pair entries = end_told (tapes_in pair) (opening_of pair) pair.settings.records entries
 
 -- a trace of a pair: that of its run whose paths take turns, of so many records at most and of no
--- more than the settings allow, with all races of the pair; or nothing for want of memory
+-- more than the settings allow, with all races of the pair; or nothing if memory runs out
 pub data IsTraceOf (limit : ℕ) (pair : Verified) : Answer → Type 0 where
   ran : (entries : List Entry) (races : List Race) → IsInTurn (tapes_in pair) (opening_of pair) (min limit pair.settings.records) entries
       → AreRaces pair races
       → IsTraceOf limit pair (tells (exit.reason_status (end_of pair entries)) (trace_of pair entries (end_of pair entries) races))
   unran : IsTraceOf limit pair nothing
 
--- the trace of the accepted pair; 1 where the texts are refused, with the line of that; nothing for
--- want of memory
+-- the trace of the accepted pair; 1 where the texts are refused, with the line of that; nothing
+-- if memory runs out
 pub data IsTraced (limit : ℕ) (texts : Texts) : Answer → Type 0 where
   traced : (pair : Verified) {answer : Answer} → IsPairOf texts pair → IsTraceOf limit pair answer → IsTraced limit texts answer
   refused : {refusal : Refusal} {text : List ℕ} → IsRefusalOf texts refusal → IsVerdictText (Some refusal) text

@@ -1,4 +1,5 @@
 -- The meetings that are due to three texts.
+-- lathe_top takes `AreWaits` and `asked_of`.
 use Rattle.std.specs.Prelude.{ℕ, List, Option, Some}
 use Rattle.label_list.specs.declared.labelled.Labelled.{Labelled}
 use Rattle.nc_verify.specs.declared.refusal.Refusal.{Refusal}
@@ -17,7 +18,7 @@ abbrev pub asked_of : Option Outside → Texts → Asked
 asked_of outside texts = record { texts = texts; outside = outside }
 
 -- 0 and the meetings of a pair that is accepted for its waits; 1 and the line of a refusal; nothing
--- for want of memory
+-- if memory runs out
 pub data AreWaits (outside : Option Outside) (texts : Texts) : Answer → Type 0 where
   told : {judged : Judged} {left right : List Labelled} {trust : TrustView} → IsTold (asked_of outside texts) judged left right trust
       → AreWaits outside texts (tells exit.done (waits_text left right trust))

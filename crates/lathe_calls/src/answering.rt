@@ -1,4 +1,6 @@
-//! What is answered to three texts and a question.
+//! What is answered to three texts and a question: into a sink (`tell`), or into a caller's room
+//! (`answer`). What is due to each question has a file of its own.
+//! lathe_c and lathe_looks use it.
 ghost use Rattle.std.specs.Prelude.{◌<◌, ◌^◌, length};
 ghost use Rattle.lathe_calls.specs.Answers.{Ends};
 ghost use Rattle.lathe_calls.specs.Due.{IsAnswerTo, IsDueTo};

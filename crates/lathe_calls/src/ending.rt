@@ -1,4 +1,5 @@
 //! How a call ends: a text is written, and there is a status.
+//! lathe_looks and lathe_top use it.
 ghost use Rattle.std.specs.Prelude.{◌≡◌};
 ghost use Rattle.lathe_calls.specs.Answers.{Ends, IsJust, status_behind, tells};
 ghost use Rattle.lathe_calls.specs.Statuses.{reason_status};

@@ -1,4 +1,5 @@
 //! The events of a run, as C has them.
+//! lathe_c uses it.
 ghost use Rattle.std.specs.Prelude.{◌≡◌};
 ghost use Rattle.lathe_calls.specs.Events.{alarm_event, arc_event, bare_event, coded_event, counting_event, flag, move_event, moving_event, placed_event};
 

@@ -1,4 +1,6 @@
-//! How a caller gets what there is.
+//! How a caller gets what there is: the front of it in the caller's room, and the length of the
+//! whole.
+//! For this crate alone.
 ghost use Rattle.std.specs.Prelude.{◌≡◌, length};
 ghost use Rattle.lathe_calls.specs.Said.{IsHanded, handed, said};
 

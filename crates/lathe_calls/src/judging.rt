@@ -1,4 +1,5 @@
-//! The verdict of texts.
+//! The verdict of three texts: the line of an accepted pair, or of the refusal.
+//! lathe_top uses it.
 ghost use Rattle.std.specs.Prelude.{◌<◌, ◌^◌, length};
 ghost use Rattle.lathe_calls.specs.Answers.{Ends};
 ghost use Rattle.lathe_calls.specs.Judged.{IsAcceptance, IsJudged, IsRefusing};

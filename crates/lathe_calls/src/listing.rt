@@ -1,4 +1,5 @@
-//! The events of a turn.
+//! The events of one turn, added to a list. What an event is, is in event.rt.
+//! For this crate alone.
 ghost use Rattle.std.specs.Prelude.{◌≡◌, [], ◌∷◌, ◌++◌, OnOk, map};
 ghost use Rattle.lathe_calls.specs.Events.{bare_event, block_events, end_events, move_event, turn_events};
 

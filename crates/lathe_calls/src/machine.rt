@@ -1,4 +1,5 @@
-//! The machine behind a history.
+//! The machine behind a history, whose records are done again one by one.
+//! For this crate alone.
 ghost use Rattle.std.specs.Prelude.{◌≡◌, ◌≤◌, ◌<◌, length, IfOk, OnOk};
 ghost use Rattle.nc_number.specs.declared.limits.TheConstants.{MOST_RECORDS};
 ghost use Rattle.two_path.specs.Start.{machine_at_start};

@@ -1,4 +1,5 @@
-//! Turns in the order that a caller gives.
+//! Turns in the order that a caller gives, one byte a turn, and the events of each.
+//! For this crate alone.
 ghost use Rattle.std.specs.Prelude.{◌≡◌, ◌≤◌, ◌<◌, ◌++◌, map, OnOk};
 ghost use Rattle.nc_number.specs.declared.limits.TheConstants.{MOST_RECORDS};
 ghost use Rattle.two_path.specs.Turns.{tapes_of, turn_of};

@@ -1,4 +1,5 @@
-//! The three texts of a pair.
+//! The three texts of a pair, as a caller lends them, and whether a call takes them.
+//! lathe_c, lathe_looks and lathe_top use it.
 ghost use Rattle.std.specs.Prelude.{◌≡◌};
 ghost use Rattle.lathe_calls.specs.Texts.{are_fit, texts_of, three_texts};
 
@@ -10,8 +11,11 @@ pub const LONGEST_SETTINGS: usize = 65_536;
 /// The texts of a call: the tape of path 1, that of path 2, and the settings of the cell.
 #[derive(Clone, Copy, Debug)]
 pub struct PairTexts<'a> {
+    /// The tape of path 1.
     pub left: &'a [u8],
+    /// The tape of path 2.
     pub right: &'a [u8],
+    /// The settings of the cell.
     pub settings: &'a [u8],
 }
 

@@ -1,4 +1,5 @@
-//! What is asked of three texts.
+//! What is asked of three texts: a variant for each question.
+//! lathe_c, lathe_looks and lathe_top use it.
 use open_order::Outside;
 
 /// What is asked of three texts.

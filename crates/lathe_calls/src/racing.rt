@@ -1,4 +1,5 @@
-//! The races of the pair of texts for shared variables.
+//! The list of races that is due to three texts. What a race is, is in race_order.
+//! For this crate alone.
 ghost use Rattle.std.specs.Prelude.{◌<◌, ◌^◌, length};
 ghost use Rattle.lathe_calls.specs.Answers.{Ends};
 ghost use Rattle.lathe_calls.specs.Due.{IsOfPair};

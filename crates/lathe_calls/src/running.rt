@@ -1,4 +1,5 @@
-//! The texts of the run of a pair whose paths take turns.
+//! The texts of the run of a pair whose paths take turns: its report, its trace, its state.
+//! For this crate alone.
 ghost use Rattle.std.specs.Prelude.{◌≤◌, ◌<◌, ◌^◌, length};
 ghost use Rattle.nc_number.specs.declared.limits.TheConstants.{MOST_RECORDS};
 ghost use Rattle.nc_restart.specs.Pair.{opening_of, tapes_in};

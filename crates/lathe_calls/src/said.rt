@@ -1,4 +1,5 @@
-//! What a call says beside its text.
+//! What a call says beside its text: its status, and how long the whole is.
+//! lathe_c uses it.
 ghost use Rattle.std.specs.Prelude.{◌≡◌};
 ghost use Rattle.lathe_calls.specs.Said.{said};
 
@@ -6,7 +7,10 @@ ghost use Rattle.lathe_calls.specs.Said.{said};
 /// whole has, also those that found no room.
 #[derive(Clone, Copy, Debug, PartialEq, Eq)]
 pub struct Said {
+    /// The status of the call, as the program exits with it.
     pub status: u8,
+    /// The length of the whole of what is due: bytes of a text, or events. It may be more than the
+    /// room.
     pub len: usize,
 }
 

@@ -1,4 +1,5 @@
-//! A text in memory.
+//! A sink that is a text in memory.
+//! For this crate alone.
 ghost use Rattle.std.specs.Prelude.{◌≡◌, ◌≢◌, [], ◌++◌, Err, if◌then◌else◌, is_ok};
 ghost use Rattle.lathe_calls.specs.Texts.{written};
 
@@ -6,7 +7,7 @@ use nc_outside::{PutFault, Sink};
 use std::alloc::Global;
 use std::marker::Model;
 
-/// A text in memory. It fails only for want of memory.
+/// A text in memory. It fails only if memory runs out.
 #[derive(Drop)]
 pub(crate) struct TextSink {
     bytes: Vec<u8>,

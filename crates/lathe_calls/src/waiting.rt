@@ -1,4 +1,5 @@
 //! The meetings of texts that are read for their waits alone.
+//! For this crate alone.
 ghost use Rattle.std.specs.Prelude.{◌<◌, ◌^◌, length};
 ghost use Rattle.open_order.specs.Basis.{seen};
 ghost use Rattle.wait_verify.specs.Printed.{waits_text};

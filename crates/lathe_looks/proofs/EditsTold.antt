@@ -1,4 +1,4 @@
--- What is told of a file of edits, from what its text came to.
+-- What is told of a file of edits, by what its text says.
 use Rattle.std.proofs.Common.{◌≡◌, ℕ, List, Result, Ok, Err}
 use Rattle.std.specs.Prelude.{IfOk, IfErr}
 use Rattle.nc_outside.specs.Files.{ShelfState}
@@ -11,11 +11,13 @@ use Rattle.lathe_looks.specs.Edited.{AreEditsOf, IsUnedited}
 use Rattle.lathe_looks.specs.Fetched.{AreHad, IsOfFiles, answers}
 use Rattle.lathe_looks.specs.Named.{alone, edits_named}
 
+-- The edits of the text are those of the file that has it.
 pub edits_read : (old new : ShelfState) (name text : List ℕ) (result : Result (List PathEdit) ℕ) → AreHad old new (edits_named name) (alone text)
     → IfOk result (λ edits. edits_of text ≡ Ok edits) → IfOk result (λ edits. AreEditsOf old new name edits)
 edits_read old new name text (Ok edits) had are = record { text = text; had = had; are = are }
 edits_read old new name text (Err status) had are = tt
 
+-- What is due to a text of edits that can't be read is due to its file.
 pub edits_unread : (old new : ShelfState) (before after : SinkState) (name text : List ℕ) (result : Result (List PathEdit) ℕ)
     → AreHad old new (edits_named name) (alone text)
     → IfErr result (λ status. Ends (IsUnedited text) before after status)

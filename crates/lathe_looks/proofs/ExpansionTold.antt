@@ -1,4 +1,4 @@
--- What is answered of a tape that is written out, from what was put.
+-- What is answered of a tape that is written out, or refused.
 use Rattle.std.proofs.Common.{◌≡◌, ℕ, List, Option, Some, Ok, Err, IfSome, refl, sym, subst}
 use Rattle.nc_number.specs.declared.cause.Cause.{Cause}
 use Rattle.nc_number.specs.Causes.{cause_number}
@@ -10,17 +10,17 @@ use Rattle.lathe_calls.specs.Answers.{Answer, tells}
 use Rattle.lathe_looks.specs.Expanded.{IsExpanded, expanded, refused, IsTapeRefusing, refusal_text}
 use Rattle.lathe_calls.specs.Statuses as exit
 
--- the bytes of the tape that is written out
+-- A tape that is written out is answered by its bytes.
 pub expansion_told : (text bytes : List ℕ) → expansion_of text ≡ Ok bytes → AreClearParts (parts_in text)
     → IsExpanded text (tells exit.done bytes)
 expansion_told text bytes is clear = expanded is clear
 
--- a refusal of the tape is answered by itself
+-- A tape that is refused is answered by its refusal.
 pub expansion_refused : (text : List ℕ) (fault : ExpandFault) → expansion_of text ≡ Err fault → (answer : Answer)
     → IsTapeRefusing fault answer → IsExpanded text answer
 expansion_refused text fault is answer told = subst (IsExpanded text) (sym told.2) (refused is told.1)
 
--- the line of a refusal
+-- The line of the refusal with the cause of its number is a refusal's answer.
 pub refusal_told : (fault : ExpandFault) (cause : Option Cause) → IfSome cause (λ one. cause_number one ≡ expand_number fault)
     → ((one : Cause) → cause_number one ≡ expand_number fault → cause ≡ Some one)
     → IsTapeRefusing fault (tells exit.refused (refusal_text cause fault))

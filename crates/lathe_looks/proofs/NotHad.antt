@@ -1,5 +1,5 @@
--- The first file of a list that is not had: from one file to the list, and that it is not had
--- indeed.
+-- The first file of a list that can't be read: from one file to the list, that no file of texts
+-- that exist is one, and that there is one at most. lathe_top takes the lemmas on lists.
 use Rattle.std.proofs.Common.{◌≡◌, ℕ, zero, suc, ◌≤◌, ◌<◌, Option, Some, None, List, [], ◌∷◌, ◌++◌, length, map, take, IsSomeAnd, refl, sym, ap, subst, arith, ◌∙◌, append_assoc}
 use Rattle.std.proofs.lemmas.List.{map-append}
 use Rattle.nc_number.specs.declared.fault.Failing.{Failing}
@@ -13,19 +13,19 @@ use Rattle.lathe_calls.specs.Answers.{Answer}
 use Rattle.lathe_looks.specs.Named.{Named, most_bytes}
 use Rattle.lathe_looks.specs.Fetched.{AreAsked, AreHad, AreSome, AreTexts, FileCause, failed, absent, too_long, IsNotHad, IsOfFiles, not_had, unread, IsText, IsUnfetched, Reaches, file_of, unfetched}
 
--- the line of a file that is not had is due
+-- The line of the file that can't be read is due to a command of these files.
 pub unfetched_due : {A : Type 0} {listed : A → List (List ℕ)} {Rests : Type 0} {IsAnswer : A → Answer → Type 0} (files : List Named)
     (old new : ShelfState) (error : Failing Unfetched) → IsUnfetched old new files error → Rests
     → IsOfFiles listed files Rests IsAnswer old new (unfetched error)
 unfetched_due files old new (Fault missing) is rests = not_had is rests
 unfetched_due files old new NoMemory is rests = unread is rests
 
--- a name more
+-- To be asked for one name is to be asked for the list of one file.
 pub asked_one : (old new : Option (List (List ℕ))) (file : Named) → IsAsked old new file.name → AreAsked old new (file ∷ [])
 asked_one None new file is = is
 asked_one (Some was) new file is = is
 
--- and more names
+-- To be asked for some files and then for more is to be asked for all of them.
 pub asked_more : (old middle new : Option (List (List ℕ))) (files more : List Named) → AreAsked old middle files → AreAsked middle new more
     → AreAsked old new (files ++ more)
 asked_more None middle new files more first then_too =
@@ -36,7 +36,8 @@ asked_more (Some was) middle new files more first then_too =
     let one : map (λ (file : Named). file.name) (files ++ more) ≡ named_all files ++ named_all more = map-append (λ (file : Named). file.name) files more in
     next ∙ ap Some (append_assoc was (named_all files) (named_all more) ∙ ap (λ l. was ++ l) (sym one))
 
--- the cause at an earlier moment
+-- The cause at a later moment is one from an earlier moment on, if the shelf's files stayed and its
+-- faults did not sink.
 pub cause_before : (old middle new : ShelfState) (file : Named) (fault : FileFault) → HoldsOn old middle → old.faults ≤ middle.faults
     → FileCause middle new file fault → FileCause old new file fault
 cause_before old middle new file fault same later (failed rose) = failed (omega (arith, later, rose))
@@ -44,14 +45,14 @@ cause_before old middle new file fault same later (absent lacks) = absent (subst
 cause_before old middle new file fault same later (too_long more) =
     too_long (subst (λ told. HoldsMore told file.name (most_bytes file.file)) same more)
 
--- a file is not had for this cause
+-- A file can't be read for the cause that the error names.
 pub caused : (old new : ShelfState) (file : Named) (fault : FileFault) (error : Failing Unfetched) → FileCause old new file fault
     → IfFault error (λ unfetched. (file_of unfetched ≡ file) × (unfetched.fault ≡ fault))
     → IfFault error (λ unfetched. (file_of unfetched ≡ file) × FileCause old new file unfetched.fault)
 caused old new file fault (Fault unfetched) cause is = (is.0, subst (λ f. FileCause old new file f) (sym is.1) cause)
 caused old new file fault NoMemory cause is = tt
 
--- the first file is not had
+-- If the first file can't be read, it is the list's.
 pub first_not_had : (old new : ShelfState) (one : Named) (files : List Named) (error : Failing Unfetched)
     → AreAsked old.asked new.asked (one ∷ []) → IfFault error (λ missing. (file_of missing ≡ one) × FileCause old new one missing.fault)
     → IsUnfetched old new (one ∷ files) error
@@ -63,7 +64,7 @@ first_not_had old new one files (Fault missing) asked is = record {
 }
 first_not_had old new one files NoMemory asked is = (1, asked)
 
--- the second file is not had
+-- The same of the second file, if the first has a text.
 pub second_not_had : (old middle new : ShelfState) (one two : Named) (text : List ℕ) (error : Failing Unfetched)
     → IsText old.files one text → HoldsOn old middle → old.faults ≤ middle.faults → AreAsked old.asked middle.asked (one ∷ [])
     → AreAsked middle.asked new.asked (two ∷ [])
@@ -79,7 +80,7 @@ second_not_had old middle new one two text (Fault missing) is_text same later fi
 second_not_had old middle new one two text NoMemory is_text same later first second is =
     (2, asked_more old.asked middle.asked new.asked (one ∷ []) (two ∷ []) first second)
 
--- the third file is not had
+-- The same of the third file, if the first two have texts.
 pub third_not_had : (old middle new : ShelfState) (one two three : Named) (a b : List ℕ) (error : Failing Unfetched)
     → AreHad old middle (one ∷ two ∷ []) (a ∷ b ∷ []) → HoldsOn old middle → old.faults ≤ middle.faults
     → AreAsked middle.asked new.asked (three ∷ [])
@@ -95,7 +96,8 @@ third_not_had old middle new one two three a b (Fault missing) had same later la
 third_not_had old middle new one two three a b NoMemory had same later last is =
     (3, asked_more old.asked middle.asked new.asked (one ∷ two ∷ []) (three ∷ []) had.asked last)
 
--- where one of the tapes is not had, the settings were not asked for
+-- If one of the tapes can't be read, that is the answer for the tapes and settings, and the
+-- settings were not asked for.
 pub tapes_not_had : (old new : ShelfState) (one two three : Named) (error : Failing Unfetched) → IsUnfetched old new (one ∷ two ∷ []) error
     → IsUnfetched old new (one ∷ two ∷ three ∷ []) error
 tapes_not_had old new one two three (Fault missing) is = go is.before is.reached is.asked
@@ -113,12 +115,13 @@ tapes_not_had old new one two three NoMemory is = go is.0 is.1
     go (suc (suc zero)) asked = (2, asked)
     go (suc (suc (suc n))) asked = (2, asked)
 
--- a tape by itself is had
+-- One file that has a text is a list of files that have texts.
 pub tape_had : (old new : ShelfState) (one : Named) (text : List ℕ) → IsText old.files one text → AreAsked old.asked new.asked (one ∷ [])
     → AreHad old new (one ∷ []) (text ∷ [])
 tape_had old new one text is asked = record { each = (is, tt); asked = asked }
 
--- both tapes are had; between the two the shelf had these files, and was asked for these names
+-- The same of both tapes. Between the two calls the shelf had these files, and was asked for these
+-- names.
 pub tapes_had : (old new : ShelfState) (told : Option Files) (names : Option (List (List ℕ))) (one two : Named) (a b : List ℕ)
     → IsText old.files one a → told ≡ old.files → AreAsked old.asked names (one ∷ []) → IsText told two b
     → AreAsked names new.asked (two ∷ []) → AreHad old new (one ∷ two ∷ []) (a ∷ b ∷ [])
@@ -127,7 +130,7 @@ tapes_had old new told names one two a b first same asked second then_asked = re
   asked = asked_more old.asked names new.asked (one ∷ []) (two ∷ []) asked then_asked;
 }
 
--- and the settings
+-- The same of both tapes and the settings.
 pub texts_had : (old middle new : ShelfState) (one two three : Named) (a b c : List ℕ) → AreHad old middle (one ∷ two ∷ []) (a ∷ b ∷ [])
     → HoldsOn old middle → IsText middle.files three c → AreAsked middle.asked new.asked (three ∷ [])
     → AreHad old new (one ∷ two ∷ three ∷ []) (a ∷ b ∷ c ∷ [])
@@ -136,7 +139,7 @@ texts_had old middle new one two three a b c had same third then_asked = record 
   asked = asked_more old.asked middle.asked new.asked (one ∷ two ∷ []) (three ∷ []) had.asked then_asked;
 }
 
--- a file that is reached has a text where all have one
+-- If all files of a list have texts, a file that is reached has one.
 reached_text : (told : Option Files) (file : Named) (files : List Named) (n : ℕ) (texts : List (List ℕ)) → Reaches told file files n
     → AreTexts told files texts → (text : List ℕ) × IsText told file text
 reached_text told file [] n texts h are = absurd h
@@ -144,9 +147,11 @@ reached_text told file (first ∷ files) n [] h are = absurd are
 reached_text told file (first ∷ files) zero (text ∷ texts) same are = (text, subst (λ f. IsText told f text) (rw same refl) are.0)
 reached_text told file (first ∷ files) (suc n) (text ∷ texts) there are = reached_text told file files n texts there.1 are.1
 
+-- A name with a text is not absent.
 not_lacking : (files : Files) (name text : List ℕ) → file_named name files ≡ Some text → file_named name files ≡ None → ⊥
 not_lacking files name text is lacks = cc
 
+-- A text that is no longer than `most` is not too long.
 not_longer : (files : Files) (name text : List ℕ) (most : ℕ) → file_named name files ≡ Some text → length text ≤ most
     → IsSomeAnd (file_named name files) (λ bytes. most < length bytes) → ⊥
 not_longer files name text most is short more =
@@ -154,7 +159,7 @@ not_longer files name text most is short more =
     let h : P (Some text) = subst P is more in
     omega (arith, h)
 
--- a text that is there gives no cause but a fault of the shelf
+-- A file that has a text can't be unreadable, unless the shelf failed.
 text_had : (files : Files) (old new : ShelfState) (file : Named) (fault : FileFault) (text : List ℕ) → old.files ≡ Some files
     → (Rose old.faults new.faults → ⊥) → IsText (Some files) file text → FileCause old new file fault → ⊥
 text_had files old new file fault text told calm is (failed rose) = calm rose
@@ -163,20 +168,21 @@ text_had files old new file fault text told calm is (absent lacks) =
 text_had files old new file fault text told calm is (too_long more) =
     not_longer files file.name text (most_bytes file.file) is.0 is.1 (subst (λ v. HoldsMore v file.name (most_bytes file.file)) told more)
 
--- where all files of a list have a text, none is not had
+-- If all files of a list have texts and the shelf did not fail, none is unreadable.
 pub all_had : (files : Files) (old new : ShelfState) (list : List Named) (file : Named) (fault : FileFault) (texts : List (List ℕ))
     → old.files ≡ Some files → (Rose old.faults new.faults → ⊥) → AreTexts old.files list texts → IsNotHad old new list file fault → ⊥
 all_had files old new list file fault texts told calm are missing =
     let found = reached_text old.files file list missing.before texts missing.reached are in
     text_had files old new file fault found.0 told calm (subst (λ v. IsText v file found.0) told found.1) missing.cause
 
+-- An absent file is not too long.
 lacks_no_more : (files : Files) (name : List ℕ) (most : ℕ) → file_named name files ≡ None
     → IsSomeAnd (file_named name files) (λ bytes. most < length bytes) → ⊥
 lacks_no_more files name most lacks more =
     let P : Option (List ℕ) → Type 0 = λ v. IsSomeAnd v (λ bytes. most < length bytes) in
     let none : P None = subst P lacks more in none
 
--- where the shelf did not fail, a file is not had for one cause
+-- If the shelf did not fail, a file is unreadable for one cause.
 pub fault_once : (files : Files) (old new : ShelfState) (file : Named) (fault other : FileFault) → old.files ≡ Some files
     → (Rose old.faults new.faults → ⊥) → FileCause old new file fault → FileCause old new file other → fault ≡ other
 fault_once files old new file fault other told calm (failed rose) cause = absurd (calm rose)
@@ -189,7 +195,7 @@ fault_once files old new file fault other told calm (too_long more) (absent lack
     (subst (λ v. Lacks v file.name) told lacks) (subst (λ v. HoldsMore v file.name (most_bytes file.file)) told more))
 fault_once files old new file fault other told calm (too_long more) (too_long too) = refl
 
--- and one file is the first that is not had
+-- If the shelf did not fail, one file is the first that can't be read.
 pub missing_once : (files : Files) (old new : ShelfState) (list : List Named) (file other : Named) (fault fault' : FileFault) (n m : ℕ)
     → old.files ≡ Some files → (Rose old.faults new.faults → ⊥) → Reaches old.files file list n → Reaches old.files other list m
     → FileCause old new file fault → FileCause old new other fault' → file ≡ other
@@ -204,7 +210,7 @@ missing_once files old new (first ∷ list) file other fault fault' (suc n) zero
 missing_once files old new (first ∷ list) file other fault fault' (suc n) (suc m) told calm a b c d =
     missing_once files old new list file other fault fault' n m told calm a.1 b.1 c d
 
--- under one name stands one text
+-- A list of files has one list of texts.
 pub texts_once : (files : Files) (list : List Named) (a b : List (List ℕ)) → AreTexts (Some files) list a → AreTexts (Some files) list b → a ≡ b
 texts_once files [] [] [] f g = refl
 texts_once files [] (x ∷ a) b f g = absurd f

@@ -1,4 +1,5 @@
--- What a command answers of its files is what is due to their texts.
+-- What a command answers of its files is what is due to their texts, if the shelf did not fail.
+-- src/laws.rt says it to the caller.
 use Rattle.std.proofs.Common.{◌≡◌, ◌⊎◌, inl, inr, ℕ, List, Some, refl, sym, subst}
 use Rattle.nc_outside.specs.Faults.{Rose}
 use Rattle.nc_outside.specs.Files.{Files, ShelfState}
@@ -11,9 +12,11 @@ use Rattle.lathe_calls.specs.declared.question.Question.{Question}
 use Rattle.lathe_calls.specs.Due.{IsDueTo}
 use Rattle.lathe_calls.specs.Texts.{three_texts}
 
+-- Three texts that agree one by one are the same three texts.
 three : (a b c x y z : List ℕ) → a ≡ x → b ≡ y → c ≡ z → three_texts a b c ≡ three_texts x y z
 three a b c x y z p q r = cc
 
+-- Texts that are listed alike are the same.
 same_texts : (a b : Texts) → ◌≡◌ {A = List (List ℕ)} (listed a) (listed b) → a ≡ b
 same_texts a b is =
     let one : a.left ≡ b.left = cc in
@@ -23,6 +26,8 @@ same_texts a b is =
 
 module _ (files : Files) (old new : ShelfState) (names : List Named) (texts : Texts) (question : Question)
     (told : old.files ≡ Some files) (calm : Rose old.faults new.faults → ⊥) (are : AreTexts (Some files) names (listed texts)) where
+  -- What is due to a command of these files is due to their texts, or memory ran out, if the shelf
+  -- has the texts and did not fail.
   pub due_to_texts : (answer : Answer) → IsOfFiles listed names (Unit {0}) (IsDueTo question) old new answer
       → (answer ≡ nothing) ⊎ IsDueTo question texts answer
   due_to_texts answer (not_had missing rests) =

@@ -1,4 +1,4 @@
--- What is told of a file of zones, from what its text came to.
+-- What is told of a file of zones, by what its text says.
 use Rattle.std.proofs.Common.{◌≡◌, ℕ, List, Result, Ok, Err}
 use Rattle.std.specs.Prelude.{IfOk, IfErr}
 use Rattle.nc_outside.specs.Files.{ShelfState}
@@ -10,11 +10,13 @@ use Rattle.lathe_looks.specs.Fetched.{AreHad, IsOfFiles, answers}
 use Rattle.lathe_looks.specs.Named.{alone, zones_named}
 use Rattle.lathe_looks.specs.Zoned.{AreZonesOf, IsUnzoned}
 
+-- The zones of the text are those of the file that has it.
 pub zones_read : (old new : ShelfState) (name text : List ℕ) (result : Result ZonesView ℕ) → AreHad old new (zones_named name) (alone text)
     → IfOk result (λ zones. zones_of text ≡ Ok zones) → IfOk result (λ zones. AreZonesOf old new name zones)
 zones_read old new name text (Ok zones) had are = record { text = text; had = had; are = are }
 zones_read old new name text (Err status) had are = tt
 
+-- What is due to a text of zones that can't be read is due to its file.
 pub zones_unread : (old new : ShelfState) (before after : SinkState) (name text : List ℕ) (result : Result ZonesView ℕ)
     → AreHad old new (zones_named name) (alone text)
     → IfErr result (λ status. Ends (IsUnzoned text) before after status)

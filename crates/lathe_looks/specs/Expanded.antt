@@ -1,4 +1,5 @@
--- What `expand` answers over the text of its tape.
+-- What `expand` answers over the text of its tape: the status and the text. How cycles are written
+-- out is in tape_expand. lathe_top reads this.
 use Rattle.std.specs.Prelude.{◌≡◌, ℕ, List, ◌++◌, codes, Option, Ok, Err}
 use Rattle.nc_number.specs.declared.cause.Cause.{Cause}
 use Rattle.cycle_form.specs.Faults.{fault_name}
@@ -11,32 +12,33 @@ use Rattle.tape_expand.specs.Faults.{expand_line, expand_number}
 use Rattle.lathe_calls.specs.Answers.{Answer, tells, nothing}
 use Rattle.lathe_calls.specs.Statuses as exit
 
--- the name of a refusal, of which this is the cause, with a blank before it
+-- The name of a refusal, with a blank before it. A tape that can't be read has the name of its
+-- cause, a cycle its own.
 abbrev pub fault_name_text : Option Cause → ExpandFault → List ℕ
 fault_name_text cause (Unreadable fault) = name_text cause
 fault_name_text cause (Cycle fault) = codes " " ++ fault_name fault
 
--- its line of the tape, and the end of the line
+-- The line of the tape at which it is refused, and the end of the line.
 unfoldable pub at_line_text : ℕ → List ℕ
 at_line_text line = numbered (codes " line ") line ++ codes "\n"
 
--- a refusal as a line
+-- A refusal as a line of output, as `refused 93 BadCycle line 5`.
 unfoldable pub refusal_text : Option Cause → ExpandFault → List ℕ
 refusal_text cause fault =
     numbered (codes "refused ") (expand_number fault) ++ (fault_name_text cause fault ++ at_line_text (expand_line fault))
 
--- the line of a refusal is this text
+-- This text is the line of the refusal, with the name of the cause that has its number.
 abbrev pub IsRefusalText : ExpandFault → List ℕ → Type 0
 IsRefusalText fault text = (cause : Option Cause) × IsCauseOf (expand_number fault) cause × (text ≡ refusal_text cause fault)
 
--- 0 and the tape with its roughing cycles written out, in which no move of a cycle's blocks lies
--- inside its contour; 1 and the line of the refusal; nothing for want of memory
+-- 0 and the tape with its roughing cycles written out, where no move of a cycle's blocks lies
+-- inside its contour; 1 and the line of the refusal; or no text, if memory ran out.
 pub data IsExpanded (text : List ℕ) : Answer → Type 0 where
   expanded : {bytes : List ℕ} → expansion_of text ≡ Ok bytes → AreClearParts (parts_in text) → IsExpanded text (tells exit.done bytes)
   refused : {fault : ExpandFault} {line : List ℕ} → expansion_of text ≡ Err fault → IsRefusalText fault line
       → IsExpanded text (tells exit.refused line)
   unexpanded : IsExpanded text nothing
 
--- a refusal is answered by its line
+-- The answer is 1 and the line of this refusal.
 abbrev pub IsTapeRefusing : ExpandFault → Answer → Type 0
 IsTapeRefusing fault answer = (text : List ℕ) × IsRefusalText fault text × (answer ≡ tells exit.refused text)

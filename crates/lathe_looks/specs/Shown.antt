@@ -1,4 +1,5 @@
--- What a command answers that shows what the journal on a disk holds.
+-- What a command answers that shows the run whose journal is on a disk (`moves`, `state`, `zones`),
+-- or why there is none. lathe_top reads this.
 use Rattle.std.specs.Prelude.{ℕ, List, ◌++◌, codes, decimal, Ok, Err}
 use Rattle.disk_model.specs.Device.{DiskState}
 use Rattle.nc_restart.specs.declared.fault.RestartFault.{RestartFault}
@@ -15,12 +16,12 @@ use Rattle.lathe_calls.specs.Reported.{state_of}
 use Rattle.lathe_looks.specs.Standing.{moves_text}
 use Rattle.lathe_calls.specs.Statuses as exit
 
--- the line of a journal that is bad at an offset
+-- The line of output for a journal that is damaged at this byte.
 abbrev pub bad_text : ℕ → List ℕ
 bad_text offset = codes "bad journal" ++ (codes " at " ++ (decimal offset ++ codes "\n"))
 
--- what is told where no run is found: the disk failed, or there is no run, or the journal is bad;
--- nothing for want of memory
+-- The answer if no run is found: the disk failed, there is no run, or the journal is damaged; no
+-- text if memory ran out.
 abbrev pub unfound : RestartFault → Answer
 unfound restart.DiskFault = tells exit.disk_fault (codes "disk fault\n")
 unfound restart.NoRun = tells exit.run_or_none (codes "no run\n")
@@ -28,12 +29,12 @@ unfound (restart.Cut at) = tells exit.bad_journal (bad_text at)
 unfound (restart.BadRecord offset cause) = tells exit.bad_journal (bad_text offset)
 unfound restart.NoMemory = nothing
 
--- the text of a history that is shown
+-- The text that is shown of a history: its report, or the state of its machine.
 abbrev pub shown_text : Showing → Verified → List Entry → List ℕ
 shown_text Moves = moves_text
 shown_text State = state_of
 
--- What a command answers that looks for a run on the disk and shows its history by this text: why
+-- What a command answers that looks for a run on the disk and shows its history by `text_of`: why
 -- none is found, or that text. It writes nothing to the disk.
 pub data IsShown (text_of : Verified → List Entry → List ℕ) (old new : DiskState) : Answer → Type 0 where
   unshown : (fault : RestartFault) → Recovers old new (Err fault) → IsShown text_of old new (unfound fault)

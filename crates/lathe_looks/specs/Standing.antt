@@ -1,4 +1,5 @@
--- Why the machine of a run stands where it does, and the report of its history so far.
+-- Why the machine of a run stands where it does, and the report of its history so far. lathe_top
+-- reads this.
 use Rattle.std.specs.Prelude.{ℕ, Bool, ◌&&◌, ◌||◌, is_some, List, Option, unwrap_or}
 use Rattle.nc_moves.specs.declared.alarm.Alarm.{Alarm}
 use Rattle.nc_outside.specs.declared.reason.Reason.{Reason}
@@ -9,21 +10,23 @@ use Rattle.two_path.specs.Machine.{MachineView}
 use Rattle.nc_restart.specs.Pair.{machine_behind}
 use Rattle.lathe_calls.specs.Reported.{report_of}
 
--- why a machine stands where it does, if nothing else stopped it: an alarm, or both paths have
--- ended, or neither
+-- Why a machine stands there, if nothing else stopped it: an alarm, or both paths have ended, or it
+-- was only stopped.
 abbrev pub reason_by : Option Alarm → Bool → Reason
 reason_by alarm finished = unwrap_or (end_by alarm finished) Reason.Stopped
 
+-- Both paths have ended.
 abbrev pub are_finished : MachineView → Bool
 are_finished m = m.paths.one.finished && m.paths.two.finished
 
+-- The same of a machine, by its alarm and its paths.
 abbrev pub reason_of : MachineView → Reason
 reason_of m = reason_by m.alarm (are_finished m)
 
--- the run is over: there is an alarm, or both paths have ended
+-- The run is over: there is an alarm, or both paths have ended.
 abbrev pub is_over : MachineView → Bool
 is_over m = is_some m.alarm || are_finished m
 
--- the report of a history so far
+-- The report of a history so far, with its reason.
 abbrev pub moves_text : Verified → List Entry → List ℕ
 moves_text pair entries = report_of pair entries (reason_of (machine_behind pair entries))

@@ -1,4 +1,4 @@
--- The names and the texts that the code keeps, as clauses see them.
+-- The names and texts that the code keeps, as clauses see them. lathe_top reads this.
 use Rattle.std.specs.Prelude.{ℕ, List}
 use denote.Ref.{Bor}
 use Rattle.nc_number.specs.declared.both.Both.{Both}
@@ -7,14 +7,14 @@ use Rattle.lathe_looks.specs.declared.fetching.Texts.{Texts}
 use Rattle.lathe_looks.specs.declared.files.FileNames.{FileNames}
 use Rattle.lathe_looks.specs.Named.{Named, files_of, tapes_of}
 
--- the files of both tapes, by these names
+-- The files of both tapes, by these names.
 abbrev pub tape_files : Both (Bor (List ℕ)) → List Named
 tape_files names = tapes_of names.one.now names.two.now
 
--- the files of these names
+-- The files of a pair, by these names.
 abbrev pub files_in : FileNames → List Named
 files_in names = files_of names.tapes.one.now names.tapes.two.now names.settings.now
 
--- the texts of a verdict
+-- The three texts of a pair, as a verdict sees them.
 abbrev pub texts_of : Texts → verdict.Texts
 texts_of texts = record { left = texts.tapes.one.items; right = texts.tapes.two.items; settings = texts.settings.items }

@@ -1,4 +1,5 @@
--- What is told of a text of zones that is not read, and the text of the zones of a run.
+-- What `zones` answers if its text of zones can't be read, the zones of a file, and the text that
+-- is shown. How zones are found is in zone_check. lathe_top reads this.
 use Rattle.std.specs.Prelude.{◌≡◌, ℕ, List, ◌++◌, codes, decimal, Ok, Err}
 use Rattle.nc_outside.specs.Files.{ShelfState}
 use Rattle.nc_restart.specs.Pair.{opening_of, tapes_in}
@@ -12,21 +13,22 @@ use Rattle.lathe_calls.specs.Statuses as exit
 use Rattle.lathe_looks.specs.Fetched.{AreHad}
 use Rattle.lathe_looks.specs.Named.{alone, zones_named}
 
--- the line of a text of zones that is refused at a line
+-- The line of output for a text of zones whose line `line` is refused, as `refused 92 BadZone line
+-- 2`.
 unfoldable pub bad_zone_text : ℕ → List ℕ
 bad_zone_text line = codes "refused 92 " ++ (codes "BadZone line " ++ (decimal line ++ codes "\n"))
 
--- 1 and the first line that is not allowed; nothing for want of memory
+-- 1 and the first line that is not allowed; or no text, if memory ran out.
 pub data IsUnzoned (text : List ℕ) : Answer → Type 0 where
   bad_zones : {line : ℕ} → zones_of text ≡ Err line → IsUnzoned text (tells exit.refused (bad_zone_text line))
   unread_zones : IsUnzoned text nothing
 
--- the shelf has a text of the file, which gives these zones
+-- The shelf has a text of the file, and these are its zones.
 pub record AreZonesOf (old new : ShelfState) (name : List ℕ) (zones : ZonesView) : Type 0 where
   pub text : List ℕ
   pub had : AreHad old new (zones_named name) (alone text)
   pub are : zones_of text ≡ Ok zones
 
--- the text of the zones of a history of a pair
+-- The text of the zones of a history of a pair.
 abbrev pub zones_text : ZonesView → Verified → List Entry → List ℕ
 zones_text zones pair entries = list_text (zones_of_history (tapes_in pair) (opening_of pair) zones entries)

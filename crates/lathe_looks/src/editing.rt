@@ -1,4 +1,5 @@
-//! The text of the edits that an operator makes.
+//! The text of the edits that an operator makes, read from a file. What an edit does is in
+//! lathe_top, which calls `edits_of_file`.
 ghost use Rattle.std.specs.Prelude.{◌≡◌, ◌<◌, ◌^◌, Ok, length, IfOk, IfErr};
 ghost use Rattle.edit_texts.specs.Edits.{edits_of};
 ghost use Rattle.lathe_calls.specs.Answers.{Ends, IsJust, tells};
@@ -15,8 +16,8 @@ use nc_outside::{Shelf, Sink};
 use std::alloc::Global;
 use text_pieces::Piece;
 
-/// The edits of a file; or what is told of a file that is not had, or of its first bad line, and
-/// the status of that.
+/// The edits of a file. If the file can't be read or has a bad line, that is written, and the error
+/// is the exit status; if memory ran out, nothing is written.
 pub fn edits_of_file<H: Shelf, K: Sink>(
     alloc: Global,
     name: &str,
@@ -34,7 +35,7 @@ pub fn edits_of_file<H: Shelf, K: Sink>(
     }
 }
 
-/// The edits of a text; or what is told of its first bad line.
+/// The edits of a text. If a line is bad, the first is written, and the error is the exit status.
 fn edits_of_text<K: Sink>(alloc: Global, text: &[u8], out: &mut K) -> Result<EditList, u8>
     requires { length text.now < 2 ^ 32 }
     ensures read { IfOk result (λ edits. edits_of text.now ≡ Ok edits) }
@@ -48,7 +49,7 @@ fn edits_of_text<K: Sink>(alloc: Global, text: &[u8], out: &mut K) -> Result<Edi
     }
 }
 
-/// Writes the line of a text of edits that is refused, and gives its status.
+/// Writes the line `refused 91 ..` for this fault, and gives the exit status.
 fn tell_bad_edit<K: Sink>(fault: EditFault, out: &mut K) -> u8
     ensures { Ends (IsJust (tells exit.refused (bad_edit_text fault.line))) (K.state out.old) (K.state out.new) result }
 {
@@ -59,7 +60,7 @@ fn tell_bad_edit<K: Sink>(fault: EditFault, out: &mut K) -> u8
     )
 }
 
-/// The line of a text of edits that is refused. It takes no memory.
+/// The line `refused 91 ..` for this line of the text. It takes no memory.
 #[tactic(auto, unfolding(crate::specs::Edited::bad_edit_text))]
 fn bad_edit_line(line: u32) -> Piece
     ensures { result ≡ bad_edit_text line }

@@ -1,4 +1,5 @@
-//! The command `expand`.
+//! The command `expand`: a tape with its roughing cycles written out as plain blocks. How they are
+//! written out is in tape_expand.
 ghost use Rattle.std.specs.Prelude.{◌≡◌, ◌++◌, OnOk, codes};
 ghost use Rattle.text_pieces.specs.Pieces.{name_text, numbered};
 ghost use Rattle.lathe_calls.specs.Answers.{Ends, IsJust, tells};
@@ -15,8 +16,8 @@ use nc_outside::{Shelf, Sink};
 use std::alloc::Global;
 use tape_expand::{ExpandFault, expand_tape};
 
-/// Writes a tape with its roughing cycles as plain blocks, and gives the status: 0, or 1 if the
-/// tape is refused.
+/// Writes the tape with its roughing cycles as plain blocks, and gives the exit status: 0; 1 if the
+/// tape is refused; or that of a file that can't be read.
 pub fn expand<H: Shelf, K: Sink>(alloc: Global, name: &str, shelf: &mut H, out: &mut K) -> u8
     ensures { Ends (IsOfFiles alone (tape_named name.now) (Unit {0}) IsExpanded (H.state shelf.old) (H.state shelf.new))
         (K.state out.old) (K.state out.new) result }
@@ -27,7 +28,8 @@ pub fn expand<H: Shelf, K: Sink>(alloc: Global, name: &str, shelf: &mut H, out: 
     }
 }
 
-/// Writes the text with its roughing cycles as plain blocks, and gives the status.
+/// Writes this text with its roughing cycles as plain blocks, or its refusal, and gives the exit
+/// status.
 fn expand_text<K: Sink>(alloc: Global, text: &[u8], out: &mut K) -> u8
     ensures { Ends (IsExpanded text.now) (K.state out.old) (K.state out.new) result }
 {
@@ -38,14 +40,15 @@ fn expand_text<K: Sink>(alloc: Global, text: &[u8], out: &mut K) -> u8
     }
 }
 
-/// Writes why a tape is refused, and gives the status of that.
+/// Writes why the tape is refused, and gives the exit status.
 fn refuse_tape<K: Sink>(alloc: Global, fault: ExpandFault, out: &mut K) -> u8
     ensures { Ends (IsTapeRefusing fault) (K.state out.old) (K.state out.new) result }
 {
     tell_refusal(alloc, Cause::of_number(fault.number()), fault, out)
 }
 
-/// Writes the line of a refusal with its cause, and gives the status of that.
+/// Writes the line of a refusal with its cause, and gives the exit status; if memory ran out,
+/// nothing is written.
 fn tell_refusal<K: Sink>(alloc: Global, cause: Option<Cause>, fault: ExpandFault, out: &mut K) -> u8
     ensures { Ends (IsJust (tells exit.refused (refusal_text cause fault))) (K.state out.old) (K.state out.new) result }
 {
@@ -56,7 +59,7 @@ fn tell_refusal<K: Sink>(alloc: Global, cause: Option<Cause>, fault: ExpandFault
     write_text(out, text.as_slice(), Status::Refused as u8)
 }
 
-/// Puts the line of a refusal.
+/// Adds the line of a refusal. The only error is out of memory.
 #[tactic(auto, unfolding(crate::specs::Expanded::refusal_text))]
 fn push_refusal(
     text: &mut Vec<u8>,
@@ -70,7 +73,7 @@ fn push_refusal(
     push_line(text, fault.line())
 }
 
-/// Puts the name of a refusal, with a blank before it.
+/// Adds the name of a refusal, with a blank before it. The only error is out of memory.
 fn push_name(text: &mut Vec<u8>, cause: Option<Cause>, fault: ExpandFault) -> Result<(), NoMemory>
     ensures { OnOk result (text.new.items ≡ text.old.items ++ fault_name_text cause fault) }
 {
@@ -80,7 +83,8 @@ fn push_name(text: &mut Vec<u8>, cause: Option<Cause>, fault: ExpandFault) -> Re
     }
 }
 
-/// Puts the name of a cause, if there is one, with a blank before it.
+/// Adds the name of a cause, if there is one, with a blank before it. The only error is out of
+/// memory.
 fn push_cause(text: &mut Vec<u8>, cause: Option<Cause>) -> Result<(), NoMemory>
     ensures { OnOk result (text.new.items ≡ text.old.items ++ name_text cause) }
 {
@@ -90,7 +94,7 @@ fn push_cause(text: &mut Vec<u8>, cause: Option<Cause>) -> Result<(), NoMemory>
     }
 }
 
-/// Puts a word, with a blank before it.
+/// Adds a word, with a blank before it. The only error is out of memory.
 fn push_word(text: &mut Vec<u8>, word: &str) -> Result<(), NoMemory>
     ensures { OnOk result (text.new.items ≡ text.old.items ++ (codes " " ++ word.now)) }
 {
@@ -98,7 +102,7 @@ fn push_word(text: &mut Vec<u8>, word: &str) -> Result<(), NoMemory>
     push_bytes(text, word.as_bytes())
 }
 
-/// Puts a line of the tape, and the end of the line.
+/// Adds the number of a line of the tape, and the end of the line. The only error is out of memory.
 #[tactic(auto, unfolding(crate::specs::Expanded::at_line_text))]
 fn push_line(text: &mut Vec<u8>, line: u32) -> Result<(), NoMemory>
     ensures { OnOk result (text.new.items ≡ text.old.items ++ at_line_text line) }
@@ -107,7 +111,7 @@ fn push_line(text: &mut Vec<u8>, line: u32) -> Result<(), NoMemory>
     push_bytes(text, b"\n")
 }
 
-/// Puts bytes, and a number behind them.
+/// Adds bytes, and a number after them. The only error is out of memory.
 fn push_numbered(text: &mut Vec<u8>, before: &[u8], number: u64) -> Result<(), NoMemory>
     ensures { OnOk result (text.new.items ≡ text.old.items ++ numbered before.now number) }
 {

@@ -1,4 +1,5 @@
-//! The texts of the files of a command, or the first of them that is not had.
+//! The texts of the files of a command, or the first file that can't be read, with its line of
+//! output. lathe_top calls these functions.
 ghost use Rattle.std.specs.Prelude.{◌≡◌, ◌≤◌, ◌<◌, ◌^◌, [], ◌∷◌, ◌++◌, length, OnOk, IfOk, IfErr};
 ghost use Rattle.block_order.specs.Answers.{IfFault};
 ghost use Rattle.nc_outside.specs.Files.{HoldsOn};
@@ -14,7 +15,7 @@ use nc_number::{Both, Failing, NoMemory};
 use nc_outside::{FetchFault, Shelf, Sink};
 use std::alloc::Global;
 
-/// Why a file is not had.
+/// Why a file can't be read.
 #[derive(Clone, Copy, Debug, PartialEq, Eq)]
 pub enum FileFault {
     /// The shelf failed.
@@ -25,7 +26,7 @@ pub enum FileFault {
     TooLong,
 }
 
-/// A file that is not had, by the name that the command gives it, and why.
+/// A file that can't be read, by the name that the command gives it, and why.
 #[derive(Clone, Copy, Debug)]
 pub struct Unfetched<'a> {
     pub file: CommandFile,
@@ -40,7 +41,7 @@ pub struct Texts {
     pub settings: Vec<u8>,
 }
 
-/// The text of a file.
+/// The text of one file from the shelf. Errors: why it can't be read, or out of memory.
 fn fetch<'a, H: Shelf>(
     alloc: Global,
     shelf: &mut H,
@@ -64,14 +65,15 @@ fn fetch<'a, H: Shelf>(
     }
 }
 
-/// That a file is not had, and why.
+/// The error for a file that can't be read.
 fn not_had(file: CommandFile, name: &str, fault: FileFault) -> Failing<Unfetched<'_>>
     ensures { IfFault result (λ unfetched. (file_of unfetched ≡ named file name.now) × (unfetched.fault ≡ fault)) }
 {
     Failing::Fault(Unfetched { file, name, fault })
 }
 
-/// The texts of both tapes, path 1's first.
+/// The texts of both tapes, path 1's first. Errors: the first file that can't be read, or out of
+/// memory.
 fn fetch_tapes<'a, H: Shelf>(
     alloc: Global,
     shelf: &mut H,
@@ -94,7 +96,8 @@ fn fetch_tapes<'a, H: Shelf>(
     Ok(Both { one, two })
 }
 
-/// The texts of both tapes, and then of the settings.
+/// The texts of both tapes, and then of the settings. Errors: the first file that can't be read, or
+/// out of memory.
 pub fn fetch_texts<'a, H: Shelf>(
     alloc: Global,
     shelf: &mut H,
@@ -114,7 +117,7 @@ pub fn fetch_texts<'a, H: Shelf>(
     }
 }
 
-/// The text of a tape by itself.
+/// The text of the tape of `expand`. Errors: why it can't be read, or out of memory.
 pub(crate) fn fetch_tape<'a, H: Shelf>(
     alloc: Global,
     shelf: &mut H,
@@ -130,7 +133,7 @@ pub(crate) fn fetch_tape<'a, H: Shelf>(
     }
 }
 
-/// The text of zones.
+/// The text of the file of zones. Errors: why it can't be read, or out of memory.
 pub(crate) fn fetch_zones<'a, H: Shelf>(
     alloc: Global,
     shelf: &mut H,
@@ -147,7 +150,7 @@ pub(crate) fn fetch_zones<'a, H: Shelf>(
     }
 }
 
-/// The text of edits.
+/// The text of the file of edits. Errors: why it can't be read, or out of memory.
 pub(crate) fn fetch_edits<'a, H: Shelf>(
     alloc: Global,
     shelf: &mut H,
@@ -164,7 +167,7 @@ pub(crate) fn fetch_edits<'a, H: Shelf>(
     }
 }
 
-/// Writes the line of a file that is not had, and gives its status. Where memory was lacking
+/// Writes the line for a file that can't be read, and gives the exit status; if memory ran out,
 /// nothing is written.
 pub fn tell_unfetched<K: Sink>(alloc: Global, error: &Failing<Unfetched<'_>>, out: &mut K) -> u8
     ensures { Ends (IsJust (unfetched error.now)) (K.state out.old) (K.state out.new) result }
@@ -175,7 +178,7 @@ pub fn tell_unfetched<K: Sink>(alloc: Global, error: &Failing<Unfetched<'_>>, ou
     }
 }
 
-/// Writes the line of a file that is not had, and gives its status.
+/// Writes the line for this file, and gives the exit status; if memory ran out, nothing is written.
 fn tell_fault<K: Sink>(alloc: Global, missing: &Unfetched<'_>, out: &mut K) -> u8
     ensures { Ends (IsJust (tells (fault_status missing.now.fault) (fault_text missing.now.name.now missing.now.fault)))
         (K.state out.old) (K.state out.new) result }
@@ -187,7 +190,7 @@ fn tell_fault<K: Sink>(alloc: Global, missing: &Unfetched<'_>, out: &mut K) -> u
     write_text(out, text.as_slice(), fault_status(missing.fault))
 }
 
-/// The status of a file that is not had.
+/// The exit status for a file that can't be read.
 fn fault_status(fault: FileFault) -> u8
     ensures { result ≡ fault_status fault }
 {
@@ -198,7 +201,7 @@ fn fault_status(fault: FileFault) -> u8
     status as u8
 }
 
-/// Puts the line of a file of this name that is not had.
+/// Adds the line for a file of this name that can't be read. The only error is out of memory.
 #[tactic(auto, unfolding(crate::specs::Fetched::fault_text))]
 fn push_fault(text: &mut Vec<u8>, name: &str, fault: FileFault) -> Result<(), NoMemory>
     ensures { OnOk result (text.new.items ≡ text.old.items ++ fault_text name.now fault) }

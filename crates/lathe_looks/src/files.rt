@@ -1,4 +1,4 @@
-//! The files that a command names.
+//! The files that a command names. What is read from them is in `fetching`.
 ghost use Rattle.std.specs.Prelude.{◌≡◌};
 ghost use Rattle.lathe_looks.specs.Named.{most_bytes};
 
@@ -23,7 +23,7 @@ pub enum CommandFile {
 }
 
 impl CommandFile {
-    /// The most bytes that it may have.
+    /// The most bytes that a file of this kind may have.
     pub(crate) fn most_bytes(self) -> usize
         ensures { result ≡ most_bytes self }
     {
@@ -37,7 +37,8 @@ impl CommandFile {
 /// The names of the files of a pair.
 #[derive(Clone, Copy, Debug)]
 pub struct FileNames<'a> {
-    /// The names of the tapes.
+    /// The names of the tapes, by path.
     pub tapes: Both<&'a str>,
+    /// The name of the settings.
     pub settings: &'a str,
 }

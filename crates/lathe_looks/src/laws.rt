@@ -12,7 +12,7 @@ ghost use Rattle.lathe_calls.specs.Due.{IsDueTo};
 
 /// A command of the program that answers a question of its files answers what is due to the texts
 /// of these files: if a shelf has such texts under the names, and does not fail, then what is due
-/// to the command is due to the texts, or is nothing for want of memory. The commands `verify`,
+/// to the command is due to the texts, or is no text because memory ran out. The commands `verify`,
 /// `waits`, `races` and `trace` are such commands: [`ask`](crate::ask) answers them.
 pub fn the_program_answers_what_the_library_answers()
     ensures { (files : Files) (old new : ShelfState) (left right settings : List ℕ) (texts : Texts)

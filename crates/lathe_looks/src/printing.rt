@@ -1,10 +1,10 @@
-//! Text in memory.
+//! Text that is gathered in memory before it is written.
 ghost use Rattle.std.specs.Prelude.{◌≡◌, ◌++◌, OnOk, decimal};
 
 use itoa::Buffer;
 use nc_number::NoMemory;
 
-/// Puts bytes as they are behind what a text holds.
+/// Adds bytes at the end of a text. The only error is out of memory.
 pub(crate) fn push_bytes(text: &mut Vec<u8>, piece: &[u8]) -> Result<(), NoMemory>
     ensures { OnOk result (text.new.items ≡ text.old.items ++ piece.now) }
 {
@@ -12,7 +12,7 @@ pub(crate) fn push_bytes(text: &mut Vec<u8>, piece: &[u8]) -> Result<(), NoMemor
     Ok(())
 }
 
-/// Puts a whole number in decimal digits.
+/// Adds a whole number in decimal digits. The only error is out of memory.
 pub(crate) fn push_number(text: &mut Vec<u8>, number: u64) -> Result<(), NoMemory>
     ensures { OnOk result (text.new.items ≡ text.old.items ++ decimal number) }
 {

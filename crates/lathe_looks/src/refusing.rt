@@ -1,5 +1,5 @@
-//! What is told where a command can't begin: its words are none, or there is no run to go on with
-//! or to show.
+//! What is written if a command can't begin: its words are no command, or there is no run to go on
+//! with or to show. lathe_top calls these too.
 ghost use Rattle.std.specs.Prelude.{◌≡◌, codes};
 ghost use Rattle.lathe_calls.specs.Answers.{Ends, IsJust, tells};
 ghost use Rattle.lathe_looks.specs.Shown.{bad_text, unfound};
@@ -10,14 +10,14 @@ use nc_outside::Sink;
 use nc_restart::RestartFault;
 use text_pieces::Piece;
 
-/// Writes that the words are no command, and gives the status of that.
+/// Writes that the words are no command, and gives the exit status.
 pub fn tell_usage<K: Sink>(out: &mut K) -> u8
     ensures { Ends (IsJust (tells exit.usage (codes "usage\n"))) (K.state out.old) (K.state out.new) result }
 {
     write_text(out, b"usage\n", Status::Usage as u8)
 }
 
-/// Writes why no run was found, and gives the status of that.
+/// Writes why no run was found, and gives the exit status; if memory ran out, nothing is written.
 pub fn tell_unfound<K: Sink>(fault: RestartFault, out: &mut K) -> u8
     ensures { Ends (IsJust (unfound fault)) (K.state out.old) (K.state out.new) result }
 {
@@ -30,14 +30,14 @@ pub fn tell_unfound<K: Sink>(fault: RestartFault, out: &mut K) -> u8
     }
 }
 
-/// Writes the offset at which a journal is bad.
+/// Writes the byte at which a journal is damaged, and gives the exit status.
 fn tell_bad<K: Sink>(offset: u64, out: &mut K) -> u8
     ensures { Ends (IsJust (tells exit.bad_journal (bad_text offset))) (K.state out.old) (K.state out.new) result }
 {
     write_text(out, bad_line(offset).as_slice(), Status::BadJournal as u8)
 }
 
-/// The line of a journal that is bad at an offset. It takes no memory.
+/// The line of output for a journal that is damaged at this byte. It takes no memory.
 #[tactic(auto, unfolding(crate::specs::Shown::bad_text))]
 fn bad_line(offset: u64) -> Piece
     ensures { result ≡ bad_text offset }

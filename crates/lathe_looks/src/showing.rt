@@ -1,4 +1,5 @@
-//! The commands that show what the journal on the disk holds. They write nothing to it.
+//! The commands that show the run whose journal is on the disk: `moves` and `state`. They write
+//! nothing to the disk. The zones of a run: `zoning`.
 ghost use Rattle.nc_restart.specs.Recovered.{IsRecovered};
 ghost use Rattle.nc_verify.specs.Printed.{IsPut};
 ghost use Rattle.lathe_calls.specs.Answers.{Ends};
@@ -22,14 +23,14 @@ pub enum Showing {
     State,
 }
 
-/// The status of a call that has no part in the turrets, and the disk that was handed in.
+/// The exit status of a command that only looks, and the disk that was handed in.
 #[derive(Drop)]
 pub struct Shown<D: Disk> {
     pub status: u8,
     pub disk: D,
 }
 
-/// Writes the text that is asked for of the run whose journal the disk has, or why there is none.
+/// Writes the text that is asked for of the run whose journal is on the disk, or why there is none.
 pub fn show<D: Disk, K: Sink>(alloc: Global, showing: Showing, disk: D, out: &mut K) -> Shown<D>
     ensures { Ends (IsShown (shown_text showing) (D.state disk) (D.state result.disk))
         (K.state out.old) (K.state out.new) result.status }
@@ -49,7 +50,8 @@ pub fn show<D: Disk, K: Sink>(alloc: Global, showing: Showing, disk: D, out: &mu
     }
 }
 
-/// Puts the text that is asked for of a run that was found.
+/// Writes the text that is asked for of a run that was found. Errors: the output failed, or out of
+/// memory.
 fn put<D: Disk, K: Sink>(
     alloc: Global,
     showing: Showing,

@@ -1,4 +1,4 @@
-//! Whether a run is over, by its machine.
+//! Whether a run is over, and why its machine stands where it does. lathe_top asks this too.
 ghost use Rattle.std.specs.Prelude.{◌≡◌};
 ghost use Rattle.lathe_looks.specs.Standing.{are_finished, is_over, reason_of};
 
@@ -13,14 +13,14 @@ fn are_finished(machine: &Machine) -> bool
     machine.finished(Path::One) && machine.finished(Path::Two)
 }
 
-/// Whether there is an alarm, or both paths have ended.
+/// Whether the run is over: there is an alarm, or both paths have ended.
 pub fn is_over(machine: &Machine) -> bool
     ensures { result ≡ is_over machine.now.machine }
 {
     machine.alarm().is_some() || are_finished(machine)
 }
 
-/// Why the machine stands where it does, if nothing else stopped it.
+/// Why the machine stands where it does, if nothing else stopped it: an alarm, the end, or a stop.
 pub fn reason_of(machine: &Machine) -> Reason
     ensures { result ≡ reason_of machine.now.machine }
 {

@@ -1,4 +1,5 @@
-//! The command `zones`.
+//! The command `zones`: its file, and the zones of the run whose journal is on the disk. How zones
+//! are found is in zone_check.
 ghost use Rattle.std.specs.Prelude.{◌≡◌, ◌<◌, ◌^◌, Ok, length, IfOk, IfErr};
 ghost use Rattle.nc_restart.specs.Recovered.{IsRecovered};
 ghost use Rattle.nc_verify.specs.Printed.{IsPut};
@@ -23,8 +24,8 @@ use text_pieces::Piece;
 use zone_cell::{ZoneFault, Zones, read_zones};
 use zone_check::{boxes, write_zones};
 
-/// The zones of a file; or what is told of a file that is not had, or of its first bad line, and
-/// the status of that.
+/// The zones of a file. If the file can't be read or has a bad line, that is written, and the error
+/// is the exit status; if memory ran out, nothing is written.
 pub fn zones_of_file<H: Shelf, K: Sink>(
     alloc: Global,
     name: &str,
@@ -42,7 +43,7 @@ pub fn zones_of_file<H: Shelf, K: Sink>(
     }
 }
 
-/// The zones of a text; or what is told of its first bad line.
+/// The zones of a text. If a line is bad, the first is written, and the error is the exit status.
 fn zones_of_text<K: Sink>(alloc: Global, text: &[u8], out: &mut K) -> Result<Zones, u8>
     requires { length text.now < 2 ^ 32 }
     ensures read { IfOk result (λ zones. zones_of text.now ≡ Ok zones) }
@@ -56,7 +57,7 @@ fn zones_of_text<K: Sink>(alloc: Global, text: &[u8], out: &mut K) -> Result<Zon
     }
 }
 
-/// Writes the line of a text of zones that is refused, and gives its status.
+/// Writes the line `refused 92 ..` for this fault, and gives the exit status.
 fn tell_bad_zone<K: Sink>(fault: ZoneFault, out: &mut K) -> u8
     ensures { Ends (IsJust (tells exit.refused (bad_zone_text fault.line))) (K.state out.old) (K.state out.new) result }
 {
@@ -67,7 +68,7 @@ fn tell_bad_zone<K: Sink>(fault: ZoneFault, out: &mut K) -> u8
     )
 }
 
-/// The line of a text of zones that is refused. It takes no memory.
+/// The line `refused 92 ..` for this line of the text. It takes no memory.
 #[tactic(auto, unfolding(crate::specs::Zoned::bad_zone_text))]
 fn bad_zone_line(line: u32) -> Piece
     ensures { result ≡ bad_zone_text line }
@@ -80,7 +81,7 @@ fn bad_zone_line(line: u32) -> Piece
     piece
 }
 
-/// Writes the zones of the run whose journal the disk has, or why there is none.
+/// Writes the zones of the run whose journal is on the disk, or why there is none.
 pub fn show_zones<D: Disk, K: Sink>(alloc: Global, zones: &Zones, disk: D, out: &mut K) -> Shown<D>
     ensures { Ends (IsShown (zones_text zones.now) (D.state disk) (D.state result.disk))
         (K.state out.old) (K.state out.new) result.status }
@@ -100,7 +101,7 @@ pub fn show_zones<D: Disk, K: Sink>(alloc: Global, zones: &Zones, disk: D, out: 
     }
 }
 
-/// Puts the zones of a run that was found.
+/// Writes the zones of a run that was found. Errors: the output failed, or out of memory.
 fn put_zones<D: Disk, K: Sink>(
     alloc: Global,
     zones: &Zones,

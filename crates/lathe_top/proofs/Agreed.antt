@@ -1,14 +1,17 @@
 -- Answers that agree: one status and one text, or nothing was told.
+-- `top` (src/control.rt) rests on it.
 use Rattle.std.proofs.Common.{◌≡◌, ℕ, List, take, sym, subst}
 use Rattle.nc_outside.specs.Written.{SinkState, Writes}
 use Rattle.lathe_calls.specs.Answers.{Answer, tells, nothing, Ends, whole, cut, unwritten, untold}
 use Rattle.lathe_top.specs.Done.{IsOr, itself, sink_failed, memory_wanting, IsTold, in_full, cut_off, left_off}
 
+-- two answers agree: they have one status and one text, or one of them is `nothing`
 abbrev pub Agree : Answer → Answer → Type 0
 Agree nothing other = Unit {0}
 Agree (tells status text) nothing = Unit {0}
 Agree (tells status text) (tells other line) = (status ≡ other) × (text ≡ line)
 
+-- each answer agrees with `nothing`
 pub agree_nothing : (a : Answer) → Agree a nothing
 agree_nothing nothing = tt
 agree_nothing (tells status text) = tt
@@ -18,7 +21,7 @@ abbrev pub HasStatus : ℕ → Answer → Type 0
 HasStatus wanted nothing = Unit {0}
 HasStatus wanted (tells status text) = status ≡ wanted
 
--- where all answers that are due have one status, it is answered
+-- if all answers that are due have one status, it is answered
 pub ends_or : {Due : Answer → Type 0} {old new : SinkState} (status : ℕ) (result : ℕ)
     → ((answer : Answer) → Due answer → HasStatus status answer) → Ends Due old new result → IsOr old new status result
 ends_or {Due} {old} {new} status result only (whole {status = s} {text = t} due written) =
@@ -27,7 +30,7 @@ ends_or status result only (cut due rose n written) = sink_failed rose
 ends_or status result only (unwritten due n written) = memory_wanting
 ends_or status result only (untold due written) = memory_wanting
 
--- where all answers that are due agree with one, it is told
+-- if all answers that are due agree with one, it is told
 pub ends_told : {Due : Answer → Type 0} {old new : SinkState} (status : ℕ) (text : List ℕ) (result : ℕ)
     → ((answer : Answer) → Due answer → Agree answer (tells status text)) → Ends Due old new result → IsTold old new status text result
 ends_told {Due} {old} {new} status text result only (whole {status = s} {text = t} due written) =

@@ -1,4 +1,5 @@
 -- What is due to a branch of one run is one answer.
+-- DueOnce rests on it.
 use Rattle.std.proofs.Common.{◌≡◌, ℕ, List, refl, ap, arith}
 use Rattle.disk_model.specs.Device.{DiskState, Reads, Rose}
 use Rattle.nc_restart.specs.Recovered.{FoundRun}
@@ -9,6 +10,7 @@ use Rattle.lathe_top.proofs.Agreed.{Agree}
 -- over a second disk that told its bytes and did not fail
 module _ {E : Type 0} (state : E → DiskState) (run : FoundRun) (n : ℕ) (old new : E) (bytes : List ℕ) (holds : Reads (state old) bytes)
     (calm : Rose (state old).faults (state new).faults → ⊥) where
+  -- two answers that are due to one branch agree
   pub branch_once : (a b : Answer) → IsBranchOf state run n old new a → IsBranchOf state run n old new b → Agree a b
   branch_once a b (unmade stays well keeps) two = tt
   branch_once a b (failed enough rose keeps) two = absurd (calm rose)

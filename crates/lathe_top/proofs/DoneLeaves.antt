@@ -1,4 +1,5 @@
 -- What a command does to the disk and to the turrets is what its kind may do.
+-- `a_call_leaves_as_its_kind_may` (src/laws.rt) rests on it.
 use Rattle.std.proofs.Common.{inl, inr, ℕ, List, Some, Ok, Err, sym, subst}
 use Rattle.command_words.specs.declared.command.Command.{Command}
 use Rattle.command_words.specs.declared.command.Command.TheVariants as command
@@ -25,7 +26,9 @@ use Rattle.lathe_top.specs.Ran.{TextOf, IsReported, reported, unprepared, IsRun,
 use Rattle.lathe_top.specs.Session.{Session, IsSession}
 use Rattle.lathe_top.specs.Zoned.{IsZoned, bad_zones, unread_zones, zoned}
 
+-- Each lemma takes what was answered, and gives what the disk and the turrets are then.
 module _ {D : Type 0} (state : D → DiskState) where
+  -- a session that is reported leaves what a session may leave
   session_left : (opening : Opening) (limit : ℕ) (text_of : TextOf) (s : Session) (old new : LatheState) (answer : Answer) → IsSession s
       → IsOpened opening s old.disk → IsReported state opening limit text_of s old new answer → HasSession state opening limit old new
   session_left opening limit text_of s old new answer is opened (reported {reason} least ends keeps) = record {
@@ -45,6 +48,7 @@ module _ {D : Type 0} (state : D → DiskState) where
     keeps = keeps;
   }
 
+  -- `run` over its texts
   run_left : (limit : ℕ) (text_of : TextOf) (texts : Texts) (old new : LatheState) (answer : Answer) → IsRun state limit text_of texts old new answer
       → Leaves state (begins limit) old new
   run_left limit text_of texts old new answer (refused of_texts text rests) = inl (record { disk = inl rests.disk; turrets = rests.turrets })
@@ -54,6 +58,7 @@ module _ {D : Type 0} (state : D → DiskState) where
   run_left limit text_of texts old new answer (ran s is same opened report) =
       inr (session_left anew limit text_of s old new answer is opened report)
 
+  -- `run` over its files
   files_left : {E : Type 0} (limit : ℕ) (text_of : TextOf) (files : List Named) (old new : TopState E) (answer : Answer)
       → IsOfFiles listed files (RestsWhole old.lathe new.lathe) (λ texts. IsRun state limit text_of texts old.lathe new.lathe) old.shelf new.shelf answer
       → Leaves state (begins limit) old.lathe new.lathe
@@ -61,17 +66,20 @@ module _ {D : Type 0} (state : D → DiskState) where
   files_left limit text_of files old new answer (unread some rests) = inl (record { disk = inl rests.disk; turrets = rests.turrets })
   files_left limit text_of files old new answer (answers texts are run) = run_left limit text_of texts old.lathe new.lathe answer run
 
+  -- a command that only shows the journal
   look_left : (text_of : Verified → List Entry → List ℕ) (old new : LatheState) (answer : Answer) → IsShown text_of old.disk new.disk answer
       → AreAtRest old new → OnlyLooks old new
   look_left text_of old new answer (unshown fault recovers) rest = record { disk = inr (record { result = Err fault; recovers = recovers }); turrets = rest }
   look_left text_of old new answer (shown found pair accepted history recovers) rest =
       record { disk = inr (record { result = Ok found; recovers = recovers }); turrets = rest }
 
+  -- `zones` over the text of its file
   zoned_left : (text : List ℕ) (old new : LatheState) (answer : Answer) → IsZoned old new text answer → OnlyLooks old new
   zoned_left text old new answer (bad_zones is rests) = record { disk = inl rests.disk; turrets = rests.turrets }
   zoned_left text old new answer (unread_zones rests) = record { disk = inl rests.disk; turrets = rests.turrets }
   zoned_left text old new answer (zoned is told rest) = look_left _ old new answer told rest
 
+  -- `zones` over its file
   zones_left : {E : Type 0} (files : List Named) (old new : TopState E) (answer : Answer)
       → IsOfFiles alone files (RestsWhole old.lathe new.lathe) (IsZoned old.lathe new.lathe) old.shelf new.shelf answer
       → OnlyLooks old.lathe new.lathe
@@ -86,6 +94,7 @@ module _ {D : Type 0} (state : D → DiskState) where
     turrets = rest;
   })
 
+  -- edits of a run that is found, made or not
   found_left : (e : Editing) (old new : LatheState) (answer : Answer) → IsEditOf e old.disk new.disk answer → AreAtRest old new
       → Leaves state kind.edits old new
   found_left e old new answer (edit.alarmed is only) rest = looked_left e old new only rest
@@ -95,17 +104,20 @@ module _ {D : Type 0} (state : D → DiskState) where
   found_left e old new answer (edit.made none some are) rest = inr (record { editing = e; writing = are.writing; turrets = rest })
   found_left e old new answer (edit.failed none some writing rose) rest = inr (record { editing = e; writing = writing; turrets = rest })
 
+  -- edits of the run on the disk, if there is one
   edit_left : (edits : List PathEdit) (old new : LatheState) (answer : Answer) → IsEditedRun edits old.disk new.disk answer → AreAtRest old new
       → Leaves state kind.edits old new
   edit_left edits old new answer (edit.not_found fault recovers) rest =
       inl (record { disk = inr (record { result = Err fault; recovers = recovers }); turrets = rest })
   edit_left edits old new answer (edit.in_run e are is) rest = found_left e old new answer is rest
 
+  -- `edit` over the text of its file
   edited_left : (text : List ℕ) (old new : LatheState) (answer : Answer) → IsEdited old new text answer → Leaves state kind.edits old new
   edited_left text old new answer (edit.bad_edits is rests) = inl (record { disk = inl rests.disk; turrets = rests.turrets })
   edited_left text old new answer (edit.unread_edits rests) = inl (record { disk = inl rests.disk; turrets = rests.turrets })
   edited_left text old new answer (edit.edited {edits} is told rest) = edit_left edits old new answer told rest
 
+  -- `edit` over its file
   edits_left : {E : Type 0} (files : List Named) (old new : TopState E) (answer : Answer)
       → IsOfFiles alone files (RestsWhole old.lathe new.lathe) (IsEdited old.lathe new.lathe) old.shelf new.shelf answer
       → Leaves state kind.edits old.lathe new.lathe
@@ -113,12 +125,14 @@ module _ {D : Type 0} (state : D → DiskState) where
   edits_left files old new answer (unread some rests) = inl (record { disk = inl rests.disk; turrets = rests.turrets })
   edits_left files old new answer (answers text are is) = edited_left text old.lathe new.lathe answer is
 
+  -- `resume`
   resumed_left : (limit : ℕ) (old new : LatheState) (answer : Answer) → IsResumed state limit old new answer
       → Leaves state (goes_on limit) old new
   resumed_left limit old new answer (not_found fault recovers rest) =
       inl (record { disk = inr (record { result = Err fault; recovers = recovers }); turrets = rest })
   resumed_left limit old new answer (resumed s is opened report) = inr (session_left again limit _ s old new answer is opened report)
 
+  -- `branch` only looks at the first disk
   branch_left : {E : Type 0} (second : E → DiskState) (n : ℕ) (old new : LatheState) (onto left : E) (answer : Answer)
       → IsBranched second n old.disk new.disk onto left answer → AreAtRest old new → OnlyLooks old new
   branch_left second n old new onto left answer (branch.not_found fault recovers same) rest =
@@ -126,6 +140,7 @@ module _ {D : Type 0} (state : D → DiskState) where
   branch_left second n old new onto left answer (branch.branched run pair is history recovers of_run) rest =
       record { disk = inr (record { result = Ok run; recovers = recovers }); turrets = rest }
 
+  -- any command, by its kind
   due_left : {E : Type 0} (second : E → DiskState) (asked : Command) (old new : TopState E) (answer : Answer) → IsDueTo state second asked old new answer
       → Leaves state (kind_of (Some asked)) old.lathe new.lathe
   due_left second (command.Verify left right settings) old new answer due = due.1
@@ -151,12 +166,14 @@ module _ {D : Type 0} (state : D → DiskState) where
   rests_left (kind.begins limit) old new calm = inl (record { disk = inl calm.disk; turrets = calm.turrets })
   rests_left (kind.goes_on limit) old new calm = inl (record { disk = inl calm.disk; turrets = calm.turrets })
 
+  -- any call, also one whose words are no command
   call_left : {E : Type 0} (second : E → DiskState) (call : Call E) (answer : Answer) → IsDue state second call answer → Leaves state (kind_of (command_of call)) call.before.lathe call.after.lathe
   call_left second call answer (done.usage none rests still same) = rests_left (kind_of (command_of call)) call.before.lathe call.after.lathe rests
   call_left second call answer (done.unread rests still same) = rests_left (kind_of (command_of call)) call.before.lathe call.after.lathe rests
   call_left second call answer (done.commanded {command = asked} is due left) =
       subst (λ c. Leaves state (kind_of c) call.before.lathe call.after.lathe) (sym is) (due_left second asked call.before call.after answer due)
 
+  -- what a call did that ended with this status is what its kind of command may do
   pub done_left : {E : Type 0} (second : E → DiskState) (call : Call E) (status : ℕ) → IsDone state second call status → Leaves state (kind_of (command_of call)) call.before.lathe call.after.lathe
   done_left second call status (whole due written) = call_left second call _ due
   done_left second call status (cut due rose n written) = call_left second call _ due

@@ -1,4 +1,5 @@
--- Where the outside tells what it holds and did not fail, one status and one text are due.
+-- If the outside tells what it holds and did not fail, one status and one text are due.
+-- `top` (src/control.rt) rests on it.
 use Rattle.std.proofs.Common.{◌≡◌, ◌⊎◌, inl, inr, ⊎_elim, ℕ, ◌+◌, ◌++◌, Option, Some, None, List, ◌∷◌, [], length, map, take, refl, sym, ap, subst, arith, ◌∙◌, Err}
 use Rattle.std.specs.Prelude.{codes}
 use Rattle.std.proofs.Math.Seq.{take-length}
@@ -111,6 +112,7 @@ NotBoth = (texts : Texts) (cell : Cell) (left right : List ProgramForm) (refusal
 abbrev pub OneRun : Type 0
 OneRun = (image : List ℕ) (a b : Meaning) → StandsForRun a image → StandsForRun b image → a ≡ b
 
+-- an image has one meaning: no run, a run, a journal that is cut short, or a bad one
 abbrev pub OneJournal : Type 0
 OneJournal = (image : List ℕ) (a b : Meaning) → StandsFor a image → StandsFor b image → a ≡ b
 
@@ -118,7 +120,7 @@ OneJournal = (image : List ℕ) (a b : Meaning) → StandsFor a image → Stands
 abbrev pub OneMachine : Type 0
 OneMachine = (texts : Texts) (pair other : Verified) → IsPairOf texts pair → IsPairOf texts other → IsSamePair pair other
 
--- and one refusal
+-- texts that are refused have one refusal
 abbrev pub OneRefusal : Type 0
 OneRefusal = (texts : Texts) (refusal other : Refusal) → IsRefusalOf texts refusal → IsRefusalOf texts other → refusal ≡ other
 
@@ -136,6 +138,7 @@ line_once refusal other text line same is also =
     let cause : is.0 ≡ also.0 = one_cause other.number is.0 also.0 (subst (λ (r : Refusal). IsCauseOf r.number is.0) same is.1) also.1 in
     is.2 ∙ (λ i. refused_text (cause i) (same i)) ∙ sym also.2
 
+-- one verdict is due to three texts
 judged_once : NotBoth → OneRefusal → (texts : Texts) (a b : Answer) → IsJudged texts a → IsJudged texts b → Agree a b
 judged_once law one texts a b (judged.accepted are v) (judged.accepted too w) = (refl, v ∙ sym w)
 judged_once law one texts a b (judged.accepted {cell} {left} {right} are v) (judged.refused {refusal} is w) =
@@ -148,6 +151,7 @@ judged_once law one texts a b (judged.accepted are v) judged.unjudged = tt
 judged_once law one texts a b (judged.refused is v) judged.unjudged = tt
 judged_once law one texts a b judged.unjudged other = tt
 
+-- texts that are one list are the same
 same_texts : (texts others : Texts) → listed texts ≡ listed others → texts ≡ others
 same_texts texts others same =
     let left : texts.left ≡ others.left = cc in
@@ -163,10 +167,11 @@ OneInTurn = (tapes : Tapes) (first second : PathView) (limit : ℕ) (one two : L
 abbrev pub WaitsApart : Type 0
 WaitsApart = (asked : Asked) (judged : Judged) (refusal : Refusal) → waits.AreAccepted asked judged → waits.IsRefusalOf asked refusal → ⊥
 
--- and one refusal
+-- texts that `waits` refuses have one refusal
 abbrev pub OneWaitRefusal : Type 0
 OneWaitRefusal = (asked : Asked) (refusal other : Refusal) → waits.IsRefusalOf asked refusal → waits.IsRefusalOf asked other → refusal ≡ other
 
+-- one answer of `waits` is due to three texts
 waits_once : WaitsApart → OneWaitRefusal → (outside : Option Outside) (texts : Texts) (a b : Answer) → AreWaits outside texts a → AreWaits outside texts b
     → Agree a b
 waits_once law one outside texts a b (waited.told {judged} {left} {right} {trust} are)
@@ -182,6 +187,7 @@ waits_once law one outside texts a b (waited.refused {refusal} {text} denied v) 
 waits_once law one outside texts a b (waited.refused denied v) waited.unjudged = tt
 waits_once law one outside texts a b waited.unjudged other = tt
 
+-- one trace is due to a pair
 trace_once : OneInTurn → (limit : ℕ) (pair other : Verified) (a b : Answer) → IsSamePair pair other → IsTraceOf limit pair a → IsTraceOf limit other b → Agree a b
 trace_once law limit pair other a b same (traced.ran entries races run are) (traced.ran others races' run' also) =
     let there : IsInTurn (tapes_in other) (opening_of other) (min limit other.settings.records) entries =
@@ -197,6 +203,7 @@ trace_once law limit pair other a b same (traced.ran entries races run are) (tra
 trace_once law limit pair other a b same (traced.ran entries races run are) traced.unran = tt
 trace_once law limit pair other a b same traced.unran other_trace = tt
 
+-- one answer of `trace` is due to three texts
 traced_once : NotBoth → OneRefusal → OneMachine → OneInTurn → (limit : ℕ) (texts : Texts) (a b : Answer) → IsTraced limit texts a → IsTraced limit texts b → Agree a b
 traced_once law once machine run limit texts a b (traced.traced pair is one) (traced.traced other is' two) =
     trace_once run limit pair other a b (machine texts pair other is is') one two
@@ -210,6 +217,7 @@ traced_once law once machine run limit texts a b (traced.refused {refusal} {text
 traced_once law once machine run limit texts a b (traced.refused denied v) traced.untraced = tt
 traced_once law once machine run limit texts a b traced.untraced other = tt
 
+-- one answer of `races` is due to three texts
 races_once : NotBoth → OneRefusal → OneMachine → (texts : Texts) (a b : Answer) → IsOfPair AreRacesOf texts a → IsOfPair AreRacesOf texts b → Agree a b
 races_once law once machine texts a b (due.accepted pair is one) (due.accepted other is' two) =
     races_of_once pair other a b (machine texts pair other is is') one two
@@ -247,6 +255,7 @@ files_once {A} list_of by_list told files Rests IsAnswer old new holds calm once
     (subst (λ v. P v (list_of texts')) holds are'.each) in
     once texts' a b (subst (λ (x : A). IsAnswer x a) (by_list texts texts' same) from) from'
 
+-- texts that are one list of one are the same
 same_text : (text other : List ℕ) → alone text ≡ alone other → text ≡ other
 same_text text other same = cc
 
@@ -264,7 +273,7 @@ expanded_once text a b (expand.refused {fault} {line} denied v) (expand.refused 
 expanded_once text a b (expand.refused denied v) expand.unexpanded = tt
 expanded_once text a b expand.unexpanded other = tt
 
--- the same pair has the same machine behind the same records
+-- the same pair has the same machine after the same records
 machine_same : (pair other : Verified) (entries others : List Entry) → IsSamePair pair other → entries ≡ others
     → machine_behind pair entries ≡ machine_behind other others
 machine_same pair other entries others same are = λ i. fold (same.tapes i) (same.opening i) (are i)
@@ -280,6 +289,7 @@ abbrev pub HangsOnPair : TextOf → Type 0
 HangsOnPair text_of = (pair other : Verified) → IsSamePair pair other → (entries : List Entry) (reason : Reason)
     → text_of pair entries reason ≡ text_of other entries reason
 
+-- pairs of the same texts have one report
 report_hangs : HangsOnPair report_of
 report_hangs pair other same entries reason = λ i. report_text (same.tapes i) (same.opening i) entries reason
 
@@ -288,15 +298,18 @@ abbrev count_said : List ProgramForm → ℕ
 count_said [] = 0
 count_said (form ∷ forms) = length form.blocks + count_said forms
 
+-- the blocks of programs are counted by their forms
 counts : (programs : List FlowProgram) → block_count programs ≡ count_said (map program_form programs)
 counts [] = refl
 counts (program ∷ programs) =
     let more = sum_by-cons (λ (p : FlowProgram). length p.blocks) program programs in
     omega (arith, more, counts programs, length-map program.blocks block_form)
 
+-- programs of the same forms have as many blocks
 blocks_same : (programs others : List FlowProgram) → map program_form programs ≡ map program_form others → block_count programs ≡ block_count others
 blocks_same programs others same = counts programs ∙ ap count_said same ∙ sym (counts others)
 
+-- pairs of the same texts have one summary
 summary_hangs : (number : ℕ) (pair other : Verified) → IsSamePair pair other → (entries : List Entry)
     → summary_text number pair.left pair.right pair.settings entries ≡ summary_text number other.left other.right other.settings entries
 unfolding summary_text pair_text
@@ -305,6 +318,7 @@ summary_hangs number pair other same entries =
     let right = blocks_same pair.right.programs other.right.programs same.right in
     λ i. (number_line (codes "make ") number ++ numbers_line (codes "blocks ") (left i) (right i)) ++ outcome_text (same.tapes i) (same.opening i) entries
 
+-- pairs of the same texts are told the same of a made pair
 made_hangs : (number : ℕ) → HangsOnPair (made_text number)
 made_hangs number pair other same entries Reason.Done = summary_hangs number pair other same entries
 made_hangs number pair other same entries (Reason.Alarm alarm) = report_hangs pair other same entries (Reason.Alarm alarm)
@@ -331,6 +345,7 @@ header_in other (cut_at at) = other
 header_in other (bad_at offset cause) = other
 header_in other (a_run header entries) = header
 
+-- the records of a journal that stands for a run; of others those that are given
 abbrev pub entries_in : List Entry → Meaning → List Entry
 entries_in others no_run = others
 entries_in others (cut_at at) = others
@@ -382,7 +397,7 @@ module _ (one_run : OneRun) (one_machine : OneMachine) (old new : DiskState) (by
       (refl, ap bad_text (ap offset_in e))
   unfound_once (restart.BadRecord offset cause) restart.NoMemory one two = tt
 
-  -- where there is a run nothing is told of none
+  -- if there is a run nothing is told of none
   none_found : (f : RestartFault) (header : Header) (entries : List Entry) → Recovers old new (Err f) → StandsForRun (a_run header entries) bytes
       → unfound f ≡ nothing
   none_found restart.DiskFault header entries one stands = absurd (calm one.refused)
@@ -394,6 +409,7 @@ module _ (one_run : OneRun) (one_machine : OneMachine) (old new : DiskState) (by
       let e = one_run bytes (bad_at offset cause) (a_run header entries) (one.refused.1 bytes holds) stands in absurd (cc)
   none_found restart.NoMemory header entries one stands = refl
 
+  -- one text is shown of what the journal holds
   shown_by_once : (text_of : Verified → List Entry → List ℕ) → ShownHangs text_of → (a b : Answer) → IsShown text_of old new a → IsShown text_of old new b → Agree a b
   shown_by_once text_of hangs a b (unshown f one) (unshown g two) = unfound_once f g one two
   shown_by_once text_of hangs a b (unshown f one) (shown found pair is history two) =
@@ -408,16 +424,17 @@ module _ (one_run : OneRun) (one_machine : OneMachine) (old new : DiskState) (by
       let pairs = pairs_same one_machine found.header found'.header pair pair' header is is' in
       (refl, hangs pair pair' pairs found.entries ∙ ap (text_of pair') entries)
 
+  -- one text of `moves`, and one of `state`, is due to the journal
   shown_once : (showing : Showing) (a b : Answer) → IsShown (shown_text showing) old new a → IsShown (shown_text showing) old new b → Agree a b
   shown_once showing a b one two = shown_by_once (shown_text showing) (shown_hangs showing) a b one two
 
-  -- and by one text of zones
+  -- one text of `zones` is due to one file of zones
   same_zones : (zones other : ZonesView) (a b : Answer) → zones ≡ other → IsShown (zones_text zones) old new a → IsShown (zones_text other) old new b
       → Agree a b
   same_zones zones other a b same one two =
       shown_by_once (zones_text other) (zones_hang other) a b (subst (λ (z : ZonesView). IsShown (zones_text z) old new a) same one) two
 
-  -- and of a branch, over a second disk that told its bytes and did not fail
+  -- one answer of `branch` is due, over a second disk that told its bytes and did not fail
   branched_once : {E : Type 0} (second : E → DiskState) (n : ℕ) (onto left : E) (there : List ℕ) → Reads (second onto) there
       → (DiskRose (second onto).faults (second left).faults → ⊥)
       → (a b : Answer) → IsBranched second n old new onto left a → IsBranched second n old new onto left b → Agree a b
@@ -475,6 +492,7 @@ module _ {D : Type 0} (state : D → DiskState) (both : NotBoth) (one_refusal : 
   reason_once limit s s' m h n (disk_failed rose) by = absurd (calm rose)
   reason_once limit s s' m h n (turret_failed path rose well) by = absurd (at_work path rose)
 
+  -- one report is due to a session
   reported_once : (opening : Opening) (limit : ℕ) (text_of : TextOf) → HangsOnPair text_of → (s s' : Session) (a b : Answer) → IsSession s
       → IsSession s'
       → IsReported state opening limit text_of s old new a → IsReported state opening limit text_of s' old new b → Agree a b
@@ -507,7 +525,7 @@ module _ {D : Type 0} (state : D → DiskState) (both : NotBoth) (one_refusal : 
   unbegun_once texts gate.RunThere (gate.Cut at) one two = tt
   unbegun_once texts gate.RunThere gate.NoMemory one two = tt
 
-  -- where there was no run nothing is told of one
+  -- if there was no run nothing is told of one
   none_there : (texts : Texts) (f : GateFault) → IsRefusedBeginning texts f old.disk new.disk → HadNoRun old.disk → unbegun f ≡ nothing
   none_there texts gate.DiskFault one had = absurd (calm one.begins.refused)
   none_there texts gate.NoRun one had = refl
@@ -520,6 +538,7 @@ module _ {D : Type 0} (state : D → DiskState) (both : NotBoth) (one_refusal : 
       → IsRefusalOf texts refusal → ⊥
   never_refused texts of_header pair refusal accepted same is = both texts _ _ _ refusal (subst (λ (y : Texts). IsPairOf y pair) same accepted) is
 
+  -- one answer of `run` is due to its texts
   run_once : (limit : ℕ) (text_of : TextOf) → HangsOnPair text_of → (texts : Texts) (a b : Answer) → IsRun state limit text_of texts old new a
       → IsRun state limit text_of texts old new b → Agree a b
   run_once limit text_of hangs texts a b (run.unjudged rests) other = tt
@@ -544,6 +563,7 @@ module _ {D : Type 0} (state : D → DiskState) (both : NotBoth) (one_refusal : 
   run_once limit text_of hangs texts a b (run.ran x sound same had report) (run.ran x' sound' same' had' report') =
       reported_once _ limit text_of hangs x x' a b sound sound' report report'
 
+  -- one answer of `resume`
   resumed_once : (limit : ℕ) (a b : Answer) → IsResumed state limit old new a → IsResumed state limit old new b → Agree a b
   resumed_once limit a b (run.not_found f one rest) (run.not_found g two rest') =
       unfound_once one_run one_machine old.disk new.disk bytes holds calm f g one two
@@ -557,6 +577,7 @@ module _ {D : Type 0} (state : D → DiskState) (both : NotBoth) (one_refusal : 
 -- and of zones
 module _ (one_run : OneRun) (one_machine : OneMachine) (old new : LatheState) (bytes : List ℕ) (holds : Reads old.disk bytes)
     (calm : DiskRose old.disk.faults new.disk.faults → ⊥) where
+  -- one answer of `zones` to its text
   zoned_once : (text : List ℕ) (a b : Answer) → IsZoned old new text a → IsZoned old new text b → Agree a b
   zoned_once text a b (bad_zones {line} is rests) (bad_zones {line = other} too rests') =
       let same : line ≡ other = cc in (refl, ap bad_zone_text same)
@@ -571,10 +592,12 @@ module _ (one_run : OneRun) (one_machine : OneMachine) (old new : LatheState) (b
 -- and of edits
 module _ (one_run : OneRun) (one_machine : OneMachine) (old new : LatheState) (bytes : List ℕ) (holds : Reads old.disk bytes)
     (calm : DiskRose old.disk.faults new.disk.faults → ⊥) where
+  -- a disk with a run is not read as one without, unless there was no memory
   edits_there : (f : RestartFault) (e : Editing) (b : Answer) → Recovers old.disk new.disk (Err f) → IsEditOf e old.disk new.disk b → unfound f ≡ nothing
   edits_there f e b one is =
       none_found one_run one_machine old.disk new.disk bytes holds calm f e.header e.found one (found_there e old.disk new.disk b is bytes holds)
 
+  -- one answer is due to edits of the run on the disk
   in_one_run : (e e' : Editing) (a b : Answer) → e.edits ≡ e'.edits → IsEditOf e old.disk new.disk a → IsEditOf e' old.disk new.disk b → Agree a b
   in_one_run e e' a b edits one two =
       let same : a_run e.header e.found ≡ a_run e'.header e'.found =
@@ -587,6 +610,7 @@ module _ (one_run : OneRun) (one_machine : OneMachine) (old new : LatheState) (b
       let told = same_told e e' pairs found edits in
       agree_told a b _ (⊎_elim (λ none. inl none) (λ is. inr (is ∙ told)) (one_told e old.disk new.disk calm a one)) (one_told e' old.disk new.disk calm b two)
 
+  -- one answer to edits, whether there is a run or not
   edited_run_once : (edits : List PathEdit) (a b : Answer) → IsEditedRun edits old.disk new.disk a → IsEditedRun edits old.disk new.disk b → Agree a b
   edited_run_once edits a b (edit.not_found f one) (edit.not_found g two) =
       unfound_once one_run one_machine old.disk new.disk bytes holds calm f g one two
@@ -594,6 +618,7 @@ module _ (one_run : OneRun) (one_machine : OneMachine) (old new : LatheState) (b
   edited_run_once edits a b (edit.in_run e are is) (edit.not_found g two) = subst (Agree a) (sym (edits_there g e a two is)) (agree_nothing a)
   edited_run_once edits a b (edit.in_run e are is) (edit.in_run e' too is') = in_one_run e e' a b (are ∙ sym too) is is'
 
+  -- one answer of `edit` to its text
   edited_once : (text : List ℕ) (a b : Answer) → IsEdited old new text a → IsEdited old new text b → Agree a b
   edited_once text a b (edit.bad_edits {line} is rests) (edit.bad_edits {line = other} too rests') =
       let same : line ≡ other = cc in (refl, ap bad_edit_text same)
@@ -609,6 +634,7 @@ module _ (one_run : OneRun) (one_machine : OneMachine) (old new : LatheState) (b
 -- one answer is due to a command, and to a call
 module _ {D E : Type 0} (state : D → DiskState) (second : E → DiskState) (both : NotBoth) (one_refusal : OneRefusal) (one_run : OneRun) (one_journal : OneJournal)
     (one_machine : OneMachine) (in_turn : OneInTurn) (waits_apart : WaitsApart) (one_wait_refusal : OneWaitRefusal) (call : Call E) (coherent : IsCoherent call.after.lathe.disk) where
+  -- one answer is due to each command
   due_to_once : (asked : Command) (a b : Answer) → ServesFiles (named_by (Some asked)) call → ServesKind second (kind_of (Some asked)) call
       → IsDueTo state second asked call.before call.after a → IsDueTo state second asked call.before call.after b → Agree a b
   due_to_once (command.Verify l r c) a b files others one two =
@@ -653,6 +679,7 @@ module _ {D E : Type 0} (state : D → DiskState) (second : E → DiskState) (bo
       files_once alone same_text files.0.0 (tape_named tape) (Unit {0}) IsExpanded call.before.shelf call.after.shelf files.0.1 files.1 expanded_once
       a b one.0 two.0
 
+  -- one answer is due to a call, if the outside tells what it holds and did not fail
   pub due_once : Serves second call → (a b : Answer) → IsDue state second call a → IsDue state second call b → Agree a b
   due_once serves a b (done.usage none rests still same) (done.usage again rests' still' same') = (refl, refl)
   due_once serves a b (done.usage none rests still same) (done.unread rests' still' same') = tt

@@ -1,5 +1,6 @@
 -- What is due to `edit`: of a file that gives no edits, and that one answer is due to the edits of
 -- a run.
+-- `edit` (src/editing.rt) rests on it.
 use Rattle.std.proofs.Common.{◌≡◌, ◌⊎◌, inl, inr, ℕ, ◌+◌, nat_lt, Bool, true, false, Option, Some, None, List, length, refl, sym, ap, subst, arith, ◌∙◌, length-append}
 use Rattle.std.specs.Prelude.{codes}
 use Rattle.std.proofs.lemmas.List.{length-map}
@@ -29,10 +30,12 @@ use Rattle.lathe_top.specs.Kept.{Editing, RestsWhole}
 use Rattle.lathe_top.specs.Lathe.{LatheState}
 use Rattle.lathe_top.proofs.Agreed.{Agree, agree_nothing}
 
+-- a text that gives no edits is answered as `edit` answers it
 unedited_text : (old new : LatheState) (text : List ℕ) (answer : Answer) → IsUnedited text answer → RestsWhole old new → IsEdited old new text answer
 unedited_text old new text answer (looked.bad_edits is) rests = bad_edits is rests
 unedited_text old new text answer looked.unread_edits rests = unread_edits rests
 
+-- a file that gives no edits is answered as `edit` answers it
 pub unedited_due : (name : List ℕ) (shelf shelf' : ShelfState) (old new : LatheState) (answer : Answer)
     → IsOfFiles alone (edits_named name) (Unit {0}) IsUnedited shelf shelf' answer → RestsWhole old new
     → IsOfFiles alone (edits_named name) (RestsWhole old new) (IsEdited old new) shelf shelf' answer
@@ -52,15 +55,18 @@ told_in tapes opening records found edits =
     told_by (λ alarm. report_text tapes opening found (Reason.Alarm alarm)) (length edits) (fold tapes opening found).alarm
     (nat_lt records (length found + length edits))
 
+-- what is due to edits that can be written: an alarm, a full journal, or that they are made
 abbrev told_of : Editing → Answer
 told_of e = told_in (tapes_in e.pair) (opening_of e.pair) e.pair.settings.records e.found e.edits
 
+-- it hangs on the alarm of the machine, and on whether there is room for the edits
 by_alarm : (e : Editing) (alarm : Option Alarm) (many : Bool) → (machine_behind e.pair e.found).alarm ≡ alarm
     → nat_lt e.pair.settings.records (length e.found + length e.edits) ≡ many
     → told_of e ≡ told_by (λ a. report_text (tapes_in e.pair) (opening_of e.pair) e.found (Reason.Alarm a)) (length e.edits) alarm many
 by_alarm e alarm many is so =
     λ i. told_by (λ a. report_text (tapes_in e.pair) (opening_of e.pair) e.found (Reason.Alarm a)) (length e.edits) (is i) (so i)
 
+-- These edits, over a disk before and after them.
 module _ (e : Editing) (old new : DiskState) where
   -- one text is told, or nothing
   pub one_told : (Rose old.faults new.faults → ⊥) → (a : Answer) → IsEditOf e old new a → (a ≡ nothing) ⊎ (a ≡ told_of e)
@@ -94,6 +100,7 @@ module _ (e : Editing) (old new : DiskState) where
   found_there a (made none some are) bytes reads = are.writing.opened bytes reads
   found_there a (failed none some writing rose) bytes reads = writing.opened bytes reads
 
+  -- an answer to edits of a run is one of the pair of its journal
   pub pair_there : (a : Answer) → IsEditOf e old new a → IsPairOf (texts_of e.header) e.pair
   pair_there a (alarmed is only) = only.accepted
   pair_there a (full none more only) = only.accepted
@@ -106,10 +113,12 @@ module _ (e : Editing) (old new : DiskState) where
 pub same_told : (e e' : Editing) → IsSamePair e.pair e'.pair → e.found ≡ e'.found → e.edits ≡ e'.edits → told_of e ≡ told_of e'
 same_told e e' same found edits = λ i. told_in (same.tapes i) (same.opening i) (same.records i) (found i) (edits i)
 
+-- each answer agrees with itself
 agree_same : (a : Answer) → Agree a a
 agree_same nothing = tt
 agree_same (tells status text) = (refl, refl)
 
+-- two answers that are each `nothing` or one and the same agree
 pub agree_told : (a b told : Answer) → (a ≡ nothing) ⊎ (a ≡ told) → (b ≡ nothing) ⊎ (b ≡ told) → Agree a b
 agree_told a b told (inl none) other = subst (λ x. Agree x b) (sym none) tt
 agree_told a b told (inr is) (inl none) = subst (Agree a) (sym none) (agree_nothing a)

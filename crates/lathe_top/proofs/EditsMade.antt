@@ -1,4 +1,5 @@
 -- What is answered to edits of a run that was found.
+-- `edit_found` (src/editing.rt) rests on it.
 use Rattle.std.proofs.Common.{◌≡◌, ◌⊎◌, inl, inr, ℕ, ◌+◌, ◌*◌, ◌≤◌, ◌<◌, max, nat_le, true, false, Option, Some, None, List, [], ◌∷◌, ◌++◌, length, Result, Ok, Err, OnOk, IsOk, refl, sym, ap, subst, arith, ◌∙◌, length-append}
 use Rattle.std.specs.Prelude.{codes, is_some, IfErr}
 use Rattle.std.proofs.lemmas.List.{length-map}
@@ -30,29 +31,37 @@ use Rattle.lathe_top.specs.Edited.{IsEditedRun, in_run, IsOnlyFound, alarmed, fu
 use Rattle.lathe_top.specs.Kept.{Editing, HasAllOrNone, IsWriting, KeepsEdits, history_with}
 use Rattle.lathe_calls.specs.Statuses.{reason_status}
 
+-- a number that is not at most another is above it
 less_of : (a b : ℕ) → nat_le a b ≡ false → b < a
 less_of a b more = grind arith
 
+-- what has nothing is None
 pub none_of : {A : Type 0} (o : Option A) → is_some o ≡ false → o ≡ None
 none_of None none = refl
 none_of (Some x) some = absurd cc
 
+-- A run was found on the disk, and these edits are asked for.
 module _ {D : Type 0} (state : D → DiskState) (coherent : (disk : D) → IsCoherent (state disk)) (a : DiskState) (header : Header) (pair : Verified)
     (machine : MachineView) (entries : List Entry) (log : Log D) (edits : List PathEdit)
     (is : IsRecovered state header pair machine entries log)
     (recovers : Recovers a (state log.file.disk) (Ok (record { header = header; entries = entries }))) where
+  -- the edits with the run that they are for
   abbrev pub editing : Editing
   editing = record { header = header; pair = pair; found = entries; edits = edits }
 
+  -- the disk after the run was found, before anything is written
   abbrev mid : DiskState
   mid = state log.file.disk
 
+  -- no edit is written yet, and the disk was only read
   only : IsOnlyFound editing a mid
   only = record { accepted = is.accepted; found_is = is.behind.history; recovers = recovers }
 
+  -- the alarm of the machine is that of the records done again
   alarm_is : (alarm : Option Alarm) → machine.alarm ≡ alarm → (machine_behind pair entries).alarm ≡ alarm
   alarm_is alarm stands = sym (ap (λ (m : MachineView). m.alarm) is.behind.folds) ∙ stands
 
+  -- a run that an alarm stopped gets no edit: its report is told
   pub alarm_due : (alarm : Option Alarm) → machine.alarm ≡ alarm → is_some alarm ≡ true
       → IsEditedRun edits a mid (tells (reason_status (reason_of machine)) (report_of pair entries (reason_of machine)))
   alarm_due None stands some = absurd cc
@@ -61,24 +70,30 @@ module _ {D : Type 0} (state : D → DiskState) (coherent : (disk : D) → IsCoh
       subst (λ (r : Reason). IsEditedRun edits a mid (tells (reason_status r) (report_of pair entries r))) (sym reason)
       (in_run editing refl (alarmed (alarm_is (Some alarm) stands) only))
 
+  -- a journal without room for the edits gets none of them
   pub full_due : machine.alarm ≡ None → nat_le (length entries + length edits) pair.settings.records ≡ false
       → IsEditedRun edits a mid (tells exit.full (codes "full\n"))
   full_due none many =
       in_run editing refl (full (alarm_is None none) (less_of (length entries + length edits) pair.settings.records many) only)
 
+  -- The run may be edited, and this came of the writing.
   module _ (done : Made D) (none : machine.alarm ≡ None) (history_is : IsHistory pair (entries ++ records_of edits))
       (makes : MakesEdits state header entries (records_of edits) log.file.disk done.disk done.result) where
+    -- the disk after the edits
     abbrev new : DiskState
     new = state done.disk
 
+    -- a disk that told its bytes tells them after the run was found
     reads_on : (bytes : List ℕ) → Reads a bytes → Reads mid bytes
     reads_on bytes reads = recovers.unwritten.same ∙ reads
 
+    -- a crash at any moment leaves the journal from before, or all edits, or none
     moments : (bytes : List ℕ) → Reads a bytes → LeavesOnly (λ c. a.image c ⊎ HasAllOrNone editing c) a new
     moments bytes reads =
         joined a.image (HasAllOrNone editing) (λ c. a.image c ⊎ HasAllOrNone editing c) a mid new recovers.unwritten.moments
         (makes.any_moment bytes (reads_on bytes reads)) (λ x here. inl here) (λ x here. inr here)
 
+    -- what was done to the disk is what edits may do
     keeps : 1 ≤ length edits → KeepsEdits editing a new
     keeps some =
         let count = length-append entries (records_of edits) in
@@ -93,6 +108,7 @@ module _ {D : Type 0} (state : D → DiskState) (coherent : (disk : D) → IsCoh
           later = omega (arith, recovers.later, makes.later);
         }
 
+    -- and it is a writing of edits
     writing : 1 ≤ length edits → IsWriting editing a new
     writing some = record {
       is = record { accepted = is.accepted; found_is = is.behind.history; history_is = history_is };
@@ -100,13 +116,15 @@ module _ {D : Type 0} (state : D → DiskState) (coherent : (disk : D) → IsCoh
       keeps = keeps some;
     }
 
-    -- where the disk was not called
+    -- if the disk was not called
     unchanged : done.disk ≡ log.file.disk → (answer : Answer) → IsEditedRun edits a mid answer → IsEditedRun edits a new answer
     unchanged same answer there = subst (λ (d : D). IsEditedRun edits a (state d) answer) (sym same) there
 
+    -- after the edits each image stands for the run with all of them
     abbrev Wholly : Type 0
     Wholly = (bytes : List ℕ) → Reads mid bytes → (c : List ℕ) → new.image c → Stands header (entries ++ records_of edits) c
 
+    -- if they are written, the answer is how many they are
     all_made : (asked : List PathEdit) → edits ≡ asked → done.result ≡ Ok tt → IsEditedRun edits a new (tells exit.done (edited_text (length edits)))
     all_made [] are ok =
         let count : length edits ≡ 0 = ap length are in
@@ -124,11 +142,13 @@ module _ {D : Type 0} (state : D → DiskState) (coherent : (disk : D) → IsCoh
           calm = calm ∙ recovers.calm (λ fault. fault);
         }))
 
+    -- if the writing failed, there was at least one edit
     some_asked : (asked : List PathEdit) → edits ≡ asked → (fault : Failing DiskFault) → done.result ≡ Err fault → 1 ≤ length edits
     some_asked [] are fault bad =
         let fine = subst (λ (r : Result (Unit {0}) (Failing DiskFault)). IsOk r) bad (makes.none (ap records_of are)).1 in absurd cc
     some_asked (first ∷ others) are fault bad = omega (arith, ap length are)
 
+    -- what is told of the writing is due to the edits
     pub made_due : (result : Result (Unit {0}) (Failing DiskFault)) → done.result ≡ result
         → IsEditedRun edits a new (told_of_writing (length edits) result)
     made_due (Ok tt) ok = all_made edits refl ok

@@ -1,4 +1,6 @@
 -- What going on comes to: from a run with turrets to a session but for its opening.
+-- The report is told in GoingReported.
+-- `go_on` (src/going.rt) rests on it.
 use Rattle.std.proofs.Common.{◌≡◌, inl, inr, ℕ, ◌+◌, ◌-◌, ◌*◌, ◌≤◌, max, Bool, true, false, ◌||◌, ◌&&◌, is_some, if◌then◌else◌, List, [], length, take, drop, Option, Some, None, refl, sym, ◌∙◌, ap, subst, arith}
 use Rattle.std.specs.Prelude.{IsTrue}
 use Rattle.std.proofs.Math.Seq.{take-append_seam, drop-append_seam, take-length}
@@ -55,24 +57,28 @@ over_by (Some alarm) finished e is = (refl, cc)
 over_by None true e is = (refl, cc)
 over_by None false e is = absurd (cc)
 
+-- no reason yet: there is no alarm, and the paths are not both at their ends
 pub open_by : (alarm : Option Alarm) (finished : Bool) → end_by alarm finished ≡ None → (is_some alarm || finished) ≡ false
 open_by (Some alarm) finished is = absurd (cc)
 open_by None true is = absurd (cc)
 open_by None false is = refl
 
--- and where it did not there is no end
+-- if there is no alarm and not both paths are at their ends, the machine has no reason to end
 no_end_by : (alarm : Option Alarm) (finished : Bool) → (is_some alarm || finished) ≡ false → end_by alarm finished ≡ None
 no_end_by (Some alarm) finished is = absurd (cc)
 no_end_by None true is = absurd (cc)
 no_end_by None false is = refl
 
+-- a machine that is not over has no reason to end
 pub not_ended : (m : MachineView) → is_over m ≡ false → machine_end m ≡ None
 not_ended m is = no_end_by m.alarm (m.paths.one.finished && m.paths.two.finished) is
 
+-- if all records are flushed, all are sent, whether the journal can be written or not
 sent_all : (live : Bool) (flushed all : ℕ) → flushed ≡ all → (if live then flushed else all) ≡ all
 sent_all true flushed all same = same
 sent_all false flushed all same = refl
 
+-- if no more than all records are flushed, no more than all are sent
 sent_within : (live : Bool) (flushed all : ℕ) → flushed ≤ all → (if live then flushed else all) ≤ all
 sent_within true flushed all within = within
 sent_within false flushed all within = omega arith
@@ -85,30 +91,39 @@ module _ {D : Type 0} (state : D → DiskState) (small : AreSmall state) (limit 
     (few : length new.recording.history ≤ new.verified.settings.records)
     (pending : length new.recording.history ≤ new.recording.flushed + 64)
     (header : Header) (journaled : IsJournaled state header old.recording) (before after : Both TurretState) (missed : Both ℕ) where
+  -- the records that the table found
   abbrev pub found : List Entry
   found = old.recording.history
 
+  -- all records at the end
   abbrev pub history : List Entry
   history = new.recording.history
 
+  -- how many of them the disk holds at least
   abbrev pub least : ℕ
   least = new.recording.flushed
 
+  -- the records that this run made
   abbrev pub made : List Entry
   made = since.made
 
+  -- the disk and the turrets before
   abbrev pub d : LatheState
   d = lathe_with (state old.recording.log.file.disk) before
 
+  -- the disk and the turrets after, with the moves missed
   abbrev pub e : LatheState
   e = record { disk = state new.recording.log.file.disk; turrets = after; missed = missed }
 
+  -- the session that this run is
   abbrev pub session : Session
   session = record { header = header; pair = new.verified; found = found; history = history }
 
+  -- all records begin with those found
   begins : take (length found) history ≡ found
   begins = ap (take (length found)) since.recording.history ∙ take-append_seam found made
 
+  -- there are as many records as were found and made
   longer : length history ≡ length found + length made
   longer = ap length since.recording.history ∙ length-append found made
 
@@ -116,9 +131,11 @@ module _ {D : Type 0} (state : D → DiskState) (small : AreSmall state) (limit 
   machine_is : old.machine ≡ machine_behind new.verified found
   machine_is = behind ∙ ap (λ (pair : Verified). machine_behind pair found) (sym since.verified)
 
+  -- the run was not over when it was found
   still : is_over (machine_behind new.verified found) ≡ false
   still = ap is_over (sym machine_is) ∙ unended
 
+  -- the records go on, from those found to those at the end
   pub goes_on : GoesOn new.verified found history
   goes_on = record {
     history_is = record { legal = kept.legal; few = few };
@@ -126,7 +143,7 @@ module _ {D : Type 0} (state : D → DiskState) (small : AreSmall state) (limit 
     rests = λ over_now. let open_now = still in absurd (cc);
   }
 
-  -- what the machine of the table says, the machine behind the history says
+  -- what the machine of the table says, the machine after the history says
   is_ended : (x : Reason) → machine_end new.machine ≡ Some x → NoneFailed d e → EndsBy limit session d e x
   is_ended x is calm =
       let by = over_by new.machine.alarm (new.machine.paths.one.finished && new.machine.paths.two.finished) x is in
@@ -135,11 +152,13 @@ module _ {D : Type 0} (state : D → DiskState) (small : AreSmall state) (limit 
       subst (λ (m : MachineView). reason_of m ≡ x) (sym kept.folds) by.1 in
       subst (EndsBy limit session d e) says (over here calm)
 
+  -- a machine without a reason is not over at the end
   is_open : machine_end new.machine ≡ None → is_over (machine_behind new.verified history) ≡ false
   is_open is =
       subst (λ (m : MachineView). is_over m ≡ false) (sym kept.folds)
       (open_by new.machine.alarm (new.machine.paths.one.finished && new.machine.paths.two.finished) is)
 
+  -- if nothing is left to be made, as many records were made as were allowed
   spent : new.budget ≡ 0 → length history ≡ length found + limit
   spent none = omega (arith, none, longer, since.budget)
 
@@ -148,6 +167,7 @@ module _ {D : Type 0} (state : D → DiskState) (small : AreSmall state) (limit 
       → NoneFailed d e
   calm_by live got = record { disk = since.recording.calm live; turrets = λ path. (got path).counted.kept (λ is. absurd cc) }
 
+  -- why the table ended is why the session ended
   ends_by : (x : Reason) → running.EndsBy state old new x
       → ((path : Path) → GetsAt x (due path old new) (of_path before path) (of_path after path)) → EndsBy limit session d e x
   ends_by Reason.Done ends got = is_ended Reason.Done ends.machine (calm_by ends.live got)
@@ -157,12 +177,15 @@ module _ {D : Type 0} (state : D → DiskState) (small : AreSmall state) (limit 
   ends_by Reason.DiskFault ends got = disk_failed ends.1
   ends_by (Reason.TurretFault path) ends got = absurd ends
 
+  -- no more records were made than were allowed
   no_more : length history ≤ length found + limit
   no_more = omega (arith, longer, since.budget)
 
+  -- the records flushed before are among those found
   within : old.recording.flushed ≤ length found
   within = omega (arith, may.all)
 
+  -- the disk holds no fewer than the found ones, and no more than all
   most : AreMost session least
   most = record {
     found = omega (arith, may.all, since.recording.flushed);
@@ -170,6 +193,7 @@ module _ {D : Type 0} (state : D → DiskState) (small : AreSmall state) (limit 
     within = (since.recording.sends within).within;
   }
 
+  -- it holds as many as the reason asks for
   enough : (x : Reason) → running.EndsBy state old new x → IsLeast x session least
   enough Reason.Done ends = ends.may.all
   enough (Reason.Alarm alarm) ends = ends.may.all
@@ -183,14 +207,18 @@ module _ {D : Type 0} (state : D → DiskState) (small : AreSmall state) (limit 
   due_is path =
       ap (λ (m : MachineView). told (position_of path m) (moves_made new.verified path (length found) least history)) machine_is
 
+  -- what a turret got in full by the table, it got by the session
   got_all : (path : Path) → GetsAll (due path old new) (of_path before path) (of_path after path)
       → GetsAll (due_to session least path) (of_path before path) (of_path after path)
   got_all path got = subst (λ (what : List Got). GetsAll what (of_path before path) (of_path after path)) (due_is path) got
 
+  -- a turret that got a first part of what is due by the table got a first part of what is due by
+  -- the session
   got_some : (path : Path) → GetsSome (due path old new) (of_path before path) (of_path after path)
       → GetsSome (due_to session least path) (of_path before path) (of_path after path)
   got_some path got = subst (λ (what : List Got). GetsSome what (of_path before path) (of_path after path)) (due_is path) got
 
+  -- both turrets are served as the reason says
   served : (x : Reason) → running.EndsBy state old new x → ((path : Path) → GetsAt x (due path old new) (of_path before path) (of_path after path))
       → AreServed x session least before after
   served Reason.Done ends got = λ path. got_all path (got path)
@@ -200,10 +228,12 @@ module _ {D : Type 0} (state : D → DiskState) (small : AreSmall state) (limit 
   served Reason.DiskFault ends got = λ path. got_some path (got path)
   served (Reason.TurretFault path) ends got = absurd ends
 
+  -- a turret that failed in what is due by the table failed in what is due by the session
   failed_at : (path : Path) → FailsAmong (due path old new) (of_path before path) (of_path after path)
       → FailsAmong (due_to session least path) (of_path before path) (of_path after path)
   failed_at path got = subst (λ (what : List Got). FailsAmong what (of_path before path) (of_path after path)) (due_is path) got
 
+  -- what the turret beside a failed one got by the table it got by the session
   got_beside : (path other : Path) → GetsBeside path (due other old new) (of_path before other) (of_path after other)
       → GetsBeside path (due_to session least other) (of_path before other) (of_path after other)
   got_beside path other got =
@@ -213,13 +243,16 @@ module _ {D : Type 0} (state : D → DiskState) (small : AreSmall state) (limit 
   theirs : (reason : Reason) → AreServed reason session least before after → AreMissed session least d e → GetTheirs reason session least d e
   theirs reason are miss = record { over = λ over_now. let open_now = still in absurd (cc); goes_on = λ open_now. are; missed = λ open_now. miss }
 
+  -- each turret missed what it did not get of what is due by the table
   abbrev pub Missing : Type 0
   Missing = (path : Path) → Misses (due path old new) (of_path missed path) (of_path before path) (of_path after path)
 
+  -- what the turrets missed by the table they missed by the session
   missing : Missing → AreMissed session least d e
   missing miss = inl (λ path.
       subst (λ (what : List Got). Misses what (of_path missed path) (of_path before path) (of_path after path)) (due_is path) (miss path))
 
+  -- how the run ended is how the session ended
   pub ending : (x : Reason) → running.EndsBy state old new x
       → ((path : Path) → GetsAt x (due path old new) (of_path before path) (of_path after path)) → Missing
       → IsEnding limit x session least d e
@@ -230,6 +263,7 @@ module _ {D : Type 0} (state : D → DiskState) (small : AreSmall state) (limit 
     turrets = theirs x (served x ends got) (missing miss);
   }
 
+  -- if the turret of a path failed and no call of the disk, that is how the session ended
   pub failing : (path : Path) → e.disk.faults ≡ d.disk.faults → FailsAmong (due path old new) (of_path before path) (of_path after path)
       → GetsBeside path (due (other_of path) old new) (of_path before (other_of path)) (of_path after (other_of path))
       → Missing → IsEnding limit (Reason.TurretFault path) session least d e
@@ -259,23 +293,29 @@ module _ {D : Type 0} (state : D → DiskState) (small : AreSmall state) (limit 
         })) (inr (same.history, none));
   }
 
+  -- the records that were sent before are those found
   sent_old : sent old.recording ≡ length found
   sent_old = sent_all old.recording.log.file.live old.recording.flushed (length found) may.all
 
+  -- no more records are sent than there are
   sent_new : sent new.recording ≤ length history
   sent_new = sent_within new.recording.log.file.live new.recording.flushed (length history) (since.recording.sends within).within
 
+  -- the records that were not flushed before are those made
   rest_is : drop old.recording.flushed history ≡ made
   rest_is = ap (λ n. drop n history) may.all ∙ ap (drop (length found)) since.recording.history ∙ drop-append_seam found made
 
+  -- the bytes of all records are those of the found and of the made ones
   bytes_are : length (records_bytes history) ≡ length (records_bytes found) + length (records_bytes made)
   bytes_are =
       ap (λ (l : List Entry). length (records_bytes l)) since.recording.history ∙ ap length (flat_map-append entry_bytes found made)
       ∙ length-append (records_bytes found) (records_bytes made)
 
+  -- each record found was flushed
   all_flushed : take old.recording.flushed found ≡ found
   all_flushed = ap (λ n. take n found) may.all ∙ take-length found
 
+  -- how far the disk was written: not past the end of the session's journal
   reaches : (live : Bool) → old.recording.log.file.live ≡ live → (bytes : List ℕ) → Reads d.disk bytes → e.disk.reach ≤ max d.disk.reach (end_of session)
   reaches false dead bytes reads =
       let same : e.disk.reach ≡ d.disk.reach = ap (λ (file : Gate D). (state file.disk).reach) (since.recording.rests dead) in
@@ -288,6 +328,7 @@ module _ {D : Type 0} (state : D → DiskState) (small : AreSmall state) (limit 
       let most : most_bytes (drop old.recording.flushed history) ≡ most_bytes made = ap most_bytes rest_is in
       omega (arith, end_is, most, bytes_are, longer, (since.recording.sends within).uses.reach bytes reads)
 
+  -- how many calls the disk got, and how far they reach: at most four for each record made
   uses : Uses (4 * (length history - length found)) (end_of session) d.disk e.disk
   uses = record {
     calls = λ bytes reads. omega (arith, (since.recording.sends within).uses.calls bytes reads, sent_old, sent_new, (since.recording.sends within).more);
@@ -297,6 +338,7 @@ module _ {D : Type 0} (state : D → DiskState) (small : AreSmall state) (limit 
     allows = (since.recording.sends within).uses.allows;
   }
 
+  -- what the run did to the disk is what going on may do
   pub keeps_going : KeepsGoing session least d.disk e.disk
   keeps_going = record {
     left = λ bytes reads c image.

@@ -1,4 +1,5 @@
--- What is told of a run that went on, and a run that did not, for want of memory.
+-- What is told of a run that went on, and a run that did not, for out of memory.
+-- `go_on` (src/going.rt) rests on it.
 use Rattle.std.proofs.Common.{◌≡◌, inl, inr, ℕ, ◌+◌, ◌-◌, ◌*◌, ◌≤◌, false, List, [], length, refl, sym, ap, subst, arith, ◌∙◌, Result, Ok, Err}
 use Rattle.std.proofs.Math.Seq.{take-length}
 use Rattle.nc_outside.specs.Received.{TurretState}
@@ -49,35 +50,44 @@ module _ {D : Type 0} (state : D → DiskState) (coherent : (disk : D) → IsCoh
     (few : length new.recording.history ≤ new.verified.settings.records)
     (pending : length new.recording.history ≤ new.recording.flushed + 64)
     (header : Header) (journaled : IsJournaled state header old.recording) (before after : Both TurretState) (missed : Both ℕ) where
+  -- the run that goes on
   abbrev pub run : Standing
   run = standing header new.verified old.recording.history
 
+  -- the disk and the turrets before
   abbrev pub d : LatheState
   d = lathe_with (state old.recording.log.file.disk) before
 
+  -- the disk and the turrets after, with the moves missed
   abbrev pub e : LatheState
   e = record { disk = state new.recording.log.file.disk; turrets = after; missed = missed }
 
   -- a run that did not begin is what it was
   module _ (not_begun : HasNotBegun state limit old new before after missed) where
+    -- a run that did not begin has no further record
     history_is : new.recording.history ≡ old.recording.history
     history_is = not_begun.same.history
 
+    -- each of its records is flushed
     all : new.recording.flushed ≡ length old.recording.history
     all = not_begun.same.flushed ∙ may.all
 
+    -- each image of the disk stands for all its records
     left : (bytes : List ℕ) → Reads d.disk bytes → (c : List ℕ) → d.disk.image c
         → StandsForPrefix header (length old.recording.history) old.recording.history c
     left bytes reads c image =
         subst (λ n. StandsForPrefix header n old.recording.history c) may.all (journaled.left bytes reads c image)
 
+    -- its records are a history of the pair
     there : IsHistory new.verified old.recording.history
     there =
         subst (λ (l : List Entry). IsHistory new.verified l) history_is (record { legal = kept.legal; few = few })
 
+    -- its machine is the one after these records
     machine_is : old.machine ≡ machine_behind new.verified old.recording.history
     machine_is = behind ∙ ap (λ (pair : Verified). machine_behind pair old.recording.history) (sym not_begun.same.verified)
 
+    -- nothing is told of a run that did not begin, over the same disk
     stays : (text_of : TextOf) → IsReport limit text_of run d (record { disk = d.disk; turrets = after; missed = missed }) nothing
     stays text_of = stayed old.recording.history (length old.recording.history)
         (record { history_is = there; extends = take-length old.recording.history; rests = λ over. refl })
@@ -99,11 +109,13 @@ module _ {D : Type 0} (state : D → DiskState) (coherent : (disk : D) → IsCoh
           later = omega arith;
         })
 
+    -- nothing is told of a run that did not begin, over the disk that it left
     has_stayed : (text_of : TextOf) → IsReport limit text_of run d e nothing
     has_stayed text_of =
         subst (λ (file : Gate D). IsReport limit text_of run d (record { disk = state file.disk; turrets = after; missed = missed }) nothing)
         (sym not_begun.same.file) (stays text_of)
 
+  -- a run that ended is told with its reason
   ended_report : (text_of : TextOf) (end : Reason) → HasEnded state limit old new before after missed end
       → IsReport limit text_of run d e (told_of text_of new.verified new.recording.history (Ok end))
   ended_report text_of end ran =

@@ -1,3 +1,5 @@
+-- What proves the clauses of this crate, from what is below to what is above. No other crate takes
+-- any of it.
 pub mod GoingOn
 pub mod GoingReported
 pub mod Opened

@@ -1,4 +1,5 @@
 -- One list of races is due to three texts.
+-- DueOnce rests on it.
 use Rattle.std.proofs.Common.{◌≡◌, ◌+◌, ◌&&◌, ◌||◌, nat_le, nat_lt, List, refl, ap}
 use Rattle.nc_restart.specs.Pair.{IsSamePair}
 use Rattle.nc_verify.specs.declared.verified.Verified.{Verified}
@@ -17,13 +18,14 @@ shares_same pair other same =
     let second : pair.settings.shared500 ≡ other.settings.shared500 = ap (λ m. m.paths.one.path.fixed.shared500) same.opening in
     λ i v. (nat_le 100 v && nat_lt v (100 + first i)) || (nat_le 500 v && nat_lt v (500 + second i))
 
--- and has the same races
+-- pairs of the same texts have the same races
 pub same_races : (pair other : Verified) → IsSamePair pair other → (races others : List Race) → AreRaces pair races → AreRaces other others
     → races ≡ others
 same_races pair other same races others are also =
     same_list (shared_by pair.settings) (shared_by other.settings) pair.left other.left pair.right other.right
     (shares_same pair other same) same.left same.right races others are also
 
+-- two answers of `races` to the same texts agree
 pub races_of_once : (pair other : Verified) (a b : Answer) → IsSamePair pair other → AreRacesOf pair a → AreRacesOf other b → Agree a b
 races_of_once pair other a b same (listed races are) (listed others also) =
     (refl, ap list_text (same_races pair other same races others are also))

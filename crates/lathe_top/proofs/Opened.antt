@@ -1,4 +1,5 @@
 -- A session: an opening of the disk, and a run that goes on from it.
+-- Most functions of this crate rest on it.
 use Rattle.std.proofs.Common.{◌≡◌, ℕ, ◌+◌, ◌-◌, ◌*◌, ◌≤◌, max, List, [], length, take, Ok, refl, ap, arith, ◌∙◌}
 use Rattle.std.proofs.lemmas.List.{length-take}
 use Rattle.nc_outside.specs.Received.{TurretState}
@@ -26,9 +27,11 @@ use Rattle.lathe_top.specs.Going.{Standing, session_to, KeepsGoing}
 -- what ends a run after the opening ends the session; no call of an opening failed, and it calls no
 -- turret
 module _ (limit : ℕ) (s : Session) (a b : DiskState) (before : Both TurretState) (c : LatheState) (opened : b.faults ≡ a.faults) where
+  -- what did not fail since the opening did not fail since the call began
   calm_since : NoneFailed (lathe_with b before) c → NoneFailed (lathe_with a before) c
   calm_since calm = record { disk = calm.disk ∙ opened; turrets = calm.turrets }
 
+  -- a reason that holds since the opening holds since the call began
   ends_since : {reason : Reason} → EndsBy limit s (lathe_with b before) c reason
       → EndsBy limit s (lathe_with a before) c reason
   ends_since (over is calm) = over is (calm_since calm)
@@ -37,6 +40,7 @@ module _ (limit : ℕ) (s : Session) (a b : DiskState) (before : Both TurretStat
   ends_since (disk_failed rose) = disk_failed (omega (arith, opened, rose))
   ends_since (turret_failed path rose calm) = turret_failed path rose (calm ∙ opened)
 
+-- an end of a session that holds since the opening holds since the call began
 pub ending_since : (limit : ℕ) (s : Session) (a b : DiskState) (before : Both TurretState) (c : LatheState) (reason : Reason) (least : ℕ) → b.faults ≡ a.faults
     → IsEnding limit reason s least (lathe_with b before) c
     → IsEnding limit reason s least (lathe_with a before) c
@@ -57,6 +61,7 @@ module _ {D : Type 0} (state : D → DiskState) (opening : Opening) (s : Session
     (moments : (bytes : List ℕ) → Reads a bytes → LeavesOnly (IsOfOpening opening s a.image) a (state begun))
     (later : a.faults ≤ (state begun).faults) (few : calls ≤ opening_calls opening + 4 * length s.found) (within : end ≤ end_of s)
     (no_less : length s.found ≤ length s.history) (keeps : KeepsGoing s least (state begun) c) where
+  -- the opening and the run that goes on are what a session may do to the disk
   pub keeps_session : KeepsSession state opening s least a c
   keeps_session = record {
     begun = begun;

@@ -1,4 +1,5 @@
 -- What the row of a command says of the journal is what its kind does with it.
+-- `a_row_says_what_its_kind_does` (src/rows.rt) rests on it.
 use Rattle.std.proofs.Common.{◌≡◌, ℕ, Bool, true, false, cond, List, [], ◌∷◌, length, Option, Some, None, refl, sym, subst, ◌∙◌}
 use Rattle.std.specs.Prelude.{◌&&◌, ◌==◌, option_map, option_and_then, if◌then◌else◌}
 use Rattle.std.specs.Str.{bytes_eq}
@@ -36,12 +37,14 @@ journal_by task.Expand = journal.None
 abbrev Does : Command → Journal → Type 0
 Does asked what = journal_for (kind_of (Some asked)) ≡ what
 
+-- `make` writes the journal, whichever number it got
 made_number : (files : TurretFiles) (number : Option ℕ) (asked : Command) → option_map (λ n. command.Make n files) number ≡ Some asked
     → Does asked journal.Write
 made_number files None asked is = absurd cc
 made_number files (Some n) asked is =
     let same : command.Make n files ≡ asked = cc in subst (λ c. Does c journal.Write) same refl
 
+-- `branch` looks at it, whichever number it got
 branch_number : (number : Option ℕ) (asked : Command) → option_map command.Branch number ≡ Some asked → Does asked journal.Look
 branch_number None asked is = absurd cc
 branch_number (Some n) asked is =
@@ -103,6 +106,7 @@ does_as task.Expand [] blocks outside files asked is = absurd cc
 does_as task.Expand (a ∷ []) blocks outside files asked is = let same : command.Expand a ≡ asked = cc in subst (λ x. Does x journal.None) same refl
 does_as task.Expand (a ∷ b ∷ rest) blocks outside files asked is = absurd cc
 
+-- a command that a task makes of any words does with it what the task does
 of_texts : (what : Task) (names : List Text) (texts : OptionTextsView) (asked : Command) → command_of what names texts ≡ Some asked
     → Does asked (journal_by what)
 of_texts what names texts asked is =
@@ -118,6 +122,7 @@ of_texts what names texts asked is =
     asked found
     (λ files named one. does_as what names blocks outside files asked one)))
 
+-- a command that a row makes of the words and options that were read does what the row says
 of_given : (row : Listing) (all : Given) (asked : Command) → command_given row all ≡ Some asked → Does asked (journal_by row.task)
 of_given row all asked is = go (length all.names == length row.words && stand_once all.marked) is
   where
@@ -126,6 +131,7 @@ of_given row all asked is = go (length all.names == length row.words && stand_on
     go true made = of_texts row.task all.names (texts_for row all.marked) asked made
     go false none = absurd cc
 
+-- a command that a row makes of the words after its name does what the row says
 of_row : (row : Listing) (rest : List Text) (asked : Command) → command_behind rest row ≡ Some asked → Does asked (journal_by row.task)
 of_row row rest asked is =
     option_and_then_some (command_given row) (given row.options rest) asked is (λ all read made. of_given row all asked made)
@@ -135,10 +141,12 @@ abbrev Say : List Listing → Type 0
 Say [] = Unit {0}
 Say (row ∷ rows) = (row.journal ≡ journal_by row.task) × Say rows
 
+-- the table of commands
 listings_say : Say listings
 unfolding listings
 listings_say = (refl, (refl, (refl, (refl, (refl, (refl, (refl, (refl, (refl, (refl, (refl, (refl, (refl, tt)))))))))))))
 
+-- a row that is found in such a table says so too
 found_says : (rows : List Listing) (name : Text) (row : Listing) → Say rows → row_in rows name ≡ Some row → row.journal ≡ journal_by row.task
 found_says [] name row say is = absurd cc
 found_says (first ∷ rows) name row say is = go (bytes_eq first.name name) is (found_says rows name row say.1)
@@ -148,12 +156,14 @@ found_says (first ∷ rows) name row say is = go (bytes_eq first.name name) is (
     go true it rest = let same : first ≡ row = cc in subst (λ (r : Listing). r.journal ≡ journal_by r.task) same say.0
     go false it rest = rest it
 
+-- the command of the row that is found does with the journal what the row says
 named_so : (rest : List Text) (found : Option Listing) (asked : Command)
     → ((row : Listing) → found ≡ Some row → row.journal ≡ journal_by row.task)
     → option_and_then (command_behind rest) found ≡ Some asked → journal_in found ≡ journal_for (kind_of (Some asked))
 named_so rest None asked says is = absurd cc
 named_so rest (Some row) asked says is = says row refl ∙ sym (of_row row rest asked is)
 
+-- what the row of a call says of the journal, its command does
 pub row_does : (words : List Text) (asked : Command) → listed_command words ≡ Some asked → journal_of words ≡ journal_for (kind_of (Some asked))
 unfolding listed_command
 row_does [] asked is = absurd cc

@@ -1,4 +1,5 @@
--- What `run` answers behind the beginning of its journal, or behind its refusal.
+-- What `run` answers after the beginning of its journal, or after its refusal.
+-- `run_pair` and `run_texts` (src/beginning.rt) and `tell_unbegun` (src/refusing.rt) rest on it.
 use Rattle.std.proofs.Common.{◌≡◌, ◌⊎◌, inl, inr, ℕ, ◌≤◌, false, List, [], length, Ok, Err, refl, sym, ap, subst, arith, ◌∙◌, Option}
 use Rattle.nc_outside.specs.Received.{TurretState}
 use Rattle.nc_number.specs.declared.both.Both.{Both}
@@ -41,6 +42,7 @@ begun_may pair t begun = record {
   halt = subst (λ (h : Option Halt). IsNoneOrAlarm h) (sym begun.halt) tt;
 }
 
+-- the machine of a table that has begun is the one after its records
 pub begun_behind : {D : Type 0} (pair : Verified) (t : TableView D) → IsBegun pair t
     → t.machine ≡ machine_behind t.verified t.recording.history
 begun_behind pair t begun =
@@ -48,6 +50,7 @@ begun_behind pair t begun =
     ap (λ (l : List Entry). machine_behind t.verified l) begun.history ∙ ap (λ (p : Verified). machine_behind p []) begun.pair in
     begun.machine ∙ sym at_start
 
+-- the machine of a table that has begun is not over
 pub begun_unended : {D : Type 0} (pair : Verified) (t : TableView D) → IsBegun pair t → is_over t.machine ≡ false
 begun_unended pair t begun = subst (λ (m : MachineView). is_over m ≡ false) (sym begun.machine) refl
 
@@ -58,9 +61,11 @@ of_begun Of header pair t begun there =
     subst (λ (l : List Entry). Of (standing header pair l)) begun.history
     (subst (λ (p : Verified). Of (standing header p t.recording.history)) begun.pair there)
 
+-- A journal was begun on the disk, for a pair that is accepted.
 module _ {A D : Type 0} (state : D → DiskState) (law : NoneIsStuck) (limit : ℕ) (header : Header) (pair : Verified) (a : DiskState) (begun : D)
     (before : Both TurretState) (c : LatheState) (answer : A) (begins : BeginsRun {A = A} header a (state begun) (Ok answer))
     (accepted : IsPairOf (texts_of header) pair) (version : header.version ≡ Two) where
+  -- what is told of the run that goes on from there is what `run` answers
   pub begun_run : (text_of : TextOf) (told : Answer)
       → IsReport limit text_of (standing header pair []) (lathe_with (state begun) before) c told
       → IsRun state limit text_of (texts_of header) (lathe_with a before) c told
@@ -114,7 +119,7 @@ pub header_texts : (header : Header) (texts : Texts) → header.left ≡ texts.l
     → texts_of header ≡ texts
 header_texts header texts left right settings = λ i. record { left = left i; right = right i; settings = settings i }
 
--- and is short
+-- a header of texts that are no longer than their limits is short
 pub short_header : (header : Header) (texts : Texts) → header.left ≡ texts.left → header.right ≡ texts.right → header.settings ≡ texts.settings
     → length texts.left ≤ LONGEST_TAPE → length texts.right ≤ LONGEST_TAPE → length texts.settings ≤ LONGEST_SETTINGS → IsShort header
 short_header header texts left right settings few_left few_right few_settings =

@@ -1,4 +1,5 @@
 -- What is answered after a recovery.
+-- `resume` and `resume_found` (src/resuming.rt) rest on it.
 use Rattle.std.proofs.Common.{◌≡◌, ℕ, ◌-◌, ◌*◌, Bool, true, false, List, length, Ok, Some, None, Option, refl, sym, ap, subst, arith, ◌∙◌}
 use Rattle.std.proofs.Math.Seq.{take-length}
 use Rattle.nc_outside.specs.Received.{TurretState}
@@ -31,8 +32,10 @@ use Rattle.lathe_top.specs.Session.{Session, GoesOn, IsLeast, EndsBy, over}
 use Rattle.lathe_top.specs.Turrets.{IsEnding}
 use Rattle.lathe_top.proofs.Opened.{NoneIsStuck, found_keeps, ending_since, is_session, unprepared_since}
 
+-- A run was found on the disk, and its pair is accepted.
 module _ {D : Type 0} (state : D → DiskState) (law : NoneIsStuck) (limit : ℕ) (found : FoundRun) (pair : Verified) (a : DiskState) (begun : D)
     (before : Both TurretState) (c : LatheState) (recovers : Recovers a (state begun) (Ok found)) (accepted : IsPairOf (texts_of found.header) pair) where
+  -- what is told of the run that goes on from there is what `resume` answers
   pub found_run : (answer : Answer)
       → IsReport limit report_of (standing found.header pair found.entries) (lathe_with (state begun) before) c answer
       → IsResumed state limit (lathe_with a before) c answer
@@ -59,6 +62,7 @@ parts_of state header pair machine entries log is = record {
   stands = (header, is.accepted, is.holds);
 }
 
+-- a machine that is over ended without an alarm, or by its alarm
 pub none_or_alarm : (alarm : Option Alarm) → IsNoneOrAlarm (reason_in alarm)
 none_or_alarm None = tt
 none_or_alarm (Some alarm) = tt
@@ -74,6 +78,7 @@ least_by s (Some alarm) finished = refl
 least_by s None true = refl
 least_by s None false = refl
 
+-- the disk holds all records of a run that is over
 pub least_is : (s : Session) (least : ℕ) (alarm : Option Alarm) (finished : Bool) → IsLeast (reason_by alarm finished) s least
     → least ≡ length s.history
 least_is s least (Some alarm) finished is = is
@@ -84,18 +89,23 @@ least_is s least None false is = is
 module _ {D : Type 0} (state : D → DiskState) (coherent : (disk : D) → IsCoherent (state disk)) (leaves : LeavesRecords state) (limit : ℕ)
     (header : Header) (pair : Verified) (machine : MachineView) (entries : List Entry) (log : Log D)
     (is : IsRecovered state header pair machine entries log) (turrets : Both TurretState) where
+  -- the disk after the run was found
   abbrev pub disk : DiskState
   disk = state log.file.disk
 
+  -- the disk and the turrets, which rest
   abbrev pub lathe : LatheState
   lathe = lathe_with disk turrets
 
+  -- a session that makes no record
   abbrev pub session : Session
   session = record { header = header; pair = pair; found = entries; history = entries }
 
+  -- the records stay
   pub stays_there : GoesOn pair entries entries
   stays_there = record { history_is = is.behind.history; extends = take-length entries; rests = λ over. refl }
 
+  -- each image of the disk stands for all records
   all_left : (bytes : List ℕ) → Reads disk bytes → (c : List ℕ) → disk.image c → StandsForPrefix header (length entries) entries c
   all_left bytes reads c image = (
     length entries,
@@ -105,6 +115,7 @@ module _ {D : Type 0} (state : D → DiskState) (coherent : (disk : D) → IsCoh
         (leaves log.file.disk header log.version entries log.file.end (is.holds bytes reads) c image),
   )
 
+  -- so nothing was done to the disk
   pub keeps_there : KeepsGoing session (length entries) disk disk
   keeps_there = record {
     left = all_left;
@@ -113,6 +124,7 @@ module _ {D : Type 0} (state : D → DiskState) (coherent : (disk : D) → IsCoh
     later = omega arith;
   }
 
+  -- a session of a run that is over ends by the reason of its machine, with turrets that rest
   pub over_there : (reason : Reason) → is_over machine ≡ true → reason ≡ reason_of machine
       → IsEnding limit reason session (length entries) lathe lathe
   over_there reason ends same =

@@ -1,5 +1,6 @@
--- What a stop at any moment of a call leaves: no journal that is bad; and where a run was, a
--- history of it that goes on.
+-- What a stop at any moment of a call leaves: no journal that is bad; and if there was a run,
+-- a history of it that goes on.
+-- `a_stop_leaves_one_history` and `calls_make_one_history` (src/laws.rt) rest on it.
 use Rattle.std.proofs.Common.{◌≡◌, ◌⊎◌, inl, inr, ⊎_elim, ℕ, ◌≤◌, List, [], ◌∷◌, length, take, drop, sym, ap, subst, arith, ◌∙◌, length-take, take-append-drop}
 use Rattle.std.proofs.Math.Seq.{take-length}
 use Rattle.std.proofs.lemmas.List.{take-append-le}
@@ -30,6 +31,7 @@ abbrev pub NeverBad : Type 0
 NeverBad = (header : Header) (history : List Entry) (kept : ℕ) (image : List ℕ) → HasHistory header history
     → Stands header (take kept history) image → StandsForRun (a_run header (take kept history)) image
 
+-- a shorter prefix of a prefix is a prefix of the whole
 take_within : {A : Type 0} (m n : ℕ) (xs : List A) → m ≤ n → n ≤ length xs → take m (take n xs) ≡ take m xs
 take_within m n xs le within =
     sym (take-append-le m (take n xs) (drop n xs) (omega (arith, le, within, length-take n xs))) ∙ ap (take m) (take-append-drop n xs)
@@ -50,15 +52,18 @@ run_there (gate ∷ b ∷ rest) some = (omega arith, λ shut. some (inr shut))
 
 -- What holds of each image of a disk holds of each that a call leaves which wrote nothing.
 module _ (P : List ℕ → Type 0) where
+  -- a disk that was not written
   of_unwritten : (old new : DiskState) → ((c : List ℕ) → old.image c → P c) → Unwritten old new → (c : List ℕ) → new.image_since old.clock c → P c
   of_unwritten old new held unwritten c since = held c (unwritten.moments.each c since)
 
+  -- a call that only looks
   of_looks : (old new : LatheState) → ((c : List ℕ) → old.disk.image c → P c) → OnlyLooks old new → (c : List ℕ)
       → new.disk.image_since old.disk.clock c → P c
   of_looks old new held looks c since =
       ⊎_elim (λ untouched. of_unwritten old.disk new.disk held untouched.unwritten c since)
       (λ look. of_unwritten old.disk new.disk held look.recovers.unwritten c since) looks.disk
 
+  -- a call that rests
   of_rest : (old new : LatheState) → ((c : List ℕ) → old.disk.image c → P c) → RestsWhole old new → (c : List ℕ)
       → new.disk.image_since old.disk.clock c → P c
   of_rest old new held rests c since = of_unwritten old.disk new.disk held rests.disk.unwritten c since
@@ -83,6 +88,7 @@ edits_run e is c (inr stands) =
     let has : HasHistory e.header (history_with e) = record { pair = e.pair; accepted = is.accepted; history = is.history_is } in
     (history_with e, (stands, has), take-append-le (length e.found) e.found (made_of e) (omega arith) ∙ take-length e.found)
 
+-- No image is bad: neither those before a call nor those that it leaves.
 module _ (never_bad : NeverBad) where
   -- a beginning of a session's history
   prefix_run : (s : Session) → IsSession s → (least : ℕ) (c : List ℕ) → StandsForPrefix s.header least s.history c
@@ -101,14 +107,17 @@ module _ (never_bad : NeverBad) where
       record { pair = pair; accepted = accepted; history = record { legal = tt; few = omega arith } } in
       inr (header, [], never_bad header [] 0 c has stands)
 
+  -- what an opening leaves
   opening_none : (opening : Opening) (s : Session) → IsSession s → (image : List ℕ → Type 0) → ((c : List ℕ) → image c → IsNoneOrRun c)
       → (c : List ℕ) → IsOfOpening opening s image c → IsNoneOrRun c
   opening_none anew s is image held c begun = beginning_none s.header s.pair is.accepted image held c begun
   opening_none again s is image held c earlier = held c earlier
 
+  -- a prefix of a session's history
   prefix_none : (s : Session) → IsSession s → (least : ℕ) (c : List ℕ) → StandsForPrefix s.header least s.history c → IsNoneOrRun c
   prefix_none s is least c stands = let p = prefix_run s is least c stands in inr (s.header, take p.0 s.history, p.3)
 
+  -- what a session leaves
   session_none : {D : Type 0} (state : D → DiskState) (opening : Opening) (limit : ℕ) (old new : LatheState) (bytes : List ℕ) → Reads old.disk bytes
       → ((c : List ℕ) → old.disk.image c → IsNoneOrRun c) → HasSession state opening limit old new → (c : List ℕ)
       → new.disk.image_since old.disk.clock c → IsNoneOrRun c
@@ -117,6 +126,7 @@ module _ (never_bad : NeverBad) where
       ⊎_elim (opening_none opening s has.is old.disk.image held c) (prefix_none s has.is (length s.found) c)
       ((session_leaves state opening s has.least old.disk new.disk bytes reads has.keeps).each c since)
 
+  -- what `run` and `make` leave
   begins_none : (old new : LatheState) (bytes : List ℕ) → Reads old.disk bytes → ((c : List ℕ) → old.disk.image c → IsNoneOrRun c)
       → OnlyBegins old new → (c : List ℕ) → new.disk.image_since old.disk.clock c → IsNoneOrRun c
   begins_none old new bytes reads held only c since =
@@ -124,6 +134,7 @@ module _ (never_bad : NeverBad) where
       (λ refused. beginning_none refused.2.header refused.2.pair refused.2.accepted old.disk.image held c
       ((refused.2.begins.any_moment bytes reads).each c since)) only.disk
 
+  -- what edits leave
   edits_none : (old new : LatheState) (bytes : List ℕ) → Reads old.disk bytes → ((c : List ℕ) → old.disk.image c → IsNoneOrRun c)
       → HasEdits old new → (c : List ℕ) → new.disk.image_since old.disk.clock c → IsNoneOrRun c
   edits_none old new bytes reads held has c since =
@@ -131,6 +142,7 @@ module _ (never_bad : NeverBad) where
       ⊎_elim (held c) (λ stands. let r = edits_run e has.writing.is c stands in inr (e.header, r.0, r.1))
       ((has.writing.keeps.any_moment bytes reads).each c since)
 
+  -- what any kind of command leaves
   pub none_or_run : {D : Type 0} (state : D → DiskState) (asked : Kind) (old new : LatheState) (bytes : List ℕ) → Reads old.disk bytes
       → ((c : List ℕ) → old.disk.image c → IsNoneOrRun c) → Leaves state asked old new → (c : List ℕ)
       → new.disk.image_since old.disk.clock c → IsNoneOrRun c
@@ -146,11 +158,13 @@ module _ (never_bad : NeverBad) where
   none_or_run state (kind.goes_on limit) old new bytes reads held (inr has) c since =
       session_none state again limit old new bytes reads held has c since
 
+-- A run is on the disk, which begins with these records.
 module _ {D : Type 0} (state : D → DiskState) (one_run : OneRun) (never_bad : NeverBad) (header : Header) (base : List Entry) where
   -- what a read of a run gives is a run that is there
   goes_there : (bytes : List ℕ) → GoesOnAs header base bytes → IsRunThere bytes
   goes_there bytes goes = run_there bytes (λ none. absurd (let same : no_run ≡ a_run header goes.0 = one_run bytes no_run (a_run header goes.0) none goes.1 in cc))
 
+  -- what a session leaves begins with them
   session_kept : (limit : ℕ) (old new : LatheState) (bytes : List ℕ) → Reads old.disk bytes → ((c : List ℕ) → old.disk.image c → GoesOnAs header base c)
       → GoesOnAs header base bytes → HasSession state again limit old new → (c : List ℕ) → new.disk.image_since old.disk.clock c → GoesOnAs header base c
   session_kept limit old new bytes reads held goes has c since =
@@ -173,6 +187,7 @@ module _ {D : Type 0} (state : D → DiskState) (one_run : OneRun) (never_bad : 
             front_kept base s.found (take p.0 s.history) first begins,
           )
 
+  -- what edits leave begins with them
   edits_kept : (old new : LatheState) (bytes : List ℕ) → Reads old.disk bytes → ((c : List ℕ) → old.disk.image c → GoesOnAs header base c)
       → GoesOnAs header base bytes → HasEdits old new → (c : List ℕ) → new.disk.image_since old.disk.clock c → GoesOnAs header base c
   edits_kept old new bytes reads held goes has c since =
@@ -209,6 +224,7 @@ module _ {D : Type 0} (state : D → DiskState) (one_run : OneRun) (never_bad : 
   kept_by (kind.goes_on limit) old new bytes reads held goes (inl only) c since = of_looks (GoesOnAs header base) old new held only c since
   kept_by (kind.goes_on limit) old new bytes reads held goes (inr has) c since = session_kept limit old new bytes reads held goes has c since
 
+  -- what any kind of command leaves begins with them
   pub goes_on_as : (asked : Kind) (old new : LatheState) (bytes : List ℕ) → IsCoherent old.disk → Reads old.disk bytes
       → ((c : List ℕ) → old.disk.image c → GoesOnAs header base c) → Leaves state asked old new → (c : List ℕ)
       → new.disk.image_since old.disk.clock c → GoesOnAs header base c
@@ -222,6 +238,7 @@ module _ {D : Type 0} (state : D → DiskState) (coherent : (disk : D) → IsCoh
   alone bytes c header found stands same =
       (found, subst (λ x. StandsForRun (a_run header found) x) (sym same) stands, take-length found)
 
+  -- over calls and cuts, the images are one history that begins with the one found
   pub one_history : (stops : List (StoppedCall D)) (bytes : List ℕ) (header : Header) (found : List Entry) → StandsForRun (a_run header found) bytes
       → AreStopped state bytes stops → AreOneHistory header found (images_of stops)
   one_history [] bytes header found stands are = tt
@@ -232,6 +249,7 @@ module _ {D : Type 0} (state : D → DiskState) (coherent : (disk : D) → IsCoh
       are.0.is.reads (λ c image. alone bytes c header found stands (are.0.settled bytes are.0.is.reads c image)) are.0.is.leaves stop.image are.0.left in
       (goes.0, goes.1, goes.2, one_history stops stop.image header goes.0 goes.1 are.1)
 
+  -- from a disk without a run, the images become one history as soon as there is a run
   pub becomes_one : (stops : List (StoppedCall D)) (bytes : List ℕ) → IsNoRun bytes → AreStopped state bytes stops
       → BecomeOneHistory (images_of stops)
   becomes_one [] bytes none are = tt

@@ -1,4 +1,5 @@
 -- What a turret got of a session is written as the lines of its report.
+-- `a_stream_has_the_reports_lines` (src/stream_laws.rt) rests on it.
 use Rattle.std.proofs.Common.{◌≡◌, inl, inr, ℕ, Bool, true, false, true≢false, List, [], ◌∷◌, ◌++◌, length, take, drop, Option, Some, None, refl, sym, ap, ◌∙◌, subst, arith, ◌<◌, ◌+◌}
 use Rattle.std.specs.List.{flat_map}
 use Rattle.std.specs.Option.{ForSome}
@@ -85,6 +86,7 @@ stream_due s path extends =
           ∙ flat_map-append lined_text (moves_of tapes (opening_of s.pair) path s.found) (moves_of tapes (machine_found s) path later);
     }
 
+-- a turret that got these more has, if it tells, these at the end
 told_on : (old new : TurretState) (what : List Got) (calls settles : ℕ) → Adds old.received new.received what calls settles → (was : Received)
     → old.received ≡ Some was → (now : Received) × (new.received ≡ Some now) × (now.got ≡ was.got ++ what)
 told_on old new what calls settles adds was is =
@@ -96,9 +98,11 @@ got_of : Option Received → List Got
 got_of (Some received) = received.got
 got_of None = []
 
+-- what holds of a value by one property holds of it by each that follows
 for_some : (w : Option (List ℕ)) (P Q : List ℕ → Type 0) → ((b : List ℕ) → P b → Q b) → ForSome w P → ForSome w Q
 for_some w P Q more holds = λ b is. more b (holds b is)
 
+-- a turret that got all that is due got the stream of its path
 gets_stream : (s : Session) (path : Path) (old new : TurretState) → take (length s.found) s.history ≡ s.found
     → GetsAll (due_to s (length s.history) path) old new → GetsStream s path old new
 unfolding got_of told_on
@@ -123,19 +127,21 @@ gets_stream s path old new extends gets =
           for_some written _ _ (λ bytes lines. subst (IsStream s path) (sym (lines ∙ ap stream_of same)) is) (stream.whole none);
     }
 
--- the statuses that are others
+-- 1 and 2 are no statuses of a run that was not cut off
 no_low : (n : ℕ) → 0 < n → n < 3 → IsUncut n → ⊥
 no_low n low high (inl is) = omega (arith, is, low)
 no_low n low high (inr (inl is)) = omega (arith, is, high)
 no_low n low high (inr (inr (inl is))) = omega (arith, is, high)
 no_low n low high (inr (inr (inr is))) = omega (arith, is, high)
 
+-- 4 to 9 are no statuses of a run that was not cut off
 no_mid : (n : ℕ) → 3 < n → n < 10 → IsUncut n → ⊥
 no_mid n low high (inl is) = omega (arith, is, low)
 no_mid n low high (inr (inl is)) = omega (arith, is, low)
 no_mid n low high (inr (inr (inl is))) = omega (arith, is, high)
 no_mid n low high (inr (inr (inr is))) = omega (arith, is, high)
 
+-- 11 to 13 are no statuses of a run that was not cut off
 no_high : (n : ℕ) → 10 < n → n < 14 → IsUncut n → ⊥
 no_high n low high (inl is) = omega (arith, is, low)
 no_high n low high (inr (inl is)) = omega (arith, is, low)
@@ -147,11 +153,13 @@ abbrev answer_status : Answer → ℕ
 answer_status (tells status text) = status
 answer_status nothing = 12
 
+-- the status of a file that can't be read is none of a run that was not cut off
 missing_status : (fault : FileFault) → IsUncut (fault_status fault) → ⊥
 missing_status Failed uncut = no_mid 4 (omega arith) (omega arith) uncut
 missing_status Absent uncut = no_high 13 (omega arith) (omega arith) uncut
 missing_status TooLong uncut = no_high 13 (omega arith) (omega arith) uncut
 
+-- the status of a journal that is not begun is none of a run that was not cut off
 unbegun_status : (fault : GateFault) → IsUncut (answer_status (unbegun fault)) → ⊥
 unbegun_status gate.DiskFault uncut = no_mid 6 (omega arith) (omega arith) uncut
 unbegun_status gate.RunThere uncut = no_mid 8 (omega arith) (omega arith) uncut
@@ -159,6 +167,7 @@ unbegun_status gate.NoRun uncut = no_high 12 (omega arith) (omega arith) uncut
 unbegun_status (gate.Cut at) uncut = no_high 12 (omega arith) (omega arith) uncut
 unbegun_status gate.NoMemory uncut = no_high 12 (omega arith) (omega arith) uncut
 
+-- the status of a run that is not found is none of a run that was not cut off
 unfound_status : (fault : RestartFault) → IsUncut (answer_status (unfound fault)) → ⊥
 unfound_status restart.DiskFault uncut = no_mid 6 (omega arith) (omega arith) uncut
 unfound_status restart.NoRun uncut = no_mid 8 (omega arith) (omega arith) uncut
@@ -166,11 +175,13 @@ unfound_status (restart.Cut at) uncut = no_mid 9 (omega arith) (omega arith) unc
 unfound_status (restart.BadRecord offset cause) uncut = no_mid 9 (omega arith) (omega arith) uncut
 unfound_status restart.NoMemory uncut = no_high 12 (omega arith) (omega arith) uncut
 
+-- A call of the program.
 module _ {D E : Type 0} (state : D → DiskState) (second : E → DiskState) (call : Call E) where
   -- the turrets got all that is due to them
   abbrev AllGot : Session → ℕ → Type 0
   AllGot s least = (path : Path) → GetsAll (due_to s least path) (of_path call.before.lathe.turrets path) (of_path call.after.lathe.turrets path)
 
+  -- of a session whose turrets got all that is due, or rested, each stream is written
   served : (opening : Opening) (s : Session) (reason : Reason) (least : ℕ) → IsSession s → IsOpened opening s call.before.lathe.disk
       → KeepsSession state opening s least call.before.lathe.disk call.after.lathe.disk → least ≡ length s.history
       → (is_over (machine_found s) ≡ true → AreAtRest call.before.lathe call.after.lathe)
@@ -189,6 +200,7 @@ module _ {D E : Type 0} (state : D → DiskState) (second : E → DiskState) (ca
         (got more path));
   }
 
+  -- a session that ended with such a status wrote the stream of each path
   ended : (opening : Opening) (limit : ℕ) (s : Session) (reason : Reason) (least : ℕ) → IsUncut (reason_status reason) → IsSession s
       → IsOpened opening s call.before.lathe.disk → KeepsSession state opening s least call.before.lathe.disk call.after.lathe.disk
       → IsEnding limit reason s least call.before.lathe call.after.lathe → HasStreams state call (reason_status reason)
@@ -203,6 +215,7 @@ module _ {D E : Type 0} (state : D → DiskState) (second : E → DiskState) (ca
   ended opening limit s Reason.DiskFault least uncut is opened keeps ends = absurd (no_mid 6 (omega arith) (omega arith) uncut)
   ended opening limit s (Reason.TurretFault path) least uncut is opened keeps ends = absurd (no_mid 7 (omega arith) (omega arith) uncut)
 
+  -- a session that is reported with such a status wrote the stream of each path
   told_of_session : (opening : Opening) (limit : ℕ) (text_of : TextOf) (s : Session) (answer : Answer) → IsSession s
       → IsOpened opening s call.before.lathe.disk → IsReported state opening limit text_of s call.before.lathe call.after.lathe answer
       → IsUncut (answer_status answer) → HasStreams state call (answer_status answer)
@@ -211,6 +224,7 @@ module _ {D E : Type 0} (state : D → DiskState) (second : E → DiskState) (ca
   told_of_session opening limit text_of s answer is opened (unprepared least none keeps) uncut =
       absurd (no_high 12 (omega arith) (omega arith) uncut)
 
+  -- `run` over its texts
   run_streams : (limit : ℕ) (text_of : TextOf) (texts : Texts) (answer : Answer)
       → IsRun state limit text_of texts call.before.lathe call.after.lathe answer → IsUncut (answer_status answer) → HasStreams state call (answer_status answer)
   run_streams limit text_of texts answer (refused of_texts text rests) uncut = absurd (no_low 1 (omega arith) (omega arith) uncut)
@@ -218,6 +232,7 @@ module _ {D E : Type 0} (state : D → DiskState) (second : E → DiskState) (ca
   run_streams limit text_of texts answer (not_begun fault refusal rest) uncut = absurd (unbegun_status fault uncut)
   run_streams limit text_of texts answer (ran s is same opened report) uncut = told_of_session anew limit text_of s answer is opened report uncut
 
+  -- `run` over its files
   files_streams : (limit : ℕ) (text_of : TextOf) (files : List Named) (answer : Answer)
       → IsOfFiles listed files (RestsWhole call.before.lathe call.after.lathe)
       (λ texts. IsRun state limit text_of texts call.before.lathe call.after.lathe) call.before.shelf call.after.shelf answer
@@ -226,11 +241,13 @@ module _ {D E : Type 0} (state : D → DiskState) (second : E → DiskState) (ca
   files_streams limit text_of files answer (unread some rests) uncut = absurd (no_high 12 (omega arith) (omega arith) uncut)
   files_streams limit text_of files answer (answers texts are run) uncut = run_streams limit text_of texts answer run uncut
 
+  -- `resume`
   resumed_streams : (limit : ℕ) (answer : Answer) → IsResumed state limit call.before.lathe call.after.lathe answer → IsUncut (answer_status answer)
       → HasStreams state call (answer_status answer)
   resumed_streams limit answer (not_found fault recovers rest) uncut = absurd (unfound_status fault uncut)
   resumed_streams limit answer (resumed s is opened report) uncut = told_of_session again limit _ s answer is opened report uncut
 
+  -- each command that makes records
   due_streams : (asked : Command) (answer : Answer) → IsDueTo state second asked call.before call.after answer → MakesRecords (kind_of (Some asked))
       → IsUncut (answer_status answer) → HasStreams state call (answer_status answer)
   due_streams (command.Verify left right settings) answer due makes uncut = absurd makes
@@ -247,6 +264,7 @@ module _ {D E : Type 0} (state : D → DiskState) (second : E → DiskState) (ca
   due_streams (command.Edit edits) answer due makes uncut = absurd makes
   due_streams (command.Branch meetings) answer due makes uncut = absurd makes
 
+  -- each call that makes records and is answered with such a status wrote the streams
   call_streams : (answer : Answer) → IsDue state second call answer → MakesRecords (kind_of (command_of call)) → IsUncut (answer_status answer)
       → HasStreams state call (answer_status answer)
   call_streams answer (done.usage none rests still same) makes uncut = absurd (no_low 2 (omega arith) (omega arith) uncut)
@@ -254,6 +272,7 @@ module _ {D E : Type 0} (state : D → DiskState) (second : E → DiskState) (ca
   call_streams answer (done.commanded {command = asked} is due left) makes uncut =
       due_streams asked answer due (subst (λ c. MakesRecords (kind_of c)) is makes) uncut
 
+  -- a call that makes records and ended with such a status wrote the streams
   pub streams_of : (status : ℕ) → IsDone state second call status → MakesRecords (kind_of (command_of call)) → IsUncut status → HasStreams state call status
   streams_of status (whole due written) makes uncut = call_streams _ due makes uncut
   streams_of status (cut due rose n written) makes uncut = absurd (no_mid 5 (omega arith) (omega arith) uncut)

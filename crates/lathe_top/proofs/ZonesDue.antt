@@ -1,4 +1,5 @@
 -- What is due to `zones`: of a file that gives none, and that one answer is due to a text.
+-- `show_zoned` (src/looking.rt) rests on it.
 use Rattle.std.proofs.Common.{◌≡◌, ℕ, List}
 use Rattle.nc_outside.specs.Files.{ShelfState}
 use Rattle.nc_verify.specs.declared.verified.Verified.{Verified}
@@ -16,10 +17,12 @@ use Rattle.lathe_top.specs.Kept.{RestsWhole}
 use Rattle.lathe_top.specs.Lathe.{LatheState}
 use Rattle.lathe_top.specs.Zoned.{IsZoned, bad_zones, unread_zones}
 
+-- a text that gives no zones is answered as `zones` answers it
 unzoned_text : (old new : LatheState) (text : List ℕ) (answer : Answer) → IsUnzoned text answer → RestsWhole old new → IsZoned old new text answer
 unzoned_text old new text answer (looked.bad_zones is) rests = bad_zones is rests
 unzoned_text old new text answer looked.unread_zones rests = unread_zones rests
 
+-- a file that gives no zones is answered as `zones` answers it
 pub unzoned_due : (name : List ℕ) (shelf shelf' : ShelfState) (old new : LatheState) (answer : Answer)
     → IsOfFiles alone (zones_named name) (Unit {0}) IsUnzoned shelf shelf' answer → RestsWhole old new
     → IsOfFiles alone (zones_named name) (RestsWhole old new) (IsZoned old new) shelf shelf' answer

@@ -1,5 +1,7 @@
 -- What `branch` does: it makes a journal on the second disk which stands for the run on the first
 -- one, up to its n-th meeting.
+-- Where a branch ends is in run_branch.
+-- What `top` promises is said in it; no other crate takes it.
 use Rattle.std.specs.Prelude.{◌≡◌, ◌⊎◌, ℕ, ◌≤◌, ◌<◌, List, ◌++◌, take, codes, decimal, Some, Ok, Err}
 use Rattle.disk_model.specs.Device.{DiskState, Reads, Rose, IsSettled}
 use Rattle.disk_model.specs.Moments.{LeavesOnly, Unwritten, Uses}
@@ -24,7 +26,7 @@ use Rattle.lathe_looks.specs.Shown.{unfound}
 unfoldable pub branched_text : ℕ → ℕ → List ℕ
 branched_text n k = codes "branched " ++ (decimal n ++ (codes " records " ++ (decimal k ++ codes "\n")))
 
--- what is told of a branch that is not made; nothing for want of memory
+-- what is told of a branch that is not made; nothing if memory runs out
 abbrev pub unbranched : BranchFault → Answer
 unbranched fault.NoMeeting = tells exit.refused (codes "refused 95 NoMeeting\n")
 unbranched fault.RunThere = tells exit.run_or_none (codes "run there\n")
@@ -66,8 +68,8 @@ pub record IsRunSeen (old new : DiskState) : Type 0 where
   pub calm : new.faults ≡ old.faults
 
 -- What is answered to a branch of a run at its n-th meeting, and what it did to the second disk.
--- Where the run has fewer meetings that is told, and the second disk was not called. Else the
--- branch is made; or there is a run; or the disk failed; nothing for want of memory.
+-- If the run has fewer meetings that is told, and the second disk was not called. Else the
+-- branch is made; or there is a run; or the disk failed; nothing if memory runs out.
 pub data IsBranchOf {E : Type 0} (state : E → DiskState) (run : FoundRun) (n : ℕ) (old new : E) : Answer → Type 0 where
   no_meeting : meetings run.entries < n → new ≡ old → IsBranchOf state run n old new (unbranched fault.NoMeeting)
   made : (k : ℕ) → n ≤ meetings run.entries → IsBranchMade run n k (state old) (state new) → KeepsBranch run n (state old) (state new)

@@ -1,5 +1,6 @@
 -- What a call of the program does: one relation over its words, and over what it works on before
 -- and after it.
+-- `top` of src/control.rt promises it.
 use Rattle.std.specs.Prelude.{◌≡◌, ℕ, ◌<◌, Some, None, Option, List, [], ◌∷◌, take, codes}
 use Rattle.nc_number.specs.Both.{of_path}
 use Rattle.nc_number.specs.declared.path.Path.{Path}
@@ -41,6 +42,7 @@ pub record TopState (E : Type 0) : Type 1 where
   pub second : E
   pub sink : SinkState
 
+-- what the program works on, from its four parts
 abbrev pub at : {E : Type 0} → ShelfState → LatheState → E → SinkState → TopState E
 at shelf lathe second sink = record { shelf = shelf; lathe = lathe; second = second; sink = sink }
 
@@ -50,6 +52,7 @@ pub record Call (E : Type 0) : Type 1 where
   pub before : TopState E
   pub after : TopState E
 
+-- a call, from its words and what it works on before and after
 abbrev pub call_of : {E : Type 0} → List (List ℕ) → TopState E → TopState E → Call E
 call_of words before after = record { words = words; before = before; after = after }
 
@@ -65,7 +68,8 @@ AsksNothing old new = new.shelf ≡ old.shelf
 abbrev pub SparesSecond : {E : Type 0} → TopState E → TopState E → Type 0
 SparesSecond old new = new.second ≡ old.second
 
--- what a command of a kind does to the second disk: nothing, unless it branches
+-- What a command of a kind does to the second disk: nothing, unless it branches. What a branch does
+-- to it is in Branched.antt.
 abbrev pub LeavesSecond : {E : Type 0} → Kind → E → E → Type 0
 LeavesSecond rests old new = new ≡ old
 LeavesSecond looks old new = new ≡ old
@@ -103,7 +107,7 @@ IsDueTo state second (command.Branch meetings) old new answer =
 IsDueTo state second (command.Expand tape) old new answer =
     IsOfFilesAlone alone (tape_named tape) IsExpanded old.lathe new.lathe old.shelf new.shelf answer
 
--- the command was done, and this status given
+-- the command was done, and the call ended with this status
 abbrev pub Performs : {D E : Type 0} → (D → DiskState) → (E → DiskState) → Command → TopState E → TopState E → ℕ → Type 0
 Performs state second command old new status =
     Ends (λ answer. IsDueTo state second command old new answer × LeavesSecond (kind_of (Some command)) old.second new.second)
@@ -126,7 +130,7 @@ pub data IsDue {D E : Type 0} (state : D → DiskState) (second : E → DiskStat
 abbrev pub IsDone : {D E : Type 0} → (D → DiskState) → (E → DiskState) → Call E → ℕ → Type 0
 IsDone state second call status = Ends (IsDue state second call) call.before.sink call.after.sink status
 
--- the status, or a fault of the sink where it rose, or want of memory
+-- the status, or a fault of the sink if it rose, or out of memory
 pub data IsOr (old new : SinkState) (status : ℕ) : ℕ → Type 0 where
   itself : IsOr old new status status
   sink_failed : Rose old.faults new.faults → IsOr old new status exit.sink_fault
@@ -139,7 +143,7 @@ pub data IsTold (old new : SinkState) (status : ℕ) (text : List ℕ) : ℕ →
   cut_off : Rose old.faults new.faults → (n : ℕ) → Writes old new (take n text) → IsTold old new status text exit.sink_fault
   left_off : (n : ℕ) → Writes old new (take n text) → IsTold old new status text exit.no_memory
 
--- where files are named the shelf tells what it holds, and did not fail
+-- if files are named the shelf tells what it holds, and did not fail
 abbrev pub ServesFiles : {E : Type 0} → List Named → Call E → Type 0
 ServesFiles [] call = Unit {0}
 ServesFiles (file ∷ files) call = ((told : Files) × (call.before.shelf.files ≡ Some told))
@@ -175,7 +179,7 @@ pub record Serves {E : Type 0} (second : E → DiskState) (call : Call E) : Type
   pub others : ServesKind second (kind_of (command_of call)) call
 
 -- The causes of a call have one order, whatever the outside tells. If the count of faults of either
--- disk rose, the status is 6. Else, if that of a turret rose, it is 7. And where what the command
+-- disk rose, the status is 6. Else, if that of a turret rose, it is 7. And if what the command
 -- uses tells what it holds and did not fail, what is due is told, with its text and its status.
 -- Instead of each the sink may have failed, or memory run out.
 pub record GetsItsStatus {D E : Type 0} (state : D → DiskState) (second : E → DiskState) (call : Call E) (result : ℕ) : Type 0 where

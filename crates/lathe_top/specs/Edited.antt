@@ -1,4 +1,6 @@
 -- What `edit` does over the text of its file.
+-- How the records of edits are written is in run_edits.
+-- What `top` promises is said in it; no other crate takes it.
 use Rattle.std.specs.Prelude.{◌≡◌, ℕ, ◌+◌, ◌≤◌, ◌<◌, List, [], ◌++◌, length, codes, decimal, Result, Ok, Err, Some, None}
 use Rattle.nc_moves.specs.declared.alarm.Alarm.{Alarm}
 use Rattle.disk_model.specs.Device.{DiskState, Reads, Rose}
@@ -25,7 +27,7 @@ use Rattle.lathe_top.specs.Lathe.{LatheState, AreAtRest}
 abbrev pub edited_text : ℕ → List ℕ
 edited_text count = codes "edited " ++ (decimal count ++ codes "\n")
 
--- what is told where edits are not made: the disk failed; nothing for want of memory
+-- what is told if edits are not made: the disk failed; nothing if memory runs out
 abbrev pub told_of_failure : Failing DiskFault → Answer
 told_of_failure (Fault fault) = tells exit.disk_fault (codes "disk fault\n")
 told_of_failure NoMemory = nothing
@@ -41,19 +43,19 @@ pub record IsOnlyFound (e : Editing) (old new : DiskState) : Type 0 where
   pub found_is : IsHistory e.pair e.found
   pub recovers : Recovers old new (Ok (record { header = e.header; entries = e.found }))
 
--- no alarm stands behind the records that were found
+-- no alarm stands after the records that were found
 abbrev pub IsWithoutAlarm : Editing → Type 0
 IsWithoutAlarm e = (machine_behind e.pair e.found).alarm ≡ None
 
 -- The edits were written, and the disk stands for the records that were found and those of the
--- edits behind them; no call of it failed.
+-- edits after them; no call of it failed.
 pub record AreMade (e : Editing) (old new : DiskState) : Type 0 where
   pub writing : IsWriting e old new
   pub whole : (bytes : List ℕ) → Reads old bytes → (c : List ℕ) → new.image c → Stands e.header (history_with e) c
   pub calm : new.faults ≡ old.faults
 
--- What is answered to the edits of a run that was found. Where it has an alarm that is its report;
--- else, where the settings don't allow so many records, it is full; nothing for want of memory: in
+-- What is answered to the edits of a run that was found. If it has an alarm that is its report;
+-- else, if the settings don't allow so many records, it is full; nothing if memory runs out: in
 -- each case nothing was written. Else the edits are made, all at once, or the disk failed.
 pub data IsEditOf (e : Editing) (old new : DiskState) : Answer → Type 0 where
   alarmed : {alarm : Alarm} → (machine_behind e.pair e.found).alarm ≡ Some alarm → IsOnlyFound e old new
@@ -72,7 +74,7 @@ pub data IsEditedRun (edits : List PathEdit) (old new : DiskState) : Answer → 
   not_found : (fault : RestartFault) → Recovers old new (Err fault) → IsEditedRun edits old new (unfound fault)
   in_run : {answer : Answer} (e : Editing) → e.edits ≡ edits → IsEditOf e old new answer → IsEditedRun edits old new answer
 
--- 1 and the first line that is not allowed, or nothing for want of memory, and the disk was not
+-- 1 and the first line that is not allowed, or nothing if memory runs out, and the disk was not
 -- called; or what is answered to the edits of the text. No turret is called.
 pub data IsEdited (old new : LatheState) (text : List ℕ) : Answer → Type 0 where
   bad_edits : {line : ℕ} → edits_of text ≡ Err line → RestsWhole old new → IsEdited old new text (tells exit.refused (bad_edit_text line))

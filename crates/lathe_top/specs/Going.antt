@@ -1,4 +1,5 @@
 -- How a run goes on from what its journal has.
+-- For this crate alone.
 use Rattle.std.specs.Prelude.{ℕ, ◌-◌, ◌*◌, ◌≤◌, Result, Ok, Err, List, length}
 use Rattle.disk_model.specs.Device.{DiskState, Reads}
 use Rattle.disk_model.specs.Moments.{LeavesOnly, Uses}
@@ -24,6 +25,7 @@ pub record Standing : Type 0 where
   pub pair : Verified
   pub found : List Entry
 
+-- the run that goes on, from its three parts
 abbrev pub standing : Header → Verified → List Entry → Standing
 standing header pair found = record { header = header; pair = pair; found = found }
 
@@ -39,7 +41,7 @@ pub record KeepsGoing (s : Session) (least : ℕ) (old new : DiskState) : Type 0
   pub uses : Uses (4 * (length s.history - length s.found)) (end_of s) old new
   pub later : old.faults ≤ new.faults
 
--- What is told of a run that went on, by at most so many records: its text; nothing, where there
+-- What is told of a run that went on, by at most so many records: its text; nothing, if there
 -- was no memory for a first record.
 pub data IsReport (limit : ℕ) (text_of : TextOf) (run : Standing) (old new : LatheState) : Answer → Type 0 where
   report : (history : List Entry) {reason : Reason} (least : ℕ) → GoesOn run.pair run.found history
@@ -57,7 +59,7 @@ abbrev pub IsReportOn : {D : Type 0} → (D → DiskState) → ℕ → TextOf �
 IsReportOn state limit text_of table old new before after status = (header : Header) → IsJournaled state header table.recording
     → Ends (IsReport limit text_of (standing header table.verified table.recording.history) old new) before after status
 
--- what is told of a history whose run ended for this reason; nothing for want of memory
+-- what is told of a history whose run ended for this reason; nothing if memory runs out
 abbrev pub told_of : TextOf → Verified → List Entry → Result Reason NoMemory → Answer
 told_of text_of pair entries (Ok reason) = tells (reason_status reason) (text_of pair entries reason)
 told_of text_of pair entries (Err none) = nothing

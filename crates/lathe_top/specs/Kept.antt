@@ -1,4 +1,6 @@
 -- What a call does to the disk and to the turrets.
+-- What it answers is in Ran, Edited, Branched and Zoned.
+-- What `top` promises is said in it; no other crate takes it.
 use Rattle.std.specs.Prelude.{◌≡◌, ◌⊎◌, ℕ, ◌+◌, ◌*◌, ◌≤◌, List, [], ◌++◌, length, Result, Err}
 use Rattle.disk_model.specs.Device.{DiskState, Reads}
 use Rattle.disk_model.specs.Moments.{LeavesOnly, Unwritten, Uses}
@@ -42,7 +44,7 @@ opening_calls again = 20
 abbrev pub end_of : Session → ℕ
 end_of s = 14 + length (header_bytes s.header) + length (records_bytes s.history) + 6 * length s.history
 
--- an image while a session opens: one from before; or, where that is by a new journal, no run, or
+-- an image while a session opens: one from before; or, if that is by a new journal, no run, or
 -- the journal without a record
 abbrev pub IsOfOpening : Opening → Session → (List ℕ → Type 0) → List ℕ → Type 0
 IsOfOpening anew s image c = IsRunBeginning image s.header c
@@ -59,7 +61,7 @@ pub record KeepsSession {D : Type 0} (state : D → DiskState) (opening : Openin
   pub uses : Uses (opening_calls opening + 4 * length s.history) (end_of s) old new
   pub later : old.faults ≤ new.faults
 
--- the disk had no run, where it tells its content
+-- the disk had no run, if it tells its content
 abbrev pub HadNoRun : DiskState → Type 0
 HadNoRun old = (bytes : List ℕ) → Reads old bytes → IsRunThere bytes → ⊥
 
@@ -134,7 +136,7 @@ abbrev pub history_with : Editing → List Entry
 history_with e = e.found ++ made_of e
 
 -- The header's texts are accepted; what was found is a history of their pair, and so it is with the
--- edits behind it.
+-- edits after it.
 pub record IsEditing (e : Editing) : Type 0 where
   pub accepted : IsPairOf (texts_of e.header) e.pair
   pub found_is : IsHistory e.pair e.found

@@ -1,4 +1,6 @@
 -- The kinds of commands: what each may do to the disk and to the turrets.
+-- A new command needs its line here.
+-- What `top` promises is said in it; no other crate takes it.
 use Rattle.std.specs.Prelude.{ℕ, Option, Some, None, List, []}
 use Rattle.command_words.specs.declared.command.Command.{Command}
 use Rattle.command_words.specs.declared.command.Command.TheVariants as command
@@ -7,16 +9,19 @@ use Rattle.command_words.specs.declared.table.Journal.TheVariants as journal
 use Rattle.lathe_looks.specs.Named.{Named, edits_named, files_of, tape_named, zones_named}
 use Rattle.lathe_top.specs.Made.{made_limit}
 
--- it calls neither a disk nor a turret; or it looks for a run on the disk; or it looks for a run
--- and branches it on the second disk; or it looks for a run and makes edits in it; or it begins a
--- journal and runs, for so many records at most; or it looks for a run and goes on with it, for so
--- many records more
+-- What a command may do to the disk and to the turrets.
 pub data Kind : Type 0 where
+  -- it calls neither a disk nor a turret
   rests : Kind
+  -- it looks for a run on the disk
   looks : Kind
+  -- it looks for a run, and branches it on the second disk
   branches : Kind
+  -- it looks for a run, and makes edits in it
   edits : Kind
+  -- it begins a journal and runs, for so many records at most
   begins : (limit : ℕ) → Kind
+  -- it looks for a run and goes on with it, for so many records more
   goes_on : (limit : ℕ) → Kind
 
 -- the kind of a command; words that are none do nothing

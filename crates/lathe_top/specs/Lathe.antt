@@ -1,4 +1,5 @@
--- What a run works on.
+-- What a run works on: the disk of its journal, the turrets of both paths, and the moves missed.
+-- What `top` promises is said in it; no other crate takes it.
 use Rattle.std.specs.Prelude.{◌≡◌, ℕ}
 use Rattle.disk_model.specs.Device.{DiskState}
 use Rattle.nc_number.specs.declared.both.Both.{Both}
@@ -17,6 +18,7 @@ pub record LatheState : Type 1 where
 abbrev pub lathe_with : DiskState → Both TurretState → LatheState
 lathe_with disk turrets = record { disk = disk; turrets = turrets; missed = none_missed }
 
+-- before a call, from the turrets of path 1 and path 2
 abbrev pub lathe_at : DiskState → TurretState → TurretState → LatheState
 lathe_at disk left right = lathe_with disk (record { one = left; two = right })
 

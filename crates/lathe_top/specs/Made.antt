@@ -1,4 +1,6 @@
 -- The made pair of a number: its texts, and what is told of its run.
+-- The tapes are those of tape_maker.
+-- What `top` promises is said in it; no other crate takes it.
 use Rattle.std.specs.Prelude.{ℕ, Bool, true, false, if◌then◌else◌, List, []}
 use Rattle.nc_number.specs.declared.path.Path.TheVariants.{One, Two}
 use Rattle.tape_maker.specs.MadeTape.{made_tape}
@@ -18,7 +20,7 @@ abbrev pub is_done : Reason → Bool
 is_done Reason.Done = true
 is_done other = false
 
--- what is told of a made pair's history: where both paths have ended its summary, and else its
+-- what is told of a made pair's history: if both paths have ended its summary, and else its
 -- report
 abbrev pub made_text : ℕ → Verified → List Entry → Reason → List ℕ
 made_text number pair entries reason =

@@ -1,4 +1,5 @@
 -- What a command of files answers, and what it does to the disk and to the turrets.
+-- What `top` promises is said in it; no other crate takes it.
 use Rattle.std.specs.Prelude.{ℕ, List}
 use Rattle.nc_outside.specs.Files.{ShelfState}
 use Rattle.lathe_calls.specs.Answers.{Answer}

@@ -1,4 +1,6 @@
 -- What the commands answer that run both paths.
+-- What a session is, and how it ends, is in Session and Turrets.
+-- What `top` promises is said in it; no other crate takes it.
 use Rattle.std.specs.Prelude.{ℕ, List, Some, codes, Err}
 use Rattle.disk_model.specs.Device.{DiskState}
 use Rattle.gate_file.specs.declared.fault.GateFault.{GateFault}
@@ -25,7 +27,7 @@ use Rattle.lathe_top.specs.Kept.{Opening, anew, again, IsNewHeader, IsOpened, Is
 abbrev pub TextOf : Type 0
 TextOf = Verified → List Entry → Reason → List ℕ
 
--- What is told of a session: its text, by the reason for which it ended; nothing, where there was
+-- What is told of a session: its text, by the reason for which it ended; nothing, if there was
 -- no memory for a first record.
 pub data IsReported {D : Type 0} (state : D → DiskState) (opening : Opening) (limit : ℕ) (text_of : TextOf) (s : Session) (old new : LatheState)
     : Answer → Type 0 where
@@ -34,8 +36,8 @@ pub data IsReported {D : Type 0} (state : D → DiskState) (opening : Opening) (
   unprepared : (least : ℕ) → IsUnprepared s least old new → KeepsSession state opening s least old.disk new.disk
       → IsReported state opening limit text_of s old new nothing
 
--- what is told where no journal is begun: the disk failed, or there is a run; nothing for want of
--- memory, and nothing else refuses it
+-- what is told if no journal is begun: the disk failed, or there is a run; nothing if memory runs
+-- out, and no other cause exists
 abbrev pub unbegun : GateFault → Answer
 unbegun gate.DiskFault = tells exit.disk_fault (codes "disk fault\n")
 unbegun gate.RunThere = tells exit.run_or_none (codes "run there\n")

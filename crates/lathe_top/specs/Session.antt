@@ -1,4 +1,5 @@
 -- A session of a run: what one call made of it, from its opening on.
+-- What `top` promises is said in it; no other crate takes it.
 use Rattle.std.specs.Prelude.{◌≡◌, ℕ, ◌+◌, ◌≤◌, true, false, List, length, take}
 use Rattle.nc_number.specs.Both.{of_path}
 use Rattle.nc_number.specs.declared.path.Path.{Path}
@@ -31,15 +32,15 @@ machine_found s = machine_behind s.pair s.found
 abbrev pub machine_of : Session → MachineView
 machine_of s = machine_behind s.pair s.history
 
--- The records at the end are a history of the pair, and begin with those that were found. Behind a
+-- The records at the end are a history of the pair, and begin with those that were found. After a
 -- run that is over none are made.
 pub record GoesOn (pair : Verified) (found history : List Entry) : Type 0 where
   pub history_is : IsHistory pair history
   pub extends : take (length found) history ≡ found
   pub rests : is_over (machine_behind pair found) ≡ true → history ≡ found
 
--- The header's texts are accepted, and the records went on. The paths are not stuck, and no wait
--- met another.
+-- The header's texts are accepted, and the records went on. The paths are not stuck, and none comes
+-- to a wait while the other waits at a different code.
 pub record IsSession (s : Session) : Type 0 where
   pub accepted : IsPairOf (texts_of s.header) s.pair
   pub goes_on : GoesOn s.pair s.found s.history
@@ -50,7 +51,7 @@ pub record NoneFailed (old new : LatheState) : Type 0 where
   pub disk : new.disk.faults ≡ old.disk.faults
   pub turrets : (path : Path) → (of_path new.turrets path).faults ≡ (of_path old.turrets path).faults
 
--- Why a session of at most so many records ended. Where nothing failed: the run is over; or the
+-- Why a session of at most so many records ended. If nothing failed: the run is over; or the
 -- journal has as many records as it may have; or the session made as many as it was allowed. Else
 -- the disk failed; or the disk did not, and the turret of this path did.
 pub data EndsBy (limit : ℕ) (s : Session) (old new : LatheState) : Reason → Type 0 where
@@ -69,7 +70,7 @@ pub record AreMost (s : Session) (least : ℕ) : Type 0 where
   pub most : length s.history ≤ least + 64
   pub within : least ≤ length s.history
 
--- how many records of a session the disk holds at least: all, but where it or a turret failed
+-- how many records of a session the disk holds at least: all, unless it or a turret failed
 abbrev pub IsLeast : Reason → Session → ℕ → Type 0
 IsLeast Reason.DiskFault s least = AreMost s least
 IsLeast (Reason.TurretFault path) s least = AreMost s least

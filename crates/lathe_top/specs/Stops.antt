@@ -1,4 +1,5 @@
 -- What a stop at any moment of a call leaves.
+-- The laws of src/laws.rt are said in these words.
 use Rattle.std.specs.Prelude.{◌≡◌, ◌⊎◌, ℕ, List, [], ◌∷◌, length, map, take, Option}
 use Rattle.nc_outside.specs.Received.{TurretState}
 use Rattle.nc_number.specs.declared.both.Both.{Both}
@@ -31,7 +32,7 @@ abbrev pub IsNoneOrRun : List ℕ → Type 0
 IsNoneOrRun image = IsNoRun image ⊎ IsSomeRun image
 
 -- A call of the program: its command, if its words are one, the disk and the turrets before and
--- behind it, and how many moves each turret missed.
+-- after it, and how many moves each turret missed.
 pub record CallOver (D : Type 0) : Type 0 where
   pub asked : Option Command
   pub disk : D
@@ -40,9 +41,11 @@ pub record CallOver (D : Type 0) : Type 0 where
   pub moved : Both TurretState
   pub missed : Both ℕ
 
+-- the disk and the turrets before the call
 abbrev pub lathe_before : {D : Type 0} → (D → DiskState) → CallOver D → LatheState
 lathe_before state call = lathe_with (state call.disk) call.turrets
 
+-- the disk and the turrets after the call, and the moves that each turret missed
 abbrev pub lathe_behind : {D : Type 0} → (D → DiskState) → CallOver D → LatheState
 lathe_behind state call = record { disk = state call.after; turrets = call.moved; missed = call.missed }
 
@@ -87,6 +90,7 @@ abbrev pub AreStopped : {D : Type 0} → (D → DiskState) → List ℕ → List
 AreStopped state bytes [] = Unit {0}
 AreStopped state bytes (stop ∷ stops) = IsStopped state bytes stop × AreStopped state stop.image stops
 
+-- what each cut left, in order
 abbrev pub images_of : {D : Type 0} → List (StoppedCall D) → List (List ℕ)
 images_of stops = map (λ stop. stop.image) stops
 

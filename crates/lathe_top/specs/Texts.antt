@@ -1,4 +1,5 @@
 -- What the code keeps of a run, as clauses see it.
+-- For this crate alone.
 use Rattle.lathe_calls.specs.Reported.{report_of}
 use Rattle.lathe_top.specs.declared.telling.Telling.{Telling}
 use Rattle.lathe_top.specs.declared.telling.Telling.TheVariants.{Report, Summary}

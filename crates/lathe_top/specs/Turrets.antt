@@ -1,4 +1,6 @@
 -- What the turrets get from a session.
+-- What a turret may get of moves is in turret_run (Served).
+-- What `top` promises is said in it; no other crate takes it.
 use Rattle.std.specs.Prelude.{◌≡◌, ◌⊎◌, ℕ, ◌+◌, ◌≤◌, true, false, List, [], length}
 use Rattle.nc_outside.specs.Received.{TurretState}
 use Rattle.nc_number.specs.declared.both.Both.{Both}
@@ -16,7 +18,7 @@ use Rattle.lathe_looks.specs.Standing.{is_over}
 use Rattle.lathe_top.specs.Session.{Session, EndsBy, IsLeast, machine_found}
 
 -- What is due to the turret of a path by a session up to this record: its place, and then the moves
--- of its path's records behind those that were found, in order.
+-- of its path's records after those that were found, in order.
 abbrev pub due_to : Session → ℕ → Path → List Got
 due_to s upto path = told (position_of path (machine_found s)) (moves_made s.pair path (length s.found) upto s.history)
 
@@ -29,8 +31,8 @@ pub record AreUnplaced (path : Path) (s : Session) (old new : Both TurretState) 
       (of_path new (other_of path))
 
 -- What the turrets got of a session that might make records, by records that are on the disk: all
--- that is due to them; or, where the disk failed, a first part of it; or, where a turret failed, it
--- got a first part and the other one all, but where it failed too.
+-- that is due to them; or, if the disk failed, a first part of it; or, if a turret failed, it
+-- got a first part and the other one all, unless it failed too.
 abbrev pub AreServed : Reason → Session → ℕ → Both TurretState → Both TurretState → Type 0
 AreServed Reason.DiskFault s least old new =
     (path : Path) → GetsSome (due_to s least path) (of_path old path) (of_path new path)
@@ -49,7 +51,7 @@ AreMissed s least old new =
     ((path : Path) → Misses (due_to s least path) (of_path new.missed path) (of_path old.turrets path) (of_path new.turrets path))
     ⊎ ((s.history ≡ s.found) × (new.missed ≡ none_missed))
 
--- what the turrets got of a session, and how much they missed: nothing, where the run was over at
+-- what the turrets got of a session, and how much they missed: nothing, if the run was over at
 -- its opening
 pub record GetTheirs (reason : Reason) (s : Session) (least : ℕ) (old new : LatheState) : Type 0 where
   pub over : is_over (machine_found s) ≡ true → AreAtRest old new

@@ -1,4 +1,6 @@
 -- What `zones` does over the text of its file.
+-- What a zone is, and how it is printed, is in zone_cell and lathe_looks.
+-- What `top` promises is said in it; no other crate takes it.
 use Rattle.std.specs.Prelude.{◌≡◌, ℕ, List, Ok, Err}
 use Rattle.zone_cell.specs.Zones.{ZonesView, zones_of}
 use Rattle.lathe_calls.specs.Answers.{Answer, tells, nothing}
@@ -8,7 +10,7 @@ use Rattle.lathe_looks.specs.Zoned.{bad_zone_text, zones_text}
 use Rattle.lathe_top.specs.Kept.{RestsWhole}
 use Rattle.lathe_top.specs.Lathe.{LatheState, AreAtRest}
 
--- 1 and the first line that is not allowed, or nothing for want of memory, and the disk was not
+-- 1 and the first line that is not allowed, or nothing if memory runs out, and the disk was not
 -- called; or what is shown of the run on the disk by these zones
 pub data IsZoned (old new : LatheState) (text : List ℕ) : Answer → Type 0 where
   bad_zones : {line : ℕ} → zones_of text ≡ Err line → RestsWhole old new → IsZoned old new text (tells exit.refused (bad_zone_text line))

@@ -1,4 +1,6 @@
 //! The command `run`: a pair, run anew.
+//! What it answers is in specs/Ran.antt (`IsRunAnew`). How the run goes on is in going.rt.
+//! For control.rt and making.rt of this crate.
 ghost use Rattle.std.specs.Prelude.{◌≡◌, ◌≤◌, length};
 ghost use Rattle.lathe_calls.specs.Answers.{Ends};
 ghost use Rattle.lathe_calls.specs.declared.pair_texts.TheConstants.{LONGEST_SETTINGS};
@@ -64,7 +66,8 @@ where
     }
 }
 
-/// Runs the tapes of these texts, if they are accepted.
+/// Runs the tapes of these texts, if the pair is accepted. Else it writes the refusal, and the disk
+/// and the turrets rest.
 pub(crate) fn run_texts<R, D, T, K>(
     rt: &R,
     alloc: Global,
@@ -116,7 +119,8 @@ fn header_of(texts: Texts) -> Header
     }
 }
 
-/// Begins a journal with this header and runs the pair.
+/// Begins a journal with this header and runs the pair with both turrets. Gives the status, the
+/// disk and the turrets. If no journal is begun, the turrets rest.
 fn run_pair<R, D, T, K>(
     rt: &R,
     alloc: Global,

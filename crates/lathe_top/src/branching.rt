@@ -1,5 +1,7 @@
 //! The command `branch`: the run up to a meeting, as a journal of its own on the second disk. The
 //! turrets rest.
+//! What it answers is in specs/Branched.antt; where a branch ends, in crate `run_branch`.
+//! For control.rt of this crate.
 ghost use Rattle.std.specs.Prelude.{◌≡◌, Ok};
 ghost use Rattle.run_records.specs.Headers.{IsShort};
 ghost use Rattle.nc_restart.specs.Recovered.{IsRecovered, Recovers, run_found};
@@ -46,6 +48,7 @@ pub(crate) fn branch_off<D: Disk, E: Disk, T: Turret, K: Sink>(
 #[derive(Drop)]
 struct Branched<D: Disk, E: Disk> {
     status: u8,
+    /// The disk of the run, which was only read.
     disk: D,
     second: E,
 }
@@ -72,7 +75,8 @@ fn branch_run<D: Disk, E: Disk, K: Sink>(
     }
 }
 
-/// Branches a run that was found.
+/// Branches a run that was found, up to its meeting of this number. Gives the status and both
+/// disks.
 fn branch_found<D: Disk, E: Disk, K: Sink>(
     alloc: Global,
     meetings: u32,

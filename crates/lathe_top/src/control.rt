@@ -1,4 +1,6 @@
 //! The call that the program makes: words in, text and status out.
+//! Each command has its own module beside this one; `perform` says which.
+//! own_turret and twin_lathe use it.
 ghost use Rattle.std.specs.Prelude.{◌≡◌, map};
 ghost use Rattle.std.specs.String.{string_bytes};
 ghost use Rattle.lathe_looks.specs.Named.{files_of};
@@ -47,7 +49,7 @@ use wait_verify::{accepted_pairs_are_not_refused, pairs_have_one_refusal};
 /// 0, 14 and 10 the first is answered that holds of a run.
 ///
 /// `branch` alone calls the second disk. `run`, `make` and `resume` run both paths at once, in four
-/// threads: it waits for them, and where none can be made it may not return.
+/// threads: it waits for them, and if none can be made it may not return.
 pub fn top<R, H, D, E, T, K>(
     rt: &R,
     alloc: Global,
@@ -72,7 +74,7 @@ where
     ensures done { IsDone D.state E.state (call_of (map string_bytes words.now)
         (at (H.state shelf.old) (lathe_at (D.state disk) (T.state left) (T.state right)) second (K.state out.old))
         (at (H.state shelf.new) (lathe_after D.state T.state result) result.second (K.state out.new))) result.status }
-    // Where a cause holds its status comes.
+    // If a cause holds, its status comes.
     ensures due { GetsItsStatus D.state E.state (call_of (map string_bytes words.now)
         (at (H.state shelf.old) (lathe_at (D.state disk) (T.state left) (T.state right)) second (K.state out.old))
         (at (H.state shelf.new) (lathe_after D.state T.state result) result.second (K.state out.new))) result.status }

@@ -1,5 +1,7 @@
 //! The command `edit`: an operator's edits, made in the run whose journal the disk has. The turrets
 //! rest.
+//! What it answers is in specs/Edited.antt; how the records are written, in crate `run_edits`.
+//! For control.rt of this crate.
 ghost use Rattle.std.specs.Prelude.{◌≡◌, Ok, codes};
 ghost use Rattle.nc_restart.specs.History.{IsHistory};
 ghost use Rattle.nc_restart.specs.Recovered.{IsRecovered, Recovers, run_found};

@@ -1,4 +1,6 @@
 //! How a run goes on, with the turrets of both paths, and ends with its report.
+//! `run`, `make` and `resume` end here.
+//! For beginning.rt and resuming.rt of this crate.
 ghost use Rattle.std.specs.Prelude.{◌≡◌, ◌≤◌, false, length};
 ghost use Rattle.run_table.specs.Running.{MayRun};
 ghost use Rattle.nc_number.specs.Both.{both_of};

@@ -1,4 +1,4 @@
-//! What a command works on that knows of one journal, and how it ended.
+//! What a command of this crate works on that knows of one journal, and how it ended.
 ghost use Rattle.std.specs.Prelude.{◌≡◌};
 ghost use Rattle.turret_run.specs.Runs.{none_missed};
 
@@ -10,15 +10,20 @@ use nc_outside::Turret;
 /// paths.
 #[derive(Drop)]
 pub(crate) struct Lathe<D: Disk, T: Turret> {
+    /// The disk of the journal.
     pub(crate) disk: D,
+    /// The turrets of path 1 and path 2.
     pub(crate) turrets: Both<T>,
 }
 
 /// How a command ended: its status, what it worked on, and how many moves each turret missed.
 #[derive(Drop)]
 pub(crate) struct Ended<D: Disk, T: Turret> {
+    /// The exit status of the call.
     pub(crate) status: u8,
+    /// The disk and the turrets after the command.
     pub(crate) lathe: Lathe<D, T>,
+    /// How many moves each turret did not take of records that are on the disk.
     pub(crate) missed: Both<u64>,
 }
 

@@ -1,4 +1,5 @@
 //! What holds over any calls and stops, for those who call: who calls the function has the law.
+//! The words that these laws use are in specs/Stops.antt and specs/Turrets.antt.
 ghost use Rattle.std.specs.Prelude.{◌≡◌, ℕ, ◌+◌, ◌*◌, ◌≤◌, List, length};
 ghost use Rattle.command_words.specs.Listed.{listed_command};
 ghost use Rattle.nc_number.specs.declared.path.Path.{Path};
@@ -30,8 +31,8 @@ pub fn a_call_leaves_as_its_kind_may<D: Disk, E: Disk>()
 /// A stop at any moment of a call of `top`, inside a call of the disk too, leaves one history,
 /// whatever the command is.
 ///
-/// The disk tells its bytes. Where each image that a crash before the call may leave is no run, or
-/// a history of some run, each that a stop leaves is so too: none is ever bad. Where each of them
+/// The disk tells its bytes. If each image that a crash before the call may leave is no run, or
+/// a history of some run, each that a stop leaves is so too: none is ever bad. If each of them
 /// is a history of one run that begins with certain records, so is each that a stop leaves: nothing
 /// of them is lost. That holds of `run` over the journal of a run, too, which it leaves alone, and
 /// whatever fails.
@@ -47,7 +48,7 @@ pub fn a_stop_leaves_one_history<D: Disk>()
     an_image_of_a_run_is_never_bad();
 }
 
-/// Over any calls of `top`, each cut off at any moment or behind its end, all records are one
+/// Over any calls of `top`, each cut off at any moment or after its end, all records are one
 /// history of one pair.
 ///
 /// Each call begins on a disk that has what the cut before it left. Until a run is begun there is

@@ -1,4 +1,6 @@
 //! The commands that only look: the turrets rest.
+//! What they show is written by crate `lathe_looks`; the disk is only read.
+//! For control.rt of this crate.
 ghost use Rattle.lathe_calls.specs.Answers.{Ends};
 ghost use Rattle.lathe_calls.specs.Due.{IsDueTo};
 ghost use Rattle.lathe_looks.specs.Expanded.{IsExpanded};

@@ -1,4 +1,6 @@
 //! The command `make`: the made pair of a number, run anew.
+//! The tapes of a number come from crate `tape_maker`; the settings are empty.
+//! For control.rt of this crate.
 ghost use Rattle.lathe_calls.specs.Answers.{Ends};
 ghost use Rattle.lathe_top.specs.Held.{lathe_of, lathe_left};
 ghost use Rattle.lathe_top.specs.Made.{made_limit, made_text, made_texts};
@@ -20,7 +22,7 @@ use tape_maker::make_tapes;
 /// The most records that a made pair makes in a call.
 const MADE_LIMIT: u32 = 100_000;
 
-/// Runs the made pair of this number, with a new journal on the disk. Writes the summary where both
+/// Runs the made pair of this number, with a new journal on the disk. Writes the summary if both
 /// paths end, and else the report, or why there is none.
 pub(crate) fn make<R, D, T, K>(
     rt: &R,

@@ -1,4 +1,5 @@
 //! How a call ended.
+//! `twin_lathe` and `own_turret` read it.
 ghost use Rattle.std.specs.Prelude.{◌≡◌};
 ghost use Rattle.nc_number.specs.Both.{of_path};
 
@@ -10,6 +11,7 @@ use nc_outside::Turret;
 /// each turret missed. Only this crate makes one.
 #[derive(Drop)]
 pub struct Outcome<D: Disk, E: Disk, T: Turret> {
+    /// The exit status of the call.
     pub(crate) status: u8,
     /// The disk of the journal.
     pub disk: D,
@@ -19,6 +21,7 @@ pub struct Outcome<D: Disk, E: Disk, T: Turret> {
     pub left: T,
     /// The turret of path 2.
     pub right: T,
+    /// How many moves each turret missed.
     pub(crate) missed: Both<u64>,
 }
 
@@ -32,7 +35,7 @@ impl<D: Disk, E: Disk, T: Turret> Outcome<D, E, T> {
 
     /// How many moves the turret of the path missed: those of the path's records that this call
     /// made, and that are on the disk, which the turret did not take. 0 unless the turret failed. A
-    /// later `resume` goes on behind these records, and does not make up for them.
+    /// later `resume` goes on after these records, and does not make up for them.
     pub fn missed(&self, path: Path) -> u64
         ensures { result ≡ of_path self.now.missed path }
     {

@@ -1,4 +1,6 @@
 //! Why no journal was begun.
+//! The texts and statuses are in specs/Ran.antt (`unbegun`).
+//! For beginning.rt of this crate.
 ghost use Rattle.lathe_calls.specs.Answers.{Ends, IsJust};
 ghost use Rattle.lathe_top.specs.Ran.{unbegun};
 

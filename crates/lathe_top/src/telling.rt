@@ -1,4 +1,6 @@
 //! What is asked of a run, and what is told of it.
+//! The texts themselves are written by crate `move_list`.
+//! For beginning.rt, editing.rt, going.rt and making.rt and others of this crate.
 ghost use Rattle.std.specs.Prelude.{◌≡◌, ◌≤◌, length};
 ghost use Rattle.nc_verify.specs.Printed.{IsPut};
 ghost use Rattle.two_path.specs.Histories.{IsLegal};
@@ -20,7 +22,7 @@ use std::alloc::Global;
 pub(crate) enum Telling {
     /// The report of its history.
     Report,
-    /// Where both paths have ended the summary of the made pair of this number, and else the
+    /// If both paths have ended the summary of the made pair of this number, and else the
     /// report.
     Summary(u32),
 }
@@ -28,7 +30,9 @@ pub(crate) enum Telling {
 /// What is asked of a run: that it makes `limit` records at most, and what is told of it then.
 #[derive(Clone, Copy, Debug)]
 pub(crate) struct Request {
+    /// The most records that this call may make.
     pub limit: u32,
+    /// What is told of the run at its end.
     pub telling: Telling,
 }
 

@@ -1,4 +1,4 @@
--- A look-up of a cause by its number finds what a look through the table finds.
+-- A look-up of a cause by its number finds what a look through the table finds (src/end_line.rt).
 use Rattle.std.proofs.Common.{◌≡◌, ◌==◌, ℕ, Bool, true, false, cond, List, [], ◌∷◌, Option, Some, None, IfSome, All, refl, arith, zero, suc}
 use Rattle.std.specs.Prelude.{find}
 use Rattle.std.proofs.lemmas.List.Elements.{All-contains}
@@ -8,6 +8,7 @@ use Rattle.nc_number.proofs.CauseTable.{cause_is_listed}
 use Rattle.nc_number.proofs.Counts.{equal}
 use Rattle.code_tables.proofs.FoundPasses.{found_passes}
 
+-- numbers that fail the test of equality differ
 unequal_where : (a b : ℕ) → (a == b) ≡ false → a ≡ b → ⊥
 unequal_where a b test same = grind arith
 
@@ -22,6 +23,7 @@ none_passes p (y ∷ ys) e k d l = go (p y) refl e (none_passes p ys) k d l
     go false is none rest zero d l = is
     go false is none rest (suc k) d l = rest none k d (omega arith)
 
+-- what has the number, and is found wherever a cause has it, is the cause of the number
 pub cause_by_number : (number : ℕ) (found : Option Cause) → IfSome found (λ cause. cause_number cause ≡ number)
     → ((cause : Cause) → cause_number cause ≡ number → found ≡ Some cause) → found ≡ cause_of number
 cause_by_number number found is all = go (cause_of number) refl

@@ -1,4 +1,4 @@
--- Texts of one number after the other, in parts.
+-- Texts of one number after the other, in parts: the loop of `put_listing` (src/state.rt).
 use Rattle.std.proofs.Common.{◌≡◌, ℕ, zero, suc, ◌+◌, ◌-◌, ◌<◌, List, ◌++◌, sym, ◌∙◌, ap, append_assoc, append-nil, arith}
 use Rattle.move_list.specs.Pieces.{each_from}
 
@@ -21,7 +21,7 @@ pub each_from_more : (f : ℕ → List ℕ) (n k : ℕ) → each_from f n (k + 1
 unfolding each_from
 each_from_more f n k = each_append f n k 1 ∙ ap (λ t. each_from f n k ++ t) (append-nil (f (n + k)))
 
--- the texts before a number, its own, and those behind it
+-- the texts before a number, its own, and those after it
 pub each_from_parted : (f : ℕ → List ℕ) (n k count : ℕ) → k < count
     → each_from f n count ≡ each_from f n k ++ (f (n + k) ++ each_from f (n + k + 1) (count - k - 1))
 unfolding each_from

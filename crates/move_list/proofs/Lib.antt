@@ -1,3 +1,4 @@
+-- The files of proofs, each after those that it uses.
 pub mod CauseByNumber
 pub mod EachFrom
 pub mod Fixed

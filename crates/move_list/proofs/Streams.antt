@@ -1,4 +1,5 @@
--- The lines of moves, as a turret writes them and as a report has them.
+-- The lines of moves, as a turret writes them and as a report has them. lathe_top takes these
+-- facts.
 use Rattle.std.proofs.Common.{◌≡◌, List, [], ◌∷◌, ◌++◌, map, refl, sym, ap, ◌∙◌, append_assoc}
 use Rattle.std.specs.List.{flat_map}
 use Rattle.nc_number.specs.declared.path.Path.{Path}
@@ -15,14 +16,17 @@ use Rattle.two_path.specs.Made.{made_by, moves_in, moves_of, turns_from}
 use Rattle.move_list.specs.Report.{lined_text, lines_text}
 use Rattle.two_path.proofs.Replays.{turn_at}
 
+-- the lines that a turret writes of its moves are those of a report
 lines_same : (moves : List LinedMove) → flat_map got_text (map Moved moves) ≡ lines_text moves
 lines_same [] = refl
 lines_same (made ∷ moves) = ap (λ rest. lined_text made ++ rest) (lines_same moves)
 
+-- a turret that was placed and got these moves has written its place and their lines
 pub stream_is : (at : Point) (moves : List LinedMove) → stream_of (Placed at ∷ map Moved moves) ≡ placed_text at ++ lines_text moves
 unfolding stream_of
 stream_is at moves = ap (λ rest. placed_text at ++ rest) (lines_same moves)
 
+-- the moves of a longer history are those of its first records and those of the later ones
 pub later_moves : (tapes : Tapes) (m : MachineView) (path : Path) (before later : List Entry)
     → moves_of tapes m path (before ++ later) ≡ moves_of tapes m path before ++ moves_of tapes (fold tapes m before) path later
 unfolding moves_in turns_from

@@ -1,4 +1,5 @@
--- The last lines of a report: how many records there are, and how the run ended.
+-- The last lines of a report: how many records there are, and how the run ended. trace_list cites
+-- them too.
 use Rattle.std.specs.Prelude.{ℕ, ◌==◌, if◌then◌else◌, List, [], ◌++◌, codes, decimal}
 use Rattle.nc_number.specs.declared.cause.Cause.TheVariants.{MacroAlarm}
 use Rattle.nc_number.specs.declared.path.Path.{Path}
@@ -8,7 +9,7 @@ use Rattle.nc_moves.specs.declared.alarm.Alarm.{Alarm}
 use Rattle.nc_outside.specs.declared.reason.Reason.{Reason}
 use Rattle.text_pieces.specs.Pieces.{name_text, path_name}
 
--- what a macro alarm was given
+-- what the program gave a macro alarm (#3000=): a blank and its value; of other alarms nothing
 unfoldable pub given_text : Alarm → List ℕ
 given_text alarm = if alarm.cause == cause_number MacroAlarm then codes " " ++ value_text alarm.value else []
 
@@ -21,6 +22,7 @@ unfoldable pub alarm_text : Alarm → List ℕ
 alarm_text alarm =
     codes "alarm " ++ path_name alarm.path ++ codes " line " ++ decimal alarm.line ++ codes " cause " ++ cause_text alarm
 
+-- the turret of this path failed
 unfoldable pub turret_text : Path → List ℕ
 turret_text path = codes "turret fault " ++ path_name path
 

@@ -1,3 +1,5 @@
+-- The texts of a run, in the order of their files: each is defined apart from the code that writes
+-- it.
 pub mod Pieces
 pub mod EndText
 pub mod Report

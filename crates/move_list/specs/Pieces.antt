@@ -1,4 +1,4 @@
--- Texts of one number after the other.
+-- Texts of one number after the other. For this crate alone.
 use Rattle.std.specs.Prelude.{ℕ, zero, suc, ◌+◌, List, [], ◌++◌}
 
 -- the texts of so many numbers, from this one on

@@ -1,5 +1,5 @@
 -- The report of a history: for each path its records' moves in order, the number of records, and
--- how the run ended.
+-- how the run ended. lathe_calls, lathe_top and trace_list cite it.
 use Rattle.std.specs.Prelude.{ℕ, List, ◌++◌, length, codes, decimal}
 use Rattle.std.specs.List.{flat_map}
 use Rattle.nc_number.specs.declared.path.Path.{Path}
@@ -26,6 +26,7 @@ lines_text moves = flat_map lined_text moves
 unfoldable pub head_text : Path → ℕ → List ℕ
 head_text path count = path_name path ++ codes " moves " ++ decimal count ++ codes "\n"
 
+-- the lines of a path: how many moves it has, and a line for each
 unfoldable pub path_text : Path → List LinedMove → List ℕ
 path_text path moves = head_text path (length moves) ++ flat_map lined_text moves
 

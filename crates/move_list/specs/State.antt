@@ -1,4 +1,5 @@
 -- The text of a machine: of each path where it stands and what it holds, then what both share.
+-- lathe_calls, lathe_looks and lathe_top cite it.
 use Rattle.std.specs.Prelude.{◌≡◌, ℕ, ◌+◌, ◌-◌, ◌≤◌, ◌<◌, ◌==◌, Bool, ◌&&◌, if◌then◌else◌, List, [], ◌∷◌, ◌++◌, length, Option, Some, None, unsigned_abs, codes, decimal}
 use Rattle.std.specs.List.{flat_map}
 use Rattle.nc_number.specs.Path.{is_same}
@@ -33,13 +34,18 @@ use Rattle.move_list.specs.EndText.{records_text}
 -- the machine is the fold of a legal history from this one on, but for what unfinished blocks have
 -- read
 pub record IsMachineOf (tapes : Tapes) (start m : MachineView) : Type 0 where
+  -- the records of that history
   pub entries : List Entry
+  -- they are those of turns and edits from the start on
   pub legal : IsLegal tapes start entries
+  -- doing them again gives the machine
   pub folds : fold tapes start entries ≡ without_reads m
 
 -- a path shares just as many variables as the settings say
 pub record SharesAs (settings : Settings) (fixed : Fixed) : Type 0 where
+  -- as many from #100 on
   pub hundreds : fixed.shared100 ≡ settings.shared100
+  -- as many from #500 on
   pub upper : fixed.shared500 ≡ settings.shared500
 
 -- without an alarm a path has ended, waits, or is ready for its block
@@ -47,12 +53,14 @@ abbrev pub condition_at_wait : Option ℕ → Condition
 condition_at_wait None = Condition.Ready
 condition_at_wait (Some code) = Condition.Waiting code
 
+-- how a path stands: after an alarm it raised it, has ended or was stopped
 abbrev pub condition_of : Path → Option Alarm → Part → Condition
 condition_of path (Some alarm) part =
     if is_same alarm.path path then Condition.Alarm
     else if part.finished then Condition.Finished else Condition.Stopped
 condition_of path None part = if part.finished then Condition.Finished else condition_at_wait part.waiting
 
+-- the word for that, and of a wait its code
 unfoldable pub condition_text : Condition → List ℕ
 condition_text Condition.Ready = codes "ready"
 condition_text (Condition.Waiting code) = codes "waiting " ++ code_text code
@@ -81,6 +89,7 @@ groups_text modal =
     ++ group_text modal FEED_GROUP ++ group_text modal UNIT_GROUP ++ group_text modal NOSE_GROUP
     ++ group_text modal WORK_GROUP
 
+-- the line of the codes in force
 unfoldable pub modal_text : ModalView → List ℕ
 modal_text modal = codes "modal" ++ groups_text modal ++ codes "\n"
 
@@ -111,6 +120,7 @@ standing_text path line condition p =
     place_text path line condition ++ position_text p.position ++ modal_text p.modal ++ words_text p.modal
     ++ depth_text (length p.place - 1)
 
+-- the offset is 0 in both axes
 abbrev pub is_zero : Point → Bool
 is_zero at = (unsigned_abs at.x == 0) && (unsigned_abs at.z == 0)
 
@@ -123,10 +133,11 @@ unfoldable pub variable_line : List ℕ → ℕ → Var → List ℕ
 variable_line name v Vacant = []
 variable_line name v (Is value) = name ++ decimal v ++ codes " " ++ value_text value ++ codes "\n"
 
--- the line of a common variable of the path's own, and of one that both share
+-- the line of a common variable of the path's own, where it isn't vacant
 abbrev pub own_line : PathView → ℕ → List ℕ
 own_line p v = if is_shared p.fixed v then [] else variable_line (codes "own #") v (value_of v p.own)
 
+-- the line of a common variable that both share, where it isn't vacant
 abbrev pub shared_line : MachineView → ℕ → List ℕ
 shared_line m v =
     if is_shared m.paths.one.path.fixed v then variable_line (codes "shared #") v (value_after m.count v m.writes) else []
@@ -142,7 +153,7 @@ line_of m p OwnUpper n = own_line p n
 line_of m p SharedHundreds n = shared_line m n
 line_of m p SharedUpper n = shared_line m n
 
--- the first number of a listing
+-- the first number of a listing: of a work offset, a tool offset or a variable
 abbrev pub first_of : Listing → ℕ
 first_of Work = 0
 first_of Geometry = 1
@@ -153,7 +164,7 @@ first_of OwnUpper = 500
 first_of SharedHundreds = 100
 first_of SharedUpper = 500
 
--- how many numbers it has
+-- how many numbers it has: the external work offset and G54 to G59, 64 tool offsets, #1 to #33 ..
 abbrev pub count_of : Listing → ℕ
 count_of Work = 7
 count_of Geometry = 64
@@ -172,13 +183,15 @@ IsListed listing n = (first_of listing ≤ n) × (n < first_of listing + count_o
 abbrev pub listing_text : MachineView → PathView → Listing → List ℕ
 listing_text m p listing = each_from (line_of m p listing) (first_of listing) (count_of listing)
 
+-- the lines of several listings, in order
 unfoldable pub listings_text : MachineView → PathView → List Listing → List ℕ
 listings_text m p listings = flat_map (listing_text m p) listings
 
--- the listings of each path, and of what both share, in order
+-- the listings of each path, in order
 abbrev pub path_listings : List Listing
 path_listings = Work ∷ Geometry ∷ Wear ∷ Locals ∷ OwnHundreds ∷ OwnUpper ∷ []
 
+-- the listings of what both paths share, in order
 abbrev pub shared_listings : List Listing
 shared_listings = SharedHundreds ∷ SharedUpper ∷ []
 

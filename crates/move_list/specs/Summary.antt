@@ -1,5 +1,5 @@
 -- The summary of a history: how long the tapes of the pair are, what the history comes to, and
--- where both paths end.
+-- where both paths end. It is the answer to `make N`; lathe_top cites it.
 use Rattle.std.specs.Prelude.{ℕ, List, ◌++◌, length, filter, codes, decimal}
 use Rattle.std.specs.List.{sum_by}
 use Rattle.nc_number.specs.declared.path.Path.{Path}
@@ -26,10 +26,11 @@ block_count programs = sum_by (λ (program : FlowProgram). length program.blocks
 abbrev pub meetings_in : List Entry → List Entry
 meetings_in entries = filter (λ (e : Entry). is_meeting e.kind) entries
 
--- a line of one number, and a line of one for each path
+-- a line of a name and a number
 unfoldable pub number_line : List ℕ → ℕ → List ℕ
 number_line name number = name ++ decimal number ++ codes "\n"
 
+-- a line of a name and a number for each path
 unfoldable pub numbers_line : List ℕ → ℕ → ℕ → List ℕ
 numbers_line name one two = name ++ decimal one ++ codes " " ++ decimal two ++ codes "\n"
 

@@ -1,4 +1,4 @@
-//! How a path of the machine stands.
+//! How a path of the machine stands, and the word for it in the text of a state.
 ghost use Rattle.std.specs.Prelude.{◌≡◌, ◌+◌, ◌≤◌, ◌++◌, length, Option};
 ghost use Rattle.nc_number.specs.Both.{of_path};
 ghost use Rattle.nc_moves.specs.declared.alarm.Alarm.{Alarm};
@@ -23,7 +23,7 @@ pub(crate) enum Condition {
     Stopped,
 }
 
-/// Of a path that has not ended, without an alarm.
+/// How a path stands that has not ended, without an alarm: ready, or waiting at this code.
 fn condition_at_wait(waiting: Option<u16>) -> Condition
     ensures { result ≡ condition_at_wait waiting }
 {
@@ -53,7 +53,7 @@ pub(crate) fn condition_of(machine: &Machine, path: Path) -> Condition
     }
 }
 
-/// How a path stands.
+/// Adds how a path stands, in a word, and of a wait its code.
 #[tactic(auto, unfolding(crate::specs::State::condition_text))]
 pub(crate) fn add_condition(piece: &mut Piece, condition: Condition)
     requires { length piece.old + 29 ≤ 512 }

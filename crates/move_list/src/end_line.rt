@@ -1,4 +1,5 @@
-//! How many records there are, and how the run ended.
+//! How many records there are, and how the run ended: the last lines of a report. trace_list ends
+//! with them too.
 ghost use Rattle.std.specs.Prelude.{◌≡◌, ◌+◌, ◌≤◌, ◌++◌, length};
 ghost use Rattle.nc_number.specs.Causes.{cause_of};
 ghost use Rattle.move_list.specs.EndText.{alarm_text, cause_text, end_text, given_text, reason_text, records_text, turret_text};
@@ -8,14 +9,14 @@ use nc_number::{Cause, Path};
 use nc_outside::Reason;
 use text_pieces::Piece;
 
-/// The cause of a number.
+/// The cause of the number of an alarm, if there is one.
 fn cause_of(number: u8) -> Option<Cause>
     ensures { result ≡ cause_of number }
 {
     Cause::of_number(number)
 }
 
-/// What a macro alarm was given.
+/// Adds what a macro alarm was given; of other alarms nothing.
 #[tactic(auto, unfolding(crate::specs::EndText::given_text))]
 fn add_given(piece: &mut Piece, alarm: &Alarm)
     requires { length piece.old + 25 ≤ 512 }
@@ -40,7 +41,7 @@ pub fn add_cause(piece: &mut Piece, alarm: &Alarm)
     add_given(piece, alarm);
 }
 
-/// An alarm: its path and line, and its cause.
+/// Adds an alarm: its path and line, and its cause.
 #[tactic(auto, unfolding(crate::specs::EndText::alarm_text))]
 fn add_alarm(piece: &mut Piece, alarm: &Alarm)
     requires { length piece.old + 140 ≤ 512 }
@@ -55,7 +56,7 @@ fn add_alarm(piece: &mut Piece, alarm: &Alarm)
     add_cause(piece, alarm);
 }
 
-/// The turret of a path failed.
+/// Adds that the turret of a path failed.
 #[tactic(auto, unfolding(crate::specs::EndText::turret_text))]
 fn add_turret_fault(piece: &mut Piece, path: Path)
     requires { length piece.old + 38 ≤ 512 }
@@ -66,7 +67,7 @@ fn add_turret_fault(piece: &mut Piece, path: Path)
     piece.add_path(path);
 }
 
-/// Why a run ended.
+/// Adds why a run ended.
 #[tactic(auto, unfolding(crate::specs::EndText::reason_text))]
 fn add_reason(piece: &mut Piece, reason: &Reason)
     requires { length piece.old + 140 ≤ 512 }

@@ -1,4 +1,4 @@
-//! The report of a history.
+//! The report of a history: its text is in specs/Report.antt, the line of a move in move_text.
 ghost use Rattle.std.specs.Prelude.{◌≡◌, ◌≤◌, ◌++◌, length};
 ghost use Rattle.std.specs.List.{flat_map};
 ghost use Rattle.nc_number.specs.declared.limits.TheConstants.{MOST_RECORDS};
@@ -155,7 +155,7 @@ fn put_report<K: Sink>(
 /// records are done again once, and the text is put line by line.
 ///
 /// It asks for a legal history of at most 4,000,000 records. Errors: those of the sink, which then
-/// holds a part of the text, from its start; and want of memory.
+/// holds a part of the text, from its start; and out of memory.
 pub fn write_report<K: Sink>(
     alloc: Global,
     verified: &Verified,

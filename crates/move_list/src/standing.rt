@@ -14,7 +14,7 @@ use tape_flow::Flow;
 use text_pieces::Piece;
 use two_path::Machine;
 
-/// A variable: vacant, or its value.
+/// Adds a variable: vacant, or its value.
 #[tactic(auto, unfolding(crate::specs::State::var_text))]
 fn add_var(piece: &mut Piece, var: &Var)
     requires { length piece.old + 24 ≤ 512 }
@@ -27,7 +27,7 @@ fn add_var(piece: &mut Piece, var: &Var)
     }
 }
 
-/// Where a path stands, and how.
+/// Adds the line of where a path stands, and how.
 #[tactic(auto, unfolding(crate::specs::State::place_text))]
 fn add_place(piece: &mut Piece, path: Path, line: u32, condition: Condition)
     requires { length piece.old + 90 ≤ 512 }
@@ -42,7 +42,7 @@ fn add_place(piece: &mut Piece, path: Path, line: u32, condition: Condition)
     piece.add(b"\n");
 }
 
-/// Where the turret stands.
+/// Adds the line of where the turret stands, in machine coordinates.
 #[tactic(auto, unfolding(crate::specs::State::position_text))]
 fn add_position(piece: &mut Piece, at: Point)
     requires { length piece.old + 55 ≤ 512 }
@@ -54,7 +54,7 @@ fn add_position(piece: &mut Piece, at: Point)
     piece.add(b"\n");
 }
 
-/// A code in force; a group that the system lacks has none.
+/// Adds a code in force; for a group that the system lacks nothing.
 #[tactic(auto, unfolding(crate::specs::State::in_force_text))]
 fn add_in_force(piece: &mut Piece, code: Option<u16>)
     requires { length piece.old + 23 ≤ 512 }
@@ -70,7 +70,7 @@ fn add_in_force(piece: &mut Piece, code: Option<u16>)
     }
 }
 
-/// The code in force of a modal group.
+/// Adds the code in force of a modal group.
 fn add_group(piece: &mut Piece, modal: &Modal, group: u8)
     requires { length piece.old + 23 ≤ 512 }
     ensures text { piece.new ≡ piece.old ++ group_text modal.now group }
@@ -79,7 +79,7 @@ fn add_group(piece: &mut Piece, modal: &Modal, group: u8)
     add_in_force(piece, modal.code(group));
 }
 
-/// The codes in force of all modal groups.
+/// Adds the codes in force of all modal groups.
 #[tactic(auto, unfolding(crate::specs::State::groups_text))]
 fn add_groups(piece: &mut Piece, modal: &Modal)
     requires { length piece.old + 161 ≤ 512 }
@@ -95,7 +95,7 @@ fn add_groups(piece: &mut Piece, modal: &Modal)
     add_group(piece, modal, WORK_GROUP);
 }
 
-/// The line of what is in force.
+/// Adds the line of the codes in force.
 #[tactic(auto, unfolding(crate::specs::State::modal_text))]
 fn add_modal(piece: &mut Piece, modal: &Modal)
     requires { length piece.old + 167 ≤ 512 }
@@ -107,7 +107,7 @@ fn add_modal(piece: &mut Piece, modal: &Modal)
     piece.add(b"\n");
 }
 
-/// What F, S and T set last.
+/// Adds the line of what F, S and T set last.
 #[tactic(auto, unfolding(crate::specs::State::words_text))]
 fn add_words(piece: &mut Piece, modal: &Modal)
     requires { length piece.old + 72 ≤ 512 }
@@ -123,7 +123,7 @@ fn add_words(piece: &mut Piece, modal: &Modal)
     piece.add(b"\n");
 }
 
-/// How many calls are open.
+/// Adds the line of how many calls are open.
 #[tactic(auto, unfolding(crate::specs::State::depth_text))]
 fn add_depth(piece: &mut Piece, depth: u8)
     requires { length piece.old + 27 ≤ 512 }

@@ -1,4 +1,4 @@
-//! The text of a machine.
+//! The text of a machine, put in order; its single lines are in standing.rt and listing.rt.
 ghost use Rattle.std.specs.Prelude.{◌++◌};
 ghost use Rattle.nc_number.specs.declared.path.Path.TheVariants.{One, Two};
 ghost use Rattle.nc_number.specs.Both.{of_path};

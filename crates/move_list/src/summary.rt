@@ -1,4 +1,4 @@
-//! The summary of a history.
+//! The summary of a history of a made pair: the answer to `make N`.
 ghost use Rattle.std.specs.Prelude.{◌≡◌, ◌+◌, ◌≤◌, ◌++◌, length, codes};
 ghost use Rattle.nc_number.specs.declared.limits.TheConstants.{MOST_RECORDS};
 ghost use Rattle.nc_verify.specs.Printed.{IsPut};
@@ -43,7 +43,7 @@ fn meeting_count(entries: &EntryList) -> usize
     count
 }
 
-/// A line of one number.
+/// Adds a line of a name and one number.
 #[tactic(auto, unfolding(crate::specs::Summary::number_line))]
 fn add_number_line(piece: &mut Piece, name: &[u8], number: u64)
     requires { length piece.old + length name.now + 21 ≤ 512 }
@@ -55,7 +55,7 @@ fn add_number_line(piece: &mut Piece, name: &[u8], number: u64)
     piece.add(b"\n");
 }
 
-/// A line of one number for each path.
+/// Adds a line of a name and one number for each path.
 #[tactic(auto, unfolding(crate::specs::Summary::numbers_line))]
 fn add_numbers_line(piece: &mut Piece, name: &[u8], one: u128, two: u128)
     requires { length piece.old + length name.now + 82 ≤ 512 }
@@ -69,7 +69,7 @@ fn add_numbers_line(piece: &mut Piece, name: &[u8], one: u128, two: u128)
     piece.add(b"\n");
 }
 
-/// Which made pair it is, and how many blocks its tapes have.
+/// The lines that say which made pair it is, and how many blocks its tapes have.
 #[tactic(auto, unfolding(crate::specs::Summary::pair_text))]
 fn pair_lines(number: u32, left: &Flow, right: &Flow) -> Piece
     ensures text { result ≡ pair_text number left.now.programs right.now.programs }
@@ -86,7 +86,7 @@ fn pair_lines(number: u32, left: &Flow, right: &Flow) -> Piece
     piece
 }
 
-/// How often the paths met, and how many records there are.
+/// Adds how often the paths met, and how many records there are.
 #[tactic(auto, unfolding(crate::specs::Summary::history_text))]
 fn add_history(piece: &mut Piece, entries: &EntryList)
     requires { length piece.old + 59 ≤ 512 }
@@ -97,7 +97,7 @@ fn add_history(piece: &mut Piece, entries: &EntryList)
     piece.add(records_line(entries.len() as u64).as_slice());
 }
 
-/// How many moves each path's records made.
+/// Adds how many moves each path's records made.
 fn add_moves(piece: &mut Piece, made: &Both<Vec<LinedMove>>)
     requires { length piece.old + 88 ≤ 512 }
     ensures text { piece.new ≡ piece.old
@@ -112,7 +112,7 @@ fn add_moves(piece: &mut Piece, made: &Both<Vec<LinedMove>>)
     );
 }
 
-/// Where a path's turret stands.
+/// Adds where a path's turret stands, in machine coordinates.
 #[tactic(auto, unfolding(crate::specs::Summary::place_text))]
 fn add_place(piece: &mut Piece, path: Path, at: Point)
     requires { length piece.old + 77 ≤ 512 }
@@ -125,7 +125,7 @@ fn add_place(piece: &mut Piece, path: Path, at: Point)
     piece.add(b"\n");
 }
 
-/// Where both turrets stand.
+/// Adds where both turrets stand.
 #[tactic(auto, unfolding(crate::specs::Summary::places_text))]
 fn add_places(piece: &mut Piece, machine: &Machine)
     requires { length piece.old + 154 ≤ 512 }
@@ -178,11 +178,11 @@ fn put_summary<K: Sink>(
 
 /// Writes the summary of a history of the made pair of this number: how many blocks each tape has,
 /// in all its programs; at how many records the paths met; how many records there are; how many
-/// moves each path's records made; and where both turrets stand behind the last record, in machine
+/// moves each path's records made; and where both turrets stand after the last record, in machine
 /// coordinates. The records are done again once.
 ///
 /// It asks for a legal history of at most 4,000,000 records. Errors: those of the sink, which then
-/// holds a part of the text, from its start; and want of memory.
+/// holds a part of the text, from its start; and out of memory.
 pub fn write_summary<K: Sink>(
     alloc: Global,
     number: u32,

@@ -1,4 +1,5 @@
-//! The moves of a history, whose records are done again one by one.
+//! The moves of a history, whose records are done again one by one. The report and the summary
+//! start here.
 ghost use Rattle.std.specs.Prelude.{◌≡◌, ◌≤◌, [], ◌++◌, length, IfOk, OnOk};
 ghost use Rattle.nc_number.specs.declared.limits.TheConstants.{MOST_RECORDS};
 ghost use Rattle.nc_number.specs.declared.path.Path.TheVariants.{One, Two};
@@ -41,7 +42,7 @@ fn add_turn(list: &mut Vec<LinedMove>, turn: &Turn) -> Result<(), NoMemory>
     }
 }
 
-/// Without a move.
+/// Lists of both paths without a move.
 fn no_moves(alloc: Global) -> Both<Vec<LinedMove>>
     ensures one { result.one.items ≡ [] }
     ensures two { result.two.items ≡ [] }
@@ -70,6 +71,7 @@ fn add_turn_of(made: &mut Both<Vec<LinedMove>>, path: Path, turn: &Turn) -> Resu
 pub(crate) struct DoneAgain {
     /// The moves of each path in order, each with the line of the tape whose block made it.
     pub(crate) made: Both<Vec<LinedMove>>,
+    /// The machine after them.
     pub(crate) machine: Machine,
 }
 

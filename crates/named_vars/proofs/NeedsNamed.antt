@@ -1,4 +1,6 @@
 -- A block asks only for variables that it names.
+-- race_order takes the last lemma.
+-- `a_block_does_as_its_text_says` (src/laws.rt) rests on it.
 use Rattle.std.proofs.Common.{◌≡◌, ℕ, ◌||◌, Bool, true, false, List, [], ◌∷◌, ◌++◌, Option, Some, None, Result, Ok, Err, ℤ, refl, subst, if◌then◌else◌}
 use Rattle.std.proofs.lemmas.Bool.{eq-eqb, or_right}
 use Rattle.nc_number.specs.declared.cause.Cause.{Cause}
@@ -56,27 +58,33 @@ OnNeed P (Need n) = P n
 OnNeed P (Got v) = Unit {0}
 OnNeed P (Fault n) = Unit {0}
 
+-- What holds of each variable that is looked up holds of each that an expression needs.
 module _ (table : ℕ → Result Look VarFault) (P : ℕ → Type 0) where
+  -- of two steps in a row, if it holds of each
   then_needs : (a : Answer) (next : Var → List Var → Answer) → OnNeed P a.0
       → ((v : Var) (left : List Var) → OnNeed P (next v left).0) → OnNeed P (then_with a next).0
   then_needs (Got v, left) next first further = further v left
   then_needs (Need n, left) next first further = first
   then_needs (Fault n, left) next first further = tt
 
+  -- a number that is made needs none
   made_needs : (r : Result ℤ NumberFault) → OnNeed P (made r)
   made_needs (Ok z) = tt
   made_needs (Err fault) = tt
 
+  -- a variable that is looked up by its number
   seen_needs : (n : ℕ) (found : Result Look VarFault) → P n → (reads : List Var) → OnNeed P (seen found n reads).0
   seen_needs n (Ok (look.Is v)) said reads = tt
   seen_needs n (Ok look.Shared) said [] = said
   seen_needs n (Ok look.Shared) said (v ∷ left) = tt
   seen_needs n (Err fault) said reads = tt
 
+  -- a variable whose number is computed may be any
   by_needs : (number : Result ℕ Cause) → ((v : ℕ) → P v) → (reads : List Var) → OnNeed P (looked_by table number reads).0
   by_needs (Ok n) all reads = seen_needs n (table n) (all n) reads
   by_needs (Err cause) all reads = tt
 
+-- an expression needs only variables that it names
 tree_needs : (table : ℕ → Result Look VarFault) (P : ℕ → Type 0) (t : Tree) → ((v : ℕ) → names t v ≡ true → P v)
     → (reads : List Var) → OnNeed P (meaning table t reads).0
 tree_needs table P (Number z) all reads = tt
@@ -101,21 +109,25 @@ Asks P (Gives value left) = Unit {0}
 Asks P (Needs variable) = P variable
 Asks P (Alarms number value) = Unit {0}
 
+-- of two steps of a statement in a row, if it holds of each
 then_asks : {A B : Type 0} (P : ℕ → Type 0) (step : Outcome A) (next : A → List Var → Outcome B)
     → Asks P step → ((value : A) (left : List Var) → Asks P (next value left)) → Asks P (step >>= next)
 then_asks P (Needs variable) next first further = first
 then_asks P (Alarms number value) next first further = tt
 then_asks P (Gives value left) next first further = further value left
 
+-- what reads nothing needs none
 none_asks : {A : Type 0} (P : ℕ → Type 0) (r : Result A Cause) (left : List Var) → Asks P (reading_none r left)
 none_asks P (Ok value) left = tt
 none_asks P (Err cause) left = tt
 
+-- an answer of an expression needs what the expression needs
 answer_asks : (P : ℕ → Type 0) (a : Answer) → OnNeed P a.0 → Asks P (answered a)
 answer_asks P (Got v, left) said = tt
 answer_asks P (Need n, left) said = said
 answer_asks P (Fault n, left) said = tt
 
+-- what one of the first expressions names, one of all does
 in_front : (v : ℕ) (xs ys : List Tree) → some_names xs v ≡ true → some_names (xs ++ ys) v ≡ true
 in_front v [] ys e = absurd cc
 in_front v (x ∷ xs) ys e = go (names x v) refl e (in_front v xs ys)
@@ -125,17 +137,22 @@ in_front v (x ∷ xs) ys e = go (names x v) refl e (in_front v xs ys)
     go true is e further = rw is refl
     go false is e further = or_right (names x v) (some_names (xs ++ ys) v) (further (let rest : (false || some_names xs v) ≡ true = subst (λ b. (b || some_names xs v) ≡ true) is e in rest))
 
+-- and so of the last ones
 behind : (v : ℕ) (xs ys : List Tree) → some_names ys v ≡ true → some_names (xs ++ ys) v ≡ true
 behind v [] ys e = e
 behind v (x ∷ xs) ys e = or_right (names x v) (some_names (xs ++ ys) v) (behind v xs ys e)
 
+-- what the first expression names, one of all does
 first_names : (t : Tree) (trees : List Tree) (v : ℕ) → names t v ≡ true → some_names (t ∷ trees) v ≡ true
 first_names t trees v e = rw e refl
 
+-- A path before its block, and what is said of variables.
 module _ (fixed : Fixed) (path : PathView) (P : ℕ → Type 0) where
+  -- the value of an expression
   value_asks : (t : Tree) → ((v : ℕ) → names t v ≡ true → P v) → (reads : List Var) → Asks P (evaluated fixed path t reads)
   value_asks t all reads = answer_asks P (meaning (look_of fixed path) t reads) (tree_needs (look_of fixed path) P t all reads)
 
+  -- the variable of an assignment's left side
   name_asks : (name : Named) → ((v : ℕ) → some_names (evaluated_name name) v ≡ true → P v)
       → (reads : List Var) → Asks P (named fixed path name reads)
   name_asks (Plain n) all reads = none_asks P (existing (variable_in path.modal n)) reads
@@ -143,11 +160,13 @@ module _ (fixed : Fixed) (path : PathView) (P : ℕ → Type 0) where
       then_asks P (evaluated fixed path t reads) _ (value_asks t (λ v e. all v (first_names t [] v e)) reads)
       (λ value left. none_asks P (number_named path.modal (variable_number value)) left)
 
+  -- writing an offset
   offset_asks : (slot : Slot) (to : Result Point OffsetFault) (left : List Var)
       → Asks P (written_path (with_offset path slot to) left)
   offset_asks slot (Ok to) left = tt
   offset_asks slot (Err fault) left = tt
 
+  -- writing a variable
   written_asks : (v : Variable) (value : Var) (left : List Var) → Asks P (written fixed path v value left)
   written_asks (variable.Local i) value left = tt
   written_asks (variable.Common v) value left = tt
@@ -156,7 +175,7 @@ module _ (fixed : Fixed) (path : PathView) (P : ℕ → Type 0) where
   written_asks variable.Raise value left = tt
   written_asks _ value left = tt
 
-  -- an assignment, where all is said of what its number and its value name
+  -- an assignment, if it holds of all that its number and its value name
   assigned_asks : (name : Named) (t : Tree) → ((v : ℕ) → some_names (evaluated_name name ++ t ∷ []) v ≡ true → P v)
       → (reads : List Var) → Asks P (assigned_next fixed path name t reads)
   assigned_asks name t all reads =
@@ -168,6 +187,7 @@ module _ (fixed : Fixed) (path : PathView) (P : ℕ → Type 0) where
       (λ value left. written_asks variable value left)))
       (λ after left. tt)
 
+  -- a condition
   tested_asks : (test : Test) → ((v : ℕ) → some_names (evaluated_test test) v ≡ true → P v)
       → (reads : List Var) → Asks P (tested fixed path test reads)
   tested_asks test all reads =
@@ -178,10 +198,12 @@ module _ (fixed : Fixed) (path : PathView) (P : ℕ → Type 0) where
       (λ v e. all v (or_right (names test.left v) (some_names (test.right ∷ []) v) (first_names test.right [] v e))) behind_left)
       (λ right rest. tt))
 
+  -- going to a next place
   move_asks : (to : Result (List Frame) Cause) (left : List Var) → Asks P (move_effect path to left)
   move_asks (Ok to) left = tt
   move_asks (Err cause) left = tt
 
+  -- the sequence number of a jump
   aim_asks : (aim : Aim) → ((v : ℕ) → some_names (evaluated_aim aim) v ≡ true → P v)
       → (reads : List Var) → Asks P (aimed fixed path aim reads)
   aim_asks (ToNumber n) all reads = tt
@@ -189,6 +211,7 @@ module _ (fixed : Fixed) (path : PathView) (P : ℕ → Type 0) where
       then_asks P (evaluated fixed path t reads) _ (value_asks t (λ v e. all v (first_names t [] v e)) reads)
       (λ value left. none_asks P (sequence_number (whole_number value)) left)
 
+  -- a jump
   jump_asks : (tape : List ControlProgram) (aim : Aim) → ((v : ℕ) → some_names (evaluated_aim aim) v ≡ true → P v)
       → (reads : List Var) → Asks P (jump_effect tape fixed path aim reads)
   jump_asks tape aim all reads =
@@ -207,6 +230,7 @@ module _ (fixed : Fixed) (path : PathView) (P : ℕ → Type 0) where
       either true left = first left
       either false left = second left
 
+  -- a statement, if it holds of all that it evaluates
   trees_ask : (tape : List ControlProgram) (sentence : Sentence)
       → ((v : ℕ) → some_names (evaluated_in sentence) v ≡ true → P v)
       → (reads : List Var) → Asks P (statement_effect tape fixed path sentence reads)
@@ -226,12 +250,14 @@ module _ (fixed : Fixed) (path : PathView) (P : ℕ → Type 0) where
   trees_ask tape (DoOnly m) all reads = tt
   trees_ask tape (EndLoop m) all reads = move_asks (place_of_head tape path.place) reads
 
+  -- a statement, if it holds of all that it names
   statement_asks : (tape : List ControlProgram) (sentence : Sentence) → ((v : ℕ) → sentence_names sentence v ≡ true → P v)
       → (reads : List Var) → Asks P (statement_effect tape fixed path sentence reads)
   statement_asks tape sentence all reads =
       trees_ask tape sentence
       (λ v e. all v (or_right (sentence_may_write sentence v) (some_names (evaluated_in sentence) v) e)) reads
 
+  -- the value of a word
   word_asks : (sense : Sense) (letter : ℕ) (value : WordValue) → ((v : ℕ) → word_names value v ≡ true → P v)
       → (values : Values) (reads : List Var) → Asks P (word_taken fixed path sense letter value values reads)
   word_asks sense letter (Written literal) all values reads = none_asks P (taken sense letter literal values) reads
@@ -239,6 +265,7 @@ module _ (fixed : Fixed) (path : PathView) (P : ℕ → Type 0) where
       then_asks P (evaluated fixed path t reads) _ (value_asks t all reads)
       (λ value left. none_asks P (taken_var sense letter minus value values) left)
 
+  -- the values of words
   words_ask : (sense : Sense) (words : List FlowWord) → ((v : ℕ) → words_name words v ≡ true → P v)
       → (values : Values) (reads : List Var) → Asks P (words_taken fixed path sense words values reads)
   words_ask sense [] all values reads = tt
@@ -247,12 +274,14 @@ module _ (fixed : Fixed) (path : PathView) (P : ℕ → Type 0) where
       (word_asks sense w.letter w.value (λ v e. all v (rw e refl)) values reads)
       (λ next left. words_ask sense words (λ v e. all v (or_right (word_names w.value v) (words_name words v) e)) next left)
 
+  -- an argument of a macro call
   argument_asks : (letter : ℕ) (value : WordValue) → ((v : ℕ) → word_names value v ≡ true → P v)
       → (arguments reads : List Var) → Asks P (argument_taken fixed path letter value arguments reads)
   argument_asks letter (Written literal) all arguments reads = tt
   argument_asks letter (Evaluated minus t) all arguments reads =
       then_asks P (evaluated fixed path t reads) _ (value_asks t all reads) (λ value left. tt)
 
+  -- the arguments of a macro call
   arguments_ask : (words : List FlowWord) → ((v : ℕ) → words_name words v ≡ true → P v)
       → (arguments reads : List Var) → Asks P (arguments_taken fixed path words arguments reads)
   arguments_ask [] all arguments reads = tt
@@ -266,37 +295,45 @@ abbrev EffectAsks : (ℕ → Type 0) → Effect → Type 0
 EffectAsks P (effect.Need variable) = P variable
 EffectAsks P _ = Unit {0}
 
+-- The block of a path: it asks only for what its steps ask for, each of which is one of these.
 module _ (tape : List ControlProgram) (fixed : Fixed) (path : PathView) (P : ℕ → Type 0) where
+  -- it moves, and goes on
   done-asks : (moved : Moved) (to : Result Standing Cause) → EffectAsks P (done_by moved to)
   done-asks moved (Ok to) = tt
   done-asks moved (Err cause) = tt
 
+  -- it goes where its control says
   controlled-asks : (moved : Moved) (arguments : Option (List Var)) (c : Control)
       → EffectAsks P (controlled tape moved arguments c)
   controlled-asks moved arguments control.End = tt
   controlled-asks moved arguments c = done-asks moved (standing_behind tape (standing_of moved.path) arguments c)
 
+  -- its motion, or a fault of it
   moves-ask : (c : Control) (moved : Result Moved ℕ) → EffectAsks P (of_moved tape c moved)
   moves-ask c (Ok moved) = controlled-asks moved None c
   moves-ask c (Err number) = tt
 
+  -- the values of its words
   values-ask : (system : System) (words : List FlowWord) (c : Control) (values : Outcome Values) → Asks P values
       → EffectAsks P (of_values tape fixed path system words c values)
   values-ask system words c (Gives values left) asks = moves-ask c (acted fixed path system words values)
   values-ask system words c (Needs variable) asks = asks
   values-ask system words c (Alarms number value) asks = tt
 
+  -- its call, after its arguments
   call-asks : (c : Control) (arguments : Outcome (List Var)) → Asks P arguments
       → EffectAsks P (of_arguments tape path c arguments)
   call-asks c (Gives arguments left) asks = controlled-asks (record { path = path; moves = [] }) (Some arguments) c
   call-asks c (Needs variable) asks = asks
   call-asks c (Alarms number value) asks = tt
 
+  -- what a statement comes to
   after-asks : (after : Outcome After) → Asks P after → EffectAsks P (of_after after)
   after-asks (Gives after left) asks = tt
   after-asks (Needs variable) asks = asks
   after-asks (Alarms number value) asks = tt
 
+  -- what its words are for
   purpose-asks : (purpose : Purpose) (system : System) (words : List FlowWord) → ((v : ℕ) → words_name words v ≡ true → P v)
       → (c : Control) (reads : List Var) → EffectAsks P (of_purpose tape fixed path purpose system words c reads)
   purpose-asks MacroCall system words all c reads =
@@ -305,11 +342,13 @@ module _ (tape : List ControlProgram) (fixed : Fixed) (path : PathView) (P : ℕ
       values-ask system words c (words_taken fixed path (sense_of path purpose system words) words nothing_said reads)
       (words_ask fixed path P (sense_of path purpose system words) words all nothing_said reads)
 
+  -- its words
   words-ask : (purpose : Purpose) (system : System) (words : List FlowWord) → ((v : ℕ) → words_name words v ≡ true → P v)
       → (c : Control) (reads : List Var) → EffectAsks P (block_of_words tape fixed path purpose system words c reads)
   words-ask purpose system words all (control.Wait code) reads = tt
   words-ask purpose system words all c reads = purpose-asks purpose system words all c reads
 
+  -- its text
   body-asks : (body : FlowBody) → ((v : ℕ) → body_names body v ≡ true → P v)
       → (c : Control) (reads : List Var) → EffectAsks P (effect_of_body tape fixed path body c reads)
   body-asks (Words words) all c reads = words-ask words.purpose words.dialect.system words.words all c reads
@@ -317,12 +356,14 @@ module _ (tape : List ControlProgram) (fixed : Fixed) (path : PathView) (P : ℕ
       after-asks (statement_effect tape fixed path (sentence_of statement.statement) reads)
       (statement_asks fixed path P tape (sentence_of statement.statement) all reads)
 
+-- a block that is found asks only for variables that it names
 found-asks : (tape : List ControlProgram) (path : PathView) (found : Option FlowBlock) (reads : List Var)
     → EffectAsks (λ v. found_names found v ≡ true) (effect_of_block tape path found reads)
 found-asks tape path None reads = tt
 found-asks tape path (Some block) reads =
     body-asks tape path.fixed path (λ v. body_names block.body v ≡ true) block.body (λ v e. e) block.control reads
 
+-- the variable that a block needs is one that it names
 pub needs_are_named : (flow : Flow) (path : PathView) (reads : List Var) (f : Frame) (stack : List Frame) (v : ℕ)
     → path.place ≡ f ∷ stack → effect_of flow path reads ≡ effect.Need v → block_names flow f.program f.block v ≡ true
 needs_are_named flow path reads f stack v at is =

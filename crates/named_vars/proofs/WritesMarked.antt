@@ -1,4 +1,6 @@
 -- A block writes only variables that it may write by its text.
+-- race_order takes the last lemma.
+-- `a_block_does_as_its_text_says` (src/laws.rt) rests on it.
 use Rattle.std.proofs.Common.{◌≡◌, ◌==◌, ℕ, Bool, true, false, List, [], ◌∷◌, Option, Some, None, Result, Ok, Err, refl, subst}
 use Rattle.std.proofs.lemmas.Bool.{eq-eqb}
 use Rattle.nc_number.specs.declared.cause.Cause.{Cause}
@@ -50,6 +52,7 @@ abbrev OnWrite : (ℕ → Type 0) → Option Write → Type 0
 OnWrite P None = Unit {0}
 OnWrite P (Some write) = P write.variable
 
+-- what is said of the variable that a step writes
 abbrev Writes : (ℕ → Type 0) → After → Type 0
 Writes P after = OnWrite P after.write
 
@@ -58,41 +61,51 @@ abbrev IsMeant : Named → Variable → Type 0
 IsMeant name (variable.Common v) = may_be name v ≡ true
 IsMeant name _ = Unit {0}
 
+-- a computed left side may be any variable
 computed_meant : (t : Tree) (v : Variable) → IsMeant (Computed t) v
 computed_meant t (variable.Common v) = refl
 computed_meant t _ = tt
 
+-- a left side with a number is the variable of that number
 plain_meant : (modal : ModalView) (n : ℕ) (v : Variable) → variable_in modal n ≡ Some v → IsMeant (Plain n) v
 plain_meant modal n (variable.Common v) is =
     subst (λ k. (k == v) ≡ true) (what_is_named n (variable.Common v) (named_in_table modal n (variable.Common v) is)).1 (eq-eqb v v refl)
 plain_meant modal n _ is = tt
 
+-- A path before its block.
 module _ (fixed : Fixed) (path : PathView) where
+  -- a left side with a number gives that variable
   plain_gives : (n : ℕ) (found : Option Variable) → variable_in path.modal n ≡ found → (reads : List Var)
       → OnGives (IsMeant (Plain n)) (reading_none (existing found) reads)
   plain_gives n None is reads = tt
   plain_gives n (Some v) is reads = plain_meant path.modal n v is
 
+  -- a computed one gives one that it may be
   number_gives : (t : Tree) (r : Result Variable Cause) (left : List Var) → OnGives (IsMeant (Computed t)) (reading_none r left)
   number_gives t (Ok v) left = computed_meant t v
   number_gives t (Err cause) left = tt
 
+  -- so a left side gives a variable that it may be
   named_gives : (name : Named) (reads : List Var) → OnGives (IsMeant name) (named fixed path name reads)
   named_gives (Plain n) reads = plain_gives n (variable_in path.modal n) refl reads
   named_gives (Computed t) reads =
       after_any (IsMeant (Computed t)) (evaluated fixed path t reads) _
       (λ value left. number_gives t (number_named path.modal (variable_number value)) left)
 
+  -- What is said of variables.
   module _ (P : ℕ → Type 0) where
+    -- a common variable is written
     common-writes : (shared : Bool) (v : ℕ) (value : Var) → P v → Writes P (with_common shared path v value)
     common-writes true v value said = said
     common-writes false v value said = tt
 
+    -- writing an offset writes no common variable
     offset-writes : (slot : Slot) (to : Result Point OffsetFault) (left : List Var)
         → OnGives (Writes P) (written_path (with_offset path slot to) left)
     offset-writes slot (Ok to) left = tt
     offset-writes slot (Err fault) left = tt
 
+    -- a variable that the left side may be is written
     written-writes : (name : Named) → ((v : ℕ) → may_be name v ≡ true → P v) → (v : Variable) → IsMeant name v
         → (value : Var) (left : List Var) → OnGives (Writes P) (written fixed path v value left)
     written-writes name all (variable.Local i) meant value left = tt
@@ -102,6 +115,7 @@ module _ (fixed : Fixed) (path : PathView) where
     written-writes name all variable.Raise meant value left = tt
     written-writes name all _ meant value left = tt
 
+    -- an assignment writes only what its left side may be
     assigned-writes : (name : Named) (t : Tree) → ((v : ℕ) → may_be name v ≡ true → P v) → (reads : List Var)
         → OnGives (Writes P) (assigned_next fixed path name t reads)
     assigned-writes name t all reads =
@@ -111,16 +125,19 @@ module _ (fixed : Fixed) (path : PathView) where
         (λ value left. written-writes name all v meant value left)))
         (λ after left writes. writes)
 
+    -- going to a next place writes none
     move-writes : (to : Result (List Frame) Cause) (left : List Var) → OnGives (Writes P) (move_effect path to left)
     move-writes (Ok to) left = tt
     move-writes (Err cause) left = tt
 
+    -- a jump writes none
     jump-writes : (tape : List ControlProgram) (aim : Aim) (reads : List Var)
         → OnGives (Writes P) (jump_effect tape fixed path aim reads)
     jump-writes tape aim reads =
         after_any (Writes P) (aimed fixed path aim reads) _
         (λ n left. move-writes (place_of_jump tape n path.place) left)
 
+    -- a statement writes only what it may write
     statement-writes : (tape : List ControlProgram) (sentence : Sentence)
         → ((v : ℕ) → sentence_may_write sentence v ≡ true → P v)
         → (reads : List Var) → OnGives (Writes P) (statement_effect tape fixed path sentence reads)
@@ -144,47 +161,57 @@ abbrev EffectWrites : (ℕ → Type 0) → Effect → Type 0
 EffectWrites P (Done after write moves) = OnWrite P write
 EffectWrites P _ = Unit {0}
 
+-- The block of a path: it writes only what its steps write, each of which is one of these.
 module _ (tape : List ControlProgram) (fixed : Fixed) (path : PathView) (P : ℕ → Type 0) where
+  -- it moves, and goes on: it writes none
   done-writes : (moved : Moved) (to : Result Standing Cause) → EffectWrites P (done_by moved to)
   done-writes moved (Ok to) = tt
   done-writes moved (Err cause) = tt
 
+  -- it goes where its control says: it writes none
   controlled-writes : (moved : Moved) (arguments : Option (List Var)) (c : Control)
       → EffectWrites P (controlled tape moved arguments c)
   controlled-writes moved arguments control.End = tt
   controlled-writes moved arguments c = done-writes moved (standing_behind tape (standing_of moved.path) arguments c)
 
+  -- its motion, or a fault of it
   moves-write : (c : Control) (moved : Result Moved ℕ) → EffectWrites P (of_moved tape c moved)
   moves-write c (Ok moved) = controlled-writes moved None c
   moves-write c (Err number) = tt
 
+  -- the values of its words
   values-write : (system : System) (words : List FlowWord) (c : Control) (values : Outcome Values)
       → EffectWrites P (of_values tape fixed path system words c values)
   values-write system words c (Gives values left) = moves-write c (acted fixed path system words values)
   values-write system words c (Needs variable) = tt
   values-write system words c (Alarms number value) = tt
 
+  -- its call, after its arguments
   arguments-write : (c : Control) (arguments : Outcome (List Var)) → EffectWrites P (of_arguments tape path c arguments)
   arguments-write c (Gives arguments left) = controlled-writes (record { path = path; moves = [] }) (Some arguments) c
   arguments-write c (Needs variable) = tt
   arguments-write c (Alarms number value) = tt
 
+  -- what its words are for
   purpose-writes : (purpose : Purpose) (system : System) (words : List FlowWord) (c : Control) (reads : List Var)
       → EffectWrites P (of_purpose tape fixed path purpose system words c reads)
   purpose-writes MacroCall system words c reads = arguments-write c (arguments_taken fixed path words all_vacant reads)
   purpose-writes purpose system words c reads =
       values-write system words c (words_taken fixed path (sense_of path purpose system words) words nothing_said reads)
 
+  -- its words
   words-write : (purpose : Purpose) (system : System) (words : List FlowWord) (c : Control) (reads : List Var)
       → EffectWrites P (block_of_words tape fixed path purpose system words c reads)
   words-write purpose system words (control.Wait code) reads = tt
   words-write purpose system words c reads = purpose-writes purpose system words c reads
 
+  -- what a statement comes to
   after-writes : (after : Outcome After) → OnGives (Writes P) after → EffectWrites P (of_after after)
   after-writes (Gives after left) writes = writes
   after-writes (Needs variable) writes = tt
   after-writes (Alarms number value) writes = tt
 
+  -- its text
   body-writes : (body : FlowBody) → ((v : ℕ) → body_may_write body v ≡ true → P v) → (c : Control) (reads : List Var)
       → EffectWrites P (effect_of_body tape fixed path body c reads)
   body-writes (Words words) all c reads = words-write words.purpose words.dialect.system words.words c reads
@@ -192,12 +219,14 @@ module _ (tape : List ControlProgram) (fixed : Fixed) (path : PathView) (P : ℕ
       after-writes (statement_effect tape fixed path (sentence_of statement.statement) reads)
       (statement-writes fixed path P tape (sentence_of statement.statement) all reads)
 
+-- a block that is found writes only what it may write
 found-writes : (tape : List ControlProgram) (path : PathView) (found : Option FlowBlock) (reads : List Var)
     → EffectWrites (λ v. found_may_write found v ≡ true) (effect_of_block tape path found reads)
 found-writes tape path None reads = tt
 found-writes tape path (Some block) reads =
     body-writes tape path.fixed path (λ v. body_may_write block.body v ≡ true) block.body (λ v e. e) block.control reads
 
+-- the variable that a block writes is one that it may write by its text
 pub writes_are_marked : (flow : Flow) (path after : PathView) (reads : List Var) (f : Frame) (stack : List Frame)
     (write : Write) (moves : List Move) → path.place ≡ f ∷ stack
     → effect_of flow path reads ≡ Done after (Some write) moves → block_may_write flow f.program f.block write.variable ≡ true

@@ -1,1 +1,2 @@
+-- Which variables a block names, by its text alone.
 pub mod Names

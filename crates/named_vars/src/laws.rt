@@ -1,4 +1,5 @@
-//! What holds of every block, for the crates above: who calls the function has the law.
+//! What holds of every block: it does as its text says. race_order takes the two lemmas of its
+//! proof.
 ghost use Rattle.std.specs.Prelude.{◌≡◌, ◌∷◌, ℕ, true, List, Some};
 ghost use Rattle.nc_number.specs.declared.value.Var.{Var};
 ghost use Rattle.nc_moves.specs.declared.motion.Move.{Move};

@@ -1,4 +1,4 @@
--- What a block comes to hangs on what it says, and on nothing else of its flow.
+-- What a block comes to depends on what it says, and on nothing else of its flow.
 use Rattle.std.proofs.Common.{◌≡◌, ℕ, ◌==◌, Bool, true, false, cond, List, [], ◌∷◌, map, Option, Some, None, refl, sym, ap, ◌∙◌}
 use Rattle.std.specs.List.{find, slice_get}
 use Rattle.std.specs.Option.{option_map}
@@ -48,13 +48,16 @@ abbrev form_blocks : Option ProgramForm → List BlockForm
 form_blocks None = []
 form_blocks (Some program) = program.blocks
 
+-- the form of the program with this O number
 abbrev form_program : List ProgramForm → ℕ → Option ProgramForm
 form_program programs number = find (λ program. program.number == number) programs
 
+-- the form of the block at a place
 abbrev form_at : List ProgramForm → List Frame → Option BlockForm
 form_at programs [] = None
 form_at programs (f ∷ stack) = slice_get (form_blocks (form_program programs f.program)) f.block
 
+-- the blocks of a program have the forms of the form's blocks,
 program_same : (programs : List FlowProgram) (number : ℕ)
     → map block_form (flow_blocks (flow_program programs number)) ≡ form_blocks (form_program (map program_form programs) number)
 program_same [] number = refl
@@ -66,6 +69,7 @@ program_same (p ∷ programs) number = go (p.number == number) (program_same pro
     go true rest = refl
     go false rest = rest
 
+-- and so has the block at a place
 at_same : (programs : List FlowProgram) (place : List Frame) → option_map block_form (block_at programs place) ≡ form_at (map program_form programs) place
 at_same programs [] = refl
 at_same programs (f ∷ stack) =
@@ -79,11 +83,13 @@ blocks_by programs = record {
   line = line_at (controls programs);
 }
 
+-- a block comes to what its form comes to
 effect_same : (flow : Flow) (path : PathView) (reads : List Var)
     → effect_of flow path reads ≡ (blocks_by (map program_form flow.programs)).effect path reads
 effect_same flow path reads =
     block_same flow.order path reads (block_at flow.programs path.place)
     ∙ (λ i. effect_by (flow.agrees i) path reads (at_same flow.programs path.place i))
 
+-- flows of the same forms come to the same
 pub blocks_same : (flow : Flow) → blocks_of flow ≡ blocks_by (map program_form flow.programs)
 blocks_same flow = λ i. record { effect = λ path reads. effect_same flow path reads i; line = line_at (flow.agrees i) }

@@ -1,3 +1,4 @@
+-- The lemmas of this crate, each file by its subject.
 mod Forms
 mod SamePair
 mod Parted

@@ -13,6 +13,7 @@ use Rattle.nc_verify.specs.Verdict.{Texts}
 use Rattle.nc_restart.specs.Pair.{IsPairOf, tapes_in, opening_of, machine_behind}
 use Rattle.nc_restart.specs.History.{IsHistory}
 
+-- accepted texts give two flows whose lists of labels agree
 accepted_pair : (texts : Texts) (pair : Verified) → ((flow : Flow) → IsControlled flow) → IsPairOf texts pair → IsPair pair.left pair.right
 accepted_pair texts pair controlled is = record {
   left_controlled = controlled pair.left;
@@ -24,6 +25,7 @@ accepted_pair texts pair controlled is = record {
   };
 }
 
+-- no history of an accepted pair leads to paths that can't go on
 pub never_stuck : ((flow : Flow) → IsControlled flow) → ((left right : Flow) → IsPair left right → IsNeverStuckBehindRecords left right)
     → (texts : Texts) (pair : Verified) (entries : List Entry) → IsPairOf texts pair → IsHistory pair entries
     → IsFree (tapes_in pair) (machine_behind pair entries)
@@ -31,6 +33,7 @@ never_stuck controlled free texts pair entries is history =
     free pair.left pair.right (accepted_pair texts pair controlled is) (opening_path pair.left pair.settings One) (opening_path pair.right pair.settings Two)
     (record { one = refl; two = refl }) entries history.legal
 
+-- no order of turns of an accepted pair does
 pub no_order_stuck : ((flow : Flow) → IsControlled flow) → ((left right : Flow) → IsPair left right → IsNeverStuck left right)
     → (texts : Texts) (pair : Verified) → IsPairOf texts pair → IsNeverStuck pair.left pair.right
 no_order_stuck controlled free texts pair is = free pair.left pair.right (accepted_pair texts pair controlled is)

@@ -66,6 +66,7 @@ module _ (below : Below) (keeps : (pair : Verified) → Keeps (tapes_in pair) (o
       ap (take (length found)) life.are
       ∙ front_again found (history (tapes_in life.pair) (machine_behind life.pair found) life.events) life.kept life.holds
 
+  -- over any restarts and stops the records are one history
   pub one_history : (header : Header) (found : List Entry) (image : List ℕ) (images : List (List ℕ)) → StandsForRun (a_run header found) image
       → LeaveEach image images → AreOneHistory header found images
   one_history header found image [] stands leave = tt

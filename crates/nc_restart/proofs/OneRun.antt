@@ -45,6 +45,7 @@ module _ (pair other : Verified) (same : IsSamePair pair other) where
       subst (λ (t : Tapes). IsNext t (fold t (opening_of pair) before) e) (sym same.tapes)
       (subst (λ (m : MachineView). IsNext (tapes_in other) (fold (tapes_in other) m before) e) (sym same.opening) next)
 
+  -- a history of one pair is one of the other, if their machines are the same,
   pub history_same : (entries : List Entry) → IsHistory pair entries → IsHistory other entries
   history_same entries is = record {
     legal = legal_same entries is.legal;
@@ -55,6 +56,7 @@ module _ (pair other : Verified) (same : IsSamePair pair other) where
   out_same before e _ (illegal not) = illegal (λ next. not (next_back before e next))
   out_same before e _ (beyond next full) = beyond (next_same before e next) (full ∙ same.records)
 
+  -- and a record is out of place in both
   pub out_at_same : (entries : List Entry) (index : ℕ) (cause : BadRecord) → IsOutOfPlaceAt pair entries index cause → IsOutOfPlaceAt other entries index cause
   out_at_same entries index cause is = record {
     before = is.before;
@@ -80,6 +82,7 @@ earlier pair entries index other cause cause' is also less =
     let between = parted_before is.before also.before is.after also.after is.entry also.entry (sym is.are ∙ also.are) first in
     never_out pair is.before between.0 is.entry cause (subst (IsHistory pair) between.1 also.history) is.bad
 
+-- a record is out of place for one cause,
 one_cause : (pair : Verified) (before : List Entry) (e : Entry) (cause cause' : BadRecord) → IsOutOfPlace pair before e cause
     → IsOutOfPlace pair before e cause' → cause ≡ cause'
 one_cause pair before e _ _ (illegal not) (illegal not') = refl
@@ -87,6 +90,7 @@ one_cause pair before e _ _ (illegal not) (beyond next full) = absurd (not next)
 one_cause pair before e _ _ (beyond next full) (illegal not) = absurd (not next)
 one_cause pair before e _ _ (beyond next full) (beyond next' full') = refl
 
+-- and one record is the first such
 one_place : (pair : Verified) (entries : List Entry) (index other : ℕ) (cause cause' : BadRecord) → IsOutOfPlaceAt pair entries index cause
     → IsOutOfPlaceAt pair entries other cause' → (index ≡ other) × (cause ≡ cause')
 one_place pair entries index other cause cause' is also = go (cases_order index other)
@@ -107,6 +111,7 @@ header_of default no_run = default
 header_of default (cut_at o) = default
 header_of default (bad_at o c) = default
 
+-- the records of a run; of no run those given
 abbrev pub entries_of : List Entry → Meaning → List Entry
 entries_of default (a_run h es) = es
 entries_of default no_run = default
@@ -211,6 +216,7 @@ module _ (below : Below) where
       history_not_bad header' entries' (places_in header' pieces) offset cause
       (subst (λ (es : List Entry). HasHistory header' es) same.1 (subst (λ (h : Header). HasHistory h entries) same.0 is.1)) out
 
+  -- so an image stands for one run
   pub one_run : (image : List ℕ) (a b : Meaning) → StandsForRun a image → StandsForRun b image → a ≡ b
   one_run image no_run no_run is also = refl
   one_run image no_run (cut_at o) is also = below.one image no_run (cut_at o) is also

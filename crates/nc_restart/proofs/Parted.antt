@@ -4,6 +4,7 @@ use Rattle.run_records.specs.declared.version.Version.{Version}
 use Rattle.run_records.specs.declared.version.Version.TheVariants.{Two}
 use Rattle.run_journal.specs.Batches.{Piece, a_batch, the_mark, batch_bytes, raising_mark, piece_bytes, records_of, ArePieces}
 
+-- equal lists have the same first
 pub first_alike : {X : Type 0} (x y : X) (xs ys : List X) → x ∷ xs ≡ y ∷ ys → x ≡ y
 first_alike x y xs ys same = ap (λ l. get_or l 0 x) same
 

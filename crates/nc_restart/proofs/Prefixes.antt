@@ -9,6 +9,7 @@ use Rattle.nc_restart.specs.Pair.{tapes_in, opening_of}
 use Rattle.nc_restart.specs.History.{IsHistory}
 use Rattle.nc_restart.specs.Meaning.{HasHistory}
 
+-- the first so many records of a history are a history of the pair
 history_front : (pair : Verified) (n : ℕ) (entries : List Entry) → HistoriesAreRuns (tapes_in pair) (opening_of pair) → IsHistory pair entries
     → IsHistory pair (take n entries)
 history_front pair n entries runs is = record {
@@ -16,6 +17,7 @@ history_front pair n entries runs is = record {
   few = omega (arith, is.few, length-take n entries);
 }
 
+-- and so are those of the history of a header
 pub front_has : (header : Header) (n : ℕ) (entries : List Entry) (has : HasHistory header entries)
     → HistoriesAreRuns (tapes_in has.pair) (opening_of has.pair) → HasHistory header (take n entries)
 front_has header n entries has runs = record {

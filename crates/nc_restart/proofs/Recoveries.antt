@@ -27,12 +27,14 @@ few_marked (a_batch batch ∷ pieces) are =
     omega (arith, few_marked pieces are.1, are.0.some, length-append batch (records_of pieces))
 few_marked (the_mark ∷ pieces) are = absurd (let clash : Two ≡ One = are.0 in cc)
 
+-- a journal has at most one piece more than records
 few_pieces : (version : Version) (pieces : List Piece) → ArePieces version pieces → length pieces ≤ length (records_of pieces) + 1
 few_pieces version [] are = omega arith
 few_pieces version (a_batch batch ∷ pieces) are =
     omega (arith, few_pieces version pieces are.1, are.0.some, length-append batch (records_of pieces))
 few_pieces version (the_mark ∷ pieces) are = omega (arith, few_marked pieces are.1)
 
+-- what used few calls of a disk used at most more
 uses_more : (count more : ℕ) (old new : DiskState) → count ≤ more → Uses count 0 old new → Uses more 0 old new
 uses_more count more old new less uses = record {
   calls = λ bytes reads. omega (arith, less, uses.calls bytes reads);
@@ -42,6 +44,7 @@ uses_more count more old new less uses = record {
   allows = uses.allows;
 }
 
+-- a journal that is refused at its opening is refused at the recovery, for the same cause
 refused_alike : (old new : DiskState) (fault : JournalFault) → RefusesRun fault old new → RefusesRecovery (fault_of fault) old new
 refused_alike old new journal.DiskFault refused = refused
 refused_alike old new journal.NoRun refused = refused
@@ -49,6 +52,7 @@ refused_alike old new (journal.Cut at) refused = refused
 refused_alike old new (journal.BadRecord offset cause) refused = (refused.0, λ bytes reads. unread (refused.1 bytes reads))
 refused_alike old new journal.NoMemory refused = tt
 
+-- a journal that can't be opened recovers no run
 pub not_opened : (old new : DiskState) (fault : JournalFault) → FindsRun old new (Err fault) → Recovers old new (Err (fault_of fault))
 not_opened old new fault finds = record {
   found = tt;
@@ -78,6 +82,7 @@ module _ (old new : DiskState) (found : Found) (finds : FindsRun old new (Ok fou
   refused_reading NoRun bad = absurd bad
   refused_reading (Cut at) bad = absurd bad
 
+  -- a journal that was opened and whose machine can't be made anew recovers no run
   pub not_rebuilt : (fault : RestartFault) → RefusesReading found.header found.entries found.offsets fault → Recovers old new (Err fault)
   not_rebuilt fault bad = record {
     found = tt;
@@ -94,6 +99,7 @@ module _ (old new : DiskState) (found : Found) (finds : FindsRun old new (Ok fou
       let is = finds.found in
       (is.0, is.1.run, is.1.version, (is.1.file bytes (sym finds.unwritten.same ∙ reads)).1)
 
+  -- and one whose machine is made anew recovers that run
   pub rebuilt : (pair : Verified) → IsPairOf (texts_of found.header) pair → IsHistory pair found.entries
       → Recovers old new (Ok (record { header = found.header; entries = found.entries }))
   rebuilt pair accepted history =

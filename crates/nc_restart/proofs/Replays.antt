@@ -20,15 +20,18 @@ use Rattle.nc_restart.specs.History.{IsBehind, IsOutOfPlace, illegal, beyond, Is
 use Rattle.nc_restart.specs.Reading.{AreDone}
 
 module _ (pair : Verified) (before : List Entry) (e : Entry) (m n : MachineView) (is : IsBehind pair before m) where
+  -- a record that is not the machine's step is out of place,
   pub next_illegal : IsRefused (tapes_in pair) e m n → IsOutOfPlace pair before e NotLegal
   next_illegal refused = illegal (λ next. refused.illegal (subst (λ (x : MachineView). IsNext (tapes_in pair) x e) (sym is.folds) next))
 
   next_may : (turn : Turn) → IsDoneAgain (tapes_in pair) e m n turn → IsNext (tapes_in pair) (machine_behind pair before) e
   next_may turn done = subst (λ (x : MachineView). IsNext (tapes_in pair) x e) (is.folds) done.legal
 
+  -- and so is one past as many as the settings allow
   pub next_beyond : (turn : Turn) → IsDoneAgain (tapes_in pair) e m n turn → pair.settings.records ≤ m.count → IsOutOfPlace pair before e TooManyRecords
   next_beyond turn done full = beyond (next_may turn done) (omega (arith, full, is.counts, is.history.few))
 
+  -- any other is done again: the records so far are a history with it
   pub next_done : (turn : Turn) → ((entries : List Entry) → IsLegal (tapes_in pair) (opening_of pair) entries → Counts (tapes_in pair) (opening_of pair) entries)
       → IsDoneAgain (tapes_in pair) e m n turn → m.count < pair.settings.records
       → AreAtTheirWaits pair.left.order pair.right.order n → IsBehind pair (before ++ e ∷ []) n
@@ -58,9 +61,11 @@ none_done pair entries now opens room = record {
   room = omega (arith, room);
 }
 
+-- while a record is left there is room for it
 pub room_there : (pair : Verified) (entries : List Entry) (done : ℕ) (now : RoomyMachine) → AreDone pair entries done now → done < length entries → 0 < now.room
 room_there pair entries done now are within = omega (arith, are.room, within)
 
+-- no more records are done again than a run may have
 pub few_done : (pair : Verified) (entries : List Entry) (done : ℕ) (now : RoomyMachine) → AreDone pair entries done now → now.machine.count ≤ MOST_RECORDS
 few_done pair entries done now are = omega (arith, are.behind.counts, are.behind.history.few, pair.settings.most_records)
 
@@ -72,6 +77,7 @@ module _ (pair : Verified) (entries : List Entry) (done : ℕ) (e : Entry) (now 
   size : length (take done entries) ≡ done
   size = length-take-le done entries (omega (arith, within))
 
+  -- then one record more is done, and there is room for the others
   pub more_done : (next : RoomyMachine) → ((before : List Entry) → IsBehind pair before now.machine → IsBehind pair (before ++ e ∷ []) next.machine)
       → now.machine.count + now.room ≤ next.machine.count + next.room → AreDone pair entries (done + 1) next
   more_done next redone room =
@@ -82,6 +88,7 @@ module _ (pair : Verified) (entries : List Entry) (done : ℕ) (e : Entry) (now 
         room = omega (arith, room, counted, are.behind.counts, size, are.room);
       }
 
+  -- a record that is out of place behind those so far is the first such
   pub bad_at : (cause : BadRecord) → ((before : List Entry) → IsBehind pair before now.machine → IsOutOfPlace pair before e cause)
       → IsOutOfPlaceAt pair entries done cause
   bad_at cause bad = record {
@@ -94,6 +101,7 @@ module _ (pair : Verified) (entries : List Entry) (done : ℕ) (e : Entry) (now 
     bad = bad (take done entries) are.behind;
   }
 
+-- once none is left, the machine is the fold of all
 pub all_done : (pair : Verified) (entries : List Entry) (done : ℕ) (now : RoomyMachine) → AreDone pair entries done now → length entries ≤ done
     → IsBehind pair entries now.machine
 all_done pair entries done now are all = subst (λ (l : List Entry). IsBehind pair l now.machine) (take_all done entries all) are.behind

@@ -44,6 +44,7 @@ one_reading texts cell other left right left' right' is also =
     let two : IsFlowOf other Two texts.right right = subst (λ c. IsFlowOf c Two texts.right right) same is.flows.right_is in
     (same, one_flow other One texts.left left left' one also.flows.left_is, one_flow other Two texts.right right right' two also.flows.right_is)
 
+-- three accepted texts have one pair, as far as its machine goes
 pub same_pair : (texts : Texts) (pair other : Verified) → IsPairOf texts pair → IsPairOf texts other → IsSamePair pair other
 same_pair texts pair other is also =
     let same = one_reading texts (view pair.settings) (view other.settings) (map program_form pair.left.programs) (map program_form pair.right.programs)

@@ -1,5 +1,6 @@
 -- Which lists of records are a history of a pair, and which record is the first that may not stand
 -- where it stands.
+-- lathe_looks takes `IsHistory`, lathe_top `IsHistory` and run_edits `IsHistory`.
 use Rattle.std.specs.Prelude.{◌≡◌, ℕ, ◌≤◌, List, ◌∷◌, ◌++◌, length}
 use Rattle.run_records.specs.declared.bad_record.BadRecord.{BadRecord}
 use Rattle.run_records.specs.declared.bad_record.BadRecord.TheVariants.{NotLegal, TooManyRecords}

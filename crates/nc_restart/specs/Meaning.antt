@@ -1,4 +1,5 @@
 -- What the journal of a run stands for.
+-- lathe_top takes `HasHistory` and `StandsForRun`.
 use Rattle.std.specs.Prelude.{ℕ, ◌+◌, List, length, get_or}
 use Rattle.gate_file.specs.Chain.{Spells, IsNoRun, IsCutAt}
 use Rattle.run_records.specs.declared.bad_record.BadRecord.{BadRecord}

@@ -1,4 +1,5 @@
 -- The pair of tapes that a run is made with, and its machine.
+-- lathe_calls, lathe_looks and two more crates take words from here.
 use Rattle.std.specs.Prelude.{◌≡◌, List, map}
 use Rattle.run_records.specs.Entries.{Entry}
 use Rattle.run_records.specs.declared.header.Header.{Header}
@@ -20,6 +21,7 @@ abbrev pub IsPairOf : Texts → Verified → Type 0
 IsPairOf texts pair =
     AreAccepted texts (view pair.settings) (map program_form pair.left.programs) (map program_form pair.right.programs)
 
+-- the blocks of both tapes of the pair, as the machine takes them
 abbrev pub tapes_in : Verified → Tapes
 tapes_in pair = tapes_of pair.left pair.right
 

@@ -1,4 +1,5 @@
 -- How the records that were read are done again.
+-- For this crate alone.
 use Rattle.std.specs.Prelude.{ℕ, ◌+◌, ◌≤◌, List, length, take}
 use Rattle.run_records.specs.Entries.{Entry}
 use Rattle.run_records.specs.declared.header.Header.{Header}

@@ -1,4 +1,5 @@
 -- What a recovery promises.
+-- lathe_looks, lathe_top and two more crates take words from here.
 use Rattle.std.specs.Prelude.{◌≡◌, ℕ, ◌+◌, ◌*◌, ◌≤◌, List, length, Result, Ok, Err, IfOk, IfErr}
 use Rattle.disk_model.specs.Device.{DiskState, Reads, Rose, IsSettled}
 use Rattle.disk_model.specs.Moments.{Unwritten, Uses}
@@ -82,6 +83,7 @@ abbrev pub disk_recovered : {D : Type 0} → Result (Recovered D) (D × RestartF
 disk_recovered (Ok recovered) = recovered.journal.file.disk
 disk_recovered (Err fault) = fault.0
 
+-- the header and the records that an answer found, or why there is no run
 abbrev pub run_found : {D : Type 0} → Result (Recovered D) (D × RestartFault) → Result FoundRun RestartFault
 run_found (Ok recovered) = Ok (record { header = recovered.header; entries = recovered.entries.items })
 run_found (Err fault) = Err fault.1

@@ -1,4 +1,5 @@
-//! What can go wrong with a recovery.
+//! Why a run can't be recovered: the disk, the journal, its texts or a record out of place.
+//! lathe_looks, lathe_top and tests use it.
 ghost use Rattle.std.specs.Prelude.{◌≡◌};
 ghost use Rattle.nc_restart.specs.Recovered.{fault_of};
 

@@ -1,4 +1,5 @@
-//! What holds of every run, for the crates above: who calls the function has the law.
+//! What holds of every run, for the crates above: a caller of the function has the law.
+//! lathe_top uses it.
 ghost use Rattle.std.specs.Prelude.{◌≡◌, List, ℕ, take};
 ghost use Rattle.run_records.specs.Entries.{Entry};
 ghost use Rattle.run_records.specs.declared.header.Header.{Header};

@@ -1,4 +1,5 @@
-//! The pair of a run, from the texts in its header.
+//! The pair of a run, from the texts in its header, which are judged anew by nc_verify.
+//! For this crate alone.
 ghost use Rattle.std.specs.Prelude.{List, ℕ, IfOk, IfErr};
 ghost use Rattle.run_records.specs.Entries.{Entry};
 ghost use Rattle.run_records.specs.Headers.{IsShort};

@@ -1,4 +1,5 @@
-//! How the machine of a run is made anew.
+//! The pair of a run, and the machine behind its records.
+//! For this crate alone.
 ghost use Rattle.std.specs.Prelude.{◌≡◌, ◌≤◌, length, IfOk, IfErr};
 ghost use Rattle.run_records.specs.Headers.{IsShort};
 ghost use Rattle.nc_restart.specs.Pair.{texts_of, IsPairOf, opening_of};

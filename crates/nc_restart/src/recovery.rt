@@ -1,4 +1,5 @@
-//! The recovery of a run.
+//! The recovery of a run: its journal opened, its pair judged anew, its records done again.
+//! lathe_looks, lathe_top and run_edits, and tests, use it.
 ghost use Rattle.std.specs.Prelude.{IfOk};
 ghost use Rattle.run_records.specs.Headers.{IsShort};
 ghost use Rattle.nc_restart.specs.Recovered.{IsRecovered, Recovers, disk_recovered, run_found};

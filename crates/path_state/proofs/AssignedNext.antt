@@ -16,6 +16,7 @@ in_turn (Gives value left) next last = refl
 in_turn (Needs variable) next last = refl
 in_turn (Alarms number value) next last = refl
 
+-- if the left side names this variable, the assignment is that the variable takes the value
 pub assigned_by : (fixed : Fixed) (path : PathView) (name : Named) (tree : Tree) (reads left : List Var) (variable : Variable)
     → named fixed path name reads ≡ Gives variable left
     → assigned_next fixed path name tree reads ≡ taken_next fixed path variable tree left

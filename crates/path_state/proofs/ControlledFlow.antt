@@ -1,4 +1,5 @@
 -- The effect of a flow's block leads where its order of blocks allows.
+-- race_order takes `steady`.
 use Rattle.std.proofs.Common.{◌≡◌, ◌≢◌, ℕ, List, [], ◌∷◌, map, slice_get, Option, Some, None, refl, ap, sym, subst, ◌∙◌}
 use Rattle.std.specs.Option.{option_map}
 use Rattle.nc_number.specs.declared.value.Var.{Var}
@@ -45,12 +46,14 @@ stands_in programs number place block is =
         ap (λ found. control_of found) (sym (block_seen program.blocks place))
         ∙ ap (λ found. control_of (option_map (λ b. control_block (block_form b)) found)) there
 
+-- what holds of where a statement goes holds of its effect
 after-steady : (tape : List ControlProgram) (path : PathView) (after : Outcome After)
     → OnGives (Goes tape path) after → IsSteady tape path (of_after after)
 after-steady tape path (Gives after left) goes = record { goes = goes.step; keeps = goes.fixed }
 after-steady tape path (Needs variable) goes = record { goes = tt; keeps = tt }
 after-steady tape path (Alarms number value) goes = record { goes = tt; keeps = tt }
 
+-- the block that stands at the path's place, words or statement, is steady
 body-steady : (tape : List ControlProgram) (fixed : Fixed) (path : PathView) (body : FlowBody)
     (reads : List Var)
     → standing tape path.place ≡ Some (control_of_body body)
@@ -62,6 +65,7 @@ body-steady tape fixed path (Statement statement) reads stands =
     after-steady tape path (statement_effect tape fixed path (sentence_of statement.statement) reads)
     (statement-goes tape fixed path (sentence_of statement.statement) reads stands)
 
+-- so is the block that was found there, or none
 block-steady : (tape : List ControlProgram) (path : PathView) (found : Option FlowBlock)
     (reads : List Var)
     → ((block : FlowBlock) → found ≡ Some block → standing tape path.place ≡ Some block.control)
@@ -73,6 +77,7 @@ block-steady tape path (Some block) reads stands =
     (body-steady tape path.fixed path block.body reads
     (stands block refl ∙ ap (λ c. Some c) block.controls))
 
+-- whatever was read, the effect of a flow's block leads where the order of blocks allows
 pub steady : (flow : Flow) (path : PathView) (reads : List Var)
     → IsSteady flow.order path (effect_of flow path reads)
 steady flow path reads =
@@ -88,6 +93,7 @@ abbrev Stands : Option FlowBlock → Option Control → Type 0
 Stands None o = o ≡ None
 Stands (Some block) o = o ≡ Some block.control
 
+-- so it is at each place of a flow
 standing_of_block : (flow : Flow) (place : List Frame)
     → Stands (block_at flow.programs place) (standing flow.order place)
 standing_of_block flow [] = refl
@@ -126,6 +132,7 @@ body-waits tape fixed path (Statement statement) c code reads is waits =
     no_wait (DoOnly name) e = cc
     no_wait (EndLoop name) e = cc
 
+-- a path that stands on a wait is at it, whatever was read
 pub waits : (flow : Flow) (path : PathView) (code : ℕ) (reads : List Var)
     → standing flow.order path.place ≡ Some (control.Wait code)
     → effect_of flow path reads ≡ AtWait code

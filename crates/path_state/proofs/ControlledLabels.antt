@@ -21,6 +21,7 @@ use Rattle.path_state.specs.Controlled.{GoesAsOrdered}
 use Rattle.path_state.specs.Ahead.{AheadOf, KeepsAhead}
 use Rattle.path_state.proofs.ControlledFlow.{steady}
 
+-- the law of one step, which block_order has, in the words of `AheadOf`
 kept-ahead : (tape : List ControlProgram) (f : Frame) (stack : List Frame) (c : Control)
     (to : List Frame)
     → Kept tape f stack c to → AheadOf tape (f ∷ stack) (Some c) to
@@ -29,6 +30,7 @@ kept-ahead tape f (g ∷ stack) Back to kept = kept
 kept-ahead tape f [] _ to kept = kept
 kept-ahead tape f (g ∷ stack) _ to kept = kept
 
+-- one step leads to a place again, and keeps the labels ahead
 step-ahead : (tape : List ControlProgram) → KeepsLabels tape → (place to : List Frame)
     → IsPlace tape place → Step tape place to
     → IsPlace tape to × AheadOf tape place (standing tape place) to
@@ -37,6 +39,7 @@ step-ahead tape law (f ∷ stack) to here (c, stands, goes) =
     let kept = law.step f stack here c stands to goes in
     (kept.0, subst (λ o. AheadOf tape (f ∷ stack) o to) (sym stands) (kept-ahead tape f stack c to kept.1))
 
+-- an effect that goes as ordered keeps the labels ahead
 effect-ahead : (tape : List ControlProgram) → KeepsLabels tape → (path : PathView)
     → IsPlace tape path.place → (effect : Effect)
     → GoesAsOrdered tape path effect → KeepsAhead tape path effect
@@ -47,6 +50,7 @@ effect-ahead tape law path here (AtWait code) goes = law.wait path.place code he
 effect-ahead tape law path here (AtEnd after moves) goes = (goes.1, law.ends path.place here goes.0)
 effect-ahead tape law path here (Alarm number value) goes = tt
 
+-- each block of a flow whose order is unforked keeps the labels ahead of its path
 pub labels_kept : (flow : Flow) → IsUnforked flow.order → (path : PathView) (reads : List Var)
     → IsPlace flow.order path.place
     → KeepsAhead flow.order path (effect_of flow path reads)
@@ -59,6 +63,7 @@ pub accepted_sound : (flow : Flow) (dialect : Dialect) (tape : List Program)
     → IsAccepted dialect tape (map program_form flow.programs) → IsSound flow.order
 accepted_sound flow dialect tape accepted = rw (flow.agrees) (accepted.sound)
 
+-- all runs of an accepted tape come to one list of labels
 pub accepted_unforked : (flow : Flow) (dialect : Dialect) (tape : List Program)
     → IsAccepted dialect tape (map program_form flow.programs) → IsUnforked flow.order
 accepted_unforked flow dialect tape accepted =

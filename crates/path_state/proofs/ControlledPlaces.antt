@@ -23,6 +23,7 @@ Passes (Wait code) = ⊥
 Passes End = ⊥
 Passes _ = Unit {0}
 
+-- a move of the place alone is a step, with the same calls and levels
 steps_at : (tape : List ControlProgram) (place : List Frame) (s : Standing) (to : Result (List Frame) Cause)
     → ((there : List Frame) → to ≡ Ok there → Step tape place there) → Steps tape place (standing_at s to)
 steps_at tape place s (Ok there) step = step there refl

@@ -1,5 +1,6 @@
 -- A statement that is done leads where the order of blocks allows, and what is fixed for its path
 -- stays.
+-- named_vars takes `OnGives`, `after_any`, `behind_gives` and `either`.
 use Rattle.std.proofs.Common.{◌≡◌, ℕ, Bool, true, false, inl, inr, List, Some, Result, Ok, Err, refl, sym, subst, if◌then◌else◌}
 use Rattle.nc_number.specs.declared.cause.Cause.{Cause}
 use Rattle.nc_number.specs.declared.point.Point.{Point}
@@ -63,17 +64,21 @@ pub record Follows (tape : List ControlProgram) (before after : PathView) : Type
   pub step : Step tape before.place after.place
   pub fixed : after.fixed ≡ before.fixed
 
+-- behind a write the path stays where it is
 abbrev Keeps : PathView → After → Type 0
 Keeps path after = Stays path after.path
 
+-- behind a statement the path has gone a step of the order of blocks
 abbrev pub Goes : List ControlProgram → PathView → After → Type 0
 Goes tape path after = Follows tape path after.path
 
+-- a common variable that takes a value leaves the path where it is,
 with_common-keeps : (shared : Bool) (path : PathView) (v : ℕ) (value : Var)
     → Keeps path (with_common shared path v value)
 with_common-keeps true path v value = record { place = refl; fixed = refl }
 with_common-keeps false path v value = record { place = refl; fixed = refl }
 
+-- so does an offset that takes a point,
 offset-keeps : (path : PathView) (slot : Slot) (to : Result Point OffsetFault) (left : List Var)
     → OnGives (Keeps path) (written_path (with_offset path slot to) left)
 offset-keeps path slot (Ok to) left = record { place = refl; fixed = refl }
@@ -91,6 +96,7 @@ written-keeps fixed path (variable.Work n axis) value left =
 written-keeps fixed path variable.Raise value left = tt
 written-keeps fixed path _ value left = tt
 
+-- and an assignment
 assigned-keeps : (fixed : Fixed) (path : PathView) (name : Named) (tree : Tree) (reads : List Var)
     → OnGives (Keeps path) (assigned fixed path name tree reads)
 assigned-keeps fixed path name tree reads =
@@ -110,6 +116,7 @@ assigned_next-goes tape fixed path name tree reads step =
       fixed = keeps.fixed;
     })
 
+-- a statement that moves to a place which the order allows goes a step
 move-goes : (tape : List ControlProgram) (path : PathView) (to : Result (List Frame) Cause) (left : List Var)
     → ((there : List Frame) → to ≡ Ok there → Step tape path.place there)
     → OnGives (Goes tape path) (move_effect path to left)
@@ -122,6 +129,7 @@ aimed-allowed : (fixed : Fixed) (path : PathView) (aim : Aim) (reads : List Var)
 aimed-allowed fixed path (ToNumber n) reads = refl
 aimed-allowed fixed path (ToNumberOf tree) reads = anything (aimed fixed path (ToNumberOf tree) reads)
 
+-- a jump goes where its number leads
 jump-goes : (tape : List ControlProgram) (fixed : Fixed) (path : PathView) (aim : Aim) (reads : List Var)
     → standing tape path.place ≡ Some (control.Goto (number_of_aim aim))
     → OnGives (Goes tape path) (jump_effect tape fixed path aim reads)

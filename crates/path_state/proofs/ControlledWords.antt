@@ -39,23 +39,28 @@ abbrev EndsNoLoop : Control → Type 0
 EndsNoLoop (control.EndLoop name) = ⊥
 EndsNoLoop _ = Unit {0}
 
+-- a call ends no loop,
 call-no_end : (b : Bool) (p q repeats other : ℕ)
     → EndsNoLoop (if b then control.Call p repeats else control.Call q other)
 call-no_end true p q repeats other = tt
 call-no_end false p q repeats other = tt
 
+-- a return ends no loop,
 back-no_end : (n : Option ℕ) → EndsNoLoop (back_to n)
 back-no_end None = tt
 back-no_end (Some n) = tt
 
+-- a wait ends no loop,
 wait-no_end : (code : Option ℕ) → EndsNoLoop (wait_at code)
 wait-no_end None = tt
 wait-no_end (Some code) = tt
 
+-- an end of the program ends no loop,
 end-no_end : (b : Bool) → EndsNoLoop (if b then control.End else control.Next)
 end-no_end true = tt
 end-no_end false = tt
 
+-- and so, whatever the words say, their control ends none
 control-no_end : (purpose : Purpose) (dialect : Dialect) (words : List FlowWord)
     → EndsNoLoop (control_by purpose dialect words)
 control-no_end MacroCall dialect words = tt
@@ -65,6 +70,7 @@ control-no_end Return dialect words = back-no_end (number_of (codes "P") words)
 control-no_end Wait dialect words = wait-no_end (first_waiting dialect (m_codes words))
 control-no_end _ dialect words = end-no_end (has_code 2 words || has_code 30 words)
 
+-- the words of a block end no loop: a loop is ended by a statement
 pub words_end_no_loop : (dialect : Dialect) (words : List FlowWord)
     → EndsNoLoop (control_of_words dialect words)
 words_end_no_loop dialect words = control-no_end (purpose_of dialect words) dialect words
@@ -74,12 +80,14 @@ abbrev MovesThere : PathView → Result Moved ℕ → Type 0
 MovesThere path (Ok moved) = Stays path moved.path
 MovesThere path (Err number) = Unit {0}
 
+-- the motion of a block leaves the path on its block,
 motion-stays : (path : PathView) (modal : ModalView) (system : System) (words : List FlowWord)
     (values : Values) (motion : Result Motion ℕ)
     → MovesThere path (after_motion path modal system words values motion)
 motion-stays path modal system words values (Ok motion) = record { place = refl; fixed = refl }
 motion-stays path modal system words values (Err number) = tt
 
+-- so does its modal state with the motion,
 modal-stays : (fixed : Fixed) (path : PathView) (system : System) (words : List FlowWord)
     (values : Values) (modal : Result ModalView ℕ)
     → MovesThere path (motion_with fixed path system words values modal)
@@ -88,11 +96,13 @@ modal-stays fixed path system words values (Ok modal) =
     (motion_of fixed.home path.position path.offsets modal (motion_kind modal (one_shot system words)) (has (codes "L") words) values)
 modal-stays fixed path system words values (Err number) = tt
 
+-- and all that its words do
 acted-stays : (fixed : Fixed) (path : PathView) (system : System) (words : List FlowWord) (values : Values)
     → MovesThere path (acted fixed path system words values)
 acted-stays fixed path system words values =
     modal-stays fixed path system words values (modal_after path.modal system words values)
 
+-- a block whose moves are known and that goes a step is steady
 done-steady : (tape : List ControlProgram) (path : PathView) (moved : Moved)
     (to : Result Standing Cause) → Stays path moved.path
     → Steps tape path.place to → IsSteady tape path (done_by moved to)
@@ -116,6 +126,7 @@ Runs (control.EndLoop name) = ⊥
 Runs (control.Wait code) = ⊥
 Runs _ = Unit {0}
 
+-- control behind the moves of a block is steady
 controlled-steady : (tape : List ControlProgram) (path : PathView) (moved : Moved)
     (arguments : Option (List Var)) (c : Control)
     → Stays path moved.path → standing tape path.place ≡ Some c → Runs c
@@ -127,6 +138,7 @@ controlled-steady tape path moved arguments (control.Wait code) stays stands run
 controlled-steady tape path moved arguments c stays stands runs =
     moved-steady tape path moved arguments c stays stands tt
 
+-- a block is steady by its motion, or by its alarm,
 moves-steady : (tape : List ControlProgram) (path : PathView) (c : Control) (moved : Result Moved ℕ)
     → MovesThere path moved
     → standing tape path.place ≡ Some c → Runs c → IsSteady tape path (of_moved tape c moved)
@@ -134,6 +146,7 @@ moves-steady tape path c (Ok moved) stays stands runs =
     controlled-steady tape path moved None c stays stands runs
 moves-steady tape path c (Err number) stays stands runs = record { goes = tt; keeps = tt }
 
+-- by the values of its words, or without them,
 values-steady : (tape : List ControlProgram) (fixed : Fixed) (path : PathView) (system : System)
     (words : List FlowWord) (c : Control) (values : Outcome Values)
     → standing tape path.place ≡ Some c → Runs c
@@ -145,6 +158,7 @@ values-steady tape fixed path system words c (Needs variable) stands runs = reco
 values-steady tape fixed path system words c (Alarms number value) stands runs =
     record { goes = tt; keeps = tt }
 
+-- a macro call by its arguments, or without them,
 arguments-steady : (tape : List ControlProgram) (path : PathView) (c : Control)
     (arguments : Outcome (List Var))
     → standing tape path.place ≡ Some c → Runs c
@@ -155,6 +169,7 @@ arguments-steady tape path c (Gives arguments left) stands runs =
 arguments-steady tape path c (Needs variable) stands runs = record { goes = tt; keeps = tt }
 arguments-steady tape path c (Alarms number value) stands runs = record { goes = tt; keeps = tt }
 
+-- whatever the purpose of the block
 purpose-steady : (tape : List ControlProgram) (fixed : Fixed) (path : PathView) (purpose : Purpose)
     (system : System) (words : List FlowWord) (c : Control) (reads : List Var)
     → standing tape path.place ≡ Some c → Runs c

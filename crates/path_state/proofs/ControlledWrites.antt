@@ -1,4 +1,5 @@
 -- What a block writes beside its path is a variable that both paths share.
+-- race_order takes `shared_written`.
 use Rattle.std.proofs.Common.{◌≡◌, ℕ, Bool, true, false, List, [], Option, Some, None, Result, Ok, Err, refl, subst}
 use Rattle.nc_number.specs.declared.cause.Cause.{Cause}
 use Rattle.nc_number.specs.declared.point.Point.{Point}
@@ -41,6 +42,7 @@ abbrev WritesShared : Fixed → Option Write → Type 0
 WritesShared fixed None = Unit {0}
 WritesShared fixed (Some write) = is_shared fixed write.variable ≡ true
 
+-- what a statement writes is a shared variable
 abbrev Writes : Fixed → After → Type 0
 Writes fixed after = WritesShared fixed after.write
 
@@ -168,6 +170,7 @@ module _ (tape : List ControlProgram) (fixed : Fixed) (path : PathView) where
       after-writes (statement_effect tape fixed path (sentence_of statement.statement) reads)
       (statement-writes fixed path tape (sentence_of statement.statement) reads)
 
+-- the block that was found, if there is one
 found-writes : (tape : List ControlProgram) (path : PathView) (found : Option FlowBlock)
     (reads : List Var)
     → EffectWrites path.fixed (effect_of_block tape path found reads)
@@ -175,6 +178,7 @@ found-writes tape path None reads = tt
 found-writes tape path (Some block) reads =
     body-writes tape path.fixed path block.body block.control reads
 
+-- whatever was read, a block of a flow writes to no common variable but a shared one
 pub shared_written : (flow : Flow) (path : PathView) (reads : List Var) (after : PathView)
     (write : Write) (moves : List Move)
     → effect_of flow path reads ≡ Done after (Some write) moves

@@ -38,6 +38,7 @@ of_values_said tape path system words control (Ok values) left = refl
 of_values_said tape path system words control (Err (stop.Needs variable)) left = refl
 of_values_said tape path system words control (Err (stop.Alarms number value)) left = refl
 
+-- the effect of the words of a block by what the code was told of them
 pub words_said : (tape : List ControlProgram) (path : PathView) (sense : Sense) (system : System) (words : List FlowWord) (control : Control) (reads : List Var) (said : Result kept.Values Stop) (left : List Var)
     → outcome_of values_seen said left ≡ words_with (look_of path.fixed path) sense words nothing_said reads
     → of_values tape path.fixed path system words control (words_taken path.fixed path sense words nothing_said reads) ≡ of_said tape path system words control said
@@ -57,6 +58,7 @@ of_taken tape path control arguments (Ok done) left = refl
 of_taken tape path control arguments (Err (stop.Needs variable)) left = refl
 of_taken tape path control arguments (Err (stop.Alarms number value)) left = refl
 
+-- the effect of a macro call by what the code was told of its arguments
 pub arguments_said : {A : Type 0} → (tape : List ControlProgram) (path : PathView) (words : List FlowWord) (control : Control) (reads arguments : List Var) (taken : Result A Stop) (left : List Var)
     → outcome_of (λ done. arguments) taken left ≡ arguments_with (look_of path.fixed path) words all_vacant reads
     → macro_effect tape path.fixed path words control reads ≡ of_arguments_said tape path control (if_taken taken arguments)
@@ -75,6 +77,7 @@ plain tape fixed path Dwell system words control reads is = refl
 plain tape fixed path Setting system words control reads is = refl
 plain tape fixed path Other system words control reads is = refl
 
+-- a block that stands at no wait and calls no macro does what its words do
 pub unwaiting : (tape : List ControlProgram) (fixed : Fixed) (path : PathView) (purpose : Purpose) (system : System) (words : List FlowWord) (control : Control) (reads : List Var)
     → ((code : ℕ) → control ≢ AtWait code) → is_macro purpose ≡ false
     → block_of_words tape fixed path purpose system words control reads ≡ words_effect tape fixed path purpose system words control reads
@@ -114,6 +117,7 @@ pub call_goes : (tape : List ControlProgram) (path : PathView) (arguments : List
     → macro_decided path program repeats (Ok arguments) ≡ controlled tape (record { path = path; moves = [] }) (Some arguments) (Call program repeats)
 call_goes tape path arguments program repeats there e = rw e refl
 
+-- a macro call that leads nowhere is the alarm of its cause
 pub call_stays : (tape : List ControlProgram) (path : PathView) (arguments : List Var) (program repeats : ℕ) (cause : Cause)
     → standing_of_call (Some arguments) program repeats (standing_of path) ≡ Err cause
     → alarm_of cause ≡ controlled tape (record { path = path; moves = [] }) (Some arguments) (Call program repeats)
@@ -126,6 +130,7 @@ may_take_words path (turn.AtWait code) may = tt
 may_take_words path (turn.AtEnd step) may = tt
 may_take_words path (turn.Goes step route) may = may
 
+-- whatever was decided may be done where the running block has one behind it
 pub may_take : (path : PathView) (what : Decision) → MayPass path.place → MayTake path what
 may_take path (decision.Stops stop) may = tt
 may_take path (decision.Words turn) may = may_take_words path turn may

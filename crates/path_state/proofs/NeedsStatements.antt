@@ -1,4 +1,5 @@
--- A statement asks for no more values than it names variables, and for shared ones alone.
+-- Of values: a statement asks for no more values than it names variables, and for shared ones
+-- alone.
 use Rattle.std.proofs.Common.{ℕ, ◌+◌, ◌≤◌, Bool, true, false, List, [], ◌∷◌, ◌++◌, Result, Ok, Err, arith, if◌then◌else◌}
 use Rattle.nc_number.specs.declared.cause.Cause.{Cause}
 use Rattle.nc_number.specs.declared.point.Point.{Point}

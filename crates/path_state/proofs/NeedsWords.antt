@@ -1,4 +1,5 @@
 -- A block asks for no more values than it names variables, and for shared ones alone.
+-- race_order takes `needed_shared`.
 use Rattle.std.proofs.Common.{◌≡◌, ℕ, ◌<◌, ◌≤◌, true, List, [], ◌∷◌, length, Option, Some, None, Result, Ok, Err, subst, arith}
 use Rattle.nc_number.specs.declared.cause.Cause.{Cause}
 use Rattle.nc_number.specs.declared.value.Var.{Var}
@@ -140,6 +141,7 @@ body_most tape fixed path body c reads variable is =
     (subst (λ effect. AsksFor fixed (variables_of_body body) reads effect) is
     (body_asks fixed path tape body c reads)).1
 
+-- what asks for at most 32 values asks as the law says
 within_room : (path : PathView) (most : ℕ) (reads : List Var) (effect : Effect) → most ≤ 32
     → AsksFor path.fixed most reads effect
     → AsksForShared path reads effect
@@ -149,6 +151,7 @@ within_room path most reads (AtWait code) few asks = tt
 within_room path most reads (AtEnd after moves) few asks = tt
 within_room path most reads (Alarm number value) few asks = tt
 
+-- the block that was found, if there is one
 found_asks : (tape : List ControlProgram) (path : PathView) (found : Option FlowBlock)
     (reads : List Var)
     → AsksForShared path reads (effect_of_block tape path found reads)
@@ -163,6 +166,7 @@ pub block_asks : (flow : Flow) (path : PathView) (reads : List Var)
     → AsksForShared path reads (effect_of flow path reads)
 block_asks flow path reads = found_asks flow.order path (block_at flow.programs path.place) reads
 
+-- whatever was read, a variable that a block needs is shared
 pub needed_shared : (flow : Flow) (path : PathView) (reads : List Var) (variable : ℕ)
     → effect_of flow path reads ≡ Need variable → is_shared path.fixed variable ≡ true
 needed_shared flow path reads variable is =

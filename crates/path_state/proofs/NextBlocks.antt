@@ -11,6 +11,7 @@ use Rattle.block_order.specs.Steps.{standing}
 use Rattle.block_order.specs.Frames.{MayPass}
 use Rattle.block_order.proofs.Opened.{within_control}
 
+-- a program has no more blocks than its tape
 few : (tape : List ControlProgram) (n : ℕ) → length (blocks tape n) ≤ length (blocks_in tape)
 few [] n = omega arith
 few (p ∷ ps) n = go (p.number == n) refl (few ps n)
@@ -19,6 +20,7 @@ few (p ∷ ps) n = go (p.number == n) refl (few ps n)
     go true is rest = rw is (omega (arith, length-append p.blocks (blocks_in ps)))
     go false is rest = rw is (omega (arith, length-append p.blocks (blocks_in ps)))
 
+-- where a block stands, the number of the next one fits
 pub may_pass : (tape : List ControlProgram) → IsListed tape → (place : List Frame) (c : Control) → standing tape place ≡ Some c → MayPass place
 may_pass tape listed [] c e = absurd cc
 may_pass tape listed (f ∷ stack) c e =

@@ -27,15 +27,18 @@ abbrev offset_alarm : Bool → ℕ
 offset_alarm true = 0
 offset_alarm false = 41
 
+-- a write to an offset raises 41 or nothing
 offset_written : (path : PathView) (slot : Slot) (to : Point) (left : List Var) (b : Bool) → is_position to ≡ b
     → alarm_in (written_path (with_offset path slot (in_range to)) left) ≡ offset_alarm b
 offset_written path slot to left true e = rw e refl
 offset_written path slot to left false e = rw e refl
 
+-- and neither is 31
 not_protected : (b : Bool) → offset_alarm b ≡ 31 → ⊥
 not_protected true e = omega (arith, e)
 not_protected false e = omega (arith, e)
 
+-- a write is alarm 31 exactly if the variable is protected
 pub protected : (fixed : Fixed) (path : PathView) (what : Variable) (value : Var) (left : List Var)
     → (written fixed path what value left ≡ alarm Protected) ↔ (is_protected what ≡ true)
 protected fixed path variable.Null value left = (λ e. refl, λ e. refl)
@@ -55,10 +58,12 @@ protected fixed path (variable.Work n axis) value left =
       λ e. absurd cc,
     )
 
+-- a number is alarm 30 exactly if it names no variable
 missing_by : (reads : List Var) (o : Option Variable) → (reading_none (existing o) reads ≡ alarm VariableRange) ↔ (o ≡ None)
 missing_by reads None = (λ e. refl, λ e. refl)
 missing_by reads (Some found) = (λ e. absurd cc, λ e. absurd cc)
 
+-- and so is a left side with that number
 pub missing : (fixed : Fixed) (path : PathView) (number : ℕ) (reads : List Var)
     → (named fixed path (Numbered number) reads ≡ alarm VariableRange) ↔ (variable_in path.modal number ≡ None)
 missing fixed path number reads = missing_by reads (variable_in path.modal number)

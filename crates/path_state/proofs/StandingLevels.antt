@@ -4,6 +4,7 @@ use Rattle.block_forms.specs.declared.called.CallKind.{CallKind}
 use Rattle.block_forms.specs.declared.called.CallKind.TheVariants.{Macro, Subprogram}
 use Rattle.path_state.specs.Standing.{macros}
 
+-- no more calls are those of macros than there are calls
 pub macros_few : (calls : List CallKind) → macros calls ≤ length calls
 macros_few [] = omega arith
 macros_few (Macro ∷ calls) = let few = macros_few calls in omega arith

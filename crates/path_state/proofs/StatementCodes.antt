@@ -3,6 +3,7 @@
 use Rattle.std.proofs.Common.{◌≡◌, List, [], ◌∷◌, ◌++◌, refl}
 use Rattle.macro_expr.specs.Tree.{Tree, Test, Named, IfThen, evaluated, evaluated_name, evaluated_test}
 
+-- a list has one last element and one front
 only_parts : (front before : List Tree) (last end : Tree) → front ++ last ∷ [] ≡ before ++ end ∷ []
     → (front ≡ before) × (last ≡ end)
 only_parts [] [] last end same = (refl, cc)
@@ -16,6 +17,8 @@ only_parts (a ∷ front) (b ∷ before) last end same =
     let head : a ≡ b = cc in
     (λ i. head i ∷ parts.0 i, parts.1)
 
+-- the codes of `IF [..] THEN #i = ..` are those of the condition and the left side, and then that
+-- of the value
 pub parts_behind_if : (front : List Tree) (last : Tree) (test : Test) (name : Named) (tree : Tree)
     → front ++ last ∷ [] ≡ evaluated (IfThen test name tree)
     → (front ≡ evaluated_test test ++ evaluated_name name) × (last ≡ tree)

@@ -1,4 +1,5 @@
 -- What a path answers to the turn of a block.
+-- two_path takes `StaysUnlessTold`, `effect_told` and `moves_of`.
 use Rattle.std.specs.Prelude.{◌≡◌, ◌≤◌, ℕ, List, [], length}
 use Rattle.nc_moves.specs.declared.motion.Move.{Move}
 use Rattle.nc_moves.specs.declared.motion.Moves.{Moves}
@@ -36,6 +37,7 @@ answer_of (advance.AtWait code) = answer.AtWait code
 answer_of (advance.AtEnd moves) = answer.AtEnd
 answer_of (advance.Alarm cause value) = answer.Alarm cause value
 
+-- the moves of an answer; none at a need, at a wait and at an alarm
 abbrev pub moves_apart : Advance → List Move
 moves_apart (advance.Effect write moves) = moves.list
 moves_apart (advance.AtEnd moves) = moves.list
@@ -45,6 +47,7 @@ moves_apart _ = []
 abbrev pub effect_seen : Advance → PathView → Effect
 effect_seen advance after = effect_told (answer_of advance) (moves_apart advance) after
 
+-- the same of an answer with its moves in it
 abbrev pub StaysUnlessDone : Advance → PathView → PathView → Type 0
 StaysUnlessDone advance before after = StaysUnlessTold (answer_of advance) before after
 

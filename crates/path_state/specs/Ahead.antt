@@ -1,4 +1,5 @@
 -- What a block does to the labels ahead of its path.
+-- For this crate alone.
 use Rattle.std.specs.Prelude.{◌≡◌, List, [], ◌∷◌, Option, Some}
 use Rattle.block_order.specs.declared.control.Control.{Control}
 use Rattle.block_order.specs.declared.control.Control.TheVariants.{Back}

@@ -1,5 +1,6 @@
 -- Where an effect leads: the new place is a step of the order of blocks, whatever the path holds
 -- and whatever was read.
+-- move_list, nc_restart and five more crates take words from here.
 use Rattle.std.specs.Prelude.{◌≡◌, ◌<◌, true, List, length, Some}
 use Rattle.nc_number.specs.declared.value.Var.{Var}
 use Rattle.block_order.specs.declared.control.Control.TheVariants.{Wait, End}

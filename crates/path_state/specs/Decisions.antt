@@ -1,5 +1,6 @@
 -- What a decision of the code comes to, as an effect. The moves stand apart, in a list that was
 -- lent.
+-- two_path takes `MayTake` and `decided`.
 use Rattle.std.specs.Prelude.{ℕ, List, [], Some, None, Result, Ok, Err}
 use Rattle.nc_number.specs.declared.value.Var.{Var}
 use Rattle.code_tables.specs.declared.system.System.{System}
@@ -69,6 +70,7 @@ words_decided path (turn.AtEnd step) moves = AtEnd (behind_words path step) move
 words_decided path (turn.Goes step route) moves =
     Done (with_standing (behind_words path step) (route_end (standing_of path) None route)) None moves
 
+-- a block that is done so, with these moves
 abbrev pub done_with : After → List Move → Effect
 done_with after moves = Done after.path after.write moves
 
@@ -85,6 +87,7 @@ abbrev pub MayTakeWords : PathView → WordsTurn → Type 0
 MayTakeWords path (turn.Goes step route) = MayPass path.place
 MayTakeWords path _ = Unit {0}
 
+-- a decision may be done: where control goes on, there is a number for the block behind
 abbrev pub MayTake : PathView → Decision → Type 0
 MayTake path (decision.Stops stop) = Unit {0}
 MayTake path (decision.Words turn) = MayTakeWords path turn

@@ -1,4 +1,5 @@
 -- What an operator's edit sets in a path: an offset, or a common variable of its own.
+-- two_path takes `edited` and `shared_write`.
 use Rattle.std.specs.Prelude.{◌≡◌, ℕ, List, Option, Some, None, if◌then◌else◌}
 use Rattle.nc_number.specs.declared.value.Var.{Var}
 use Rattle.common_vars.specs.Common.{with_value}

@@ -1,4 +1,5 @@
 -- What a block does to its path: the whole, step by step.
+-- move_list, named_vars and seven more crates take words from here.
 use Rattle.std.specs.Prelude.{ℕ, List, [], ◌∷◌, Option, Some, None, Result, Ok, Err, ℤ, pos, codes}
 use Rattle.nc_number.specs.declared.cause.Cause.{Cause}
 use Rattle.nc_number.specs.declared.cause.Cause.TheVariants.{RanOff}
@@ -47,6 +48,7 @@ pub data Effect : Type 0 where
   AtEnd : (path : PathView) → (moves : List Move) → Effect
   Alarm : (number : ℕ) → (value : ℤ) → Effect
 
+-- the offsets after a G10 that sets this one; without a G10 they stay
 abbrev pub with_set_offset : OffsetTable → Option (Slot × Point) → OffsetTable
 with_set_offset offsets None = offsets
 with_set_offset offsets (Some set) = with_point offsets set.0 set.1
@@ -56,6 +58,8 @@ pub record Moved : Type 0 where
   pub path : PathView
   pub moves : List Move
 
+-- what the words of a block come to, whose motion is known: the cycle in force, the offset that G10
+-- sets, the position and the moves
 abbrev pub moved_by : PathView → ModalView → System → List FlowWord → Values → Motion → Moved
 moved_by path modal system words values motion =
     let moves = all_moves (gives system is_limit words) modal values motion.moves (m_code words) in
@@ -68,10 +72,12 @@ moved_by path modal system words values motion =
       moves = moves;
     }
 
+-- what the words come to, or the number of the motion's alarm
 abbrev pub after_motion : PathView → ModalView → System → List FlowWord → Values → Result Motion ℕ → Result Moved ℕ
 after_motion path modal system words values (Ok motion) = Ok (moved_by path modal system words values motion)
 after_motion path modal system words values (Err number) = Err number
 
+-- the motion of a block whose modal state is known, and what it comes to
 abbrev pub motion_with : Fixed → PathView → System → List FlowWord → Values → Result ModalView ℕ → Result Moved ℕ
 motion_with fixed path system words values (Ok modal) =
     after_motion path modal system words values
@@ -84,9 +90,11 @@ abbrev pub acted : Fixed → PathView → System → List FlowWord → Values �
 acted fixed path system words values =
     motion_with fixed path system words values (modal_after path.modal system words values)
 
+-- the alarm of a cause, without a value
 abbrev pub alarm_of : Cause → Effect
 alarm_of cause = Alarm (cause_number cause) (pos 0)
 
+-- a block whose moves are known goes on to this place, or raises the alarm of why there is none
 abbrev pub done_by : Moved → Result Standing Cause → Effect
 done_by moved (Ok standing) = Done (with_standing moved.path standing) None moved.moves
 done_by moved (Err cause) = alarm_of cause
@@ -96,10 +104,13 @@ abbrev pub controlled : List ControlProgram → Moved → Option (List Var) → 
 controlled tape moved arguments End = AtEnd moved.path moved.moves
 controlled tape moved arguments control = done_by moved (standing_behind tape (standing_of moved.path) arguments control)
 
+-- behind the motion of a block control goes on, or the block raises the motion's alarm
 abbrev pub of_moved : List ControlProgram → Control → Result Moved ℕ → Effect
 of_moved tape control (Ok moved) = controlled tape moved None control
 of_moved tape control (Err number) = Alarm number (pos 0)
 
+-- what a block of words comes to by its values: it is done, it needs a variable, or it raises an
+-- alarm
 abbrev pub of_values : List ControlProgram → Fixed → PathView → System → List FlowWord → Control → Outcome Values → Effect
 of_values tape fixed path system words control (Gives values left) =
     of_moved tape control (acted fixed path system words values)
@@ -112,6 +123,8 @@ words_effect tape fixed path purpose system words control reads =
     of_values tape fixed path system words control
     (words_taken fixed path (sense_of path purpose system words) words nothing_said reads)
 
+-- what a macro call comes to by its arguments: it is made, it needs a variable, or it raises an
+-- alarm
 abbrev pub of_arguments : List ControlProgram → PathView → Control → Outcome (List Var) → Effect
 of_arguments tape path control (Gives arguments left) =
     controlled tape (record { path = path; moves = [] }) (Some arguments) control
@@ -123,6 +136,7 @@ abbrev pub macro_effect : List ControlProgram → Fixed → PathView → List Fl
 macro_effect tape fixed path words control reads =
     of_arguments tape path control (arguments_taken fixed path words all_vacant reads)
 
+-- a block of words by its purpose: a macro call, or any other
 abbrev pub of_purpose : List ControlProgram → Fixed → PathView → Purpose → System → List FlowWord → Control → List Var → Effect
 of_purpose tape fixed path MacroCall system words control reads = macro_effect tape fixed path words control reads
 of_purpose tape fixed path purpose system words control reads =
@@ -134,6 +148,7 @@ block_of_words tape fixed path purpose system words (Wait code) reads = AtWait c
 block_of_words tape fixed path purpose system words control reads =
     of_purpose tape fixed path purpose system words control reads
 
+-- what a statement comes to, as an effect: no statement moves the turret
 abbrev pub of_after : Outcome After → Effect
 of_after (Gives after left) = Done after.path after.write []
 of_after (Needs variable) = Need variable
@@ -154,6 +169,7 @@ effect_of_body tape fixed path (Words words) control reads =
 effect_of_body tape fixed path (Statement statement) control reads =
     block_of_statement tape fixed path (sentence_of statement.statement) reads
 
+-- the effect of the block that was found, or that of going past the last one
 abbrev pub effect_of_block : List ControlProgram → PathView → Option FlowBlock → List Var → Effect
 effect_of_block tape path None reads = past_the_last
 effect_of_block tape path (Some block) reads = effect_of_body tape path.fixed path block.body block.control reads

@@ -1,4 +1,5 @@
 -- What the words of a block may come to.
+-- two_path takes `HasFitWords`.
 use Rattle.std.specs.Prelude.{IfSome}
 use Rattle.nc_number.specs.Position.{IsPosition}
 use Rattle.path_state.specs.declared.words_step.WordsStep.{WordsStep}
@@ -18,6 +19,7 @@ IsFitTurn (turn.AtEnd step) = IsFit step
 IsFitTurn (turn.Goes step route) = IsFit step
 IsFitTurn _ = Unit {0}
 
+-- a decision of words comes to that; no other decision moves the turret
 abbrev pub HasFitWords : Decision → Type 0
 HasFitWords (decision.Words turn) = IsFitTurn turn
 HasFitWords _ = Unit {0}

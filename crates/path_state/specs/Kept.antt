@@ -1,4 +1,5 @@
 -- What a path keeps at all times.
+-- For this crate alone.
 use Rattle.std.specs.Prelude.{◌≤◌, List}
 use Rattle.nc_number.specs.declared.point.Point.{Point}
 use Rattle.nc_number.specs.declared.value.Var.{Var}
@@ -9,6 +10,7 @@ use Rattle.path_state.specs.declared.path.Fixed as kept
 use Rattle.path_state.specs.View.{Fixed, PathView}
 use Rattle.path_state.specs.Standing.{Standing, IsMatched, standing_of}
 
+-- what is fixed for the path, from the fields of the code
 abbrev pub fixed_of : kept.Fixed → Fixed
 fixed_of fixed = record { home = fixed.home; shared100 = fixed.shared100; shared500 = fixed.shared500 }
 

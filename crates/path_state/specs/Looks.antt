@@ -1,4 +1,5 @@
 -- What each variable holds as a block begins.
+-- move_list, named_vars and four more crates take words from here.
 use Rattle.std.specs.Prelude.{ℕ, ◌+◌, ◌&&◌, ◌||◌, nat_le, nat_lt, Bool, Option, Some, None, Result, Ok, Err, ◌-ℤ◌, if◌then◌else◌}
 use Rattle.nc_number.specs.declared.value.Var.TheVariants.{Vacant, Is}
 use Rattle.nc_number.specs.declared.point.Point.{Point}
@@ -20,7 +21,7 @@ use Rattle.path_state.specs.View.{Fixed, PathView}
 abbrev pub shift_now : PathView → Point
 shift_now path = shift_of path.offsets (work_of path.modal) path.modal.offset
 
--- both paths share the variable
+-- both paths share the variable: it is one of the first from #100 on, or of the first from #500 on
 abbrev pub is_shared : Fixed → ℕ → Bool
 is_shared fixed v =
     (nat_le 100 v && nat_lt v (100 + fixed.shared100)) || (nat_le 500 v && nat_lt v (500 + fixed.shared500))
@@ -39,6 +40,7 @@ held fixed path (variable.Machine axis) = Ok (look.Is (in_millimetres (part axis
 held fixed path (variable.Work n axis) = Ok (look.Is (in_millimetres (part axis (offset_at path.offsets.work n))))
 held fixed path variable.Raise = Err Range
 
+-- the same by number: alarm 30 if no variable has the number
 abbrev pub held_by : Fixed → PathView → Option Variable → Result Look VarFault
 held_by fixed path None = Err Range
 held_by fixed path (Some variable) = held fixed path variable

@@ -1,4 +1,5 @@
 -- A path as its tape begins.
+-- lathe_calls, move_list and seven more crates, and tests, take words from here.
 use Rattle.std.specs.Prelude.{List, [], ◌∷◌, slice_index_or, if◌then◌else◌}
 use Rattle.nc_number.specs.declared.path.Path.{Path}
 use Rattle.nc_number.specs.declared.point.Point.{Point}
@@ -17,6 +18,7 @@ use Rattle.block_order.specs.Labels.{start}
 use Rattle.tape_flow.specs.declared.flow.Flow.{Flow}
 use Rattle.path_state.specs.View.{PathView}
 
+-- the offsets with one line of the settings, if it speaks of this path
 abbrev pub with_preset : Path → Preset → OffsetTable → OffsetTable
 with_preset path preset offsets =
     if is_same preset.path path then with_point offsets (preset_slot preset.kind preset.number) preset.to else offsets

@@ -1,4 +1,5 @@
 -- Which writes are refused: of a variable that is protected, and of one that does not exist.
+-- For this crate alone.
 use Rattle.std.specs.Prelude.{◌≡◌, ◌↔◌, ℕ, List, None, true}
 use Rattle.nc_number.specs.declared.cause.Cause.TheVariants.{Protected, VariableRange}
 use Rattle.nc_number.specs.declared.value.Var.{Var}
@@ -10,6 +11,7 @@ use Rattle.block_values.specs.Readings.{variable_in}
 use Rattle.path_state.specs.View.{Fixed, PathView}
 use Rattle.path_state.specs.Statements.{named, written}
 
+-- The writes that are refused, and by which alarm. A law for readers: no crate rests on it.
 pub record WritesAreRefused : Type 0 where
   -- a write is alarm 31 exactly where the variable is protected
   pub protected : (fixed : Fixed) (path : PathView) (variable : Variable) (value : Var) (left : List Var)

@@ -1,4 +1,5 @@
 -- Where a block of words leads, decided before anything changes.
+-- For this crate alone.
 use Rattle.std.specs.Prelude.{List, Option, Result, Ok, Err}
 use Rattle.nc_number.specs.declared.cause.Cause.{Cause}
 use Rattle.nc_number.specs.declared.value.Var.{Var}
@@ -7,6 +8,7 @@ use Rattle.path_state.specs.declared.route.Route.{Route}
 use Rattle.path_state.specs.declared.route.Route.TheVariants.{Next, Call, Back, BackTo}
 use Rattle.path_state.specs.Standing.{Standing, elsewhere, without_call, standing_of_call, standing_of_return}
 
+-- where control leads, and the same place if it leads nowhere
 abbrev pub or_stays : Standing → Result Standing Cause → Standing
 or_stays standing (Ok there) = there
 or_stays standing (Err cause) = standing

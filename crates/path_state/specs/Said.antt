@@ -1,4 +1,5 @@
 -- What a block says, evaluated by what its path holds of each variable.
+-- named_vars, run_table and two more crates take words from here.
 use Rattle.std.specs.Prelude.{ℕ, List}
 use Rattle.nc_number.specs.declared.value.Var.{Var}
 use Rattle.code_tables.specs.declared.system.System.{System}
@@ -31,6 +32,7 @@ evaluated fixed path tree reads = value_with (look_of fixed path) tree reads
 abbrev pub word_taken : Fixed → PathView → Sense → ℕ → WordValue → Values → List Var → Outcome Values
 word_taken fixed path sense letter value values reads = word_with (look_of fixed path) sense letter value values reads
 
+-- the words of such a block in their order, after these values
 abbrev pub words_taken : Fixed → PathView → Sense → List FlowWord → Values → List Var → Outcome Values
 words_taken fixed path sense words values reads = words_with (look_of fixed path) sense words values reads
 
@@ -38,5 +40,6 @@ words_taken fixed path sense words values reads = words_with (look_of fixed path
 abbrev pub argument_taken : Fixed → PathView → ℕ → WordValue → List Var → List Var → Outcome (List Var)
 argument_taken fixed path letter value arguments reads = argument_with (look_of fixed path) letter value arguments reads
 
+-- the arguments of a macro call in their order, after these
 abbrev pub arguments_taken : Fixed → PathView → List FlowWord → List Var → List Var → Outcome (List Var)
 arguments_taken fixed path words arguments reads = arguments_with (look_of fixed path) words arguments reads

@@ -1,5 +1,6 @@
 -- Where a path stands: its place, with its calls and their levels of local variables; and where it
 -- stands behind a block of words.
+-- named_vars, run_table and two more crates take words from here.
 use Rattle.std.specs.Prelude.{◌≡◌, ℕ, zero, suc, ◌+◌, List, [], ◌∷◌, length, Option, Some, None, Result, Ok, Err}
 use Rattle.nc_number.specs.declared.cause.Cause.{Cause}
 use Rattle.nc_number.specs.declared.value.Var.{Var}
@@ -20,9 +21,11 @@ pub record Standing : Type 0 where
   pub calls : List CallKind
   pub levels : List Level
 
+-- where a path stands
 abbrev pub standing_of : PathView → Standing
 standing_of path = record { place = path.place; calls = path.calls; levels = path.levels }
 
+-- the path, standing elsewhere
 abbrev pub with_standing : PathView → Standing → PathView
 with_standing path standing = record path { place = standing.place; calls = standing.calls; levels = standing.levels }
 
@@ -40,10 +43,12 @@ abbrev pub kind_with : Option (List Var) → CallKind
 kind_with None = Subprogram
 kind_with (Some arguments) = Macro
 
+-- the levels in the called program: a macro gets one more, which holds its arguments
 abbrev pub levels_with : Option (List Var) → List Level → List Level
 levels_with None levels = levels
 levels_with (Some arguments) levels = opened arguments ∷ levels
 
+-- with one call more
 abbrev pub with_call : Option (List Var) → Standing → Standing
 with_call arguments standing =
     record standing { calls = kind_with arguments ∷ standing.calls; levels = levels_with arguments standing.levels }
@@ -53,10 +58,12 @@ abbrev pub calls_below : List CallKind → List CallKind
 calls_below [] = []
 calls_below (call ∷ calls) = calls
 
+-- the levels behind the end of the latest call
 abbrev pub levels_below : List CallKind → List Level → List Level
 levels_below (Macro ∷ calls) levels = closed levels
 levels_below _ levels = levels
 
+-- with one call less
 abbrev pub without_call : Standing → Standing
 without_call standing =
     record standing { calls = calls_below standing.calls; levels = levels_below standing.calls standing.levels }
@@ -66,6 +73,7 @@ abbrev pub levels_anew : List CallKind → List Level → List Level
 levels_anew (Macro ∷ calls) levels = reopened levels
 levels_anew _ levels = levels
 
+-- with the latest call begun once more
 abbrev pub with_repeat : Standing → Standing
 with_repeat standing = record standing { levels = levels_anew standing.calls standing.levels }
 
@@ -74,6 +82,7 @@ abbrev pub behind_return : ℕ → Standing → Standing
 behind_return zero standing = without_call standing
 behind_return (suc left) standing = with_repeat standing
 
+-- how often the running program is still to be repeated
 abbrev pub repeats_left : List Frame → ℕ
 repeats_left [] = 0
 repeats_left (f ∷ stack) = f.left

@@ -1,4 +1,5 @@
 -- What a statement comes to, decided before anything changes, as contracts see it.
+-- two_path takes `write_seen`.
 use Rattle.std.specs.Prelude.{ℕ, List, [], Option, Some, None, Result, Ok, Err}
 use Rattle.nc_number.specs.declared.value.Var.{Var}
 use Rattle.block_values.specs.declared.outcome.Stop.{Stop}
@@ -28,6 +29,7 @@ after_step path (Write writing) = then_next (after_writing path writing)
 after_step path Next = after_move path (place_behind path.place)
 after_step path (To block) = after_move path (place_at block path.place)
 
+-- a statement that is done; it makes no moves
 abbrev pub done_at : After → Effect
 done_at after = Done after.path after.write []
 

@@ -1,4 +1,5 @@
 -- What a statement does: an assignment, a jump, the head or the end of a loop.
+-- named_vars, race_order and three more crates take words from here.
 use Rattle.std.specs.Prelude.{ℕ, Bool, true, false, List, Option, Some, None, Result, Ok, Err, ℤ, pos, if◌then◌else◌}
 use Rattle.nc_number.specs.declared.cause.Cause.{Cause}
 use Rattle.nc_number.specs.declared.cause.Cause.TheVariants.{Protected, MacroAlarm}
@@ -45,14 +46,17 @@ after_move path place = record { path = record path { place = place }; write = N
 abbrev pub named : Fixed → PathView → Named → List Var → Outcome Variable
 named fixed path name reads = variable_with (look_of fixed path) path.modal name reads
 
+-- the point with this coordinate, in 0.001 mm, along one axis
 abbrev pub along : AxisLetter → ℤ → Point → Point
 along X length now = changed_point now (To length) Keep
 along Z length now = changed_point now Keep (To length)
 
+-- the path with an offset at this point, or the number of the alarm of why it can't be there
 abbrev pub with_offset : PathView → Slot → Result Point OffsetFault → Result PathView ℕ
 with_offset path slot (Ok to) = Ok (record path { offsets = with_point path.offsets slot to })
 with_offset path slot (Err fault) = Err fault.number
 
+-- the path behind a write to its own offsets, or that alarm
 abbrev pub written_path : Result PathView ℕ → List Var → Outcome After
 written_path (Ok path) left = Gives (record { path = path; write = None }) left
 written_path (Err number) left = Alarms number (pos 0)
@@ -62,6 +66,8 @@ abbrev pub with_common : Bool → PathView → ℕ → Var → After
 with_common true path v value = record { path = path; write = Some (record { variable = v; value = value }) }
 with_common false path v value = record { path = record path { own = with_value v value path.own }; write = None }
 
+-- A variable takes a value: a local one, a common one, a work offset; `#3000` raises alarm 33 with
+-- the value; each other is protected, alarm 31.
 abbrev pub written : Fixed → PathView → Variable → Var → List Var → Outcome After
 written fixed path (variable.Local i) value left =
     Gives (record { path = record path { levels = with_local i value path.levels }; write = None }) left
@@ -96,6 +102,7 @@ abbrev pub jump_effect : List ControlProgram → Fixed → PathView → Aim → 
 jump_effect tape fixed path aim reads =
     aimed fixed path aim reads >>= λ n left. move_effect path (place_of_jump tape n path.place) left
 
+-- the next block follows
 abbrev pub next_effect : PathView → List Var → Outcome After
 next_effect path left = Gives (after_move path (place_behind path.place)) left
 
@@ -103,6 +110,7 @@ next_effect path left = Gives (after_move path (place_behind path.place)) left
 abbrev pub then_next : After → After
 then_next after = record after { path = record after.path { place = place_behind after.path.place } }
 
+-- an assignment, and the next block behind it
 abbrev pub assigned_next : Fixed → PathView → Named → Tree → List Var → Outcome After
 assigned_next fixed path name tree reads = assigned fixed path name tree reads >>= λ after left. Gives (then_next after) left
 

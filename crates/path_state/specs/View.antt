@@ -1,4 +1,5 @@
 -- What contracts see of one path of the machine.
+-- lathe_top, move_list and eight more crates take words from here.
 use Rattle.std.specs.Prelude.{ℕ, List}
 use Rattle.nc_number.specs.declared.value.Var.{Var}
 use Rattle.nc_number.specs.declared.point.Point.{Point}

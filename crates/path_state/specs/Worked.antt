@@ -1,4 +1,5 @@
 -- Worked blocks: a block, the state before it, and what it comes to.
+-- For this crate alone.
 use Rattle.std.specs.Prelude.{◌≡◌, ℕ, true, false, List, [], ◌∷◌, slice_set, ℤ, pos, negsuc, neg_ℤ}
 use Rattle.nc_number.specs.declared.point.Point.{Point}
 use Rattle.nc_number.specs.declared.value.Var.{Var}
@@ -24,9 +25,11 @@ use Rattle.block_words.specs.declared.word.WordValue.TheVariants.{Fixed as Writt
 use Rattle.path_state.specs.View.{Fixed, PathView}
 use Rattle.path_state.specs.Effect.{Effect, Need, Done, AtEnd, Alarm, block_of_words, block_of_statement}
 
+-- a point by X and Z, in 0.001 mm
 abbrev pub point : ℤ → ℤ → Point
 point x z = record { x = x; z = z }
 
+-- a number below zero
 abbrev pub minus : ℕ → ℤ
 minus n = neg_ℤ (pos n)
 
@@ -47,6 +50,7 @@ path_of system at = record {
   fixed = cell;
 }
 
+-- the same in system A
 abbrev pub path_at : Point → PathView
 path_at at = path_of A at
 
@@ -54,22 +58,27 @@ path_at at = path_of A at
 abbrev pub written : ℕ → ℤ → FlowWord
 written letter micro = record { letter = letter; value = Written (record { value = micro; point = true }) }
 
+-- a word whose value is an expression
 abbrev pub computed : ℕ → Tree → FlowWord
 computed letter tree = record { letter = letter; value = Computed false tree }
 
+-- the moves of a block that is done or ends
 abbrev pub moves_in : Effect → List Move
 moves_in (Done path write moves) = moves
 moves_in (AtEnd path moves) = moves
 moves_in other = []
 
+-- what `#i` of the running level holds behind a block
 abbrev pub local_in : ℕ → Effect → Var
 local_in i (Done path write moves) = local i path.levels
 local_in i other = Vacant
 
+-- the place behind a block
 abbrev pub place_in : Effect → List Frame
 place_in (Done path write moves) = path.place
 place_in other = []
 
+-- a block of words of system A, without a macro call
 abbrev pub words_done : PathView → List FlowWord → Effect
 words_done path words = block_of_words [] cell path Other A words Next []
 
@@ -77,10 +86,13 @@ words_done path words = block_of_words [] cell path Other A words Next []
 abbrev pub done_in_b : List FlowWord → Effect
 done_in_b words = block_of_words [] cell (path_of B (point (pos 50000) (pos 2000))) Other B words Next []
 
+-- a block that is a statement
 abbrev pub statement_done : PathView → Sentence → List Var → Effect
 statement_done path sentence reads = block_of_statement [] cell path sentence reads
 
--- G 71, X 88, Z 90, F 70, S 83, A 65, P 80
+-- The worked blocks: each field is one, and what it comes to. Words are written by the letter's
+-- byte and the value in 0.000001: A 65, F 70, G 71, I 73, K 75, M 77, P 80, S 83, U 85, W 87, X 88,
+-- Z 90. Points are in 0.001 mm.
 pub record WorkedBlocks : Type 0 where
   -- G90 X40. Z-20. F0.2 from X50. Z2.: to X, a cut to Z, a cut back to X, and home along Z
   pub cycle : moves_in (words_done (path_at (point (pos 50000) (pos 2000)))

@@ -1,4 +1,5 @@
 -- What a statement writes.
+-- For this crate alone.
 use Rattle.std.specs.Prelude.{Bool, ◌&&◌, nat_le, Some, None}
 use Rattle.nc_number.specs.Position.{is_position}
 use Rattle.common_vars.specs.Common.{is_common, with_value}

@@ -1,4 +1,6 @@
-//! What the words of a block do: its codes, its settings, its motion and all its moves.
+//! What the words of a block do: its codes, its settings, its motion and all its moves. It looks
+//! only; where control goes is in route.rt, and taking.rt makes the change.
+//! For this crate alone.
 ghost use Rattle.std.specs.Prelude.{◌≡◌, ◌≤◌, [], Ok, IfOk, OnErr, IfSome, length, codes};
 ghost use Rattle.nc_number.specs.Position.{IsPosition};
 ghost use Rattle.motion_track.specs.Within.{AreMovesWithin};

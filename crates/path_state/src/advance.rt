@@ -1,5 +1,6 @@
 //! What a path answers to the turn of its block: with the moves of the block in it, or with these
 //! apart, in a list that was lent.
+//! two_path and tests use it.
 ghost use Rattle.std.specs.Prelude.{◌≡◌};
 ghost use Rattle.path_state.specs.Advances.{effect_told, effect_seen, StaysUnlessTold, StaysUnlessDone, AreFitMoves, AreMovesAt};
 ghost use Rattle.path_state.specs.View.{PathView};

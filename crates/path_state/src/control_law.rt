@@ -1,4 +1,6 @@
-//! The law of one path's control, and what its blocks ask for.
+//! The law of one path's control: where its blocks lead, and what they read and write. Each law is
+//! the contract of a function that does nothing.
+//! move_list, nc_restart and three more crates, and tests, use it.
 ghost use Rattle.std.specs.Prelude.{◌≡◌, ◌≢◌, ◌<◌, ℕ, true, List, length, map, Option, Some, None};
 ghost use Rattle.nc_number.specs.declared.value.Var.{Var};
 ghost use Rattle.nc_moves.specs.declared.motion.Move.{Move};

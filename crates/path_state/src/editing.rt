@@ -1,4 +1,5 @@
-//! What an operator corrects of a path after a stop.
+//! What an operator corrects of a stopped path: an offset or a variable of its own. Nothing of
+//! control changes. two_path and tests call `edit`.
 ghost use Rattle.std.specs.Prelude.{◌≡◌};
 ghost use Rattle.run_records.specs.declared.edit.Edit.{Edit};
 ghost use Rattle.path_state.specs.View.{PathView};

@@ -1,4 +1,6 @@
-//! One path of the machine.
+//! The state of one path, how it begins, and what may be seen of it. What its blocks do is in
+//! decision.rt and taking.rt.
+//! move_list, trace_list and two_path, and tests, use it.
 ghost use Rattle.std.specs.Prelude.{◌≡◌, ◌≤◌, ◌+◌, ℕ, List, All, Some, IfOk, length};
 ghost use Rattle.nc_number.specs.Path.{is_same};
 ghost use Rattle.nc_number.specs.Position.{IsPosition};

@@ -1,4 +1,5 @@
 //! Which writes of variables are refused.
+//! For readers: no other crate calls it.
 ghost use Rattle.path_state.specs.Protected.{WritesAreRefused};
 
 /// A write is alarm 31 exactly where the variable is protected, as the table of variables says, and

@@ -1,4 +1,5 @@
-//! Where control goes behind a block.
+//! Where control goes behind a block of words, once it is decided. standing.rt decides and goes
+//! there. Other crates see it only within a [`Decision`](crate::Decision).
 
 /// Where control goes behind a block of words that is done.
 #[derive(Clone, Copy, Debug, PartialEq, Eq)]

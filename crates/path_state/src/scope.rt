@@ -1,4 +1,6 @@
-//! What a path holds of each variable, as a block begins.
+//! What a path holds of each variable, as a block begins: the scope over which block_values
+//! evaluates. Writes are in statements.rt.
+//! For this crate alone.
 ghost use Rattle.std.specs.Prelude.{◌≡◌, ◌-ℤ◌, Ok};
 ghost use Rattle.nc_number.specs.Position.{IsWithin};
 ghost use Rattle.offset_store.specs.Offsets.{shift_travel};

@@ -1,4 +1,6 @@
-//! Where a path stands, with what belongs to its open calls.
+//! Where a path stands: its place, how its open calls were made, and the levels of their local
+//! variables. Which moves the order of blocks allows is block_order's.
+//! For this crate alone.
 ghost use Rattle.std.specs.Prelude.{◌≡◌, ◌+◌, ◌≤◌, ◌∷◌, [], List, Option, Some, None, length, reverse};
 ghost use Rattle.nc_number.specs.declared.value.Var.{Var};
 ghost use Rattle.block_order.specs.Moves.{place_behind, place_at};

@@ -1,4 +1,6 @@
-//! What a statement does: an assignment, a jump, the head or the end of a loop.
+//! What a statement does: an assignment, a jump, the head or the end of a loop. Blocks of words are
+//! in acting.rt.
+//! For this crate alone.
 ghost use Rattle.std.specs.Prelude.{◌≡◌, ◌≤◌, ◌++◌, ◌∷◌, ℕ, [], List, length};
 ghost use Rattle.nc_number.specs.declared.value.Var.{Var};
 ghost use Rattle.common_vars.specs.Variables.{IsVariable};

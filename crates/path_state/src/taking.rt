@@ -1,4 +1,5 @@
-//! The turn of a block: it is decided first, and then done.
+//! The turn of a block: it is decided first (decision.rt), and then done here. two_path and tests
+//! call the public functions.
 ghost use Rattle.std.specs.Prelude.{◌≡◌, false, [], List};
 ghost use Rattle.nc_moves.specs.declared.motion.Move.{Move};
 ghost use Rattle.block_order.specs.Frames.{MayPass};

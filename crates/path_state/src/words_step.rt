@@ -1,4 +1,5 @@
 //! What the words of a block do to its path; their moves stand in a list that was lent.
+//! Other crates see it only within a [`Decision`](crate::Decision).
 
 use crate::route::Route;
 use block_values::Stop;

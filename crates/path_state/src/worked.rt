@@ -1,4 +1,5 @@
 //! Worked blocks.
+//! For readers: no other crate calls it.
 ghost use Rattle.path_state.specs.Worked.{WorkedBlocks};
 
 /// Worked blocks, and what the definitions make of them.

@@ -1,4 +1,5 @@
 //! What a statement comes to, decided before anything changes.
+//! Other crates see it only within a [`Decision`](crate::Decision).
 ghost use Rattle.std.specs.Prelude.{IsTrue};
 ghost use Rattle.path_state.specs.Writings.{is_possible};
 

@@ -18,16 +18,20 @@ use Rattle.drive_line.proofs.Items.{moves_of_both}
 use Rattle.path_worker.specs.Drive.{halts_at, halts_for, once_halted, StandsAt, HasSettled}
 use Rattle.path_worker.proofs.Working.{called_more}
 
+-- without a call the list of calls stays as it is
 pub called_none : (a : Option (List Call)) → IsCalled a a []
 called_none None = refl
 called_none (Some was) = ap Some (sym (append-nil was))
 
+-- a move that is taken stands behind the moves so far,
 pub move_behind : (items : List Item) (what : LinedMove) → moves_among (items ++ Move what ∷ []) ≡ moves_among items ++ what ∷ []
 move_behind items what = moves_of_both items (Move what ∷ [])
 
+-- a mark adds none,
 pub mark_behind : (items : List Item) → moves_among (items ++ Mark ∷ []) ≡ moves_among items
 mark_behind items = moves_of_both items (Mark ∷ []) ∙ append-nil (moves_among items)
 
+-- nor does the end
 pub end_behind : (items : List Item) → moves_among (items ++ End ∷ []) ≡ moves_among items
 end_behind items = moves_of_both items (End ∷ []) ∙ append-nil (moves_among items)
 
@@ -59,6 +63,7 @@ module _ (first then last : Phase) (steady : once_halted first ≡ first) (halte
       go Failed e s = let clash : Halted ≡ Failed = sym (ap once_halted e) ∙ s ∙ e in absurd (cc clash)
       go Halted e s = inr (halted ∙ ap once_halted (failed (ap has_failed e) ∙ e))
 
+-- a turret that served an item is not halted
 not_halted : (item : Item) (p : Phase) → StandsAt item p → p ≡ Halted → ⊥
 not_halted (Move what) p stands e = ⊎_elim (λ (f : p ≡ Moving). absurd (one (sym f ∙ e))) (λ (f : p ≡ Failed). absurd (two (sym f ∙ e))) stands
   where

@@ -16,6 +16,7 @@ use Rattle.drive_line.specs.Line.{moves_among}
 use Rattle.drive_line.proofs.Items.{moves_of_both}
 use Rattle.path_worker.specs.Work.{items_at, drained_at, calls_made, Works}
 
+-- calls and then more calls
 pub called_more : (a b c : Option (List Call)) (xs ys : List Call) → IsCalled a b xs → IsCalled b c ys → IsCalled a c (xs ++ ys)
 called_more None None c xs ys p q = q
 called_more None (Some was) c xs ys p q = absurd (cc p)
@@ -23,6 +24,7 @@ called_more (Some was) None c xs ys p q = absurd (cc p)
 called_more (Some was) (Some is) c xs ys p q =
     let e : is ≡ was ++ xs = cc p in q ∙ ap Some (ap (λ l. l ++ ys) e ∙ append_assoc was xs ys)
 
+-- the moves of an answer stand before those of the later items
 moves_then : (moves : List LinedMove) (items : List Item) → moves_among (map Move moves ++ items) ≡ moves ++ moves_among items
 moves_then [] items = refl
 moves_then (what ∷ moves) items = ap (λ l. what ∷ l) (moves_then moves items)
@@ -35,6 +37,7 @@ sent_at Drain items = refl
 sent_at Finished items = refl
 sent_at (Halted why) items = refl
 
+-- the calls of answers and then more answers
 calls_of_both : (path : Path) (n : ℕ) (xs ys : List Next)
     → calls_made path n (xs ++ ys) ≡ calls_made path n xs ++ calls_made path (n + length (moves_among (flat_map items_at xs))) ys
 calls_of_both path n [] ys = let e : n ≡ n + 0 = omega arith in ap (λ k. calls_made path k ys) e
@@ -63,6 +66,7 @@ works_more path a b c old mid new xs ys p q =
           ∙ ap (λ l. old ++ l) (sym (flat_map-append items_at xs ys));
     }
 
+-- the call at a drain answers no moves
 no_moves : (path : Path) (n : ℕ) (answer : Next) (calls : List Call) → moves_answered (drained_at path n answer ++ calls) ≡ moves_answered calls
 no_moves path n Silent calls = refl
 no_moves path n (Moves moves) calls = refl

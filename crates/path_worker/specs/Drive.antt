@@ -1,4 +1,5 @@
 -- What a drive does with its turret at the items of its line.
+-- turret_run takes `HasSettled`.
 use Rattle.std.specs.Prelude.{◌≡◌, ◌⊎◌, Bool, List, [], ◌∷◌, if◌then◌else◌}
 use Rattle.nc_number.specs.declared.path.Path.{Path}
 use Rattle.nc_outside.specs.declared.halt.Halt.TheVariants.{Turret}

@@ -1,4 +1,5 @@
-//! The drive of a turret.
+//! The drive of a turret: it takes the items of its line and hands the moves to the turret. lane.rt
+//! runs it in a thread, and tests run it alone.
 ghost use Rattle.std.specs.Prelude.{◌≡◌, ◌++◌, [], ◌∷◌, List, true, false, length};
 ghost use Rattle.nc_outside.specs.Calls.{IsCalled};
 ghost use Rattle.nc_outside.specs.declared.lined_move.LinedMove.{LinedMove};

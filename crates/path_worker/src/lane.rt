@@ -1,4 +1,5 @@
-//! The two threads of a path, joined.
+//! The worker and the drive of a path in a thread each, over one line, and what is left of both.
+//! turret_run and tests use it.
 ghost use Rattle.std.specs.Prelude.{◌≡◌, [], List, false, true, length};
 ghost use Rattle.nc_outside.specs.Calls.{IsCalled, moves_answered};
 ghost use Rattle.nc_outside.specs.declared.halt.Next.{Next as Answer};
@@ -18,8 +19,11 @@ use std::thread::Threads;
 /// What a path runs with: what gives it its steps, what halts its run, and its turret.
 #[derive(Drop)]
 pub struct Lane<S: Drop, H: Drop, T: Turret> {
+    /// What makes the steps of the path.
     pub stepper: S,
+    /// What halts the run if the turret fails.
     pub halter: H,
+    /// The turret, and what it was told so far.
     pub driven: Driven<T>,
 }
 
@@ -27,6 +31,7 @@ pub struct Lane<S: Drop, H: Drop, T: Turret> {
 /// missed.
 #[derive(Drop)]
 pub struct LaneEnd<S: Drop, H: Drop, T: Turret> {
+    /// Why the worker ended.
     pub why: Why,
     pub stepper: S,
     pub halter: H,

@@ -6,7 +6,7 @@
 //! for that it drains the line and tells the stepper of it. A drive (`run_drive`) answers the mark
 //! of a drain once its turret stands still behind every move before it, so that a wait is recorded
 //! only then; where the turret failed it halts the run first. `run_lane` runs both: the turret got
-//! the moves that the stepper answered, all of them, or a beginning of them if it failed, and it is
+//! the moves that the stepper answered, all of them, or a prefix of them if it failed, and it is
 //! told how many it missed.
 #![tactic(auto)]
 

@@ -1,5 +1,6 @@
 -- Two tapes: where no part of one may write what the same part of the other names, all runs that
 -- finish agree.
+-- race_report takes `race_free_agree`.
 use Rattle.std.proofs.Common.{◌≡◌, ℕ, Bool, true, List, [], ◌∷◌, Option, Some, None, refl, ap, sym, subst, ◌∙◌}
 use Rattle.std.proofs.lemmas.Bool.{or_left}
 use Rattle.nc_number.specs.declared.value.Var.{Var}
@@ -52,13 +53,16 @@ in_its_part : (flow : Flow) → IsUnforked flow.order → (n : ℕ) (place : Lis
 in_its_part flow un n [] reached = absurd ((reached_stands flow.order un n [] reached).0)
 in_its_part flow un n (f ∷ stack) reached = (f, stack, refl, stands_in_parts flow.order un n f stack reached)
 
+-- what part n of a flow names of the shared variables
 abbrev pub Names : Flow → (ℕ → Bool) → ℕ → ℕ → Type 0
 Names flow shared n v = (shared v ≡ true) × PartNames flow n v
 
+-- and what it may write
 abbrev pub MayWrite : Flow → (ℕ → Bool) → ℕ → ℕ → Type 0
 MayWrite flow shared n v = (shared v ≡ true) × PartMayWrite flow n v
 
 module _ (flow : Flow) (un : IsUnforked flow.order) (shared : ℕ → Bool) (n : ℕ) (path : PathView) (vs : List Var) where
+  -- a variable that a block of part n needs is one that the part names,
   pub named : (v : ℕ) → IsThere flow shared n path → effect_of flow path vs ≡ effect.Need v → Names flow shared n v
   named v there is =
       let at = in_its_part flow un n path.place there.reached in (
@@ -66,6 +70,7 @@ module _ (flow : Flow) (un : IsUnforked flow.order) (shared : ℕ → Bool) (n :
         (at.0.program, at.0.block, at.3, needs_are_named flow path vs at.0 at.1 v at.2 is),
       )
 
+  -- and one that it writes is one that the part may write
   pub written : (after : PathView) (w : Written) (moves : List Move) → IsThere flow shared n path
       → effect_of flow path vs ≡ effect.Done after (Some w) moves → MayWrite flow shared n w.variable
   written after w moves there is =
@@ -74,6 +79,7 @@ module _ (flow : Flow) (un : IsUnforked flow.order) (shared : ℕ → Bool) (n :
         (at.0.program, at.0.block, at.3, writes_are_marked flow path after vs at.0 at.1 w moves at.2 is),
       )
 
+  -- behind such a block the path still stands in the part
   pub goes_on : (after : PathView) (w : Option Written) (moves : List Move) → IsThere flow shared n path
       → effect_of flow path vs ≡ effect.Done after w moves → IsThere flow shared n after
   goes_on after w moves there is =
@@ -84,6 +90,7 @@ module _ (flow : Flow) (un : IsUnforked flow.order) (shared : ℕ → Bool) (n :
         shares = λ v. ap (λ fixed. is_shared fixed v) keeps ∙ there.shares v;
       }
 
+-- the blocks of a flow, with what each part of it names and may write
 abbrev pub known_of : (flow : Flow) → IsUnforked flow.order → (ℕ → Bool) → Known (blocks_of flow)
 known_of flow un shared = record {
   names = Names flow shared;
@@ -99,12 +106,14 @@ known_of flow un shared = record {
   };
 }
 
+-- a path at its beginning stands in part 0
 begins : (flow : Flow) (shared : ℕ → Bool) (path : PathView) → IsBeginning flow shared path → IsThere flow shared 0 path
 begins flow shared path b = record {
   reached = subst (IsReached flow.order 0) (sym b.place) starts;
   shares = b.shares;
 }
 
+-- where no part has a race, all runs that finish agree
 pub race_free_agree : (left right : Flow) → IsUnforked left.order → IsUnforked right.order → RaceFreeRunsAgree left right
 race_free_agree left right ul ur shared free first second here there turns others done also =
     runs_agree (blocks_of left) (blocks_of right) (known_of left ul shared) (known_of right ur shared)

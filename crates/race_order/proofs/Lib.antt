@@ -1,3 +1,4 @@
+-- The lemmas of this crate, each file by its subject. race_report takes `race_free_agree` of Flows.
 mod Alone
 mod Together
 mod Stable

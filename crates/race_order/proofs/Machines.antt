@@ -31,12 +31,15 @@ pub record Told : Type 0 where
   pub records : ℕ
   pub writes : List Written
 
+-- what a path has told before its first turn
 abbrev pub nothing_told : Told
 nothing_told = record { records = 0; writes = [] }
 
+-- one record more
 abbrev pub one_record : Told → Told
 one_record told = record told { records = told.records + 1 }
 
+-- one write more
 abbrev pub one_write : Written → Told → Told
 one_write w told = record { records = told.records + 1; writes = told.writes ++ w ∷ [] }
 
@@ -44,9 +47,11 @@ one_write w told = record { records = told.records + 1; writes = told.writes ++ 
 abbrev pub Logged : Type 0
 Logged = PathView × List Moves × Told
 
+-- a path behind a block, with its moves if there are any
 abbrev pub moved_on : Blocks → Logged → PathView → List Move → Told → Logged
 moved_on blocks s after moves told = (after, s.1 ++ moves_at (blocks.line s.0.place) moves ∷ [], told)
 
+-- and with one record more
 abbrev pub logged : Blocks → Logged → PathView → List Move → Logged
 logged blocks s after moves = moved_on blocks s after moves (one_record s.2)
 
@@ -59,6 +64,7 @@ seen blocks s (effect.AtWait code) = alone.AtWait
 seen blocks s (effect.AtEnd after moves) = alone.AtEnd (logged blocks s after moves)
 seen blocks s (effect.Alarm number value) = alone.Alarm
 
+-- a variable that a block needs is one that its part names
 pub needs_seen : (b : Blocks) (k : Known b) (n : ℕ) (s : Logged) (vs : List Var) (v : ℕ) → k.In n s.0
     → (e : Effect) → b.effect s.0 vs ≡ e → seen b s e ≡ alone.Need v → k.names n v
 needs_seen b k n s vs v inn (effect.Need u) is same = let e : u ≡ v = cc in subst (λ i. k.names n i) e (k.named n s.0 vs u inn is)
@@ -68,6 +74,7 @@ needs_seen b k n s vs v inn (effect.AtWait code) is same = absurd cc
 needs_seen b k n s vs v inn (effect.AtEnd after moves) is same = absurd cc
 needs_seen b k n s vs v inn (effect.Alarm number value) is same = absurd cc
 
+-- a block that is done leads to the same part,
 pub done_seen : (b : Blocks) (k : Known b) (n : ℕ) (s : Logged) (vs : List Var) (to : Logged) → k.In n s.0
     → (e : Effect) → b.effect s.0 vs ≡ e → seen b s e ≡ alone.Done to → k.In n to.0
 done_seen b k n s vs to inn (effect.Need u) is same = absurd cc
@@ -78,6 +85,7 @@ done_seen b k n s vs to inn (effect.AtWait code) is same = absurd cc
 done_seen b k n s vs to inn (effect.AtEnd after moves) is same = absurd cc
 done_seen b k n s vs to inn (effect.Alarm number value) is same = absurd cc
 
+-- one that writes may write the variable, and leads there too,
 pub wrote_seen : (b : Blocks) (k : Known b) (n : ℕ) (s : Logged) (vs : List Var) (to : Logged) (v : ℕ) (x : Var) → k.In n s.0
     → (e : Effect) → b.effect s.0 vs ≡ e → seen b s e ≡ alone.Wrote to v x → (k.may n v) × k.In n to.0
 wrote_seen b k n s vs to v x inn (effect.Need u) is same = absurd cc
@@ -92,6 +100,7 @@ wrote_seen b k n s vs to v x inn (effect.AtWait code) is same = absurd cc
 wrote_seen b k n s vs to v x inn (effect.AtEnd after moves) is same = absurd cc
 wrote_seen b k n s vs to v x inn (effect.Alarm number value) is same = absurd cc
 
+-- and a wait that is passed leads to the next part
 pub wait_seen : (b : Blocks) (k : Known b) (n : ℕ) (s : Logged) (vs : List Var) → k.In n s.0
     → (e : Effect) → b.effect s.0 vs ≡ e → seen b s e ≡ alone.AtWait → k.In (suc n) (path_behind_wait s.0)
 wait_seen b k n s vs inn (effect.Need u) is same = absurd cc

@@ -22,37 +22,45 @@ use Rattle.race_order.specs.Agreement as mixed
 use Rattle.race_order.proofs.Machines.{Known, Told, nothing_told, path_of}
 use Rattle.race_order.proofs.Turns.{shown, waits, IsTold, IsFit, IsShown, own_shown}
 
+-- the pair with its paths in the other order
 abbrev swapped : {V : Type 0} → (p q : PathOf V) → Pair V p q → Pair V q p
 swapped p q m = pair_at q p m.second m.first m.env
 
+-- a turn,
 goes_swapped : {V : Type 0} → (p q : PathOf V) (m to : Pair V p q) → Goes p q m to → Goes q p (swapped p q m) (swapped p q to)
 goes_swapped p q m _ one = two
 goes_swapped p q m _ two = one
 goes_swapped p q m _ (meet here there) = meet there here
 
+-- and a run are the same in that order
 run_swapped : {V : Type 0} → (p q : PathOf V) (m to : Pair V p q) → IsRun p q m to → IsRun q p (swapped p q m) (swapped p q to)
 run_swapped p q m _ begun = begun
 run_swapped p q m _ (gone at to before goes) =
     gone (swapped p q at) (swapped p q to) (run_swapped p q m at before) (goes_swapped p q at to goes)
 
+-- a run and another behind it are one
 run_on : {V : Type 0} → (p q : PathOf V) (m between to : Pair V p q) → IsRun p q m between → IsRun p q between to → IsRun p q m to
 run_on p q m between _ before begun = before
 run_on p q m between _ before (gone at to more goes) = gone at to (run_on p q m between at before more) goes
 
+-- writes are mixed in either order,
 mixed_swapped : (mine yours : List Written) (writes : List Write) → AreMixed mine yours writes → AreMixed yours mine writes
 mixed_swapped _ _ _ mixed.none = mixed.none
 mixed_swapped _ _ _ (mixed.one mine yours writes stamp w m) = mixed.two yours mine writes stamp w (mixed_swapped mine yours writes m)
 mixed_swapped _ _ _ (mixed.two mine yours writes stamp w m) = mixed.one yours mine writes stamp w (mixed_swapped mine yours writes m)
 
+-- and so is what the machine holds of both
 told_swapped : (m : MachineView) (t u : Told) → IsTold m t u → IsTold (own_first Two m) u t
 told_swapped m t u told = record {
   count = (let all = told.count in omega arith);
   writes = mixed_swapped t.writes u.writes m.writes told.writes;
 }
 
+-- the blocks of both tapes
 abbrev tapes_with : Blocks → Blocks → Tapes
 tapes_with b d = record { one = b; two = d }
 
+-- a turn of the machine without an alarm is shown by a run of the pair
 turn_shown : (b d : Blocks) (k : Known b) (l : Known d) (x : Pair Var (path_of b k) (path_of d l)) (path : Path) (m : MachineView) (mine yours : List Moves)
     → IsShown b d k l x m mine yours → (turn_of (tapes_with b d) path m).machine.alarm ≡ None
     → IsShown b d k l x (turn_of (tapes_with b d) path m).machine
@@ -91,10 +99,12 @@ turn_shown b d k l x Two m mine yours s calm =
       second = next.first;
     })
 
+-- a machine with an alarm stays as it is,
 halted : (m : MachineView) (o : Option Alarm) (a : Alarm) → o ≡ Some a → (f : Bool) (w : Option ℕ) (r : TurnResult) → (unless_idle m o f w r).machine ≡ m
 halted m (Some x) a e f w r = refl
 halted m None a e f w r = absurd cc
 
+-- so it does at an event,
 halted_event : (tapes : Tapes) (path : Path) (m : MachineView) (a : Alarm) → m.alarm ≡ Some a → (behind_event tapes (TurnOf path) m).alarm ≡ Some a
 halted_event tapes One m a e =
     ap (λ (x : MachineView). x.alarm) (halted m m.alarm a e m.paths.one.finished m.paths.one.waiting (block_turn tapes.one One m)) ∙ e
@@ -102,11 +112,13 @@ halted_event tapes Two m a e =
     ap (λ (x : MachineView). x.alarm)
     (halted (own_first Two m) m.alarm a e m.paths.two.finished m.paths.two.waiting (block_turn tapes.two Two (own_first Two m))) ∙ e
 
+-- and at all turns
 halted_run : (tapes : Tapes) (m : MachineView) (a : Alarm) → m.alarm ≡ Some a → (turns : List Path) → (run tapes m (turns_of turns)).alarm ≡ Some a
 halted_run tapes m a e [] = e
 halted_run tapes m a e (path ∷ turns) =
     halted_run tapes (behind_event tapes (TurnOf path) m) a (halted_event tapes path m a e) turns
 
+-- a run without an alarm had none before
 calm_before : (tapes : Tapes) (m : MachineView) (turns : List Path) → (run tapes m (turns_of turns)).alarm ≡ None → m.alarm ≡ None
 calm_before tapes m turns calm = go m.alarm refl
   where
@@ -114,6 +126,7 @@ calm_before tapes m turns calm = go m.alarm refl
     go (Some a) e = let on = halted_run tapes m a e turns in absurd cc
     go None e = e
 
+-- so a run of the machine without an alarm is shown by a run of the pair
 run_shown : (b d : Blocks) (k : Known b) (l : Known d) (x : Pair Var (path_of b k) (path_of d l)) (m : MachineView) (mine yours : List Moves)
     → IsShown b d k l x m mine yours → (turns : List Path) → (run (tapes_with b d) m (turns_of turns)).alarm ≡ None
     → IsShown b d k l x (run (tapes_with b d) m (turns_of turns))
@@ -132,11 +145,13 @@ run_shown b d k l x m mine yours s (path ∷ turns) calm =
     (subst (λ ys. IsShown b d k l x (run tapes to (turns_of turns)) ((mine ++ turn_moves One path t) ++ moves_by tapes One to turns) ys)
     (append_assoc yours (turn_moves Two path t) (moves_by tapes Two to turns)) more)
 
+-- parts with the same path, values, wait and end are the same but for numbers of records,
 same_part : (a b : Part) → a.path ≡ b.path → a.values ≡ b.values → a.waiting ≡ b.waiting → a.finished ≡ b.finished
     → unstamped a ≡ unstamped b
 same_part a b path values waiting finished =
     λ i. record { path = path i; values = values i; stamps = []; waiting = waiting i; finished = finished i; since = 0 }
 
+-- and so are machines of such parts
 same_machine : (m n : MachineView) → unstamped m.paths.one ≡ unstamped n.paths.one → unstamped m.paths.two ≡ unstamped n.paths.two
     → m.count ≡ n.count → m.alarm ≡ n.alarm → but_for_order m ≡ but_for_order n
 same_machine m n first second count alarm =
@@ -158,6 +173,7 @@ told_count m t u told first second =
     let two : waits m.paths.two.waiting ≡ 0 = ap waits second in
     let all = told.count in omega arith
 
+-- where no part has a race, two runs that finish agree
 pub runs_agree : (b d : Blocks) (k : Known b) (l : Known d) → IsFree (path_of b k) (path_of d l) → (first second : PathView)
     → k.In 0 first → l.In 0 second → (turns others : List Path)
     → AreDone (run (tapes_with b d) (opening first second) (turns_of turns)) → AreDone (run (tapes_with b d) (opening first second) (turns_of others))

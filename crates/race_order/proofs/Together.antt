@@ -5,14 +5,17 @@ use Rattle.std.proofs.Math.Path.{fun_ext}
 use Rattle.nc_number.proofs.Counts.{last_or_before}
 use Rattle.race_order.proofs.Alone.{Running, Waiting, Finished, Half, half_at, Solo, solo_at, PathOf, turn, alone, Stands, Agree, turn_like, IsIdle, waits, finished, one_idle}
 
+-- two paths, and the variables that they share
 pub record Pair (V : Type 0) (p q : PathOf V) : Type 0 where
   pub first : Half p.S V
   pub second : Half q.S V
   pub env : ℕ → V
 
+-- a pair of these
 abbrev pub pair_at : {V : Type 0} → (p q : PathOf V) → Half p.S V → Half q.S V → (ℕ → V) → Pair V p q
 pair_at p q h g env = record { first = h; second = g; env = env }
 
+-- a path behind its wait; one that does not wait stays
 abbrev pub behind_wait : {V : Type 0} → (p : PathOf V) → Half p.S V → Half p.S V
 behind_wait p h = half_at (p.pass h.state) [] Running
 
@@ -23,6 +26,7 @@ pub data Goes {V : Type 0} (p q : PathOf V) (m : Pair V p q) : Pair V p q → Ty
   meet : m.first.mode ≡ Waiting → m.second.mode ≡ Waiting
       → Goes p q m (pair_at p q (behind_wait p m.first) (behind_wait q m.second) m.env)
 
+-- a run of the pair: some turns, and meetings where both wait
 pub data IsRun {V : Type 0} (p q : PathOf V) (start : Pair V p q) : Pair V p q → Type 0 where
   begun : IsRun p q start start
   gone : (m to : Pair V p q) → IsRun p q start m → Goes p q m to → IsRun p q start to
@@ -40,6 +44,7 @@ record Side {V : Type 0} (p : PathOf V) (n : ℕ) (x : Solo p.S V) (h : Half p.S
   agree : Agree p n env (alone p k x).env
   stands : Stands p n h.mode h.state
 
+-- both paths stand in part n, each as if it had run alone since the part began
 record IsWithin {V : Type 0} (p q : PathOf V) (n : ℕ) (m0 m : Pair V p q) : Type 0 where
   first : Side p n (solo_at m0.first m0.env) m.first m.env
   second : Side q n (solo_at m0.second m0.env) m.second m.env
@@ -74,6 +79,7 @@ side_stays p n x h env new s kept = record {
   stands = s.stands;
 }
 
+-- a turn of either path within the part keeps that
 goes_within : {V : Type 0} → (p q : PathOf V) → IsFree p q → (n : ℕ) (m0 m : Pair V p q) → IsWithin p q n m0 m
     → IsWithin p q n m0 (pair_at p q (turn p m.first m.env).half m.second (turn p m.first m.env).env)
     × IsWithin p q n m0 (pair_at p q m.first (turn q m.second m.env).half (turn q m.second m.env).env)
@@ -105,6 +111,7 @@ record IsSomewhere {V : Type 0} (p q : PathOf V) (start m : Pair V p q) : Type 0
   begins : Begins p q start n m0
   within : IsWithin p q n m0 m
 
+-- so does a turn or a meeting, in some part,
 goes_somewhere : {V : Type 0} → (p q : PathOf V) → IsFree p q → (start m to : Pair V p q) → IsSomewhere p q start m → Goes p q m to
     → IsSomewhere p q start to
 goes_somewhere p q free start m _ at one =
@@ -125,6 +132,7 @@ goes_somewhere p q free start m _ at (meet here there) =
       };
     }
 
+-- and so each run
 run_somewhere : {V : Type 0} → (p q : PathOf V) → IsFree p q → (start m : Pair V p q) → Stands p 0 start.first.mode start.first.state
     → Stands q 0 start.second.mode start.second.state → IsRun p q start m → IsSomewhere p q start m
 run_somewhere p q free start _ here there begun = record {
@@ -149,6 +157,7 @@ sides_meet p n x h g env new s t here there =
       λ v named. s.agree v named ∙ (ap (λ y. y.env v) same ∙ sym (t.agree v named)),
     )
 
+-- neither path runs
 pub record AreIdle {V : Type 0} (p q : PathOf V) (m : Pair V p q) : Type 0 where
   pub first : IsIdle m.first.mode
   pub second : IsIdle m.second.mode
@@ -169,6 +178,7 @@ one_pair stable p q n m0 m to w u here there =
     ap (λ h. pair_at p q h m.second m.env) a.0
     ∙ (ap (λ g. pair_at p q to.first g m.env) b.0 ∙ ap (λ e. pair_at p q to.first to.second e) env)
 
+-- two paths that wait don't run,
 both_wait : {V : Type 0} → (p q : PathOf V) (m : Pair V p q) → m.first.mode ≡ Waiting → m.second.mode ≡ Waiting → AreIdle p q m
 both_wait p q m here there = record { first = subst IsIdle (sym here) waits; second = subst IsIdle (sym there) waits }
 
@@ -184,6 +194,7 @@ one_beginning stable p q start (suc n) _ _ (behind _ m0 m before w here there) (
 abbrev pub AreFinished : {V : Type 0} → (p q : PathOf V) → Pair V p q → Type 0
 AreFinished p q m = (m.first.mode ≡ Finished) × (m.second.mode ≡ Finished)
 
+-- and two that have finished don't
 finished_idle : {V : Type 0} → (p q : PathOf V) (m : Pair V p q) → AreFinished p q m → AreIdle p q m
 finished_idle p q m f = record { first = subst IsIdle (sym f.0) finished; second = subst IsIdle (sym f.1) finished }
 
@@ -217,9 +228,11 @@ not_both stable p q start n m0 m b w f past =
     let mode : Finished ≡ Waiting = sym f.0 ∙ (ap (λ k. k.first.mode) same ∙ past.here) in
     absurd cc
 
+-- two numbers are equal, or one is less
 less_same_more : (n k : ℕ) → (n < k) ⊎ ((n ≡ k) ⊎ (k < n))
 less_same_more n k = grind arith
 
+-- so two runs that finish come to the same
 ends_alike : {V : Type 0} → IsStable V → (p q : PathOf V) (start m to : Pair V p q) → IsSomewhere p q start m → IsSomewhere p q start to
     → AreFinished p q m → AreFinished p q to → m ≡ to
 ends_alike stable p q start m to a b fm ft = go (less_same_more a.n b.n)

@@ -22,11 +22,13 @@ use Rattle.race_order.specs.Agreement.{moves_in, AreMixed}
 use Rattle.race_order.specs.Agreement as mixed
 use Rattle.race_order.proofs.Machines.{Known, Told, one_record, one_write, Logged, moved_on, logged, seen, path_of}
 
+-- the mode of a path of the machine
 abbrev pub mode_of : Bool → Option ℕ → Mode
 mode_of true waiting = Finished
 mode_of false (Some code) = Waiting
 mode_of false None = Running
 
+-- a path of the machine as one of the pair
 abbrev pub half_of : Part → List Moves → Told → Half Logged Var
 half_of part moves told = half_at (part.path, moves, told) part.values (mode_of part.finished part.waiting)
 
@@ -43,6 +45,7 @@ Holds m env = (v k : ℕ) → m.count ≤ k → value_after k v m.writes ≡ env
 abbrev pub IsFit : Part → Type 0
 IsFit part = (code : ℕ) → part.waiting ≡ Some code → part.finished ≡ false
 
+-- the machine as a pair
 abbrev pub shown : (b d : Blocks) (k : Known b) (l : Known d) → MachineView → List Moves → List Moves → Told → Told → (ℕ → Var)
     → Pair Var (path_of b k) (path_of d l)
 shown b d k l m mine yours t u env =
@@ -64,12 +67,14 @@ pub record IsShown (b d : Blocks) (k : Known b) (l : Known d) (from : Pair Var (
   pub first : IsFit m.paths.one
   pub second : IsFit m.paths.two
 
+-- one turn of the first path is a run of the pair
 step_to : {V : Type 0} → (p q : PathOf V) (h to : Half p.S V) (g : Half q.S V) (env new : ℕ → V) → alone.turn p h env ≡ solo_at to new
     → IsRun p q (pair_at p q h g env) (pair_at p q to g new)
 step_to p q h to g env new e =
     subst (λ y. IsRun p q (pair_at p q h g env) (pair_at p q y.half g y.env)) e
     (gone (pair_at p q h g env) (pair_at p q (alone.turn p h env).half g (alone.turn p h env).env) begun one)
 
+-- a variable holds what was written to it last
 written_holds : (m : MachineView) (env : ℕ → Var) (w : Written) → Holds m env → (v k : ℕ) → m.count + 1 ≤ k
     → value_after k v (with_write (m.count + 1) (Some w) m.writes) ≡ set_at env w.variable w.value v
 written_holds m env w holds v k late =

@@ -1,2 +1,4 @@
+-- The words of the contracts of race_order: what a race is (Races), and when runs agree
+-- (Agreement).
 pub mod Races
 pub mod Agreement

@@ -1,4 +1,5 @@
--- Races: shared variables whose values may hang on which path comes first.
+-- Races: shared variables whose values may depend on which path comes first.
+-- race_report takes `HasNoRace`, `IsRace`, `PartMayWrite` and `PartNames`.
 use Rattle.std.specs.Prelude.{◌≡◌, ℕ, Bool, true}
 use Rattle.tape_flow.specs.declared.flow.Flow.{Flow}
 use Rattle.part_order.specs.Parts.{IsInPart}

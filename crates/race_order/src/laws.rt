@@ -1,4 +1,5 @@
-//! What holds of every pair of tapes, for the crates above: who calls the function has the law.
+//! What holds of every pair of tapes, for the crates above: a caller of the function has the law.
+//! These laws are for readers: no other crate calls them.
 ghost use Rattle.block_order.specs.Labels.{IsUnforked};
 ghost use Rattle.tape_flow.specs.declared.flow.Flow.{Flow};
 ghost use Rattle.race_order.specs.Agreement.{RaceFreeRunsAgree};

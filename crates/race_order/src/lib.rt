@@ -1,4 +1,4 @@
-//! Races: shared variables whose values may hang on which path comes first.
+//! Races: shared variables whose values may depend on which path comes first.
 //!
 //! Each part of a path, as the text alone tells it, names some variables and may write some. Where
 //! no part of one path may write what the same part of the other names, it does not matter who has

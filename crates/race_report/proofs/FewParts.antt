@@ -16,6 +16,7 @@ use Rattle.race_report.specs.Found.{first_from, IsAnswer}
 use Rattle.race_report.proofs.FewerWaits.{HaveWaits}
 use Rattle.race_report.proofs.FirstRaces.{answers}
 
+-- no more of the labels are waits than there are labels
 few_waits : (ls : List Label) → waits_of ls ≤ length ls
 few_waits [] = omega arith
 few_waits (label.Wait code ∷ ls) = let rest = few_waits ls in omega arith
@@ -23,12 +24,14 @@ few_waits (label.End ∷ ls) = let rest = few_waits ls in omega arith
 few_waits (label.Again ∷ ls) = let rest = few_waits ls in omega arith
 few_waits (label.Off ∷ ls) = let rest = few_waits ls in omega arith
 
+-- an accepted path has no more waits than a list may have labels
 pub few_parts : (left right : Flow) → IsAcceptedPair left.order right.order → path_waits left.order ≤ MOST_LABELS
 few_parts left right pair =
     let same : path_waits left.order ≡ waits_of (list left.order) = list_waits left.order in
     let few = few_waits (list left.order) in
     let most = pair.left_few in omega arith
 
+-- both paths of an accepted pair have the same number of waits
 pub have_waits : (left right : Flow) → IsAcceptedPair left.order right.order → HaveWaits left right (path_waits left.order)
 have_waits left right pair = record { one = refl; two = sym (waits_agree left.order right.order pair.same) }
 

@@ -18,20 +18,24 @@ pub record HaveWaits (left right : Flow) (waits : ℕ) : Type 0 where
   pub one : path_waits left.order ≡ waits
   pub two : path_waits right.order ≡ waits
 
+-- the writer has so many waits in a round,
 waits_of_writer : (left right : Flow) (waits : ℕ) → HaveWaits left right waits → (p : Path) → path_waits (writer_of p left right).order ≡ waits
 waits_of_writer left right waits have One = have.one
 waits_of_writer left right waits have Two = have.two
 
+-- and so has the other path
 waits_of_other : (left right : Flow) (waits : ℕ) → HaveWaits left right waits → (p : Path) → path_waits (other_of p left right).order ≡ waits
 waits_of_other left right waits have One = have.two
 waits_of_other left right waits have Two = have.one
 
+-- a block of part n + waits is one of part n too: at an M99 of the main program a path begins anew
 part_down : (flow : Flow) (waits n program place : ℕ) → path_waits flow.order ≡ waits → 0 < n → IsInPart flow.order (n + waits) program place
     → IsInPart flow.order n program place
 part_down flow waits n program place is some inside =
     (parts_repeat flow.order).before n program place some
     (subst (λ w. IsInPart flow.order (n + w) program place) (sym is) inside)
 
+-- so a race behind one round more is a race behind one round less
 one_round : (shared : ℕ → Bool) (left right : Flow) (waits n : ℕ) → HaveWaits left right waits → (race : Race) → 0 < n → race.after ≡ n + waits
     → IsRaceAt shared left right race → IsRaceAt shared left right (behind n race)
 one_round shared left right waits n have race some e is =
@@ -71,12 +75,14 @@ pub record IsDown (shared : ℕ → Bool) (left right : Flow) (waits : ℕ) (rac
   pub fewer : (n ≡ race.after) ⊎ (n < race.after)
   pub is : IsRaceAt shared left right (behind n race)
 
+-- without a wait there is only the part behind none
 without : (shared : ℕ → Bool) (left right : Flow) (race : Race) → HaveWaits left right 0 → IsRaceAt shared left right race → race.after ≡ 0
 without shared left right race have is =
     let w = is.writes in
     (parts_repeat (writer_of race.writer left right).order).alone race.after w.0 w.1
     (waits_of_writer left right 0 have race.writer) w.3
 
+-- a race behind any number of waits is one behind at most a round of them
 down : (shared : ℕ → Bool) (left right : Flow) (waits fuel : ℕ) → HaveWaits left right waits → (race : Race) → race.after ≤ fuel
     → IsRaceAt shared left right race → IsDown shared left right waits race
 down shared left right waits zero have race within is =
@@ -105,6 +111,7 @@ down shared left right waits (suc fuel) have race within is =
     go (inl few) again = record { n = race.after; few = few; fewer = inl refl; is = is }
     go (inr more) again = further waits refl more again
 
+-- and so each race has one of the same lines behind at most as many waits as the lists have
 pub down_to : (shared : ℕ → Bool) (left right : Flow) (waits : ℕ) → HaveWaits left right waits → (race : Race)
     → IsRaceAt shared left right race → IsDown shared left right waits race
 down_to shared left right waits have race is = down shared left right waits race.after have race (omega arith) is

@@ -17,6 +17,7 @@ use Rattle.race_report.specs.Found.{race_between, or_race, race_at, first_from, 
 use Rattle.race_report.proofs.SoughtLines.{SoughtAt, line_sought, sought_is, part_writes_at, part_names_at}
 use Rattle.race_report.proofs.FewerWaits.{behind, HaveWaits, down_to}
 
+-- below the length a list has what `line_at` tells
 at_place : (xs : List (Option ℕ)) (n : ℕ) → n < length xs → slice_get xs n ≡ Some (line_at xs n)
 at_place [] n less = absurd (omega arith)
 at_place (x ∷ xs) zero less = refl
@@ -32,6 +33,7 @@ abbrev IsLeastAt : Flow → Sought → ℕ → ℕ → Option ℕ → Type 0
 IsLeastAt flow sought v n None = (k : ℕ) → SoughtAt flow sought v n k → ⊥
 IsLeastAt flow sought v n (Some line) = SoughtAt flow sought v n line × ((k : ℕ) → SoughtAt flow sought v n k → line ≤ k)
 
+-- a least line of a part is one at which a block does what is looked for
 least_at : (flow : Flow) (sought : Sought) (v n : ℕ) (o : Option ℕ) → IsLeast (LineInPart flow.order (sought_line flow sought v) n) o
     → IsLeastAt flow sought v n o
 least_at flow sought v n None never = λ k at. never k (sought_is flow sought v n k at)
@@ -194,9 +196,11 @@ pub record IsLeft (lines : Both PathLines) (v after total : ℕ) : Type 0 where
   pub all : after + count ≡ total
   pub same : first_from lines v count after ≡ first_from lines v total 0
 
+-- before the first part all parts are left
 pub left_start : (lines : Both PathLines) (v total : ℕ) → IsLeft lines v 0 total
 left_start lines v total = record { count = total; all = omega arith; same = refl }
 
+-- where a part has a race, it is the first one
 pub left_here : (lines : Both PathLines) (v after total : ℕ) → IsLeft lines v after total → after < total
     → is_some (race_at lines v after) ≡ true → race_at lines v after ≡ first_from lines v total 0
 left_here lines v after total left less some = go left.count left.all ∙ left.same
@@ -209,6 +213,7 @@ left_here lines v after total left less some = go left.count left.all ∙ left.s
     go zero all = absurd (omega arith)
     go (suc c) all = by (race_at lines v after) c refl
 
+-- where it has none, the first race is in the later parts
 pub left_next : (lines : Both PathLines) (v after total : ℕ) → IsLeft lines v after total → after < total
     → is_some (race_at lines v after) ≡ false → IsLeft lines v (after + 1) total
 left_next lines v after total left less none = go left.count left.all left.same
@@ -228,6 +233,7 @@ left_next lines v after total left less none = go left.count left.all left.same
           same = ap (λ k. first_from lines v c k) (sym next) ∙ (sym (by (race_at lines v after) c refl) ∙ same);
         }
 
+-- behind the last part there is none
 pub left_none : (lines : Both PathLines) (v after total : ℕ) → IsLeft lines v after total → total ≤ after → None ≡ first_from lines v total 0
 left_none lines v after total left past = go left.count left.all ∙ left.same
   where

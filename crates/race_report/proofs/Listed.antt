@@ -8,30 +8,36 @@ use Rattle.race_report.specs.declared.race.Race.{Race}
 use Rattle.race_report.specs.RaceLists.{shared_by, IsFirstRace, AreFirst, AreRising, HasVariable, IsRaceList}
 use Rattle.race_report.specs.Found.{AreBelow, IsListedBelow, IsAnswer}
 
+-- a race of a higher variable is added: the variables still rise,
 rising_more : (low v : ℕ) (races : List Race) (race : Race) → low < v → race.variable ≡ v → AreRising low races → AreBelow v races
     → AreRising low (races ++ race ∷ [])
 rising_more low v [] race above is rising below = (omega arith, tt)
 rising_more low v (r ∷ races) race above is rising below =
     (rising.0, rising_more r.variable v races race below.0 is rising.1 below.1)
 
+-- all of them are below the next one,
 below_more : (v : ℕ) (races : List Race) (race : Race) → race.variable ≡ v → AreBelow v races → AreBelow (v + 1) (races ++ race ∷ [])
 below_more v [] race is below = (omega arith, tt)
 below_more v (r ∷ races) race is below = ((let less = below.0 in omega arith), below_more v races race is below.1)
 
+-- and below any later one;
 below_later : (v w : ℕ) (races : List Race) → v ≤ w → AreBelow v races → AreBelow w races
 below_later v w [] le below = tt
 below_later v w (r ∷ races) le below = ((let less = below.0 in omega arith), below_later v w races le below.1)
 
+-- each is still the first of its variable,
 firsts_more : (shared : ℕ → Bool) (left right : Flow) (races : List Race) (race : Race) → AreFirst shared left right races
     → IsFirstRace shared left right race → AreFirst shared left right (races ++ race ∷ [])
 firsts_more shared left right [] race all one = (one, tt)
 firsts_more shared left right (r ∷ races) race all one = (all.0, firsts_more shared left right races race all.1 one)
 
+-- the variables from before have their race,
 had_before : (v : ℕ) (races : List Race) (race : Race) → HasVariable v races → HasVariable v (races ++ race ∷ [])
 had_before v [] race has = absurd has
 had_before v (r ∷ races) race (inl e) = inl e
 had_before v (r ∷ races) race (inr has) = inr (had_before v races race has)
 
+-- and so has the new one
 has_now : (v : ℕ) (races : List Race) (race : Race) → race.variable ≡ v → HasVariable v (races ++ race ∷ [])
 has_now v [] race e = inl e
 has_now v (r ∷ races) race e = inr (has_now v races race e)
@@ -97,6 +103,7 @@ module _ (shared : ℕ → Bool) (left right : Flow) where
       two n u less there (inl before) = listed.two n u before there
       two n u less there (inr from) = let never = unshared u from less in let is = there.is_shared in absurd cc
 
+  -- below the first shared variable the list is empty
   pub listed_start : (low : ℕ) → ((u : ℕ) → u < low → shared u ≡ false) → IsListedBelow shared left right low []
   listed_start low unshared = record {
     rising = tt;
@@ -131,18 +138,23 @@ module _ (shared : ℕ → Bool) (left right : Flow) where
 pub before_the_first : (settings : Settings) (u : ℕ) → u < 100 → shared_by settings u ≡ false
 before_the_first settings u less = grind arith
 
+-- no variable between the shared ones from #100 and #500 is shared,
 pub between_both : (settings : Settings) (u : ℕ) → 100 + settings.shared100 ≤ u → u < 500 → shared_by settings u ≡ false
 between_both settings u more less = grind arith
 
+-- and none behind those from #500
 pub behind_the_last : (settings : Settings) (u : ℕ) → 500 + settings.shared500 ≤ u → settings.shared100 ≤ 100 → shared_by settings u ≡ false
 behind_the_last settings u more few = grind arith
 
+-- those from #100 on are shared, as many as the settings say,
 pub first_shared : (settings : Settings) (u : ℕ) → 100 ≤ u → u < 100 + settings.shared100 → shared_by settings u ≡ true
 first_shared settings u from less = grind arith
 
+-- and so are those from #500 on
 pub second_shared : (settings : Settings) (u : ℕ) → 500 ≤ u → u < 500 + settings.shared500 → shared_by settings u ≡ true
 second_shared settings u from less = grind arith
 
+-- a shared variable has no number 0
 pub above_zero : (settings : Settings) (v : ℕ) → shared_by settings v ≡ true → 0 < v
 above_zero settings zero e = let none = before_the_first settings 0 (omega arith) in absurd cc
 above_zero settings (suc v) e = omega arith

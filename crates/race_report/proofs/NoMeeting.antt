@@ -14,6 +14,7 @@ use Rattle.race_report.specs.Meeting.{some_block, some_program, may_meet, may_ra
 use Rattle.race_report.specs.Found.{IsAnswer}
 use Rattle.race_report.proofs.SoughtLines.{part_writes_at, part_names_at}
 
+-- a block that does what is looked for is found among the blocks of its program,
 block_at : (sought : Sought) (v : ℕ) (blocks : List FlowBlock) (place : ℕ) (block : FlowBlock) → slice_get blocks place ≡ Some block
     → does sought v block ≡ true → some_block sought v blocks ≡ true
 block_at sought v [] place block at e = absurd cc
@@ -22,6 +23,7 @@ block_at sought v (b ∷ blocks) zero block at e =
 block_at sought v (b ∷ blocks) (suc place) block at e =
     or_right (does sought v b) (some_block sought v blocks) (block_at sought v blocks place block at e)
 
+-- and among those of all programs
 program_at : (sought : Sought) (v : ℕ) (programs : List FlowProgram) (q place : ℕ) (block : FlowBlock)
     → flow_block programs q place ≡ Some block → does sought v block ≡ true → some_program sought v programs ≡ true
 program_at sought v [] q place block at e = absurd cc
@@ -38,21 +40,25 @@ program_at sought v (p ∷ programs) q place block at e = go (p.number == q) ref
         or_right (some_block sought v p.blocks) (some_program sought v programs)
         (rest (subst (λ f. slice_get (flow_blocks f) place ≡ Some block) found at))
 
+-- what some part may write some block may write
 writes_somewhere : (flow : Flow) (n v : ℕ) → PartMayWrite flow n v → some_program Writes v flow.programs ≡ true
 writes_somewhere flow n v part =
     let at = (part_writes_at flow n v part).1 in
     program_at Writes v flow.programs at.0 at.1 at.2 at.4 (subst (λ found. found_may_write found v ≡ true) at.4 at.5)
 
+-- what some part names some block names
 names_somewhere : (flow : Flow) (n v : ℕ) → PartNames flow n v → some_program Names v flow.programs ≡ true
 names_somewhere flow n v part =
     let at = (part_names_at flow n v part).1 in
     program_at Names v flow.programs at.0 at.1 at.2 at.4 (subst (λ found. found_names found v ≡ true) at.4 at.5)
 
+-- a race takes a block that may write the variable and one of the other path that names it
 meets : (shared : ℕ → Bool) (writer other : Flow) (n v : ℕ) → IsRace shared writer other n v → may_meet v writer other ≡ true
 meets shared writer other n v is =
     both_true (some_program Writes v writer.programs) (some_program Names v other.programs)
     (writes_somewhere writer n v is.writes) (names_somewhere other n v is.names)
 
+-- where there are no such blocks the variable has no race
 pub no_meeting : (shared : ℕ → Bool) (left right : Flow) (v : ℕ) → may_race v left right ≡ false → IsAnswer shared left right v None
 no_meeting shared left right v none = (
   λ n is. let some = or_left (may_meet v left right) (may_meet v right left) (meets shared left right n v is) in absurd cc,

@@ -15,9 +15,11 @@ same_lines a b (inl less) (inr (e, le)) = absurd (omega arith)
 same_lines a b (inr (e, le)) (inl more) = absurd (omega arith)
 same_lines a b (inr (e, le)) (inr (e', ge)) = (e, (let both : a.other_line ≡ b.other_line = omega arith in both))
 
+-- the two paths differ
 apart : One ≡ Two → ⊥
 apart e = absurd cc
 
+-- of two races that each write first, writer and lines are the same
 same_writer : (a b : Race) → WritesFirst a b → WritesFirst b a
     → (a.writer ≡ b.writer) × (a.write_line ≡ b.write_line) × (a.other_line ≡ b.other_line)
 same_writer a b (inl (one, two)) (inl (one', two')) = absurd (apart (sym one ∙ two'))
@@ -25,6 +27,7 @@ same_writer a b (inl (one, two)) (inr (e, less)) = absurd (apart (sym one ∙ (s
 same_writer a b (inr (e, less)) (inl (one, two)) = absurd (apart (sym one ∙ (sym e ∙ two)))
 same_writer a b (inr (e, less)) (inr (e', more)) = let lines = same_lines a b less more in (e, lines.0, lines.1)
 
+-- two first races of one variable are one race
 same_race : (a b : Race) → a.variable ≡ b.variable → ComesFirst a b → ComesFirst b a → a ≡ b
 same_race a b v (inl less) (inl more) = absurd (omega arith)
 same_race a b v (inl less) (inr (e, w)) = absurd (omega arith)
@@ -44,13 +47,16 @@ above low v (race ∷ races) rising (inr has) =
 abbrev AreAmong : List Race → List Race → Type 0
 AreAmong xs ys = (v : ℕ) → HasVariable v xs → HasVariable v ys
 
+-- two numbers are equal, or one is less
 less_or_more : (a b : ℕ) → (a ≡ b) ⊎ ((a < b) ⊎ (b < a))
 less_or_more a b = grind arith
 
+-- a list of rising variables has none below its first
 not_before : (v : ℕ) (y : Race) (ys : List Race) → AreRising y.variable ys → v < y.variable → HasVariable v (y ∷ ys) → ⊥
 not_before v y ys rising less (inl e) = absurd (omega arith)
 not_before v y ys rising less (inr has) = let more = above y.variable v ys rising has in absurd (omega arith)
 
+-- what lists with the same first variable have behind it is among each other
 among_rest : (x y : Race) (xs ys : List Race) → x.variable ≡ y.variable → AreRising x.variable xs
     → AreAmong (x ∷ xs) (y ∷ ys) → AreAmong xs ys
 among_rest x y xs ys e rising among v has = go (among v (inr has))
@@ -104,5 +110,6 @@ module _ (shared : ℕ → Bool) (left right : Flow) where
       go (inl race) = two.one race.0 v race.1
       go (inr race) = two.two race.0 v race.1
 
+  -- two lists of the races of a pair are one
   pub one_list : (xs ys : List Race) → IsRaceList shared left right xs → IsRaceList shared left right ys → xs ≡ ys
   one_list xs ys one two = lists_once 0 0 xs ys one.rising two.rising one.firsts two.firsts (among xs ys one two) (among ys xs two one)

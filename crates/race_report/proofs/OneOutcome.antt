@@ -10,9 +10,11 @@ use Rattle.race_order.proofs.Flows.{race_free_agree}
 use Rattle.race_report.specs.RaceLists.{shared_by, IsRaceList}
 use Rattle.race_report.specs.Outcomes.{HasOneOutcome}
 
+-- a pair with an empty list has no race
 none : (settings : Settings) (left right : Flow) → IsRaceList (shared_by settings) left right [] → HasNoRace (shared_by settings) left right
 none settings left right list = record { first = λ n v is. list.one n v is; second = λ n v is. list.two n v is }
 
+-- so any two orders of turns after which both paths have finished come to the same
 pub one_outcome : (settings : Settings) (left right : Flow) → IsAcceptedPair left.order right.order
     → IsRaceList (shared_by settings) left right [] → HasOneOutcome settings left right
 one_outcome settings left right pair list turns others done also =

@@ -1,4 +1,5 @@
--- The races of a pair hang on what its tapes say, and not on where that lies in memory.
+-- The races of a pair depend on what its tapes say, and not on where that lies in memory.
+-- lathe_top takes `same_list`.
 use Rattle.std.proofs.Common.{◌≡◌, ◌==◌, ℕ, zero, suc, Bool, true, false, find, List, [], ◌∷◌, map, Option, Some, None, slice_get, refl, ap, sym, subst, ◌∙◌}
 use Rattle.std.specs.Option.{option_map}
 use Rattle.nc_number.specs.declared.path.Path.{Path}
@@ -27,14 +28,17 @@ abbrev form_names : Form → ℕ → Bool
 form_names (OfWords dialect words) v = words_name words v
 form_names (OfSentence sentence) v = sentence_names sentence v
 
+-- the statement may write the variable, as its form says
 abbrev form_may_write : Form → ℕ → Bool
 form_may_write (OfWords dialect words) v = false
 form_may_write (OfSentence sentence) v = sentence_may_write sentence v
 
+-- what a block names
 names_by_form : (body : FlowBody) (v : ℕ) → body_names body v ≡ form_names (form_of body) v
 names_by_form (Words words) v = refl
 names_by_form (Statement statement) v = refl
 
+-- and may write is what its form does
 writes_by_form : (body : FlowBody) (v : ℕ) → body_may_write body v ≡ form_may_write (form_of body) v
 writes_by_form (Words words) v = refl
 writes_by_form (Statement statement) v = refl
@@ -44,14 +48,17 @@ abbrev form_blocks : Option ProgramForm → List BlockForm
 form_blocks None = []
 form_blocks (Some program) = program.blocks
 
+-- the form of the block at a place
 abbrev form_at : List ProgramForm → ℕ → ℕ → Option BlockForm
 form_at programs q place = slice_get (form_blocks (find (λ program. program.number == q) programs)) place
 
+-- the form of the block at a place of one program
 get_mapped : (blocks : List FlowBlock) (place : ℕ) → option_map block_form (slice_get blocks place) ≡ slice_get (map block_form blocks) place
 get_mapped [] place = refl
 get_mapped (b ∷ blocks) zero = refl
 get_mapped (b ∷ blocks) (suc place) = get_mapped blocks place
 
+-- and of the whole tape
 at_forms : (programs : List FlowProgram) (q place : ℕ) → option_map block_form (flow_block programs q place) ≡ form_at (map program_form programs) q place
 at_forms [] q place = refl
 at_forms (p ∷ programs) q place = go (p.number == q) refl (at_forms programs q place)
@@ -114,6 +121,7 @@ module _ (a b : Flow) (same : map program_form a.programs ≡ map program_form b
       let at = part_names_at a n v part in
       let too = names_too n v at.0 at.1 in (too.0, too.1, too.3, too.5)
 
+-- tapes of the same forms have the same races
 race_too : (shared : ℕ → Bool) (a b c d : Flow) → map program_form a.programs ≡ map program_form b.programs
     → map program_form c.programs ≡ map program_form d.programs → (n v : ℕ) → IsRace shared a c n v → IsRace shared b d n v
 race_too shared a b c d ab cd n v is = record {

@@ -30,6 +30,7 @@ control_there programs number place block is = rw (sym (program_seen programs nu
         ap (λ found. control_of found) (sym (block_seen program.blocks place))
         ∙ ap (λ found. control_of (option_map (λ b. control_block (block_form b)) found)) there
 
+-- a block of the flow is one of its order, with the same control
 in_order : (flow : Flow) (number place : ℕ) (block : FlowBlock) → flow_block flow.programs number place ≡ Some block
     → control_at (blocks flow.order number) place ≡ Some block.control
 in_order flow number place block is = rw (flow.agrees) (control_there flow.programs number place block is)
@@ -38,6 +39,7 @@ in_order flow number place block is = rw (flow.agrees) (control_there flow.progr
 abbrev DoesAt : Sought → ℕ → Option FlowBlock → ℕ → Type 0
 DoesAt sought v found k = (block : FlowBlock) × (found ≡ Some block) × (does sought v block ≡ true) × (block.line ≡ k)
 
+-- a line that is found is that of a block which does what is looked for
 line_does : (sought : Sought) (v : ℕ) (found : Option FlowBlock) (k : ℕ) → block_line sought v found ≡ Some k → DoesAt sought v found k
 line_does sought v None k is = absurd cc
 line_does sought v (Some block) k is = go (does sought v block) refl is
@@ -46,6 +48,7 @@ line_does sought v (Some block) k is = go (does sought v block) refl is
     go false e is = absurd cc
     go true e is = let same : block.line ≡ k = cc in (block, refl, e, same)
 
+-- and each such block has its line found
 does_line : (sought : Sought) (v : ℕ) (found : Option FlowBlock) (k : ℕ) → DoesAt sought v found k → block_line sought v found ≡ Some k
 does_line sought v found k (block, is, e, line) = rw (is, e) (ap Some line)
 
@@ -54,6 +57,7 @@ abbrev pub SoughtAt : Flow → Sought → ℕ → ℕ → ℕ → Type 0
 SoughtAt flow Writes v n k = MayWriteAt flow n v k
 SoughtAt flow Names v n k = NamesAt flow n v k
 
+-- the lines found in a part are those that are looked for
 pub line_sought : (flow : Flow) (sought : Sought) (v n k : ℕ) → LineInPart flow.order (sought_line flow sought v) n k → SoughtAt flow sought v n k
 line_sought flow Writes v n k (program, place, c, inside, is, e) =
     let at = line_does Writes v (flow_block flow.programs program place) k e in
@@ -62,6 +66,7 @@ line_sought flow Names v n k (program, place, c, inside, is, e) =
     let at = line_does Names v (flow_block flow.programs program place) k e in
     (program, place, at.0, inside, at.1, subst (λ found. found_names found v ≡ true) (sym at.1) at.2, at.3)
 
+-- and the other way round
 pub sought_is : (flow : Flow) (sought : Sought) (v n k : ℕ) → SoughtAt flow sought v n k → LineInPart flow.order (sought_line flow sought v) n k
 sought_is flow Writes v n k (program, place, block, inside, at, writes, line) = (
   program,
@@ -85,15 +90,18 @@ writes_there : (found : Option FlowBlock) (v : ℕ) → found_may_write found v 
 writes_there None v e = absurd cc
 writes_there (Some block) v e = (block, refl)
 
+-- a place at which a variable is named has a block
 names_there : (found : Option FlowBlock) (v : ℕ) → found_names found v ≡ true → (block : FlowBlock) × (found ≡ Some block)
 names_there None v e = absurd cc
 names_there (Some block) v e = (block, refl)
 
+-- a part that may write the variable has a line at which a block may
 pub part_writes_at : (flow : Flow) (n v : ℕ) → PartMayWrite flow n v → (k : ℕ) × MayWriteAt flow n v k
 part_writes_at flow n v (program, place, inside, e) =
     let there = writes_there (flow_block flow.programs program place) v e in
     (there.0.line, (program, place, there.0, inside, there.1, e, refl))
 
+-- a part that names it has a line at which a block names it
 pub part_names_at : (flow : Flow) (n v : ℕ) → PartNames flow n v → (k : ℕ) × NamesAt flow n v k
 part_names_at flow n v (program, place, inside, e) =
     let there = names_there (flow_block flow.programs program place) v e in

@@ -13,22 +13,27 @@ use Rattle.race_report.specs.declared.table.ProgramLines.{ProgramLines}
 use Rattle.race_report.specs.Lines.{block_line, sought_line}
 use Rattle.race_report.specs.Tables.{kept_lines, line_at, program_line, table_line, lines_of, told_or, IsToldWith}
 
+-- the empty table tells all with the programs, none of which it has
 pub told_start : (flow : Flow) (sought : Sought) (v : ℕ) (table : LineTable) → ((q : ℕ) → kept_lines table q ≡ None)
     → IsToldWith flow sought v table flow.programs
 told_start flow sought v table none q place = rw (none q) refl
 
+-- the lines of a program have that of each block at its place
 lines_at : (sought : Sought) (v : ℕ) (blocks : List FlowBlock) (place : ℕ)
     → line_at (lines_of sought v blocks) place ≡ block_line sought v (slice_get blocks place)
 lines_at sought v [] place = refl
 lines_at sought v (b ∷ blocks) zero = refl
 lines_at sought v (b ∷ blocks) (suc place) = lines_at sought v blocks place
 
+-- a program of another O number is not the first one,
 other_program : (p : FlowProgram) (rest : List FlowProgram) (q : ℕ) → (q ≡ p.number → ⊥) → flow_program (p ∷ rest) q ≡ flow_program rest q
 other_program p rest q other = let apart : (p.number == q) ≡ false = ne_eqb p.number q (λ e. other (sym e)) in rw apart refl
 
+-- and one of its O number is
 same_program : (p : FlowProgram) (rest : List FlowProgram) → flow_program (p ∷ rest) p.number ≡ Some p
 same_program p rest = let same : (p.number == p.number) ≡ true = eq-eqb p.number p.number refl in rw same refl
 
+-- two numbers are the same or not
 same_or_not : (m n : ℕ) → (m ≡ n) ⊎ (m ≡ n → ⊥)
 same_or_not m n = grind arith
 
@@ -72,6 +77,7 @@ told_more flow sought v old new p rest lines unknown are kept others so q place 
         ap (λ o. told_or sought v o (flow_program rest q) place) (others q other)
         ∙ (ap (λ f. told_or sought v (kept_lines old q) f place) (sym (other_program p rest q other)) ∙ so q place)
 
+-- a table that needs no further program tells all lines
 pub told_all : (flow : Flow) (sought : Sought) (v : ℕ) (table : LineTable) → IsToldWith flow sought v table []
     → (q place : ℕ) → table_line table q place ≡ sought_line flow sought v q place
 told_all flow sought v table so q place = go (kept_lines table q) refl ∙ so q place
@@ -89,6 +95,7 @@ told_at flow sought v table programs i d within so =
     let next : suc i ≡ i + 1 = omega arith in
     subst (IsToldWith flow sought v table) (drop-cons programs i d within ∙ ap (λ k. get_or programs i d ∷ drop k programs) next) so
 
+-- past the last program none is needed
 pub told_past : (flow : Flow) (sought : Sought) (v : ℕ) (table : LineTable) (programs : List FlowProgram) (i : ℕ)
     → length programs ≤ i → IsToldWith flow sought v table (drop i programs) → IsToldWith flow sought v table []
 told_past flow sought v table programs i past so = subst (IsToldWith flow sought v table) (drop_of_length-le programs past) so

@@ -8,10 +8,12 @@ use Rattle.macro_eval.specs.Postfix.{code_before, postfix}
 use Rattle.named_vars.specs.Names.{names}
 use Rattle.race_report.specs.Reads.{some_read}
 
+-- three choices are one, however they are joined
 or_assoc : (a b c : Bool) → (a || (b || c)) ≡ ((a || b) || c)
 or_assoc true b c = refl
 or_assoc false b c = refl
 
+-- what stands before a code reads what the expression names, and the code the rest
 read_before : (t : Tree) (code : List Instr) (v : ℕ) → some_read (code_before t code) v ≡ (names t v || some_read code v)
 read_before (Number z) code v = refl
 read_before (Variable n) code v = refl
@@ -23,5 +25,6 @@ read_before (Joined op a b) code v =
     ∙ (ap (λ x. names a v || x) (read_before b (instr.Join op ∷ code) v)
     ∙ or_assoc (names a v) (names b v) (some_read code v))
 
+-- the code of an expression reads the variables that it names
 pub tree_reads : (t : Tree) (v : ℕ) → some_read (postfix t) v ≡ names t v
 tree_reads t v = read_before t [] v ∙ or_false (names t v)

@@ -1,4 +1,5 @@
 -- The first race of a variable among the least lines of the parts, and the list as it grows.
+-- For this crate alone.
 use Rattle.std.specs.Prelude.{◌≡◌, ℕ, zero, suc, ◌<◌, Bool, List, [], ◌∷◌, Option, Some, None}
 use Rattle.nc_number.specs.declared.both.Both.{Both}
 use Rattle.nc_number.specs.declared.path.Path.{Path}
@@ -17,6 +18,7 @@ race_between v after writer (Some write) (Some name) =
 race_between v after writer (Some write) None = None
 race_between v after writer None name = None
 
+-- the first of two, if it is there; else the second
 abbrev pub or_race : Option Race → Option Race → Option Race
 or_race (Some race) other = Some race
 or_race None other = other
@@ -32,6 +34,7 @@ abbrev pub first_from : Both PathLines → ℕ → ℕ → ℕ → Option Race
 first_from lines v zero after = None
 first_from lines v (suc count) after = or_race (race_at lines v after) (first_from lines v count (suc after))
 
+-- all of the races are of variables below this one
 abbrev pub AreBelow : ℕ → List Race → Type 0
 AreBelow high [] = Unit {0}
 AreBelow high (race ∷ races) = (race.variable < high) × AreBelow high races

@@ -1,3 +1,5 @@
+-- What a list of races is (RaceLists), how it is printed (Texts), what an empty one says
+-- (Outcomes); the others say how it is found.
 pub mod RaceLists
 pub mod Texts
 pub mod Reads

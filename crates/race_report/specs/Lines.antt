@@ -1,4 +1,5 @@
 -- The lines of the blocks that name or may write a variable, as they are looked for.
+-- For this crate alone.
 use Rattle.std.specs.Prelude.{ℕ, Bool, true, false, Option, Some, None}
 use Rattle.block_forms.specs.declared.block.FlowBlock.{FlowBlock}
 use Rattle.tape_flow.specs.declared.flow.Flow.{Flow}
@@ -12,10 +13,12 @@ abbrev pub does : Sought → ℕ → FlowBlock → Bool
 does Writes v block = body_may_write block.body v
 does Names v block = body_names block.body v
 
+-- the line, if the block does it
 abbrev pub line_if : Bool → ℕ → Option ℕ
 line_if true line = Some line
 line_if false line = None
 
+-- the line of the block that was found, if it does what is looked for
 abbrev pub block_line : Sought → ℕ → Option FlowBlock → Option ℕ
 block_line sought v None = None
 block_line sought v (Some block) = line_if (does sought v block) block.line

@@ -1,4 +1,5 @@
 -- What a pair without a race comes to.
+-- For this crate alone.
 use Rattle.std.specs.Prelude.{List}
 use Rattle.nc_number.specs.declared.path.Path.{Path}
 use Rattle.nc_number.specs.declared.path.Path.TheVariants.{One, Two}

@@ -1,4 +1,5 @@
 -- The list of the races of a pair: for each shared variable that has a race, the earliest one.
+-- lathe_calls takes `IsRaceList` and `shared_by` and lathe_top `shared_by`.
 use Rattle.std.specs.Prelude.{◌≡◌, ℕ, ◌<◌, ◌≤◌, ◌⊎◌, Bool, true, List, [], ◌∷◌, ◌||◌, ◌&&◌, ◌+◌, nat_le, nat_lt, Some}
 use Rattle.nc_number.specs.declared.path.Path.{Path}
 use Rattle.nc_number.specs.declared.path.Path.TheVariants.{One, Two}
@@ -33,6 +34,7 @@ abbrev pub writer_of : Path → Flow → Flow → Flow
 writer_of One left right = left
 writer_of Two left right = right
 
+-- and the path that does not
 abbrev pub other_of : Path → Flow → Flow → Flow
 other_of One left right = right
 other_of Two left right = left

@@ -1,4 +1,5 @@
 -- The lines that were found, by programs and by parts.
+-- For this crate alone.
 use Rattle.std.specs.Prelude.{◌≡◌, ℕ, List, map, Option, Some, None, slice_get}
 use Rattle.nc_number.specs.declared.both.Both.{Both}
 use Rattle.block_forms.specs.declared.block.FlowBlock.{FlowBlock}
@@ -13,6 +14,7 @@ use Rattle.race_report.specs.declared.table.LineTable.{LineTable}
 use Rattle.race_report.specs.declared.table.ProgramLines.{ProgramLines}
 use Rattle.race_report.specs.Lines.{does, line_if, block_line, sought_line}
 
+-- what is there twice over, once
 abbrev pub flat : {A : Type 0} → Option (Option A) → Option A
 flat None = None
 flat (Some found) = found
@@ -21,6 +23,7 @@ flat (Some found) = found
 abbrev pub line_at : List (Option ℕ) → ℕ → Option ℕ
 line_at lines place = flat (slice_get lines place)
 
+-- the line at a place of a program, if its lines are kept
 abbrev pub program_line : Option ProgramLines → ℕ → Option ℕ
 program_line None place = None
 program_line (Some program) place = line_at program.lines.items place
@@ -29,6 +32,7 @@ program_line (Some program) place = line_at program.lines.items place
 abbrev pub kept_lines : LineTable → ℕ → Option ProgramLines
 kept_lines table program = flat (slice_get table.programs.items program)
 
+-- the line that the table has for the block at a place of a program
 abbrev pub table_line : LineTable → ℕ → ℕ → Option ℕ
 table_line table program place = program_line (kept_lines table program) place
 

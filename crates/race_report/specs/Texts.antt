@@ -1,4 +1,5 @@
 -- The list of races as it is printed: how many there are, and a line for each.
+-- lathe_calls takes `list_text` and lathe_top `list_text`.
 use Rattle.std.specs.Prelude.{ℕ, List, [], ◌∷◌, ◌++◌, length, codes}
 use Rattle.nc_number.specs.declared.path.Path.{Path}
 use Rattle.nc_number.specs.Path.{number_of, other_of}
@@ -15,12 +16,15 @@ race_text race =
     numbered (codes "#") race.variable ++ numbered (codes " after ") race.after ++ place_text race.writer race.write_line
     ++ place_text (other_of race.writer) race.other_line ++ codes "\n"
 
+-- a line for each race, in their order
 abbrev pub races_text : List Race → List ℕ
 races_text [] = []
 races_text (race ∷ races) = race_text race ++ races_text races
 
+-- the first line: how many races there are
 unfoldable pub head_text : ℕ → List ℕ
 head_text count = numbered (codes "races ") count ++ codes "\n"
 
+-- the whole list
 unfoldable pub list_text : List Race → List ℕ
 list_text races = head_text (length races) ++ races_text races

@@ -1,4 +1,5 @@
-//! What a list of races says: who calls the function has the law.
+//! What a list of races says: a caller of the function has the law.
+//! These laws are for readers: no other crate calls them.
 ghost use Rattle.std.specs.Prelude.{◌≡◌, ℕ, Bool, [], List};
 ghost use Rattle.cell_settings.specs.declared.settings.Settings.{Settings};
 ghost use Rattle.tape_flow.specs.declared.flow.Flow.{Flow};

@@ -1,4 +1,4 @@
-//! The races of a pair: shared variables whose values may hang on which path comes first.
+//! The races of a pair: shared variables whose values may depend on which path comes first.
 //!
 //! [`races`] lists, for each shared variable that has a race, the earliest one, and [`write_races`]
 //! prints the list. Where it is empty, all runs that finish come to the same:

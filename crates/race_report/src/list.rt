@@ -1,4 +1,5 @@
-//! The races of a pair.
+//! The list of the races of a pair, as a type: it can't hold any other list.
+//! lathe_calls and tests use it.
 ghost use Rattle.std.specs.Prelude.{◌≡◌, ◌↔◌, [], IsTrue};
 
 use crate::race::Race;

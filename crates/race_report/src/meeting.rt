@@ -1,4 +1,5 @@
 //! Whether both paths come to a variable at all, in whatever part.
+//! For this crate alone.
 ghost use Rattle.std.specs.Prelude.{◌≡◌};
 ghost use Rattle.race_report.specs.Meeting.{some_block, some_program, may_meet, may_race};
 

@@ -1,4 +1,6 @@
-//! What a block names and may write.
+//! Which variables a block names, and which it may write, by its text alone. One whose number is
+//! computed may be any.
+//! For this crate alone.
 ghost use Rattle.std.specs.Prelude.{◌≡◌};
 ghost use Rattle.macro_expr.specs.Tree.{variable_of, sentence_of, evaluated};
 ghost use Rattle.named_vars.specs.Names.{names, may_be, some_names, sentence_may_write, sentence_names, word_names, words_name, body_names, body_may_write};

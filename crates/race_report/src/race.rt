@@ -1,4 +1,6 @@
-//! A race.
+//! A race: a shared variable, the path that may write it, and the first lines at which both come to
+//! it.
+//! lathe_calls and lathe_top use it.
 use nc_number::Path;
 
 /// A race: one path may write the variable while the other names it.

@@ -1,4 +1,6 @@
-//! What is looked for in the blocks of a path.
+//! What is looked for in the blocks of a path: that they name a variable, or that they may write
+//! it.
+//! For this crate alone.
 
 /// What is looked for in the blocks of a path.
 #[derive(Clone, Copy, Debug, PartialEq, Eq)]

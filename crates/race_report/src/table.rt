@@ -1,4 +1,5 @@
 //! The lines of the blocks of a path that do what is looked for.
+//! For this crate alone.
 ghost use Rattle.std.specs.Prelude.{◌≡◌, ◌≢◌, ◌<◌, ◌∷◌, ℕ, Some, None, List, IfOk, OnOk, length, map};
 ghost use Rattle.std.specs.Option.{option_copied};
 ghost use Rattle.tape_flow.specs.declared.flow.Flow.{Flow};

@@ -1,4 +1,5 @@
 //! The list of races as it is printed.
+//! lathe_calls and tests use it.
 ghost use Rattle.std.specs.Prelude.{◌≡◌, ◌+◌, ◌≤◌, ◌++◌, length};
 ghost use Rattle.nc_verify.specs.Printed.{IsPut};
 ghost use Rattle.race_report.specs.Texts.{place_text, race_text, head_text, races_text, list_text};

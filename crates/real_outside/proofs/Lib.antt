@@ -1,1 +1,2 @@
+-- What proves the clauses of this crate. No other crate takes it.
 mod Untold

@@ -1,9 +1,11 @@
--- A disk and a turret of which nothing is told.
+-- A disk and a turret of which nothing is told, as the real ones of this crate. For this crate
+-- alone.
 use Rattle.std.specs.Prelude.{ℕ, ◌-◌, ◌^◌, None, ⊤}
 use Rattle.disk_model.specs.Device.{DiskState, IsCoherent}
 use Rattle.nc_outside.specs.Received.{TurretState}
 
--- Nothing is told but how often it has failed: a crash may leave any bytes, and any call may fail.
+-- Nothing is told but how often it has failed: a crash may leave any bytes, any call may fail, and
+-- its clock stands at the last value of a u64.
 abbrev pub untold : ℕ → DiskState
 untold faults = record {
   reads = None;
@@ -16,6 +18,7 @@ untold faults = record {
   allows = λ calls end. ⊥;
 }
 
+-- what is told of such a disk, nothing, agrees with itself
 pub untold_agrees : (faults : ℕ) → IsCoherent (untold faults)
 untold_agrees faults = record {
   counts_now = λ t c le now. tt;

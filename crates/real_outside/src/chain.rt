@@ -1,4 +1,6 @@
-//! How far the bytes of a journal count.
+//! How far the bytes of a journal count: up to its first shut gate. The format is that of gate_file
+//! (specs/Chain.antt).
+//! For journal_file.rt and shown_file.rt of this crate.
 ghost use Rattle.std.specs.Prelude.{◌≡◌, ◌<◌, ◌^◌, ℕ, IfOk};
 
 use crate::folder::RawFile;
@@ -8,7 +10,7 @@ use std::io;
 /// A file ends before this.
 pub(crate) const END: u64 = 1 << 62;
 
-/// How many bytes stand beside a body: its length before it, and the gate behind it.
+/// How many bytes stand beside a body: its length before it, and the gate after it.
 const FRAME: usize = 5;
 
 /// Where the gates of a journal end.
@@ -30,12 +32,12 @@ enum Head {
     Cut,
 }
 
-/// Goes over the gates of a journal, from the first on, each of them read once, and no further than
-/// the first that is shut.
+/// Where the gates of a journal end, or an error of the system. It goes over the gates from the
+/// first on, reads each of them once, and goes no further than the first that is shut.
 ///
-/// Who writes a journal opens a gate only where what stands after it is whole and on the medium,
-/// and never changes what stands before a gate that is shut. So this is how far the journal counted
-/// at some moment, whatever is written meanwhile.
+/// Who writes a journal opens a gate only if what stands after it is whole and on the medium, and
+/// never changes what stands before a gate that is shut. So this is how far the journal counted at
+/// some moment, whatever is written meanwhile.
 pub(crate) fn last_gate<F: RawFile>(file: &F) -> io::Result<LastGate>
     ensures { IfOk result (λ gate. gate.at < 2 ^ 62) }
 {
@@ -59,7 +61,7 @@ fn head_at<F: RawFile>(file: &F, at: u64) -> io::Result<Head>
     Ok(head_in(at, &bytes[..count]))
 }
 
-/// What the first bytes at a gate say, five of them, or fewer where the file ends.
+/// What the first bytes at a gate say, five of them, or fewer if the file ends.
 fn head_in(at: u64, bytes: &[u8]) -> Head
     requires { at < 2 ^ 62 }
     ensures { (next : ℕ) → result ≡ Head.Open next → (at < next) × (next < 2 ^ 62) }

@@ -1,4 +1,6 @@
-//! The journal's file as the disk of a run.
+//! The journal's file as the disk of a run. How the file is opened and written is in
+//! journal_file.rt.
+//! own_turret and twin_lathe use it.
 ghost use Rattle.std.specs.Prelude.{◌≡◌, ◌≤◌};
 ghost use Rattle.nc_number.specs.Faults.{Rose};
 
@@ -13,22 +15,24 @@ use disk_model::{Disk, Failed};
 ///
 /// - After a sync that answered Ok all that was written is on the medium, and the folder has the
 ///   journal's name there.
-/// - What is found of a journal is on the medium once the first sync has answered Ok, even where an
+/// - What is found of a journal is on the medium once the first sync has answered Ok, even if an
 ///   earlier program's sync failed: it is written over itself before. A stop at any moment leaves
 ///   each byte as it was.
 /// - After a write or a sync that failed each call fails.
-/// - One program at a time may write it, and it fails at a sync where it was moved, removed or
+/// - One program at a time may write it, and it fails at a sync if it was moved, removed or
 ///   replaced meanwhile.
-/// - [`Access::Look`] writes nothing and makes none. It shows the journal as it counted at the first
-///   call, and what is shown is synced before, whoever writes meanwhile. Where an earlier program's
-///   sync failed, it may show what is in the memory of the system alone.
+/// - [`Access::Look`] writes nothing and makes none. It shows the journal as it counted at the
+///   first call, and what is shown is synced before, whoever writes meanwhile. If an earlier
+///   program's sync failed, it may show what is in the memory of the system alone.
 /// - It takes no memory.
 ///
 /// It promises nothing of a medium that answers Ok and loses what was written, nor of a program
 /// that writes the file and holds no lock.
 #[derive(Drop)]
 pub struct FileDisk<'a, D: Folder + Drop> {
+    /// The file of the journal.
     file: JournalFile<'a, D>,
+    /// How many calls have failed.
     faults: u64,
 }
 
@@ -44,7 +48,7 @@ impl<'a, D: Folder + Drop> FileDisk<'a, D> {
         }
     }
 
-    /// Why the journal can't be used, where that is no fault of its disk: it is said to a person
+    /// Why the journal can't be used, if that is no fault of its disk: it is said to a person
     /// beside the fault.
     pub fn trouble(&self) -> Option<Trouble> {
         self.file.trouble()
@@ -66,10 +70,12 @@ impl<D: Folder + Drop> Disk for FileDisk<'_, D> {
 
     ghost coherent = { λ disk. untold_agrees disk.faults };
 
+    /// How many calls have failed.
     fn faults(&self) -> u64 {
         self.faults
     }
 
+    /// The number of bytes of the file.
     fn len(&mut self) -> Result<u64, Failed> {
         match self.file.length() {
             Ok(count) => Ok(count),
@@ -77,6 +83,7 @@ impl<D: Folder + Drop> Disk for FileDisk<'_, D> {
         }
     }
 
+    /// Reads from an offset on, and gives how many bytes.
     fn read_at(&mut self, at: u64, into: &mut [u8]) -> Result<usize, Failed> {
         match self.file.read_at(at, into) {
             Ok(count) => Ok(count),
@@ -84,6 +91,7 @@ impl<D: Folder + Drop> Disk for FileDisk<'_, D> {
         }
     }
 
+    /// Writes all bytes at an offset.
     fn write_at(&mut self, at: u64, bytes: &[u8]) -> Result<(), Failed> {
         match self.file.write_at(at, bytes) {
             Ok(()) => Ok(()),
@@ -91,6 +99,7 @@ impl<D: Folder + Drop> Disk for FileDisk<'_, D> {
         }
     }
 
+    /// Puts on the medium what was written.
     fn sync(&mut self) -> Result<(), Failed> {
         match self.file.sync() {
             Ok(()) => Ok(()),

@@ -1,4 +1,5 @@
-//! Files of the file system.
+//! Files of the file system as the shelf: tapes, settings, edits and zones.
+//! own_turret and twin_lathe use it.
 ghost use Rattle.std.specs.Prelude.{◌≡◌, ◌≢◌, ◌+◌, ◌≤◌, ◌++◌, List, ℕ, length, None, IfOk, OnOk, OnErr};
 ghost use Rattle.std.specs.Io.{StartsWith};
 
@@ -11,7 +12,9 @@ use std::rt::Files;
 /// The file system, by the names that the operating system knows. It tells nothing of the files.
 #[derive(Drop)]
 pub struct FileShelf<'a, R: Files> {
+    /// The system.
     rt: &'a R,
+    /// How many calls have failed.
     faults: u64,
 }
 
@@ -27,10 +30,13 @@ impl<'a, R: Files> FileShelf<'a, R> {
 impl<R: Files> Shelf for FileShelf<'_, R> {
     ghost state = { λ shelf. record { files = None; asked = None; faults = shelf.faults } };
 
+    /// How many calls have failed.
     fn faults(&self) -> u64 {
         self.faults
     }
 
+    /// Appends the bytes of a file. `Absent` if there is none, `TooLong` if it has more than `max`
+    /// bytes, `Failed` if the system failed.
     fn fetch(&mut self, name: &str, into: &mut Vec<u8>, max: usize) -> Result<(), FetchFault> {
         let outcome = read(self.rt, name, into, max);
         if outcome == Err(FetchFault::Failed) {

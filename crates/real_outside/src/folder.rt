@@ -1,4 +1,5 @@
-//! What a journal on a disk needs of the system.
+//! What a journal on a disk needs of the system, as traits: a folder and its files.
+//! system_folder.rt is the real one; tests take one that fails.
 use std::io;
 use std::os::unix::fs::FileExt;
 
@@ -16,17 +17,17 @@ pub trait Folder {
     /// An open file of the folder.
     type File: RawFile;
 
-    /// Opens a file to be read and written. `NotFound` where there is none.
+    /// Opens a file to be read and written. `NotFound` if there is none.
     fn open(&self, name: &str) -> io::Result<Self::File>;
 
-    /// Opens a file to be read alone. `NotFound` where there is none.
+    /// Opens a file to be read alone. `NotFound` if there is none.
     fn open_to_read(&self, name: &str) -> io::Result<Self::File>;
 
-    /// Makes a file that is not there, and opens it to be read and written. `AlreadyExists` where
+    /// Makes a file that is not there, and opens it to be read and written. `AlreadyExists` if
     /// there is one.
     fn make(&self, name: &str) -> io::Result<Self::File>;
 
-    /// Which file has this name now. `NotFound` where none has it.
+    /// Which file has this name now. `NotFound` if none has it.
     fn identity(&self, name: &str) -> io::Result<Identity>;
 
     /// Puts on the medium which names the folder has.
@@ -34,8 +35,8 @@ pub trait Folder {
 }
 
 /// An open file, as the system has it. `read_at` and `write_at` may come to fewer bytes than they
-/// were asked for, or be `Interrupted`; the other calls are made again where a signal interrupted
-/// them. It is closed, and its lock with it, where it is dropped.
+/// were asked for, or be `Interrupted`; the other calls are made again if a signal interrupted
+/// them. It is closed, and its lock with it, when it is dropped.
 pub trait RawFile: FileExt + Drop {
     /// The number of bytes.
     fn length(&self) -> io::Result<u64>;
@@ -43,7 +44,7 @@ pub trait RawFile: FileExt + Drop {
     /// Which file it is.
     fn identity(&self) -> io::Result<Identity>;
 
-    /// Keeps every other from holding the file, up to the end of this one. False where another
+    /// Keeps every other from holding the file, up to the end of this one. False if another
     /// holds it; it does not wait.
     fn hold(&self) -> io::Result<bool>;
 

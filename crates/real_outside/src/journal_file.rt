@@ -1,4 +1,6 @@
-//! The file of the journal, as a command may use it.
+//! The file of the journal, as a command may use it: who may write, and what is believed after a
+//! fault. How it looks to a run is in file_disk.rt.
+//! own_turret and twin_lathe use it.
 ghost use Rattle.std.specs.Prelude.{◌+◌, ◌≤◌, ◌<◌, ◌^◌, IfOk, OnOk, length};
 
 use crate::chain::{END, last_gate};
@@ -57,10 +59,15 @@ enum Found<F: RawFile> {
 /// call fails.
 #[derive(Drop)]
 pub(crate) struct JournalFile<'a, D: Folder + Drop> {
+    /// The folder that the file is in.
     folder: D,
+    /// Its name there.
     name: &'a str,
+    /// What the command does with it.
     access: Access,
+    /// What is known of it by now.
     found: Found<D::File>,
+    /// Why it can't be used, if that is no fault of the disk.
     trouble: Option<Trouble>,
     /// How much is shown of a file that is read alone.
     shown: Option<Extent>,
@@ -85,7 +92,7 @@ impl<'a, D: Folder + Drop> JournalFile<'a, D> {
         }
     }
 
-    /// Why the file can't be used, where that is no fault of the disk.
+    /// Why the file can't be used, if that is no fault of the disk.
     pub(crate) fn trouble(&self) -> Option<Trouble> {
         self.trouble
     }
@@ -140,7 +147,7 @@ impl<'a, D: Folder + Drop> JournalFile<'a, D> {
         }
     }
 
-    /// Looks for the file, where that was not done yet.
+    /// Looks for the file, if that was not done yet.
     fn look(&mut self) -> io::Result<()> {
         if let Found::Unknown = &self.found {
             self.found = self.find()?;
@@ -148,7 +155,7 @@ impl<'a, D: Folder + Drop> JournalFile<'a, D> {
         Ok(())
     }
 
-    /// Opens the file as the command is to use it, where there is one.
+    /// Opens the file as the command is to use it, if there is one.
     fn find(&mut self) -> io::Result<Found<D::File>> {
         let opened = match self.access {
             Access::Look => self.folder.open_to_read(self.name),
@@ -183,7 +190,7 @@ impl<'a, D: Folder + Drop> JournalFile<'a, D> {
         Ok(Found::Open(file))
     }
 
-    /// Writes all bytes at an offset of the journal, which is made where there was none.
+    /// Writes all bytes at an offset of the journal, which is made if there was none.
     fn write(&mut self, at: u64, bytes: &[u8]) -> io::Result<()>
         ensures { OnOk result (at + length bytes.now < 2 ^ 62) }
     {
@@ -231,7 +238,7 @@ impl<'a, D: Folder + Drop> JournalFile<'a, D> {
         self.recognize()
     }
 
-    /// Puts on the medium that the folder has the file, where that was not done yet.
+    /// Puts on the medium that the folder has the file, if that was not done yet.
     fn list(&mut self) -> io::Result<()> {
         if self.is_listed {
             return Ok(());
@@ -244,7 +251,7 @@ impl<'a, D: Folder + Drop> JournalFile<'a, D> {
         Ok(())
     }
 
-    /// Fails where the file that is written has its name no longer: what is on the medium would be
+    /// Fails if the file that is written has its name no longer: what is on the medium would be
     /// found by nobody.
     fn recognize(&mut self) -> io::Result<()> {
         let Found::Open(file) = &self.found else {
@@ -292,7 +299,7 @@ fn length_of<F: RawFile>(file: &F) -> io::Result<u64>
     Ok(length)
 }
 
-/// Writes all bytes at an offset, where they end before the end of a file. A write that comes to
+/// Writes all bytes at an offset, if they end before the end of a file. A write that comes to
 /// fewer bytes, or is interrupted, is gone on with.
 fn put<F: RawFile>(file: &F, at: u64, bytes: &[u8]) -> io::Result<()>
     ensures { OnOk result (at + length bytes.now < 2 ^ 62) }

@@ -1,6 +1,7 @@
 //! The outside of a lathe on a real machine: tapes and settings that are files, a journal on a
-//! disk, a report on standard output, and turrets that log nothing. A program of one's own takes
-//! what it needs of these, and puts its own forms of the traits beside them.
+//! disk, a report on standard output, files or pipes for the lines of the turrets, and a turret
+//! that does nothing. A program of one's own takes what it needs of these, and puts its own forms
+//! of the traits beside them.
 //!
 //! None of them tells what it holds or got, since no proof can see the system: what a call of the
 //! lathe promises of forms that tell nothing holds of these, with their counts of faults. What a

@@ -1,4 +1,5 @@
 //! A file or a named pipe that gets lines.
+//! twin_lathe uses it.
 ghost use Rattle.std.specs.Prelude.{◌≡◌, None};
 
 use nc_outside::{PutFault, Sink};
@@ -14,9 +15,13 @@ use std::rt::Files;
 /// taken and kept nowhere.
 #[derive(Drop)]
 pub struct LineFile<'a, R: Files<File = File>> {
+    /// The system.
     rt: &'a R,
+    /// The name of the file; without one nothing is written.
     name: Option<&'a str>,
+    /// The file, once the first line has opened it.
     file: Option<File>,
+    /// How many calls have failed.
     faults: u64,
 }
 
@@ -53,7 +58,7 @@ fn write<R: Files<File = File>>(
     }
 }
 
-/// The file, made anew, by a descriptor that is none of the three of the standard streams: where
+/// The file, made anew, by a descriptor that is none of the three of the standard streams: if
 /// one of those is closed, the system gives its number to the next file that is opened.
 fn opened<R: Files<File = File>>(rt: &R, name: &str) -> io::Result<File> {
     File::create(rt, name)?.try_clone()
@@ -62,10 +67,12 @@ fn opened<R: Files<File = File>>(rt: &R, name: &str) -> io::Result<File> {
 impl<R: Files<File = File>> Sink for LineFile<'_, R> {
     ghost state = { λ sink. record { written = None; faults = sink.faults } };
 
+    /// How many calls have failed.
     fn faults(&self) -> u64 {
         self.faults
     }
 
+    /// Writes the bytes of a line at once.
     fn put(&mut self, piece: &[u8]) -> Result<(), PutFault> {
         if write(self.rt, self.name, &mut self.file, piece).is_err() {
             self.faults = self.faults.saturating_add(1);

@@ -1,4 +1,5 @@
-//! The turrets of the program.
+//! A turret that does nothing. The turret of the program is in turret_lines, over line_file.rt.
+//! Only tests use it.
 use nc_number::Point;
 use nc_outside::{Failed, LinedMove, Turret};
 
@@ -12,18 +13,22 @@ impl Turret for LogTurret {
 
     ghost state = { λ _. untold_turret };
 
+    /// Always 0: it never fails.
     fn faults(&self) -> u64 {
         0
     }
 
+    /// Does nothing.
     fn place(&mut self, _at: Point) -> Result<(), Failed> {
         Ok(())
     }
 
+    /// Does nothing.
     fn hand(&mut self, _what: &LinedMove) -> Result<(), Failed> {
         Ok(())
     }
 
+    /// Always stands still.
     fn settle(&mut self) -> Result<(), Failed> {
         Ok(())
     }

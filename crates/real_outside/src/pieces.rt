@@ -1,4 +1,5 @@
 //! Bytes of a file that are read and written in pieces.
+//! For chain.rt, journal_file.rt and shown_file.rt of this crate.
 ghost use Rattle.std.specs.Prelude.{◌≤◌, ◌^◌, IfOk, length};
 
 use crate::folder::RawFile;

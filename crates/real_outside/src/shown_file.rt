@@ -3,6 +3,7 @@
 //! It is shown as it counted when it was looked at first: up to its first gate that was shut then,
 //! and with that gate shut, whatever is written meanwhile. That takes no memory, and no more of the
 //! file is read than is asked for, but for the gates.
+//! For journal_file.rt of this crate.
 ghost use Rattle.std.specs.Prelude.{◌≤◌, ◌<◌, ◌^◌, IfOk, length};
 
 use crate::chain::{END, LastGate, last_gate};
@@ -14,6 +15,7 @@ use std::io::ErrorKind;
 /// How much of a journal is shown.
 #[derive(Clone, Copy)]
 pub(crate) struct Extent {
+    /// How many bytes are shown.
     length: u64,
     /// Where a shut gate is shown, whatever stands there by now.
     shut: Option<u64>,
@@ -70,7 +72,7 @@ fn settled_extent<F: RawFile>(file: &F, shown: &mut Option<Extent>) -> io::Resul
     Ok(extent)
 }
 
-/// How much of a journal counts now. The length is asked for after the last gate was read: where
+/// How much of a journal counts now. The length is asked for after the last gate was read: if
 /// that one is open, the file is cut short.
 fn extent_of<F: RawFile>(file: &F) -> io::Result<Extent> {
     let LastGate { at, is_shut } = last_gate(file)?;
@@ -86,14 +88,14 @@ fn extent_of<F: RawFile>(file: &F) -> io::Result<Extent> {
     })
 }
 
-/// Puts a shut gate at this place of the bytes, where they go so far.
+/// Puts a shut gate at this place of the bytes, if they go so far.
 fn put_shut(bytes: &mut [u8], place: u64) {
     if place < bytes.len() as u64 {
         bytes[place as usize] = 0;
     }
 }
 
-/// The answer of a sync, where a medium that can't be written has nothing to sync.
+/// The answer of a sync, if a medium that can't be written has nothing to sync.
 pub(crate) fn written(answer: io::Result<()>) -> io::Result<()> {
     match answer {
         Err(error) if is_unwritable(error.kind()) => Ok(()),

@@ -1,4 +1,5 @@
-//! Standard output.
+//! Standard output as the sink of a command's answer.
+//! own_turret and twin_lathe use it.
 ghost use Rattle.std.specs.Prelude.{◌≡◌, None};
 
 use nc_outside::{PutFault, Sink};
@@ -8,7 +9,9 @@ use std::io::Write;
 /// Standard output. It tells nothing of what was written.
 #[derive(Drop)]
 pub struct StdSink<'a, R: Print> {
+    /// The system.
     rt: &'a R,
+    /// How many calls have failed.
     faults: u64,
 }
 
@@ -24,10 +27,12 @@ impl<'a, R: Print> StdSink<'a, R> {
 impl<R: Print> Sink for StdSink<'_, R> {
     ghost state = { λ sink. record { written = None; faults = sink.faults } };
 
+    /// How many calls have failed.
     fn faults(&self) -> u64 {
         self.faults
     }
 
+    /// Prints all bytes at once.
     fn put(&mut self, piece: &[u8]) -> Result<(), PutFault> {
         if write(self.rt, piece).is_err() {
             self.faults = self.faults.saturating_add(1);

@@ -1,4 +1,5 @@
-//! The folder and the files of the operating system.
+//! The folder and the files of the operating system, behind the traits of folder.rt.
+//! own_turret and twin_lathe use it.
 use crate::folder::{Folder, Identity, RawFile};
 use std::fs::{File, Metadata, OpenFile};
 use std::io::ErrorKind;
@@ -12,6 +13,7 @@ const CURRENT: &str = ".";
 /// The current folder of the program.
 #[derive(Drop)]
 pub struct SystemFolder<'a, R: Files<File = File>> {
+    /// The system.
     rt: &'a R,
 }
 
@@ -25,6 +27,7 @@ impl<'a, R: Files<File = File>> SystemFolder<'a, R> {
 impl<R: Files<File = File>> Folder for SystemFolder<'_, R> {
     type File = SystemFile;
 
+    /// To be read and written, by a descriptor that is no standard stream.
     fn open(&self, name: &str) -> io::Result<SystemFile> {
         apart(File::options().read(true).write(true).open(self.rt, name)?)
     }
@@ -37,14 +40,17 @@ impl<R: Files<File = File>> Folder for SystemFolder<'_, R> {
         apart(File::open(self.rt, name)?)
     }
 
+    /// Made anew, and never over a file that is there.
     fn make(&self, name: &str) -> io::Result<SystemFile> {
         apart(File::create_new(self.rt, name)?)
     }
 
+    /// By the number of the file and that of its device.
     fn identity(&self, name: &str) -> io::Result<Identity> {
         Ok(identity_of(&fs::metadata(self.rt, name)?))
     }
 
+    /// The folder is opened for it and closed again.
     fn sync(&self) -> io::Result<()> {
         let folder = File::open(self.rt, CURRENT)?;
         folder.sync_all()
@@ -54,10 +60,11 @@ impl<R: Files<File = File>> Folder for SystemFolder<'_, R> {
 /// An open file of the operating system.
 #[derive(Drop)]
 pub struct SystemFile {
+    /// The open file.
     file: File,
 }
 
-/// The same file by a descriptor that is none of the three of the standard streams. Where one of
+/// The same file by a descriptor that is none of the three of the standard streams. If one of
 /// those is closed the system gives its number to the next file that is opened, and a report would
 /// then be written into the journal.
 fn apart(file: File) -> io::Result<SystemFile> {
@@ -75,20 +82,24 @@ fn identity_of(found: &Metadata) -> Identity {
 }
 
 impl FileExt for SystemFile {
+    /// As the system reads: it may come to fewer bytes.
     fn read_at(&self, buf: &mut [u8], offset: u64) -> io::Result<usize> {
         self.file.read_at(buf, offset)
     }
 
+    /// As the system writes: it may come to fewer bytes.
     fn write_at(&self, buf: &[u8], offset: u64) -> io::Result<usize> {
         self.file.write_at(buf, offset)
     }
 }
 
 impl RawFile for SystemFile {
+    /// By the data that the system keeps of the file.
     fn length(&self) -> io::Result<u64> {
         Ok(self.file.metadata()?.len())
     }
 
+    /// By the number of the file and that of its device.
     fn identity(&self) -> io::Result<Identity> {
         Ok(identity_of(&self.file.metadata()?))
     }
@@ -101,6 +112,7 @@ impl RawFile for SystemFile {
         }
     }
 
+    /// Syncs the bytes and the data of the file.
     fn sync(&self) -> io::Result<()> {
         self.file.sync_all()
     }

@@ -16,10 +16,12 @@ use Rattle.nc_restart.specs.History.{IsHistory}
 use Rattle.nc_restart.specs.Pair.{machine_behind, opening_of, tapes_in}
 use Rattle.run_edits.specs.Made.{record_of, records_of}
 
+-- an edit raises no alarm and clears none
 alarm_stays : (path : Path) (edit : Edit) (m : MachineView) → (behind_edit_of path edit m).alarm ≡ m.alarm
 alarm_stays One edit m = refl
 alarm_stays Two edit m = refl
 
+-- edits may follow each other at a machine without an alarm
 all_follow : (tapes : Tapes) (m : MachineView) (edits : List PathEdit) → m.alarm ≡ None → IsLegal tapes m (records_of edits)
 all_follow tapes m [] calm = tt
 all_follow tapes m (what ∷ edits) calm = (
@@ -27,6 +29,7 @@ all_follow tapes m (what ∷ edits) calm = (
   all_follow tapes (behind_entry tapes (record_of what) m) edits (alarm_stays what.path what.edit m ∙ calm),
 )
 
+-- so they may follow a history without an alarm, if there is room for their records
 pub followed : (pair : Verified) (found : List Entry) (edits : List PathEdit) → IsHistory pair found → (machine_behind pair found).alarm ≡ None
     → length found + length edits ≤ pair.settings.records → IsHistory pair (found ++ records_of edits)
 followed pair found edits history calm few = record {

@@ -1,2 +1,3 @@
+-- The lemmas of this crate, each file by its subject.
 mod Written
 mod Followed

@@ -32,6 +32,7 @@ module _ {D : Type 0} (state : D → DiskState) (old mid noted : Log D) (new : L
   pending : Pends noted.version made noted.batch
   pending = subst (λ (v : Version). Pends v made noted.batch) (sym version) pends
 
+  -- at every moment the disk holds the run that was found, or it and all edits
   pub written_moment : (header : Header) (entries : List Entry) → Holds header old.version entries (state old.file.disk) old.file.end
       → LeavesOnly (Stands header entries) (state old.file.disk) (state mid.file.disk)
       → ((header : Header) (entries pending : List Entry) → Pends noted.version pending noted.batch
@@ -45,6 +46,7 @@ module _ {D : Type 0} (state : D → DiskState) (old mid noted : Log D) (new : L
       (second header entries made pending (held header entries holds)))
       (λ x here. inl here) (λ x here. here)
 
+  -- after an Ok it holds the latter
   pub written_whole : ((disk : D) (header : Header) (version : Version) (entries : List Entry) (end : ℕ)
       → Holds header version entries (state disk) end → (c : List ℕ) → (state disk).image c → Stands header entries c)
       → ((header : Header) (entries pending : List Entry) → Pends noted.version pending noted.batch
@@ -55,6 +57,7 @@ module _ {D : Type 0} (state : D → DiskState) (old mid noted : Log D) (new : L
   written_whole leaves acknowledged header entries holds c image =
       leaves new.file.disk header new.version (entries ++ made) new.file.end (acknowledged header entries made pending (held header entries holds)) c image
 
+-- edits, if there are any, have records
 pub none_made : (edits : List PathEdit) → (length edits == 0) ≡ false → records_of edits ≡ [] → ⊥
 none_made [] some none = absurd cc
 none_made (what ∷ edits) some none = absurd cc
@@ -82,6 +85,7 @@ module _ {D : Type 0} (state : D → DiskState) (old new : Log D) (header : Head
         allows = uses.allows;
       }
 
+  -- so it is if all edits were made,
   pub when_made : ((header : Header) (entries : List Entry) → Holds header old.version entries (state old.file.disk) old.file.end
       → (c : List ℕ) → (state new.file.disk).image c → Stands header (entries ++ made) c)
       → (state old.file.disk).faults ≤ (state new.file.disk).faults → (state new.file.disk).faults ≡ (state old.file.disk).faults
@@ -96,6 +100,7 @@ module _ {D : Type 0} (state : D → DiskState) (old new : Log D) (header : Head
     uses = uses_all;
   }
 
+  -- and if the disk failed before
   pub when_failed : (fault : DiskFault) → (state old.file.disk).faults ≤ (state new.file.disk).faults
       → Rose (state old.file.disk).faults (state new.file.disk).faults
       → MakesEdits state header found made old.file.disk new.file.disk (Err (Fault fault))

@@ -1,4 +1,5 @@
--- What callers read.
+-- What making edits does to the disk (Made). The first group is what callers read, the second is
+-- for this crate.
 pub mod Made
 -- Words of the inside.
 pub mod Writing

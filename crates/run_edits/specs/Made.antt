@@ -1,4 +1,5 @@
 -- The records of edits, and what it does to the disk of a journal to make them.
+-- lathe_top takes words from here.
 use Rattle.std.specs.Prelude.{◌≡◌, ℕ, ◌+◌, ◌*◌, ◌≤◌, List, [], ◌++◌, length, map, Result, IfErr, IsOk, OnOk}
 use Rattle.disk_model.specs.Device.{DiskState, Reads, Rose}
 use Rattle.disk_model.specs.Moments.{LeavesOnly, Uses}

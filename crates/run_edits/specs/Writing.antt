@@ -1,4 +1,5 @@
 -- What a journal and a machine are to be for so many edits.
+-- For this crate alone.
 use Rattle.std.specs.Prelude.{◌≡◌, ℕ, ◌+◌, ◌≤◌, List, [], ◌∷◌, IsTrue, None}
 use Rattle.nc_number.specs.declared.limits.TheConstants.{MOST_RECORDS}
 use Rattle.run_journal.specs.Kept.{Log}

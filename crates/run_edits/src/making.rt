@@ -1,4 +1,6 @@
-//! How edits are made.
+//! How edits are made in a run that was recovered: room first, then the journal raised, the
+//! records, and one batch.
+//! lathe_top uses it.
 ghost use Rattle.std.specs.Prelude.{◌≡◌, ℕ, ◌+◌, ◌≤◌, ◌++◌, List, length, nat_le, is_ok, None, OnOk};
 ghost use Rattle.disk_model.specs.Device.{HasCause, Reads};
 ghost use Rattle.disk_model.specs.Moments.{LeavesOnly, Uses};
@@ -25,7 +27,9 @@ use two_path::Machine;
 /// What came of edits: the disk of the journal, and whether they were written.
 #[derive(Drop)]
 pub struct Made<D: Disk> {
+    /// The disk, which is given back in any case.
     pub disk: D,
+    /// Ok if all edits stand on the disk; else the fault, or that memory ran out.
     pub result: Result<(), Failing<DiskFault>>,
 }
 

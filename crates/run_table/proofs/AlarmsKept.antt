@@ -29,6 +29,7 @@ alarm_behind before turn.Finished = before
 alarm_behind before (turn.Halted alarm) = before
 alarm_behind before turn.Edited = before
 
+-- it is the machine's alarm behind a turn at a wait,
 wait_alarm : (path : Path) (line : ℕ) (m : MachineView) (code : ℕ) (o : Option ℕ)
     → (result_at_wait path line m code o).machine.alarm ≡ alarm_behind m.alarm (result_at_wait path line m code o).turn
 wait_alarm path line m code None = refl
@@ -38,6 +39,7 @@ wait_alarm path line m code (Some there) = go (code == there) refl
     go true e = rw e refl
     go false e = rw e refl
 
+-- behind a turn by what the block comes to,
 by_alarm : (path : Path) (line : ℕ) (m : MachineView) (e : Effect)
     → (result_by path line m e).machine.alarm ≡ alarm_behind m.alarm (result_by path line m e).turn
 by_alarm path line m (Need variable) = refl
@@ -46,6 +48,7 @@ by_alarm path line m (AtWait code) = wait_alarm path line m code m.paths.two.wai
 by_alarm path line m (AtEnd after moves) = refl
 by_alarm path line m (effect.Alarm number value) = refl
 
+-- behind a turn that may be still,
 idle_alarm : (m : MachineView) (a : Option Alarm) (f : Bool) (w : Option ℕ) (rest : TurnResult) → rest.machine.alarm ≡ alarm_behind m.alarm rest.turn
     → (unless_idle m a f w rest).machine.alarm ≡ alarm_behind m.alarm (unless_idle m a f w rest).turn
 idle_alarm m (Some alarm) f w rest is = refl
@@ -53,16 +56,18 @@ idle_alarm m None true w rest is = refl
 idle_alarm m None false (Some code) rest is = refl
 idle_alarm m None false None rest is = is
 
+-- behind a turn of the path whose part is first,
 own_alarm : (blocks : Blocks) (path : Path) (m : MachineView) → (own_turn blocks path m).machine.alarm ≡ alarm_behind m.alarm (own_turn blocks path m).turn
 own_alarm blocks path m =
     idle_alarm m m.alarm m.paths.one.finished m.paths.one.waiting (block_turn blocks path m)
     (by_alarm path (blocks.line m.paths.one.path.place) m (blocks.effect m.paths.one.path m.paths.one.values))
 
+-- and behind each turn
 pub turn_alarm : (tapes : Tapes) (path : Path) (m : MachineView) → (turn_of tapes path m).machine.alarm ≡ alarm_behind m.alarm (turn_of tapes path m).turn
 turn_alarm tapes One m = own_alarm tapes.one One m
 turn_alarm tapes Two m = own_alarm tapes.two Two (own_first Two m)
 
--- what shows something has a record
+-- a turn that shows something makes a record
 pub shown_made : (path : Path) (stamps : List ℕ) (t : Turn) → is_shown t ≡ true → length (list_of (entry_with path stamps (kind_of t))) ≡ 1
 shown_made path stamps (turn.Read variable stamp) shown = absurd cc
 shown_made path stamps (turn.Did moves) shown = refl
@@ -75,7 +80,7 @@ shown_made path stamps (turn.Alarm alarm) shown = refl
 shown_made path stamps (turn.Halted alarm) shown = absurd cc
 shown_made path stamps turn.Edited shown = absurd cc
 
--- and its record is of a step
+-- and the record of a turn is that of a step
 pub made_step : (path : Path) (stamps : List ℕ) (t : Turn) → IfSome (entry_with path stamps (kind_of t)) (λ e. edit_of e.kind ≡ None)
 made_step path stamps t = go (kind_of t) refl
   where

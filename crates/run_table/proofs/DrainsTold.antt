@@ -24,6 +24,7 @@ use Rattle.run_table.specs.Stepping.{is_due, bound_by, bound_of, drains, step_by
 use Rattle.run_table.specs.Stepping.Answers.{at_once, flushed, failed}
 use Rattle.run_table.specs.Holding.{held_of, drains_at, next_of_turn, next_of}
 
+-- a path that was set aside owes nothing
 owes_none : (path : Path) (owed : Both Bool) → of_path (with_owed path false owed) path ≡ false
 owes_none One owed = refl
 owes_none Two owed = refl
@@ -34,10 +35,12 @@ drained_already t path shown =
     let stopped = is_none t.halt && is_none (bound_of t) in
     ap (λ (b : Bool). stopped && (b && is_wait (turn_of (tapes_in t.verified) path t.machine).turn)) (owes_none path t.owed) ∙ and_false stopped false refl
 
+-- none of these asks for a drain: moves handed on,
 handed_asks : (b : Bool) (moves : Moves) → Some (if b then next.Silent else next.Moves moves) ≢ Some next.Drain
 handed_asks true moves e = let clash : Some next.Silent ≡ Some next.Drain = e in cc
 handed_asks false moves e = let clash : Some (next.Moves moves) ≡ Some next.Drain = e in cc
 
+-- a turn,
 turn_asks : (t : Turn) → next_of_turn t ≢ Some next.Drain
 turn_asks (turn.Read variable stamp) e = cc
 turn_asks (turn.Did moves) e = handed_asks (length moves.list == 0) moves e
@@ -50,36 +53,43 @@ turn_asks (turn.Alarm alarm) e = cc
 turn_asks (turn.Halted alarm) e = cc
 turn_asks turn.Edited e = cc
 
+-- a fault of the disk,
 disk_asks : next_of DiskFault ≢ Some next.Drain
 disk_asks e = cc
 
+-- a table that stopped
 halt_asks : (why : Halt) → next_of (Halted why) ≢ Some next.Drain
 halt_asks why e = cc
 
 module _ {D : Type 0} (state : D → DiskState) (path : Path) (t t' : TableView D) (result : TableStep) (shown shown' : Bool)
     (step : IsStep state (step_of t path) t t' result) (owed : t'.owed ≡ owed_behind path result t.owed) where
+  -- the path is to be drained before the step,
   abbrev asked : Bool
   asked = drains_at (held_of t shown) path
 
+  -- or behind it
   abbrev behind : Bool
   behind = drains_at (held_of t' shown') path
 
+  -- the answer is `Drain` just if the path is to be drained, and it is so still behind that
   abbrev Told : TableStep → Type 0
   Told answer = AsksDrain asked (next_of answer) behind
 
+  -- who is to be drained, by why the table stopped and what bounds it
   asked_is : (why bound : Option Halt) (drain : Bool) → t.halt ≡ why → bound_of t ≡ bound → drains t path ≡ drain → asked ≡ ((is_none why && is_none bound) && drain)
   asked_is why bound drain halts bounds drained = λ i. (is_none (halts i) && is_none (bounds i)) && drained i
 
-  -- another answer, where no drain is due
+  -- if no drain is due, an answer that asks for none says so
   other : (answer : TableStep) → asked ≡ false → next_of answer ≢ Some next.Drain → Told answer
   other answer none not_drain = subst (λ (b : Bool). AsksDrain b (next_of answer) behind) (sym none) not_drain
 
+  -- each other answer says so too
   other_told : (answer : TableStep) (due : Bool) → asked ≡ false → next_of answer ≢ Some next.Drain → Answers state due answer t.recording t'.recording result → Told result
   other_told answer due none not_drain (at_once now same file even) = subst Told (sym same) (other answer none not_drain)
   other_told answer due none not_drain (flushed was same live all) = subst Told (sym same) (other answer none not_drain)
   other_told answer due none not_drain (failed was same dead stay rose) = subst Told (sym same) (other DiskFault none disk_asks)
 
-  -- nothing was done
+  -- if nothing was done, who is to be drained is as before
   stays : IsStep state (step_by t path None None true) t t' result → t.halt ≡ None → result ≡ Drain → behind ≡ asked
   stays s halts is =
       let halt : t'.halt ≡ t.halt = s.halt ∙ ap (λ (why : Option Halt). reason_behind why result) halts ∙ ap (reason_behind None) is ∙ sym halts in
@@ -90,12 +100,14 @@ module _ {D : Type 0} (state : D → DiskState) (path : Path) (t t' : TableView 
       λ i. (is_none (halt i) && is_none (bound_by (count i) (s.verified i).settings.records (budget i)))
       && (of_path (owes_on i) path && is_wait (turn_of (tapes_in (s.verified i)) path (s.machine i)).turn)
 
+  -- and a drain says it
   drain_told : IsStep state (step_by t path None None true) t t' result → t.halt ≡ None → asked ≡ true → Answers state false Drain t.recording t'.recording result → Told result
   drain_told s halts due (at_once now same file even) =
       subst Told (sym same) (subst (λ (b : Bool). AsksDrain b (Some next.Drain) behind) (sym due) (refl, stays s halts same ∙ due))
   drain_told s halts due (flushed was same live all) = absurd (let clash : false ≡ true = was in cc)
   drain_told s halts due (failed was same dead stay rose) = absurd (let clash : false ≡ true = was in cc)
 
+  -- each step of a table says whether the path is to be drained
   pub drains_told : Told result
   drains_told = go t.halt (bound_of t) (drains t path) refl refl refl step
     where

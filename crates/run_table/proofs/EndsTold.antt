@@ -31,7 +31,7 @@ use Rattle.run_table.proofs.HeldKept.{of_more}
 use Rattle.run_table.proofs.TablesKept.{table_of}
 use Rattle.run_table.proofs.Then.{since_more}
 
--- a table that the disk has not stopped
+-- a table that the disk has not stopped has a journal that may be written
 pub open_live : {D : Type 0} (m : MachineView) (r : RecordingView D) (why : Option Halt) → HasReason m r why → why ≢ Some halt.Disk → IsTrue r.log.file.live
 open_live m r None reason free = reason.live
 open_live m r (Some (halt.Alarm alarm)) reason free = reason.1
@@ -40,6 +40,7 @@ open_live m r (Some (halt.Turret path)) reason free = reason.live
 open_live m r (Some halt.Full) reason free = absurd reason
 open_live m r (Some halt.Budget) reason free = absurd reason
 
+-- a table that the disk has not stopped is stopped by nothing or by an alarm
 open_halt : {D : Type 0} (m : MachineView) (r : RecordingView D) (why : Option Halt) → HasReason m r why → why ≢ Some halt.Disk → IsNoneOrAlarm (without_turret why)
 open_halt m r None reason free = tt
 open_halt m r (Some (halt.Alarm alarm)) reason free = tt
@@ -48,7 +49,7 @@ open_halt m r (Some (halt.Turret path)) reason free = tt
 open_halt m r (Some halt.Full) reason free = absurd reason
 open_halt m r (Some halt.Budget) reason free = absurd reason
 
--- the reason stays over a flush
+-- the reason that a table keeps is one still behind a flush
 pub reason_flushed : {D : Type 0} (m : MachineView) (r r' : RecordingView D) (why : Option Halt) → HasReason m r why → why ≢ Some halt.Disk → IsTrue r'.log.file.live
     → r'.flushed ≡ length r'.history → HasReason m r' why
 reason_flushed m r r' None reason free live all = record { calm = reason.calm; live = live; few = omega (arith, all) }
@@ -85,17 +86,20 @@ flushed_table state v m r r' why why' budget owed table records reason =
       journaled = (table.journaled.0, table.journaled.1, (records.follows.journal table.journaled.0 table.journaled.2).journaled);
     }
 
+-- a table that the disk stopped has a journal that may not be written
 pub disk_dead : {D : Type 0} (m : MachineView) (r : RecordingView D) (why : Option Halt) → HasReason m r why → why ≡ Some halt.Disk → r.log.file.live ≡ false
 disk_dead m r why reason is = subst (HasReason m r) is reason
 
--- the end by all causes, and by each
+-- numbers that test as different are so
 numbers_differ : (a b : ℕ) → (a == b) ≡ false → a ≢ b
 numbers_differ a b is same = absurd (grind arith)
 
 module _ {D : Type 0} (h : HeldView D) (live : IsTrue h.file.live) (all : h.flushed ≡ length h.history) (halts : IsNoneOrAlarm (without_turret h.halt)) where
+  -- a held table that is all flushed ended as its machine did
   at_end : (e : Option Reason) → end_of h.machine ≡ e → IsAtEnd h e
   at_end e is = record { live = live; all = all; halt = halts; machine = is }
 
+  -- it ended by the first of these causes: its machine, a full journal, a spent budget
   by_parts : (alarm : Option Alarm) (both full spent : Bool) (end : Reason) → end_of h.machine ≡ end_by alarm both
       → (length h.history == h.verified.settings.records) ≡ full → (h.budget == 0) ≡ spent
       → end_or_bound (end_by alarm both) (if full then Some halt.Full else if spent then Some halt.Budget else None) ≡ Some end → HasEnded h end
@@ -105,6 +109,7 @@ module _ {D : Type 0} (h : HeldView D) (live : IsTrue h.file.live) (all : h.flus
   by_parts None false false true end is f s same = subst (HasEnded h) (some_is same) (at_end None is, numbers_differ (length h.history) h.verified.settings.records f, equal h.budget 0 s)
   by_parts None false false false end is f s same = absurd cc
 
+  -- so it ended by the cause that the code finds
   pub has_ended : (end : Reason)
       → end_or_bound (end_of h.machine) (if length h.history == h.verified.settings.records then Some halt.Full else if h.budget == 0 then Some halt.Budget else None) ≡ Some end
       → HasEnded h end
@@ -113,6 +118,7 @@ module _ {D : Type 0} (h : HeldView D) (live : IsTrue h.file.live) (all : h.flus
 
 -- no cause by its parts
 module _ {D : Type 0} (h : HeldView D) (live : IsTrue h.file.live) (halts : h.halt ≢ Some halt.Disk) where
+  -- if no cause is found none of them stands,
   none_by_parts : (e : Option Reason) (full spent : Bool) → end_of h.machine ≡ e
       → (length h.history == h.verified.settings.records) ≡ full → (h.budget == 0) ≡ spent
       → end_or_bound e (if full then Some halt.Full else if spent then Some halt.Budget else None) ≡ None → HasNotEnded h
@@ -122,6 +128,7 @@ module _ {D : Type 0} (h : HeldView D) (live : IsTrue h.file.live) (halts : h.ha
   none_by_parts None false false is f s none =
       record { live = live; halt = halts; machine = is; room = numbers_differ (length h.history) h.verified.settings.records f; leave = numbers_differ h.budget 0 s }
 
+  -- so the run goes on
   pub has_not_ended : end_or_bound (end_of h.machine) (if length h.history == h.verified.settings.records then Some halt.Full else if h.budget == 0 then Some halt.Budget else None) ≡ None
       → HasNotEnded h
   has_not_ended none = none_by_parts (end_of h.machine) (length h.history == h.verified.settings.records) (h.budget == 0) refl refl refl none
@@ -135,12 +142,14 @@ no_fault_by None false true spent is = cc
 no_fault_by None false false true is = cc
 no_fault_by None false false false is = cc
 
+-- before its disk fails no table ends by a fault of the disk
 no_fault_ahead : {D : Type 0} (t : TableView D) → end_ahead t ≡ Some cause.DiskFault → ⊥
 no_fault_ahead t is =
     no_fault_by t.machine.alarm (t.machine.paths.one.finished && t.machine.paths.two.finished) (length t.recording.history == t.verified.settings.records) (t.budget == 0) is
 
 -- what asking for the end comes to
 module _ {D : Type 0} (state : D → DiskState) (old new : TableView D) (result : Option Reason) (table : IsTable state old) (asks : Asks old new result) where
+  -- the cause that the call tells is the one that stands,
   pub ends : (shown : Bool) → IfSome result (λ end. HasEnded (held_of new shown) end)
   ends shown = go asks
     where
@@ -158,6 +167,7 @@ module _ {D : Type 0} (state : D → DiskState) (old new : TableView D) (result 
       go (failed free pends same rest history dead still) =
           subst (λ (o : Option Reason). IfSome o (λ end. HasEnded (held_of new shown) end)) (sym same) (ap (λ (t : TableView D). t.halt) rest, dead)
 
+  -- if it tells none, none stands,
   pub goes_on : (shown : Bool) → IfNone result (HasNotEnded (held_of new shown))
   goes_on shown = go asks
     where
@@ -173,6 +183,7 @@ module _ {D : Type 0} (state : D → DiskState) (old new : TableView D) (result 
       go (written free end is same rest history live all settled) = none end same
       go (failed free pends same rest history dead still) = none cause.DiskFault same
 
+  -- and the rest of the held table is as it was
   pub rest_kept : (shown : Bool) → KeepsRest (held_of old shown) (held_of new shown) result
   rest_kept shown = go asks
     where
@@ -242,6 +253,7 @@ module _ {D : Type 0} (state : D → DiskState) (old new : TableView D) (result 
             settled = λ every. absurd (omega (arith, pends, every));
           }
 
+  -- no record is made by it
   history_kept : new.recording.history ≡ old.recording.history
   history_kept = go asks
     where
@@ -251,12 +263,14 @@ module _ {D : Type 0} (state : D → DiskState) (old new : TableView D) (result 
       go (written free end is same rest history live all settled) = history
       go (failed free pends same rest history dead still) = history
 
+  -- so the moves that were answered stay
   pub records_kept : (opened : Option (TableView D)) (shown : Bool) (p : Path) → records_since opened (held_of new shown) p ≡ records_since opened (held_of old shown) p
   records_kept None shown p = refl
   records_kept (Some start) shown p =
       ap (λ (l : _). records_since (Some start) (record (held_of old shown) { history = l }) p) history_kept
 
   module _ (opened : Option (TableView D)) (shown : Bool) (since : Since state old new) (held : IsHeld state opened old shown) where
+    -- what was shown stays on the disk
     shows : (o : Option (TableView D)) → IsOf state o old → ShowsFlushed o (held_of old shown) old → ShowsFlushed o (held_of new shown) new
     shows None of is = absurd of
     shows (Some start) of is = go asks
@@ -271,18 +285,21 @@ module _ {D : Type 0} (state : D → DiskState) (old new : TableView D) (result 
             shows_still state start old new shown shown [] of (omega (arith, pends)) since.verified (history ∙ sym (append-nil old.recording.history)) still
             (λ p. ap moves_in (records_kept (Some start) shown p)) is
 
+    -- if the last moves were not answered, the disk has stopped the table
     lost : Asks old new result → shown ≡ false → new.halt ≡ Some halt.Disk
     lost (kept why same stays) unseen = ap (λ (t : TableView D). t.halt) stays ∙ why
     lost (idle free none same stays) unseen = absurd (free (held.lost unseen))
     lost (written free end why same rest history live all settled) unseen = absurd (free (held.lost unseen))
     lost (failed free pends same rest history dead still) unseen = ap (λ (t : TableView D). t.halt) rest
 
+    -- and the held table is one still
     pub held_asked : IsHeld state opened new shown
     held_asked = record { of = of_more state opened old new held.of since; lost = lost asks; shows = shows opened held.of held.shows }
 
 -- the table that is taken out
 module _ {D : Type 0} (state : D → DiskState) (start taken : TableView D) (held : HeldView D) (since : Since state start taken) (calm : start.halt ≢ Some halt.Disk)
     (is : IsTaken held taken) where
+  -- the same end holds of the table that is taken out,
   taken_end : (e : Option Reason) → IsAtEnd held e → IsEnd taken e
   taken_end e at = record {
     live = subst (λ (f : Gate D). IsTrue f.live) (sym is.file) at.live;
@@ -293,6 +310,7 @@ module _ {D : Type 0} (state : D → DiskState) (start taken : TableView D) (hel
     machine = ap end_of is.machine ∙ at.machine;
   }
 
+  -- by each cause
   pub taken_ended : (end : Reason) → HasEnded held end → EndsBy state start taken end
   taken_ended (cause.Alarm alarm) at = taken_end (Some (cause.Alarm alarm)) at
   taken_ended cause.Done at = taken_end (Some cause.Done) at

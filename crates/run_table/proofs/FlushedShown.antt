@@ -31,21 +31,24 @@ use Rattle.run_table.specs.Holding.{HeldView, held_of, ShowsFlushed, MayHold, ha
 use Rattle.run_table.proofs.HeldSteps.{comes}
 use Rattle.run_table.proofs.Then.{since_none, since_more}
 
--- the moves of one record more
+-- the moves of one record more stand behind those before
 moves_more : (records : List (List LinedMove)) (moves : List LinedMove) → moves_in (records ++ moves ∷ []) ≡ moves_in records ++ moves
 moves_more [] moves = append-nil moves
 moves_more (first ∷ records) moves = ap (λ (l : List LinedMove). first ++ l) (moves_more records moves) ∙ sym (append_assoc first (moves_in records) moves)
 
+-- a record that may stand without moves adds none
 may_same : (before after : List (List LinedMove)) → MayRecord before after → moves_in after ≡ moves_in before
 may_same before after (inl is) = ap moves_in is
 may_same before after (inr is) = ap moves_in is ∙ moves_more before [] ∙ append-nil (moves_in before)
 
 -- an answer that shows nothing adds no moves
 module _ {H : Type 0} (old new : H) (before after : List (List LinedMove)) (same : new ≡ old → after ≡ before) where
+  -- moves that show nothing are none,
   quiet_handed : (moves : Moves) (b : Bool) → (length moves.list == 0) ≡ b → not b ≡ false → Adds before (handed moves) after → moves_in after ≡ moves_in before
   quiet_handed moves true none quiet adds = may_same before after (rw none at adds)
   quiet_handed moves false some quiet adds = absurd cc
 
+  -- and so are those of a turn that shows nothing
   pub quiet_turn : (t : Turn) → is_shown t ≡ false → MatchOption (next_of_turn t) (new ≡ old) (λ next. Adds before next after) → moves_in after ≡ moves_in before
   quiet_turn (turn.Read variable stamp) quiet adds = may_same before after adds
   quiet_turn (turn.Did moves) quiet adds = quiet_handed moves (length moves.list == 0) refl quiet adds
@@ -82,7 +85,7 @@ made_behind pair path history made =
     ap (drop (length history)) (take-length (history ++ made)) ∙ drop-append_seam history made in
     λ i. moves_in (shown_from (tapes_in pair) (fold (tapes_in pair) (opening_of pair) (take-append_seam history made i)) path (all i))
 
--- where all records are on the disk
+-- if all records are on the disk, all that was shown is
 pub shows_all : {D : Type 0} (state : D → DiskState) (start t : TableView D) → Since state start t → t.recording.flushed ≡ length t.recording.history
     → ShowsFlushed (Some start) (held_of t true) t
 shows_all state start t since all = λ path.
@@ -94,7 +97,7 @@ shows_all state start t since all = λ path.
     ∙ sym (ap (λ (n : ℕ). moves_made start.verified path (length start.recording.history) n t.recording.history) all)
     ∙ sym (ap (λ (v : Verified). moves_made v path (length start.recording.history) t.recording.flushed t.recording.history) since.verified)
 
--- where no move was shown, and no record got to the disk
+-- if no move was shown and no record got to the disk, what was shown is still there
 pub shows_still : {D : Type 0} (state : D → DiskState) (start t t' : TableView D) (shown shown' : Bool) (made : List Entry) → Since state start t
     → t.recording.flushed ≤ length t.recording.history → t'.verified ≡ t.verified → t'.recording.history ≡ t.recording.history ++ made → t'.recording.flushed ≡ t.recording.flushed
     → ((p : Path) → moves_in (records_since (Some start) (held_of t' shown') p) ≡ moves_in (records_since (Some start) (held_of t shown) p))
@@ -108,7 +111,7 @@ shows_still state start t t' shown shown' made since within pair grown still sam
     ∙ sym (ap (λ (n : ℕ). moves_made t.verified path from n t'.recording.history) still)
     ∙ sym (ap (λ (v : Verified). moves_made v path from t'.recording.flushed t'.recording.history) pair)
 
--- a table that is its own opening
+-- a table that is its own opening has shown nothing since
 pub shows_none : {D : Type 0} (t : TableView D) → ShowsFlushed (Some t) (held_of t true) t
 shows_none t = λ path.
     let few : length (take t.recording.flushed t.recording.history) ≤ length t.recording.history = omega (arith, length-take t.recording.flushed t.recording.history) in
@@ -116,6 +119,7 @@ shows_none t = λ path.
     drop-length t.recording.history ∙ sym (drop_of_length-le (take t.recording.flushed t.recording.history) few) in
     λ i. moves_in (shown_from (tapes_in t.verified) (fold (tapes_in t.verified) (opening_of t.verified) (sym (take-length t.recording.history) i)) path (none i))
 
+-- a table is what has come of itself
 pub opens_itself : {D : Type 0} (state : D → DiskState) (t : TableView D) → ((disk : D) → IsCoherent (state disk)) → MayHold state (Some t) t
 opens_itself state t coherent = record { of = since_none state t coherent; shows = shows_none t }
 
@@ -131,47 +135,56 @@ module _ {D : Type 0} (state : D → DiskState) (path : Path) (start t t' : Tabl
     (within : t.recording.flushed ≤ length t.recording.history) (shows : ShowsFlushed (Some start) (held_of t shown) t)
     (step : IsStep state (step_of t path) t t' result) (then : Since state t t') (owed : t'.owed ≡ owed_behind path result t.owed)
     (shown_is : shown' ≡ (shown && not (is_lost result (length t.recording.history) (length t'.recording.history)))) where
+  -- the records with their moves, before the step,
   abbrev before : Path → List (List LinedMove)
   before p = records_since (Some start) (held_of t shown) p
 
+  -- and behind it
   abbrev after : Path → List (List LinedMove)
   after p = records_since (Some start) (held_of t' shown') p
 
+  -- what this answer adds to the moves
   abbrev Comes : TableStep → Type 0
   Comes answer =
       MatchOption (next_of answer) (◌≡◌ {A = HeldView D} (held_of t' shown') (held_of t shown)) (λ next. Adds (before path) next (after path))
       × ((p : Path) → p ≢ path → after p ≡ before p)
 
+  -- the answer of the step adds just that
   came : Comes result
   came = comes state path start t t' result shown shown' table since lost step owed shown_is
 
+  -- if the step adds no moves, what was shown is still on the disk
   still : t'.recording.flushed ≡ t.recording.flushed → moves_in (after path) ≡ moves_in (before path) → ShowsFlushed (Some start) (held_of t' shown') t'
   still same own =
       shows_still state start t t' shown shown' (step_of t path).made since within step.verified step.records.follows.history same
       (λ p. by_path path p {before = before} {after = after} own came.1) shows
 
-  -- an answer that shows nothing
+  -- an answer that shows nothing leaves what was shown on the disk
   quiet : t'.recording.flushed ≡ t.recording.flushed → (answer : TableStep) → result ≡ answer
       → (MatchOption (next_of answer) (◌≡◌ {A = HeldView D} (held_of t' shown') (held_of t shown)) (λ next. Adds (before path) next (after path)) → moves_in (after path) ≡ moves_in (before path))
       → ShowsFlushed (Some start) (held_of t' shown') t'
   quiet same answer is none =
       still same (none (subst (λ (r : TableStep). MatchOption (next_of r) (◌≡◌ {A = HeldView D} (held_of t' shown') (held_of t shown)) (λ next. Adds (before path) next (after path))) is came.0))
 
+  -- the same of the answer of a turn that shows nothing,
   quiet_one : (t'.recording.flushed ≡ t.recording.flushed) → (u : Turn) → result ≡ Turned u → is_shown u ≡ false → ShowsFlushed (Some start) (held_of t' shown') t'
   quiet_one same u is none =
       quiet same (Turned u) is
       (λ adds. quiet_turn {H = HeldView D} (held_of t shown) (held_of t' shown') (before path) (after path) (λ even. ap (λ (h : HeldView D). records_since (Some start) h path) even) u none adds)
 
+  -- of an answer that the table has stopped,
   halted : (t'.recording.flushed ≡ t.recording.flushed) → (why : Halt) → result ≡ Halted why → ShowsFlushed (Some start) (held_of t' shown') t'
   halted same why is = quiet same (Halted why) is (λ adds. may_same (before path) (after path) adds)
 
+  -- of a fault of the disk,
   fault : (t'.recording.flushed ≡ t.recording.flushed) → result ≡ DiskFault → ShowsFlushed (Some start) (held_of t' shown') t'
   fault same is = quiet same DiskFault is (λ adds. may_same (before path) (after path) adds)
 
+  -- and of a drain
   drain : (t'.recording.flushed ≡ t.recording.flushed) → result ≡ Drain → ShowsFlushed (Some start) (held_of t' shown') t'
   drain same is = quiet same Drain is (λ adds. ap moves_in adds)
 
-  -- all are on the disk
+  -- if all records are on the disk behind the step, all that was shown is
   all : t.halt ≡ None → result ≢ DiskFault → t'.recording.flushed ≡ length t'.recording.history → ShowsFlushed (Some start) (held_of t' shown') t'
   all calm fine flushed_all =
       let free : t.halt ≢ Some halt.Disk = λ is. let clash : None ≡ Some halt.Disk = sym calm ∙ is in cc in
@@ -185,6 +198,7 @@ module _ {D : Type 0} (state : D → DiskState) (path : Path) (start t t' : Tabl
       not_lost DiskFault fine = absurd (fine refl)
       not_lost (Halted why) fine = refl
 
+  -- by each answer: nothing was due, all was flushed, or the disk failed
   by_answer : (due : Bool) (answer : TableStep) → answer ≢ DiskFault → (due ≡ true → t.halt ≡ None) → Answers state due answer t.recording t'.recording result
       → (t'.recording.flushed ≡ t.recording.flushed → result ≡ answer → due ≡ false → ShowsFlushed (Some start) (held_of t' shown') t')
       → ShowsFlushed (Some start) (held_of t' shown') t'
@@ -192,6 +206,7 @@ module _ {D : Type 0} (state : D → DiskState) (path : Path) (start t t' : Tabl
   by_answer due answer fine calm (flushed now same live every) none = all (calm now) (λ is. fine (sym same ∙ is)) every
   by_answer due answer fine calm (failed now same dead even rose) none = fault even same
 
+  -- each step keeps that all that was shown is on the disk
   pub shows_on : ShowsFlushed (Some start) (held_of t' shown') t'
   shows_on = go t.halt (bound_of t) (drains t path) refl step
     where

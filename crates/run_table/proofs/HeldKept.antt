@@ -19,10 +19,11 @@ use Rattle.run_table.proofs.HeldSteps.{comes, halted_told, still_lost}
 use Rattle.run_table.proofs.FlushedShown.{shows_on, shown_unless}
 use Rattle.run_table.proofs.Then.{since_more}
 
+-- whether a record was lost hangs on the numbers of records alone
 pub lost_by : (shown : Bool) (result : TableStep) {a a' b b' : ℕ} → a ≡ a' → b ≡ b' → (shown && not (is_lost result a b)) ≡ (shown && not (is_lost result a' b'))
 lost_by shown result first second = λ i. shown && not (is_lost result (first i) (second i))
 
--- over any opening
+-- what has come of a table since has come of any opening of it
 pub of_more : {D : Type 0} (state : D → DiskState) (opened : Option (TableView D)) (t t' : TableView D) → IsOf state opened t → Since state t t' → IsOf state opened t'
 of_more state None t t' of since = absurd of
 of_more state (Some start) t t' of since = since_more state start t t' of since
@@ -31,6 +32,7 @@ module _ {D : Type 0} (state : D → DiskState) (opened : Option (TableView D)) 
     (table : IsTable state t) (within : t.recording.flushed ≤ length t.recording.history) (held : IsHeld state opened t shown) (step : IsStep state (step_of t path) t t' result) (since : Since state t t')
     (owed : t'.owed ≡ owed_behind path result t.owed)
     (shown_is : shown' ≡ (shown && not (is_lost result (length t.recording.history) (length t'.recording.history)))) where
+  -- a step of a held table keeps it one,
   pub held_on : IsHeld state opened t' shown'
   held_on = record { of = of_more state opened t t' held.of since; lost = go opened held.of; shows = shows opened held.of held.shows }
     where
@@ -42,6 +44,7 @@ module _ {D : Type 0} (state : D → DiskState) (opened : Option (TableView D)) 
       go None of = absurd of
       go (Some start) of = still_lost state path start t t' result shown shown' table of held.lost step owed shown_is
 
+  -- adds the moves that it answers to those of its path,
   pub held_answers : MatchOption (next_of result) (◌≡◌ {A = HeldView D} (held_of t' shown') (held_of t shown))
       (λ next. Adds (records_since opened (held_of t shown) path) next (records_since opened (held_of t' shown') path))
   held_answers = go opened held.of
@@ -51,6 +54,7 @@ module _ {D : Type 0} (state : D → DiskState) (opened : Option (TableView D)) 
       go None of = absurd of
       go (Some start) of = (comes state path start t t' result shown shown' table of held.lost step owed shown_is).0
 
+  -- and none to those of the other path
   pub held_others : (p : Path) → p ≢ path → records_since opened (held_of t' shown') p ≡ records_since opened (held_of t shown) p
   held_others = go opened held.of
     where
@@ -58,6 +62,7 @@ module _ {D : Type 0} (state : D → DiskState) (opened : Option (TableView D)) 
       go None of = absurd of
       go (Some start) of = (comes state path start t t' result shown shown' table of held.lost step owed shown_is).1
 
+  -- a table that has stopped answers why, and nothing changes
   pub held_halted : (why : Halt) → t.halt ≡ Some why
       → (next_of result ≡ Some (next.Halted why)) × (t'.halt ≡ Some why) × ((p : Path) → records_since opened (held_of t' shown') p ≡ records_since opened (held_of t shown) p)
   held_halted = go opened held.of
@@ -67,18 +72,20 @@ module _ {D : Type 0} (state : D → DiskState) (opened : Option (TableView D)) 
       go None of = absurd of
       go (Some start) of = halted_told state path start t t' result shown shown' table of held.lost step owed shown_is
 
--- what is no record changes nothing of it
+-- who has to be drained changes nothing of what has come of the table
 pub of_owed : {D : Type 0} (state : D → DiskState) (opened : Option (TableView D)) (t : TableView D) (owed : Both Bool) → IsOf state opened t → IsOf state opened (record t { owed = owed })
 of_owed state None t owed of = absurd of
 of_owed state (Some start) t owed of =
     record { verified = of.verified; made = of.made; recording = of.recording; budget = of.budget; cause = of.cause }
 
+-- a reason that isn't a fault of the disk changes nothing of what has come of the table
 pub of_halt : {D : Type 0} (state : D → DiskState) (opened : Option (TableView D)) (t : TableView D) (why : Option Halt) → (why ≡ Some halt.Disk → t.halt ≡ Some halt.Disk)
     → IsOf state opened t → IsOf state opened (record t { halt = why })
 of_halt state None t why disk of = absurd of
 of_halt state (Some start) t why disk of =
     record { verified = of.verified; made = of.made; recording = of.recording; budget = of.budget; cause = λ is. of.cause (disk is) }
 
+-- if a fault of the disk is left without the turret, it stood there
 pub no_turret_disk : (why : Option Halt) → without_turret why ≡ Some halt.Disk → why ≡ Some halt.Disk
 no_turret_disk None is = absurd (let clash : None ≡ Some halt.Disk = is in cc)
 no_turret_disk (Some (halt.Alarm alarm)) is = is
@@ -87,6 +94,7 @@ no_turret_disk (Some (halt.Turret path)) is = absurd (let clash : None ≡ Some 
 no_turret_disk (Some halt.Full) is = is
 no_turret_disk (Some halt.Budget) is = is
 
+-- no turret's reason makes a fault of the disk,
 pub first_disk : (kept : Option Halt) (why : Halt) → IsOfTurret why → first_reason kept why ≡ Some halt.Disk → kept ≡ Some halt.Disk
 first_disk None (halt.Alarm alarm) turret is = absurd turret
 first_disk None halt.Disk turret is = absurd turret
@@ -95,6 +103,7 @@ first_disk None halt.Full turret is = absurd turret
 first_disk None halt.Budget turret is = absurd turret
 first_disk (Some first) why turret is = is
 
+-- and none replaces one
 pub disk_first : (kept : Option Halt) (why : Halt) → kept ≡ Some halt.Disk → first_reason kept why ≡ Some halt.Disk
 disk_first kept why is = ap (λ (k : Option Halt). first_reason k why) is
 
@@ -104,30 +113,34 @@ pub shows_owed : {D : Type 0} (opened : Option (TableView D)) (t : TableView D) 
 shows_owed None t shown owed is = is
 shows_owed (Some start) t shown owed is = is
 
+-- nor does the reason change what was shown
 pub shows_halt : {D : Type 0} (opened : Option (TableView D)) (t : TableView D) (shown : Bool) (why : Option Halt) → ShowsFlushed opened (held_of t shown) t
     → ShowsFlushed opened (held_of (record t { halt = why }) shown) (record t { halt = why })
 shows_halt None t shown why is = is
 shows_halt (Some start) t shown why is = is
 
--- the first moment
+-- a table that may be held is held, with its last moves answered
 pub held_first : {D : Type 0} (state : D → DiskState) (opened : Option (TableView D)) (t : TableView D) → MayHold state opened t → IsHeld state opened t true
 held_first state opened t may = record { of = may.of; lost = λ clash. absurd cc; shows = may.shows }
 
--- taken out, without the turret
+-- what was shown stays on the disk when the table is taken out, whatever its reason
 taken_shown : {D : Type 0} (opened : Option (TableView D)) (t : TableView D) (shown : Bool) (why : Option Halt) → ShowsFlushed opened (held_of t shown) t
     → ShowsFlushed opened (held_of t shown) (record t { halt = why })
 taken_shown None t shown why is = is
 taken_shown (Some start) t shown why is = is
 
+-- the moves that were answered don't hang on the reason
 records_halt : {D : Type 0} (opened : Option (TableView D)) (t : TableView D) (shown : Bool) (why : Option Halt) (p : Path)
     → records_since opened (held_of (record t { halt = why }) shown) p ≡ records_since opened (held_of t shown) p
 records_halt None t shown why p = refl
 records_halt (Some start) t shown why p = refl
 
 module _ {D : Type 0} (state : D → DiskState) (opened : Option (TableView D)) (t : TableView D) (shown : Bool) (held : IsHeld state opened t shown) where
+  -- what a held table has shown is on the disk in the table that is taken out,
   pub taken_shows : ShowsFlushed opened (held_of t shown) (record t { halt = without_turret t.halt })
   taken_shows = taken_shown opened t shown (without_turret t.halt) held.shows
 
+  -- which may be held again with the same moves
   pub taken_again : without_turret t.halt ≢ Some halt.Disk → MayHoldAgain state opened (held_of t shown) (record t { halt = without_turret t.halt })
   taken_again free =
       let free' : t.halt ≢ Some halt.Disk = λ is. free (ap without_turret is) in

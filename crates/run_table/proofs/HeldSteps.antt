@@ -43,12 +43,15 @@ none_lost Drain n n' same = refl
 none_lost DiskFault n n' same = let is : (n == n') ≡ true = grind arith in ap not is
 none_lost (Halted why) n n' same = refl
 
+-- a fault of the disk that made a record has lost its moves
 one_lost : (n n' : ℕ) → n' ≡ n + 1 → is_lost DiskFault n n' ≡ true
 one_lost n n' more = let is : (n == n') ≡ false = grind arith in ap not is
 
+-- a batch that isn't full has room for one record more
 pub not_full : (written n m : ℕ) → m ≡ n → n < written + MOST_PENDING → (written + MOST_PENDING == m) ≡ false
 not_full written n m same few = grind arith
 
+-- what is true beside a test is that test
 still : (b : Bool) → (b && true) ≡ b
 still true = refl
 still false = refl
@@ -57,41 +60,50 @@ module _ {D : Type 0} (state : D → DiskState) (path : Path) (start t t' : Tabl
     (table : IsTable state t) (since : Since state start t) (lost : shown ≡ false → t.halt ≡ Some halt.Disk)
     (step : IsStep state (step_of t path) t t' result) (owed : t'.owed ≡ owed_behind path result t.owed)
     (shown_is : shown' ≡ (shown && not (is_lost result (length t.recording.history) (length t'.recording.history)))) where
+  -- both tapes of the table
   abbrev tapes : Tapes
   tapes = tapes_in start.verified
 
+  -- the machine of the opening
   abbrev first : MachineView
   first = fold (tapes_in start.verified) (opening_of start.verified) start.recording.history
 
+  -- the records with their moves, before the step,
   abbrev before : Path → List (List LinedMove)
   before p = records_since (Some start) (held_of t shown) p
 
+  -- and behind it
   abbrev after : Path → List (List LinedMove)
   after p = records_since (Some start) (held_of t' shown') p
 
-  -- what each path's list comes to
+  -- this answer is what the step adds to the list of each path
   abbrev Comes : TableStep → Type 0
   Comes answer =
       MatchOption (next_of answer) (◌≡◌ {A = HeldView D} (held_of t' shown') (held_of t shown)) (λ next. Adds (before path) next (after path))
       × ((p : Path) → p ≢ path → after p ≡ before p)
 
+  -- the records since the opening, before the step,
   behind : drop (length start.recording.history) t.recording.history ≡ since.made
   behind = ap (drop (length start.recording.history)) since.recording.history ∙ drop-append_seam start.recording.history since.made
 
   module _ (made : List Entry) (grown : t'.recording.history ≡ t.recording.history ++ made) where
+    -- and behind it
     behind' : drop (length start.recording.history) t'.recording.history ≡ since.made ++ made
     behind' =
         ap (drop (length start.recording.history)) (grown ∙ ap (λ (l : List Entry). l ++ made) since.recording.history ∙ append_assoc start.recording.history since.made made)
         ∙ drop-append_seam start.recording.history (since.made ++ made)
 
+    -- a step adds as many records as it makes
     pub count' : length t'.recording.history ≡ length t.recording.history + length made
     count' = ap length grown ∙ length-append t.recording.history made
 
   -- no record
   module _ (grown : t'.recording.history ≡ t.recording.history ++ []) where
+    -- whether the last moves were answered stays as it was
     shown_same : shown' ≡ shown
     shown_same = shown_is ∙ ap (λ (b : Bool). shown && not b) (none_lost result (length t.recording.history) (length t'.recording.history) (ap length (grown ∙ append-nil t.recording.history))) ∙ still shown
 
+    -- a step without a record adds no moves
     pub stays : (p : Path) → after p ≡ before p
     stays p =
         ap (λ (b : Bool). answered_from tapes first p b (drop (length start.recording.history) t'.recording.history)) shown_same
@@ -99,6 +111,7 @@ module _ {D : Type 0} (state : D → DiskState) (path : Path) (start t t' : Tabl
 
   -- a table that nothing has stopped
   module _ (why : t.halt ≡ None) where
+    -- if a record is made, the last one's moves were answered
     shown_before : shown ≡ true
     shown_before = go shown refl
       where
@@ -106,21 +119,27 @@ module _ {D : Type 0} (state : D → DiskState) (path : Path) (start t t' : Tabl
         go true is = is
         go false is = absurd (let clash : None ≡ Some halt.Disk = sym why ∙ lost is in cc)
 
+    -- a table that nothing stopped may go on
     may : MayGoOn t.machine t.recording
     may = subst (HasReason t.machine t.recording) why table.reason
 
+    -- the turn of the path
     abbrev the_turn : Turn
     the_turn = (turn_of (tapes_in t.verified) path t.machine).turn
 
+    -- its record, of this kind
     abbrev entry : EntryKind → Entry
     entry k = record { path = path; kind = k; stamps = (of_path t.machine.paths path).stamps }
 
+    -- the record of the turn is one of this kind
     made_is : (k : Option EntryKind) → kind_of the_turn ≡ k → list_of (entry_of (tapes_in t.verified) path t.machine) ≡ list_of (entry_with path (of_path t.machine.paths path).stamps k)
     made_is k is = ap (λ (o : Option EntryKind). list_of (entry_with path (of_path t.machine.paths path).stamps o)) is
 
+    -- the machine before the step is the fold of its history
     kept : IsKept tapes (opening_of start.verified) t.recording.history t.machine
     kept = subst (λ (v : Verified). IsKept (tapes_in v) (opening_of v) t.recording.history t.machine) since.verified table.kept
 
+    -- the moves of its record done again are those of the turn
     same_moves : (k : EntryKind) → edit_of k ≡ None → made_in (turn_of_entry tapes (entry k) (fold tapes first since.made)) ≡ made_in the_turn
     same_moves k plain =
         let there : fold tapes first since.made ≡ without_reads t.machine =
@@ -131,6 +150,7 @@ module _ {D : Type 0} (state : D → DiskState) (path : Path) (start t t' : Tabl
 
     -- a record, and its answer
     module _ (k : EntryKind) (grown : t'.recording.history ≡ t.recording.history ++ entry k ∷ []) where
+      -- a record whose moves are answered adds them to the list of its path
       pub shown_grown : edit_of k ≡ None → (is_lost result (length t.recording.history) (length t'.recording.history) ≡ false) → GrowsBy path (made_in the_turn) before after
       shown_grown plain kept_it =
           let now : shown' ≡ true = shown_is ∙ ap (λ (b : Bool). shown && not b) kept_it ∙ still shown ∙ shown_before in
@@ -142,6 +162,7 @@ module _ {D : Type 0} (state : D → DiskState) (path : Path) (start t t' : Tabl
           (subst (λ (l : List Entry). GrowsBy path (made_in the_turn) (λ p. answered_from tapes first p true since.made) (λ p. answered_from tapes first p true l)) (sym (behind' (entry k ∷ []) grown))
           (shown_grows tapes first path since.made (entry k) refl (made_in the_turn) (same_moves k plain)))))
 
+      -- one whose moves were lost adds an entry without moves
       pub lost_grown : (is_lost result (length t.recording.history) (length t'.recording.history) ≡ true) → GrowsBy path [] before after
       lost_grown lost_it =
           let now : shown' ≡ false = shown_is ∙ ap (λ (b : Bool). shown && not b) lost_it ∙ and_false shown false refl in
@@ -155,23 +176,28 @@ module _ {D : Type 0} (state : D → DiskState) (path : Path) (start t t' : Tabl
 
     -- a path that waits: nothing changes
     module _ (turned : IsStep state (step_by t path None None false) t t' result) (code : ℕ) (waits : the_turn ≡ turn.Waiting code) where
+      -- a path that waits makes no record,
       none_made : list_of (entry_of (tapes_in t.verified) path t.machine) ≡ []
       none_made = made_is None (ap kind_of waits)
 
+      -- so the history stays,
       same_history : t'.recording.history ≡ t.recording.history ++ []
       same_history = turned.records.follows.history ∙ ap (λ (l : List Entry). t.recording.history ++ l) none_made
 
+      -- and no flush is due,
       not_due : is_due t.recording (list_of (entry_of (tapes_in t.verified) path t.machine)) the_turn ≡ false
       not_due =
           ap (λ (l : List Entry). is_due t.recording l the_turn) none_made ∙ ap (is_due t.recording []) waits
           ∙ not_full t.recording.flushed (length t.recording.history) (length (t.recording.history ++ [])) (ap length (append-nil t.recording.history)) may.few
 
+      -- so the disk isn't touched,
       rests : Answers state (is_due t.recording (list_of (entry_of (tapes_in t.verified) path t.machine)) the_turn) (Turned the_turn) t.recording t'.recording result
           → (result ≡ Turned the_turn) × (t'.recording.log.file ≡ t.recording.log.file) × (t'.recording.flushed ≡ t.recording.flushed)
       rests (at_once now same file even) = (same, file, even)
       rests (flushed due same live all) = absurd (let clash : true ≡ false = sym due ∙ not_due in cc)
       rests (failed due same dead stay rose) = absurd (let clash : true ≡ false = sym due ∙ not_due in cc)
 
+      -- and the held table is as it was
       pub unchanged : ◌≡◌ {A = HeldView D} (held_of t' shown') (held_of t shown)
       unchanged =
           let at = rests turned.answer in
@@ -195,9 +221,11 @@ module _ {D : Type 0} (state : D → DiskState) (path : Path) (start t t' : Tabl
 
     -- a turn comes
     module _ (turned : IsStep state (step_by t path None None false) t t' result) where
+      -- the history grows by the record of the turn, if it makes one
       history_by : (k : Option EntryKind) → kind_of the_turn ≡ k → t'.recording.history ≡ t.recording.history ++ list_of (entry_with path (of_path t.machine.paths path).stamps k)
       history_by k is = turned.records.follows.history ∙ ap (λ (l : List Entry). t.recording.history ++ l) (made_is k is)
 
+      -- a turn that is answered adds its moves
       shown_result : (k : Option EntryKind) → kind_of the_turn ≡ k → result ≡ Turned the_turn → Comes (Turned the_turn)
       shown_result None is same = (
         turn_stays (held_of t shown) (held_of t' shown') (before path) (after path) the_turn is (stays (history_by None is) path) (λ code waits. unchanged turned code waits),
@@ -207,6 +235,7 @@ module _ {D : Type 0} (state : D → DiskState) (path : Path) (start t t' : Tabl
           let grows = shown_grown k (history_by (Some k) is) (no_edit the_turn k is) (ap (λ (r : TableStep). is_lost r (length t.recording.history) (length t'.recording.history)) same) in
           (turn_adds (held_of t shown) (held_of t' shown') (before path) (after path) the_turn k is grows.own, grows.others)
 
+      -- one whose flush failed adds none
       failed_result : (k : Option EntryKind) → kind_of the_turn ≡ k → result ≡ DiskFault → Comes DiskFault
       failed_result None is same = (inl (stays (history_by None is) path), λ p differ. stays (history_by None is) p)
       failed_result (Some k) is same =
@@ -215,23 +244,26 @@ module _ {D : Type 0} (state : D → DiskState) (path : Path) (start t t' : Tabl
           (ap (λ (r : TableStep). is_lost r (length t.recording.history) (length t'.recording.history)) same ∙ one_lost (length t.recording.history) (length t'.recording.history) more) in
           (inr grows.own, grows.others)
 
+      -- so the answer of a turn is what the step adds
       pub turn_comes : Answers state (is_due t.recording (list_of (entry_of (tapes_in t.verified) path t.machine)) the_turn) (Turned the_turn) t.recording t'.recording result → Comes result
       turn_comes (at_once now same file even) = subst Comes (sym same) (shown_result (kind_of the_turn) refl same)
       turn_comes (flushed due same live all) = subst Comes (sym same) (shown_result (kind_of the_turn) refl same)
       turn_comes (failed due same dead stay rose) = subst Comes (sym same) (failed_result (kind_of the_turn) refl same)
 
-  -- no turn comes
+  -- an answer that the table has stopped adds nothing
   halted_comes : (why : Halt) (due : Bool) → t'.recording.history ≡ t.recording.history ++ []
       → Answers state due (Halted why) t.recording t'.recording result → Comes result
   halted_comes why due grown (at_once now same file even) = subst Comes (sym same) (inl (stays grown path), λ p differ. stays grown p)
   halted_comes why due grown (flushed was same live all) = subst Comes (sym same) (inl (stays grown path), λ p differ. stays grown p)
   halted_comes why due grown (failed was same dead stay rose) = subst Comes (sym same) (inl (stays grown path), λ p differ. stays grown p)
 
+  -- a drain adds nothing
   drain_comes : t'.recording.history ≡ t.recording.history ++ [] → Answers state false Drain t.recording t'.recording result → Comes result
   drain_comes grown (at_once now same file even) = subst Comes (sym same) (stays grown path, λ p differ. stays grown p)
   drain_comes grown (flushed was same live all) = absurd (let clash : false ≡ true = was in cc)
   drain_comes grown (failed was same dead stay rose) = absurd (let clash : false ≡ true = was in cc)
 
+  -- what a step answers is what it adds to the moves of its path
   pub comes : Comes result
   comes = go t.halt (bound_of t) (drains t path) refl step
     where

@@ -1,3 +1,4 @@
+-- The lemmas of this crate, each file by its subject. No other crate uses them.
 mod AlarmsKept
 mod DrainsTold
 mod EndsTold

@@ -23,7 +23,7 @@ use Rattle.two_path.specs.Made.{made_in}
 use Rattle.run_table.specs.Made.{if_of, shown_from}
 use Rattle.run_table.specs.Holding.{lost_from, answered_from, handed, next_of_turn}
 
--- one record more
+-- one record more adds the moves of its turn to the list of its path
 shown_more : (tapes : Tapes) (m : MachineView) (path : Path) (entries : List Entry) (e : Entry)
     → shown_from tapes m path (entries ++ e ∷ []) ≡ shown_from tapes m path entries ++ if_of path e (made_in (turn_of_entry tapes e (fold tapes m entries)))
 shown_more tapes m path [] e = append-nil (if_of path e (made_in (turn_of_entry tapes e m)))
@@ -32,6 +32,7 @@ shown_more tapes m path (f ∷ entries) e =
     ∙ sym (append_assoc (if_of path f (made_in (turn_of_entry tapes f m))) (shown_from tapes (behind_entry tapes f m) path entries)
     (if_of path e (made_in (turn_of_entry tapes e (fold tapes m (f ∷ entries))))))
 
+-- the same of a last record whose moves were not answered
 lost_more : (tapes : Tapes) (m : MachineView) (path : Path) (entries : List Entry) (e : Entry)
     → lost_from tapes m path (entries ++ e ∷ []) ≡ shown_from tapes m path entries ++ if_of path e []
 lost_more tapes m path [] e = refl
@@ -49,6 +50,7 @@ mine path e moves is = ap (λ (p : Path). if is_same path p then moves ∷ [] el
     own One = refl
     own Two = refl
 
+-- a record of the other path adds nothing to this path's list
 other : (path p : Path) (e : Entry) (moves : List LinedMove) → e.path ≡ path → p ≢ path → if_of p e moves ≡ []
 other path p e moves is differ = ap (λ (q : Path). if is_same p q then moves ∷ [] else []) is ∙ go p path differ
   where
@@ -64,6 +66,7 @@ pub record GrowsBy (path : Path) (moves : List LinedMove) (before after : Path �
   pub others : (p : Path) → p ≢ path → after p ≡ before p
 
 module _ (tapes : Tapes) (m : MachineView) (path : Path) (entries : List Entry) (e : Entry) (is : e.path ≡ path) where
+  -- the lists grow by one record with these moves
   by_moves : (moves : List LinedMove) (after : Path → List (List LinedMove))
       → ((p : Path) → after p ≡ shown_from tapes m p entries ++ if_of p e moves) → GrowsBy path moves (λ p. shown_from tapes m p entries) after
   by_moves moves after more = record {
@@ -71,16 +74,18 @@ module _ (tapes : Tapes) (m : MachineView) (path : Path) (entries : List Entry) 
     others = λ p differ. more p ∙ ap (λ (l : List (List LinedMove)). shown_from tapes m p entries ++ l) (other path p e moves is differ) ∙ append-nil (shown_from tapes m p entries);
   }
 
+  -- so they grow by a record whose moves were answered,
   pub shown_grows : (moves : List LinedMove) → made_in (turn_of_entry tapes e (fold tapes m entries)) ≡ moves
       → GrowsBy path moves (λ p. answered_from tapes m p true entries) (λ p. answered_from tapes m p true (entries ++ e ∷ []))
   shown_grows moves same =
       by_moves moves (λ p. shown_from tapes m p (entries ++ e ∷ []))
       (λ p. shown_more tapes m p entries e ∙ ap (λ (l : List LinedMove). shown_from tapes m p entries ++ if_of p e l) same)
 
+  -- or by one without moves, if its answer was lost
   pub lost_grows : GrowsBy path [] (λ p. answered_from tapes m p true entries) (λ p. answered_from tapes m p false (entries ++ e ∷ []))
   lost_grows = by_moves [] (λ p. lost_from tapes m p (entries ++ e ∷ [])) (λ p. lost_more tapes m p entries e)
 
--- what a step comes to without a record
+-- a block that answers its moves, or that it has none, adds them as one entry
 no_moves : (moves : Moves) (before after : List (List LinedMove)) → after ≡ before ++ lined moves ∷ [] → Adds before (handed moves) after
 no_moves moves before after is = go (length moves.list == 0) refl
   where
@@ -91,7 +96,7 @@ no_moves moves before after is = go (length moves.list == 0) refl
     go false some = is
 
 module _ {H : Type 0} (old new : H) (before after : List (List LinedMove)) where
-  -- a turn with a record
+  -- a turn with a record adds its moves
   pub turn_adds : (t : Turn) (k : EntryKind) → kind_of t ≡ Some k → after ≡ before ++ made_in t ∷ []
       → MatchOption (next_of_turn t) (new ≡ old) (λ next. Adds before next after)
   turn_adds (turn.Read variable stamp) k is more = absurd (let clash : None ≡ Some k = is in cc)
@@ -105,7 +110,7 @@ module _ {H : Type 0} (old new : H) (before after : List (List LinedMove)) where
   turn_adds (turn.Halted alarm) k is more = absurd (let clash : None ≡ Some k = is in cc)
   turn_adds turn.Edited k is more = absurd (let clash : None ≡ Some k = is in cc)
 
-  -- and one without
+  -- and one without a record adds none
   pub turn_stays : (t : Turn) → kind_of t ≡ None → after ≡ before → ((code : ℕ) → t ≡ turn.Waiting code → new ≡ old)
       → MatchOption (next_of_turn t) (new ≡ old) (λ next. Adds before next after)
   turn_stays (turn.Read variable stamp) is same waits = inl same

@@ -15,11 +15,12 @@ use Rattle.two_path.specs.Histories.{is_idle}
 use Rattle.two_path.specs.Stuck.{IsStuck}
 use Rattle.run_table.specs.Stepping.{GoesOn}
 
--- the turn is that of a block
+-- the turn is that of a block: it says neither that the path waits nor that it has ended
 pub record IsOfBlock (t : Turn) : Type 0 where
   pub waits : (code : ℕ) → t ≡ turn.Waiting code → ⊥
   pub ended : t ≡ turn.Finished → ⊥
 
+-- a turn at a wait is one of a block,
 wait_goes : (path : Path) (line : ℕ) (m : MachineView) (code : ℕ) (o : Option ℕ) → IsOfBlock (result_at_wait path line m code o).turn
 wait_goes path line m code None = record { waits = λ c e. absurd cc; ended = λ e. absurd cc }
 wait_goes path line m code (Some there) = go (code == there) refl
@@ -28,6 +29,7 @@ wait_goes path line m code (Some there) = go (code == there) refl
     go true e = rw e (record { waits = λ c is. absurd cc; ended = λ is. absurd cc })
     go false e = rw e (record { waits = λ c is. absurd cc; ended = λ is. absurd cc })
 
+-- and so is each turn by what the block comes to,
 by_goes : (path : Path) (line : ℕ) (m : MachineView) (e : Effect) → IsOfBlock (result_by path line m e).turn
 by_goes path line m (Need variable) = record { waits = λ c is. absurd cc; ended = λ is. absurd cc }
 by_goes path line m (Done after write moves) = record { waits = λ c is. absurd cc; ended = λ is. absurd cc }
@@ -35,15 +37,17 @@ by_goes path line m (AtWait code) = wait_goes path line m code m.paths.two.waiti
 by_goes path line m (AtEnd after moves) = record { waits = λ c is. absurd cc; ended = λ is. absurd cc }
 by_goes path line m (effect.Alarm number value) = record { waits = λ c is. absurd cc; ended = λ is. absurd cc }
 
+-- that is, each turn in which the block runs
 pub block_goes : (blocks : Blocks) (path : Path) (m : MachineView) → IsOfBlock (block_turn blocks path m).turn
 block_goes blocks path m = by_goes path (blocks.line m.paths.one.path.place) m (blocks.effect m.paths.one.path m.paths.one.values)
 
--- a path waits whose turn says so
+-- a path of which a turn says that it waits: no alarm, no end, and a wait
 record Waits (m : MachineView) : Type 0 where
   calm : m.alarm ≡ None
   unfinished : m.paths.one.finished ≡ false
   idle : is_idle m.paths.one ≡ true
 
+-- a turn that says that the path waits is that of such a path,
 idle_waits : (m : MachineView) (a : Option Alarm) (f : Bool) (w : Option ℕ) (rest : TurnResult) (code : ℕ) → IsOfBlock rest.turn
     → (unless_idle m a f w rest).turn ≡ turn.Waiting code → (a ≡ None) × (f ≡ false) × ((f || is_some w) ≡ true)
 idle_waits m (Some alarm) f w rest code goes is = absurd cc
@@ -51,11 +55,13 @@ idle_waits m None true w rest code goes is = absurd cc
 idle_waits m None false (Some there) rest code goes is = (refl, refl, refl)
 idle_waits m None false None rest code goes is = absurd (goes.waits code is)
 
+-- also of a whole turn
 own_waits : (blocks : Blocks) (path : Path) (m : MachineView) (code : ℕ) → (own_turn blocks path m).turn ≡ turn.Waiting code → Waits m
 own_waits blocks path m code is =
     let all = idle_waits m m.alarm m.paths.one.finished m.paths.one.waiting (block_turn blocks path m) code (block_goes blocks path m) is in
     record { calm = all.0; unfinished = all.1; idle = all.2 }
 
+-- a path that is not idle makes the turn of its block,
 awake_goes : (m : MachineView) (a : Option Alarm) (f : Bool) (w : Option ℕ) (rest : TurnResult) → a ≡ None → (f || is_some w) ≡ false → IsOfBlock rest.turn
     → IsOfBlock (unless_idle m a f w rest).turn
 awake_goes m (Some alarm) f w rest calm awake goes = absurd cc
@@ -63,6 +69,7 @@ awake_goes m None true w rest calm awake goes = absurd cc
 awake_goes m None false (Some there) rest calm awake goes = absurd cc
 awake_goes m None false None rest calm awake goes = goes
 
+-- also as a whole turn
 own_goes : (blocks : Blocks) (path : Path) (m : MachineView) → m.alarm ≡ None → is_idle m.paths.one ≡ false → IsOfBlock (own_turn blocks path m).turn
 own_goes blocks path m calm awake =
     awake_goes m m.alarm m.paths.one.finished m.paths.one.waiting (block_turn blocks path m) calm awake (block_goes blocks path m)
@@ -89,9 +96,11 @@ idle_still m None true w rest code goes is = refl
 idle_still m None false (Some there) rest code goes is = refl
 idle_still m None false None rest code goes is = absurd (goes.waits code is)
 
+-- so nothing happens in a whole turn,
 own_still : (blocks : Blocks) (path : Path) (m : MachineView) (code : ℕ) → (own_turn blocks path m).turn ≡ turn.Waiting code → (own_turn blocks path m).machine ≡ m
 own_still blocks path m code is = idle_still m m.alarm m.paths.one.finished m.paths.one.waiting (block_turn blocks path m) code (block_goes blocks path m) is
 
+-- of either path
 pub waits_still : (tapes : Tapes) (path : Path) (m : MachineView) (code : ℕ) → (turn_of tapes path m).turn ≡ turn.Waiting code → (turn_of tapes path m).machine ≡ m
 waits_still tapes One m code is = own_still tapes.one One m code is
 waits_still tapes Two m code is = ap (own_first Two) (own_still tapes.two Two (own_first Two m) code is)

@@ -20,7 +20,7 @@ use Rattle.run_table.specs.Stepping.Answers.{at_once, flushed, failed}
 use Rattle.run_table.specs.Recording.{RecordingView, StandsForPrefix, Follows, Records, IsNoted}
 use Rattle.run_table.proofs.RecordingsFollow.{sends_nothing, follows_more}
 
--- no call of the disk
+-- a record that is added makes no call of the disk
 pub noted_only : {D : Type 0} (state : D → DiskState) (made : List Entry) (old new : RecordingView D)
     → ((disk : D) → IsCoherent (state disk)) → IsNoted state made old new → Records state made old new
 noted_only state made old new coherent noted = record {
@@ -51,15 +51,17 @@ noted_only state made old new coherent noted = record {
       (uses_none 4 (old.log.file.end + length (batch_bytes (drop old.flushed new.history)) + 6) (state old.log.file.disk));
 }
 
--- nothing is done
+-- a call that does nothing keeps the journal
 pub nothing : {D : Type 0} (state : D → DiskState) (r : RecordingView D) → ((disk : D) → IsCoherent (state disk)) → Records state [] r r
 nothing state r coherent =
     noted_only state [] r r coherent (record { within = λ (some : 1 ≤ 0). absurd (omega (arith, some)); history = sym (append-nil r.history); file = refl; flushed = refl; version = refl; room = refl; journal = λ header j. j })
 
+-- the disk took so few calls, within so many bytes
 abbrev IsUsed : {D : Type 0} → (D → DiskState) → RecordingView D → Gate D → ℕ → Type 0
 IsUsed state new file count =
     Uses 4 (file.end + length (batch_bytes (drop count new.history)) + 6) (state file.disk) (state new.log.file.disk)
 
+-- a record that is added, and then a flush, are one call with that record
 pub noted_then : {D : Type 0} (state : D → DiskState) (made : List Entry) (old mid new : RecordingView D)
     → ((disk : D) → IsCoherent (state disk)) → IsNoted state made old mid → Records state [] mid new → Records state made old new
 noted_then state made old mid new coherent noted then = record {
@@ -69,7 +71,7 @@ noted_then state made old mid new coherent noted then = record {
   uses = subst (λ (n : ℕ). IsUsed state new old.log.file n) noted.flushed (subst (λ (f : Gate _). IsUsed state new f mid.flushed) noted.file then.uses);
 }
 
--- a flush before an answer
+-- a flush before an answer that is done,
 pub answer_flushed : {D : Type 0} (state : D → DiskState) (answer : TableStep) (old new : RecordingView D) → old.flushed ≤ length old.history
     → new.history ≡ old.history ++ [] → new.flushed ≡ length old.history → new.log.file.live ≡ true → (old.flushed ≡ length old.history → new.log.file ≡ old.log.file)
     → Answers state (nat_lt old.flushed (length old.history)) answer old new answer
@@ -81,6 +83,7 @@ answer_flushed state answer old new within history all live idle = go (nat_lt ol
         let none : old.flushed ≡ length old.history = grind arith in
         at_once refl refl (idle none) (all ∙ sym none)
 
+-- or that failed
 pub answer_failed : {D : Type 0} (state : D → DiskState) (answer : TableStep) (old new : RecordingView D) → old.flushed ≤ length old.history
     → new.flushed ≡ old.flushed → IsTrue old.log.file.live → new.log.file.live ≡ false → (old.flushed ≡ length old.history → new.log.file ≡ old.log.file)
     → Rose (state old.log.file.disk).faults (state new.log.file.disk).faults
@@ -94,7 +97,7 @@ answer_failed state answer old new within stays live dead idle rose = go (nat_lt
         let still : IsTrue new.log.file.live = subst (λ (f : Gate _). IsTrue f.live) (sym (idle none)) live in
         absurd (let clash : IsTrue false = subst IsTrue dead still in cc)
 
--- a record, and a flush before its answer
+-- a record that is noted, and then a flush before its answer, are one call
 pub noted_answer : {D : Type 0} (state : D → DiskState) (made : List Entry) (due : Bool) (answer result : TableStep) (old mid new : RecordingView D) → IsNoted state made old mid
     → due ≡ true → nat_lt mid.flushed (length mid.history) ≡ true → Answers state (nat_lt mid.flushed (length mid.history)) answer mid new result
     → Answers state due answer old new result
@@ -104,7 +107,7 @@ noted_answer state made due answer result old mid new noted is some (failed yes_
     failed is same dead (stays ∙ noted.flushed)
     (subst (λ (f : Gate _). Rose (state f.disk).faults (state new.log.file.disk).faults) noted.file rose)
 
--- a record that shows something pends
+-- a record of a turn that shows something pends behind it
 pub some_pends : {D : Type 0} (state : D → DiskState) (made : List Entry) (old mid : RecordingView D) → IsNoted state made old mid → length made ≡ 1
     → nat_lt mid.flushed (length mid.history) ≡ true
 some_pends state made old mid noted one =
@@ -112,23 +115,25 @@ some_pends state made old mid noted one =
     let less : mid.flushed < length mid.history = omega (arith, within, one, noted.flushed, ap length noted.history, length-append old.history made) in
     grind arith
 
+-- if 64 records pend, there is something to flush
 pub many_pend : {D : Type 0} (mid : RecordingView D) (pending : ℕ) → mid.flushed + pending ≡ length mid.history → pending ≡ MOST_PENDING
     → nat_lt mid.flushed (length mid.history) ≡ true
 many_pend mid pending sum full =
     let less : mid.flushed < length mid.history = omega (arith, sum, full) in
     grind arith
 
--- why it is due
+-- why a flush is due: the turn shows something,
 pub due_shown : {D : Type 0} (made : List Entry) (t : Turn) (old : RecordingView D) → is_shown t ≡ true → is_due old made t ≡ true
 due_shown made t old shown = rw shown refl
 
+-- or 64 records pend
 pub due_is : {D : Type 0} (state : D → DiskState) (made : List Entry) (t : Turn) (old mid : RecordingView D) (pending : ℕ) → IsNoted state made old mid
     → pending ≡ MOST_PENDING → mid.flushed + pending ≡ length mid.history → is_due old made t ≡ true
 due_is state made t old mid pending noted full sum =
     let long : old.flushed + MOST_PENDING ≡ length (old.history ++ made) = omega (arith, noted.flushed, full, sum, ap length noted.history) in
     or_right (is_shown t) (old.flushed + MOST_PENDING == length (old.history ++ made)) (grind arith)
 
--- nothing stopped the table, so it stays as it is
+-- if a table keeps why it stopped, the step leaves it as it is
 pub kept_step : {D : Type 0} (state : D → DiskState) (t : TableView D) (path : Path) (why : Halt) → t.halt ≡ Some why → ((disk : D) → IsCoherent (state disk))
     → IsStep state (step_of t path) t t (Halted why)
 kept_step state t path why is coherent =
@@ -142,7 +147,7 @@ kept_step state t path why is coherent =
       verified = refl;
     })
 
--- the path has to be drained, so the table stays as it is
+-- if the path has to be drained, the step leaves the table as it is
 pub drain_step : {D : Type 0} (state : D → DiskState) (t : TableView D) (path : Path) → t.halt ≡ None → bound_of t ≡ None → drains t path ≡ true
     → ((disk : D) → IsCoherent (state disk)) → IsStep state (step_of t path) t t Drain
 drain_step state t path kept bound drain coherent =

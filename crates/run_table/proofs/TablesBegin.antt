@@ -67,13 +67,13 @@ all_held state header entries room log law holds =
       );
     }
 
--- the reason of an alarm
+-- the reason of a table behind a recovery is the alarm of its machine, or none
 alarm_reason : {D : Type 0} (m : MachineView) (r : RecordingView D) (alarm : Option Alarm) → m.alarm ≡ alarm → IsTrue r.log.file.live
     → length r.history < r.flushed + MOST_PENDING → HasReason m r (reason_in alarm)
 alarm_reason m r None is live few = record { calm = is; live = live; few = few }
 alarm_reason m r (Some alarm) is live few = (is, live)
 
--- a table of which all is flushed
+-- a machine and its records, all on the disk, are a table
 begun_table : {D : Type 0} (state : D → DiskState) (v : Verified) (m : RoomyMachine) (entries : Entries) (log : Log D)
     → IsKept (tapes_in v) (opening_of v) entries.items m.machine → AreAtTheirWaits v.left.order v.right.order m.machine
     → length entries.items ≤ v.settings.records → IsFresh (length entries.items) log
@@ -89,6 +89,7 @@ begun_table state v m entries log kept waits few fresh journaled = record {
   journaled = journaled;
 }
 
+-- what a recovery finds is a table
 pub recovered_is : {D : Type 0} (state : D → DiskState) (v : Verified) (m : RoomyMachine) (entries : Entries) (log : Log D) → Keeps (tapes_in v) (opening_of v)
     → ((disk : D) (header : Header) (version : Version) (entries : List Entry) (end : ℕ) → Holds header version entries (state disk) end → (c : List ℕ) → (state disk).image c → Stands header entries c)
     → IsRecovered state v m.machine entries.items log → IsTable state (recovered_table v m entries log)
@@ -116,15 +117,17 @@ nothing_found state v machine entries log header machine_is empty fresh verdict 
 
 -- where the journal is begun, so is the table
 module _ {A B : Type 0} (header : Header) (old new : DiskState) where
+  -- a journal that is begun is so whatever the answer lends,
   pub begun : (a : A) (b : B) → BeginsRun header old new (Ok a) → BeginsRun header old new (Ok b)
   begun a b call =
       record { held = call.held; vacant = call.vacant; spares = call.spares; refused = tt; later = call.later; calm = call.calm; any_moment = call.any_moment; uses = call.uses }
 
+  -- and one that isn't too
   pub not_begun : (fault : GateFault) → BeginsRun {A = A} header old new (Err fault) → BeginsRun {A = B} header old new (Err fault)
   not_begun fault call =
       record { held = tt; vacant = tt; spares = call.spares; refused = call.refused; later = call.later; calm = call.calm; any_moment = call.any_moment; uses = call.uses }
 
--- the disk was not touched
+-- if memory runs out before the first call, the disk is as it was
 pub untouched : {A : Type 0} (header : Header) (disk : DiskState) → IsCoherent disk → BeginsRun {A = A} header disk disk (Err NoMemory)
 untouched header disk coherent = record {
   held = tt;

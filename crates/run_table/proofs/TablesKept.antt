@@ -26,12 +26,12 @@ use Rattle.run_table.specs.Stepping.{is_shown, is_due, bound_of, drains, drained
 use Rattle.run_table.specs.Stepping.Answers.{at_once, flushed, failed}
 use Rattle.run_table.proofs.AlarmsKept.{alarm_behind, turn_alarm}
 
--- one record at most
+-- a turn makes one record at most
 few_made : (entry : Option Entry) → length (list_of entry) ≤ 1
 few_made None = omega arith
 few_made (Some entry) = omega arith
 
--- no alarm before
+-- without an alarm before, the reason behind a turn is the alarm that it raised
 turned_reason : {D : Type 0} (m : MachineView) (r : RecordingView D) (t : Turn) → m.alarm ≡ alarm_behind None t → IsTrue r.log.file.live
     → length r.history < r.flushed + MOST_PENDING → HasReason m r (reason_of (Turned t))
 turned_reason m r (turn.Read variable stamp) is live few = record { calm = is; live = live; few = few }
@@ -45,7 +45,7 @@ turned_reason m r (turn.Alarm alarm) is live few = (is, live)
 turned_reason m r (turn.Halted alarm) is live few = record { calm = is; live = live; few = few }
 turned_reason m r turn.Edited is live few = record { calm = is; live = live; few = few }
 
--- the answer to a turn
+-- the reason that a table keeps is one still behind the answer to a turn
 reason_kept : {D : Type 0} (state : D → DiskState) (m : MachineView) (r r' : RecordingView D) (made : List Entry) (t : Turn) (answer : TableStep)
     → m.alarm ≡ alarm_behind None t → IsTrue r.log.file.live → length r.history < r.flushed + MOST_PENDING → r'.history ≡ r.history ++ made → length made ≤ 1
     → Answers state (is_due r made t) (Turned t) r r' answer → HasReason m r' (reason_of answer)
@@ -61,6 +61,7 @@ reason_kept state m r r' made t answer is live few history one (flushed was_due 
 reason_kept state m r r' made t answer is live few history one (failed was_due same dead stays rose) =
     subst (λ (a : TableStep). HasReason m r' (reason_of a)) (sym same) dead
 
+-- an answer that says that the path waits is the turn's
 turned_is : (t : Turn) (code : ℕ) → Turned t ≡ Turned (turn.Waiting code) → t ≡ turn.Waiting code
 turned_is t code is = cc
 
@@ -71,7 +72,7 @@ answer_waits state due t r r' answer code (at_once not_due same file stays) is =
 answer_waits state due t r r' answer code (flushed yes_due same live all) is = turned_is t code (sym same ∙ is)
 answer_waits state due t r r' answer code (failed yes_due same dead stays rose) is = absurd (let clash : DiskFault ≡ Turned (turn.Waiting code) = sym same ∙ is in cc)
 
--- there is a turn: the journal is not full, and the budget not spent
+-- if nothing bounds the table, its journal is not full and its budget not spent
 pub turn_comes : {D : Type 0} (t : TableView D) → bound_of t ≡ None → (length t.recording.history ≡ t.verified.settings.records → ⊥) × (1 ≤ t.budget)
 turn_comes t = go (length t.recording.history == t.verified.settings.records) (t.budget == 0) refl refl
   where
@@ -82,12 +83,13 @@ turn_comes t = go (length t.recording.history == t.verified.settings.records) (t
     go false true full spent none = absurd cc
     go false false full spent none = (λ same. absurd (grind arith), grind arith)
 
--- the table that these are
+-- the table of this pair, machine, history, reason, budget, and of who is to be drained
 abbrev pub table_of : {D : Type 0} → Verified → RoomyMachine → RecordingView D → Option Halt → ℕ → Both Bool → TableView D
 table_of v m r why budget owed = record { verified = v; machine = m.machine; turns = m.room; recording = r; halt = why; budget = budget; owed = owed }
 
 module _ {D : Type 0} (state : D → DiskState) (v : Verified) (m m' : RoomyMachine) (r r' : RecordingView D) (budget budget' : ℕ) (owed owed' : Both Bool) (path : Path)
     (before : Option Halt) (none : before ≡ None) (table : IsTable state (table_of v m r before budget owed)) where
+  -- a table that nothing stopped may go on
   may : MayGoOn m.machine r
   may = subst (HasReason m.machine r) none table.reason
 
@@ -98,6 +100,7 @@ module _ {D : Type 0} (state : D → DiskState) (v : Verified) (m m' : RoomyMach
       (undrained : drains (table_of v m r before budget owed) path ≡ false)
       (answers : Answers state (is_due r (list_of entry) t) (Turned t) r r' answer) (records : Records state (list_of entry) r r')
       (spent : budget' + length (list_of entry) ≡ budget) where
+    -- the parts of a turn are the turn of the table,
     turn_by : IsStep state (drained_by (table_of v m r before budget owed) path None None) (table_of v m r None budget owed) (table_of v m' r' (reason_of answer) budget' owed') answer
     turn_by = record {
       answer = subst (λ (e : Option Entry). Answers state (is_due r (list_of e) (turn_of (tapes_in v) path m.machine).turn) (Turned (turn_of (tapes_in v) path m.machine).turn) r r' answer) entry_is
@@ -109,6 +112,7 @@ module _ {D : Type 0} (state : D → DiskState) (v : Verified) (m m' : RoomyMach
       verified = refl;
     }
 
+    -- and so they are a step of it
     pub turn_step_is : IsStep state (step_of (table_of v m r before budget owed) path) (table_of v m r before budget owed) (table_of v m' r' (reason_of answer) budget' owed') answer
     turn_step_is =
         subst (λ (d : Bool). IsStep state (step_by (table_of v m r before budget owed) path before (bound_of (table_of v m r before budget owed)) d) (table_of v m r before budget owed) (table_of v m' r' (reason_of answer) budget' owed') answer) (sym undrained)
@@ -120,9 +124,11 @@ module _ {D : Type 0} (state : D → DiskState) (v : Verified) (m m' : RoomyMach
         (waits : AreAtTheirWaits v.left.order v.right.order m'.machine)
         (roomy : m.machine.count + m.room ≤ m'.machine.count + m'.room)
         (less : length r.history < v.settings.records) where
+      -- a machine counts the records of its history
       count_of : (entries : List Entry) (now : MachineView) → IsKept (tapes_in v) (opening_of v) entries now → now.count ≡ length entries
       count_of entries now k = ap (λ (x : MachineView). x.count) (sym k.folds) ∙ (counted entries k.legal).count
 
+      -- behind the turn the machine is the fold of the history with its record
       kept' : IsKept (tapes_in v) (opening_of v) r'.history m'.machine
       kept' =
           let event = keeps.event r.history m.machine (TurnOf path) table.kept in
@@ -131,14 +137,17 @@ module _ {D : Type 0} (state : D → DiskState) (v : Verified) (m m' : RoomyMach
           subst (λ (l : List Entry). IsKept (tapes_in v) (opening_of v) l m'.machine) of_entry
           (subst (λ (x : MachineView). IsKept (tapes_in v) (opening_of v) (r.history ++ list_of (entry_of (tapes_in v) path m.machine)) x) (sym machine) event)
 
+      -- the history is longer by the record of the turn
       grown : length r'.history ≡ length r.history + length (list_of entry)
       grown = ap length records.follows.history ∙ length-append r.history (list_of entry)
 
+      -- the alarm behind the turn is the one that it raised, if it did
       alarm' : m'.machine.alarm ≡ alarm_behind None t
       alarm' =
           ap (λ (x : MachineView). x.alarm) machine ∙ turn_alarm (tapes_in v) path m.machine
           ∙ ap (λ o. alarm_behind o (turn_of (tapes_in v) path m.machine).turn) may.calm ∙ ap (alarm_behind None) (sym turn_is)
 
+      -- so the table behind a turn is a table
       pub turn_table : IsTable state (table_of v m' r' (reason_of answer) budget' owed')
       turn_table = record {
         kept = kept';
@@ -150,7 +159,7 @@ module _ {D : Type 0} (state : D → DiskState) (v : Verified) (m m' : RoomyMach
         journaled = (table.journaled.0, table.journaled.1, (records.follows.journal table.journaled.0 table.journaled.2).journaled);
       }
 
--- a reason does not hang on the room
+-- the reason that a table keeps doesn't hang on the room
 reason_room : {D : Type 0} (m : MachineView) (r : RecordingView D) (room : ℕ) (why : Option Halt) → HasReason m r why
     → HasReason m (record { history = r.history; room = room; flushed = r.flushed; log = r.log }) why
 reason_room m r room None may = record { calm = may.calm; live = may.live; few = may.few }
@@ -160,11 +169,12 @@ reason_room m r room (Some (halt.Turret path)) may = record { calm = may.calm; l
 reason_room m r room (Some halt.Full) is = is
 reason_room m r room (Some halt.Budget) is = is
 
+-- nor does the journal
 journaled_room : {D : Type 0} (state : D → DiskState) (header : Header) (r : RecordingView D) (room : ℕ) → IsJournaled state header r
     → IsJournaled state header (record { history = r.history; room = room; flushed = r.flushed; log = r.log })
 journaled_room state header r room j = record { held = j.held; left = j.left }
 
--- room is made
+-- a table with more room is one still
 pub room_made : {D : Type 0} (state : D → DiskState) (v : Verified) (m m' : RoomyMachine) (r r' : RecordingView D) (why : Option Halt) (budget budget' : ℕ) (owed : Both Bool)
     → IsTable state (table_of v m r why budget owed) → m'.machine ≡ m.machine → r'.history ≡ r.history → r'.flushed ≡ r.flushed → r'.log ≡ r.log
     → budget' ≤ m'.room → (1 ≤ budget' → length r'.history + budget' ≤ r'.room) → IsTable state (table_of v m' r' why budget' owed)
@@ -187,6 +197,7 @@ room_made state v m m' r r' why budget budget' owed table machine history count 
       );
     }
 
+-- what is at most a number and isn't it is less
 less_by : (a b : ℕ) → a ≤ b → (a ≡ b → ⊥) → a < b
 less_by a b le differ = go (nat_lt a b) refl
   where
@@ -196,7 +207,7 @@ less_by a b le differ = go (nat_lt a b) refl
         let same : a ≡ b = grind arith in
         absurd (differ same)
 
--- a turn has its number of records
+-- a table that is not full has fewer records than the settings allow, and than a machine may count
 pub few_turns : {D : Type 0} (state : D → DiskState) (v : Verified) (m : RoomyMachine) (r : RecordingView D) (why : Option Halt) (budget : ℕ) (owed : Both Bool)
     → IsTable state (table_of v m r why budget owed)
     → ((entries : List Entry) → IsLegal (tapes_in v) (opening_of v) entries → Counts (tapes_in v) (opening_of v) entries)
@@ -206,7 +217,7 @@ few_turns state v m r why budget owed table counted differ =
     let less = less_by (length r.history) v.settings.records table.few differ in
     (omega (arith, count, less, v.settings.most_records), less)
 
--- a turn may have its record
+-- a table that nothing stops or bounds may note one record more
 pub may_note : {D : Type 0} (state : D → DiskState) (v : Verified) (m : RoomyMachine) (r : RecordingView D) (why : Option Halt) (budget : ℕ) (owed : Both Bool)
     → IsTable state (table_of v m r why budget owed) → why ≡ None → bound_of (table_of v m r why budget owed) ≡ None → MayNote r
 may_note state v m r why budget owed table none bound =

@@ -15,7 +15,7 @@ use Rattle.run_table.specs.Stepping.Answers.{at_once, flushed, failed}
 use Rattle.run_table.proofs.RecordingsFollow.{follows_more}
 use Rattle.run_table.proofs.StepsTaken.{nothing}
 
--- nothing has come of it
+-- a table has come of itself, with no record made
 pub since_none : {D : Type 0} (state : D → DiskState) (t : TableView D) → ((disk : D) → IsCoherent (state disk)) → Since state t t
 since_none state t coherent = record {
   verified = refl;
@@ -25,10 +25,11 @@ since_none state t coherent = record {
   cause = λ is. inl is;
 }
 
+-- a fault within a longer time is one of it
 pub rose_later : (a b c d : ℕ) → a ≤ b → c ≤ d → Rose b c → Rose a d
 rose_later a b c d first last rose = omega (arith, first, last, rose)
 
--- and then something more
+-- what has come of a table that has come of another has come of that
 pub since_more : {D : Type 0} (state : D → DiskState) (a b c : TableView D) → Since state a b → Since state b c → Since state a c
 since_more state a b c f s = record {
   verified = s.verified ∙ f.verified;
@@ -66,12 +67,14 @@ kept_fault Drain is = absurd cc
 kept_fault DiskFault is = refl
 kept_fault (Halted why) is = absurd cc
 
+-- a step that answers with a fault of the disk saw a call fail
 pub fault_rose : {D : Type 0} (state : D → DiskState) (due : _) (answer : TableStep) (old new : RecordingView D) (result : TableStep) → (answer ≡ DiskFault → ⊥)
     → Answers state due answer old new result → result ≡ DiskFault → Rose (state old.log.file.disk).faults (state new.log.file.disk).faults
 fault_rose state due answer old new result never (at_once not_due same file stays) is = absurd (never (sym same ∙ is))
 fault_rose state due answer old new result never (flushed was_due same live all) is = absurd (never (sym same ∙ is))
 fault_rose state due answer old new result never (failed was_due same dead stays rose) is = rose
 
+-- if a table keeps that the disk failed, it did before or a call failed now
 step_cause : {D : Type 0} (state : D → DiskState) (old new : TableView D) (due : _) (answer result : TableStep) (why : Option Halt)
     → old.halt ≡ why → new.halt ≡ reason_behind why result → (answer ≡ DiskFault → ⊥) → Answers state due answer old.recording new.recording result
     → new.halt ≡ Some halt.Disk → (old.halt ≡ Some halt.Disk) ⊎ Rose (state old.recording.log.file.disk).faults (state new.recording.log.file.disk).faults
@@ -79,7 +82,7 @@ step_cause state old new due answer result (Some why) before after never answers
 step_cause state old new due answer result None before after never answers is =
     inr (fault_rose state due answer old.recording new.recording result never answers (kept_fault result (sym after ∙ is)))
 
--- a step
+-- what a step leads to has come of the table
 pub since_step : {D : Type 0} (state : D → DiskState) (path : Path) (old new : TableView D) (result : TableStep)
     → IsStep state (step_of old path) old new result → Since state old new
 since_step state path old new result step = record {

@@ -38,6 +38,7 @@ no_label None (Some Back) there never = refl
 no_label (Some f) (Some Back) there never = refl
 no_label caller (Some (BackTo n)) there never = refl
 
+-- a turn at a wait is a wait unless the other waits at another code
 at_wait : (path : Path) (line : ℕ) (m : MachineView) (code : ℕ) (there : Option ℕ) → is_wait (result_at_wait path line m code there).turn ≡ may_come code there
 at_wait path line m code None = refl
 at_wait path line m code (Some there) = go (code == there) refl
@@ -49,13 +50,14 @@ at_wait path line m code (Some there) = go (code == there) refl
 module _ (flow : Flow) (control : IsControlled flow)
     (waits : (path : PathView) (code : ℕ) (reads : _) → standing flow.order path.place ≡ Some (Wait code) → effect_of flow path reads ≡ AtWait code)
     (path : Path) (m : MachineView) where
-  -- what is at no wait stands on none
+  -- a path whose block comes to no wait stands on no wait
   elsewhere : (e : Effect) → effect_of flow m.paths.one.path m.paths.one.values ≡ e → ((code : ℕ) → e ≡ AtWait code → ⊥)
       → comes_to (label_at flow.order m.paths.one.path.place) m.paths.two.waiting ≡ false
   elsewhere e is never =
       no_label (slice_get m.paths.one.path.place 1) (standing flow.order m.paths.one.path.place) m.paths.two.waiting
       (λ code on. never code (sym is ∙ waits m.paths.one.path code m.paths.one.values on))
 
+  -- a turn is a wait just if the path stands on one to which it may come,
   here : (e : Effect) → effect_of flow m.paths.one.path m.paths.one.values ≡ e → (line : ℕ)
       → is_wait (result_by path line m e).turn ≡ comes_to (label_at flow.order m.paths.one.path.place) m.paths.two.waiting
   here (Need variable) is line = sym (elsewhere (Need variable) is (λ code clash. cc))
@@ -66,6 +68,7 @@ module _ (flow : Flow) (control : IsControlled flow)
   here (AtEnd after moves) is line = sym (elsewhere (AtEnd after moves) is (λ code clash. cc))
   here (effect.Alarm number value) is line = sym (elsewhere (effect.Alarm number value) is (λ code clash. cc))
 
+  -- also if it may be still,
   by_idle : (a : Option Alarm) (f : Bool) (w : Option ℕ)
       → is_wait (unless_idle m a f w (block_turn (blocks_of flow) path m)).turn ≡ comes_by a f w (label_at flow.order m.paths.one.path.place) m.paths.two.waiting
   by_idle (Some alarm) f w = refl
@@ -73,10 +76,11 @@ module _ (flow : Flow) (control : IsControlled flow)
   by_idle None false (Some code) = refl
   by_idle None false None = here (effect_of flow m.paths.one.path m.paths.one.values) refl ((blocks_of flow).line m.paths.one.path.place)
 
+  -- and so of a whole turn of the path whose part is first
   pub own_wait : is_wait (own_turn (blocks_of flow) path m).turn ≡ comes_by m.alarm m.paths.one.finished m.paths.one.waiting (label_at flow.order m.paths.one.path.place) m.paths.two.waiting
   own_wait = by_idle m.alarm m.paths.one.finished m.paths.one.waiting
 
--- either path's turn
+-- a turn of either path is a wait just if the path comes to the label there
 pub wait_ahead : (verified : Verified) → ((flow : Flow) → IsControlled flow)
     → ((flow : Flow) (path : PathView) (code : ℕ) (reads : _) → standing flow.order path.place ≡ Some (Wait code) → effect_of flow path reads ≡ AtWait code)
     → (path : Path) (m : MachineView)

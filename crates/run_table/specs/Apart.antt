@@ -1,4 +1,5 @@
 -- A step whose moves stand apart, in a list that is lent.
+-- For this crate alone.
 use Rattle.std.specs.Prelude.{List, []}
 use Rattle.nc_moves.specs.declared.motion.Move.{Move}
 use Rattle.two_path.specs.Made.{moves_of_turn, turn_with}

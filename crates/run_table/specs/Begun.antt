@@ -1,4 +1,5 @@
--- How a table begins, anew or behind a recovery.
+-- How a table begins, anew or behind a recovery. What the disk must hold for that is in Recovered.
+-- lathe_top uses these words.
 use Rattle.std.specs.Prelude.{◌≡◌, ℕ, [], length, Option, Some, None, Result, Ok, Err, OnOk, OnErr}
 use Rattle.nc_moves.specs.declared.alarm.Alarm.{Alarm}
 use Rattle.nc_outside.specs.declared.halt.Halt.{Halt}
@@ -26,7 +27,7 @@ abbrev pub disk_in : {D : Type 0} → Result (TableView D) (D × GateFault) → 
 disk_in (Ok t) = t.recording.log.file.disk
 disk_in (Err fault) = fault.0
 
--- the reason that an alarm is
+-- why a table has stopped whose machine has this alarm
 abbrev pub reason_in : Option Alarm → Option Halt
 reason_in None = None
 reason_in (Some alarm) = Some (halt.Alarm alarm)
@@ -56,7 +57,7 @@ pub record IsPrepared {D T E : Type 0} (n : ℕ) (old new : TableView D) (result
   pub halt : new.halt ≡ old.halt
   pub owed : new.owed ≡ old.owed
 
--- what is left of a table
+-- what is left of a table that is taken apart: its pair, machine, records, reason and disk
 pub record IsLeft {D : Type 0} (t : TableView D) (verified : Verified) (m : RoomyMachine) (entries : Entries) (halt : Option Halt) (disk : D) : Type 0 where
   pub verified_is : verified ≡ t.verified
   pub machine : m.machine ≡ t.machine

@@ -1,5 +1,6 @@
 -- When a path has to be drained: it comes to a wait, and moves were answered to it that its turret
 -- may not have.
+-- For this crate alone.
 use Rattle.std.specs.Prelude.{ℕ, ◌==◌, not, Bool, true, false, length, Option, Some, None}
 use Rattle.nc_number.specs.declared.path.Path.{Path}
 use Rattle.nc_number.specs.declared.path.Path.TheVariants.{One, Two}
@@ -18,7 +19,7 @@ use Rattle.run_table.specs.declared.answer.TableStep.TheVariants.{Turned}
 abbrev pub none_owed : Both Bool
 none_owed = record { one = false; two = false }
 
--- the same, but for this path
+-- who has to be drained, with this path set so
 abbrev pub with_owed : Path → Bool → Both Bool → Both Bool
 with_owed One is owed = record owed { one = is }
 with_owed Two is owed = record owed { two = is }
@@ -40,11 +41,12 @@ abbrev pub answers_moves : TableStep → Bool
 answers_moves (Turned turn) = has_moves turn
 answers_moves other = false
 
--- behind a step of the path
+-- who has to be drained behind a step of the path that answered moves, or none
 abbrev pub owed_by : Bool → Path → Both Bool → Both Bool
 owed_by true path owed = with_owed path true owed
 owed_by false path owed = owed
 
+-- who has to be drained behind this step of the path
 abbrev pub owed_behind : Path → TableStep → Both Bool → Both Bool
 owed_behind path step owed = owed_by (answers_moves step) path owed
 
@@ -58,6 +60,7 @@ abbrev pub may_come : ℕ → Option ℕ → Bool
 may_come code None = true
 may_come code (Some there) = code == there
 
+-- the label is a wait to which the path may come
 abbrev pub comes_to : Option Label → Option ℕ → Bool
 comes_to (Some (label.Wait code)) there = may_come code there
 comes_to other there = false

@@ -1,4 +1,5 @@
 -- How the run of a table that is held has ended, once its records are on the disk.
+-- turret_run uses these words.
 use Rattle.std.specs.Prelude.{◌≡◌, ◌≢◌, ◌<◌, false, length, Option, Some, None, IsTrue}
 use Rattle.nc_outside.specs.declared.halt.Halt.TheVariants as halt
 use Rattle.nc_outside.specs.declared.reason.Reason.{Reason}
@@ -19,13 +20,17 @@ end_ahead t = end_or_bound (end_of t.machine) (bound_of t)
 -- not ended. Else the records that pend are written, or the disk fails in that, and this is the
 -- end.
 pub data Asks {D : Type 0} (old new : TableView D) (result : Option Reason) : Type 0 where
+  -- the disk stopped the table before, and it stays as it is
   kept : old.halt ≡ Some halt.Disk → result ≡ Some reason.DiskFault → new ≡ old → Asks old new result
+  -- no cause stands, and nothing is done
   idle : old.halt ≢ Some halt.Disk → end_ahead old ≡ None → result ≡ None → new ≡ old → Asks old new result
+  -- a cause stands, and all records are on the disk
   written : old.halt ≢ Some halt.Disk → (end : Reason) → end_ahead old ≡ Some end → result ≡ Some end
       → new ≡ record old { recording = new.recording } → new.recording.history ≡ old.recording.history
       → IsTrue new.recording.log.file.live → new.recording.flushed ≡ length new.recording.history
       → (old.recording.flushed ≡ length old.recording.history → new.recording.log.file ≡ old.recording.log.file)
       → Asks old new result
+  -- a cause stands, but the disk failed in the flush
   failed : old.halt ≢ Some halt.Disk → old.recording.flushed < length old.recording.history → result ≡ Some reason.DiskFault
       → new ≡ record old { recording = new.recording; halt = Some halt.Disk } → new.recording.history ≡ old.recording.history
       → new.recording.log.file.live ≡ false → new.recording.flushed ≡ old.recording.flushed → Asks old new result
@@ -51,7 +56,9 @@ pub record HasNotEnded {D : Type 0} (h : HeldView D) : Type 0 where
   pub live : IsTrue h.file.live
   pub halt : h.halt ≢ Some halt.Disk
   pub machine : end_of h.machine ≡ None
+  -- the journal is not full,
   pub room : length h.history ≢ h.verified.settings.records
+  -- and the budget is not spent
   pub leave : h.budget ≢ 0
 
 -- What is left as it was where the end of a run is asked for: all but what is on the disk. The disk
@@ -62,4 +69,5 @@ pub record KeepsRest {D : Type 0} (old new : HeldView D) (result : Option Reason
   pub halt : result ≢ Some reason.DiskFault → new.halt ≡ old.halt
   pub flushed : result ≡ Some reason.DiskFault → new.flushed ≡ old.flushed
   pub idle : result ≡ None → new ≡ old
+  -- if all is flushed already, nothing changes
   pub settled : old.flushed ≡ length old.history → new ≡ old

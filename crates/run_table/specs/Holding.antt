@@ -1,4 +1,5 @@
 -- A table that keeps what it began with, and the moves that were answered since.
+-- turret_run uses these words.
 use Rattle.std.specs.Prelude.{◌≡◌, ℕ, ◌==◌, ◌&&◌, not, is_none, Bool, true, false, List, [], ◌∷◌, ◌++◌, length, drop, Option, Some, None, if◌then◌else◌}
 use Rattle.disk_model.specs.Device.{DiskState}
 use Rattle.gate_file.specs.Gate.{Gate}
@@ -34,13 +35,20 @@ pub record HeldView (D : Type 0) : Type 0 where
   pub verified : Verified
   pub machine : MachineView
   pub history : List Entry
+  -- how many of the records are on the disk
   pub flushed : ℕ
+  -- the journal's file
   pub file : Gate D
+  -- why the table has stopped
   pub halt : Option Halt
+  -- how many records it may still make
   pub budget : ℕ
+  -- which paths have to be drained before they come to a wait
   pub owed : Both Bool
+  -- whether the moves of its last record were answered
   pub shown : Bool
 
+-- what callers see of this table, if it is held
 abbrev pub held_of : {D : Type 0} → TableView D → Bool → HeldView D
 held_of t shown = record {
   verified = t.verified;
@@ -67,18 +75,20 @@ abbrev pub drains_at : {D : Type 0} → HeldView D → Path → Bool
 drains_at h path =
     (is_none h.halt && is_none (bound_at h)) && (of_path h.owed path && is_wait (turn_of (tapes_in h.verified) path h.machine).turn)
 
--- the table is what has come of this one
+-- the table is what has come of the one that was opened
 abbrev pub IsOf : {D : Type 0} → (D → DiskState) → Option (TableView D) → TableView D → Type 0
 IsOf state None t = ⊥
 IsOf state (Some start) t = Since state start t
 
--- of each record of the path its moves, but that the last record of all stands there without a move
+-- of each record of the path its moves, but none of the last record of all, whose moves were not
+-- answered
 abbrev pub lost_from : Tapes → MachineView → Path → List Entry → List (List LinedMove)
 lost_from tapes m path [] = []
 lost_from tapes m path (e ∷ []) = if_of path e []
 lost_from tapes m path (e ∷ f ∷ entries) =
     if_of path e (made_in (turn_of_entry tapes e m)) ++ lost_from tapes (behind_entry tapes e m) path (f ∷ entries)
 
+-- of each record of the path the moves that were answered, the last one's only if they were
 abbrev pub answered_from : Tapes → MachineView → Path → Bool → List Entry → List (List LinedMove)
 answered_from tapes m path true entries = shown_from tapes m path entries
 answered_from tapes m path false entries = lost_from tapes m path entries
@@ -114,6 +124,7 @@ pub record IsHeld {D : Type 0} (state : D → DiskState) (opened : Option (Table
 abbrev pub handed : Moves → Next
 handed moves = if length moves.list == 0 then next.Silent else next.Moves moves
 
+-- a turn as it is handed on; None if the path waits
 abbrev pub next_of_turn : Turn → Option Next
 next_of_turn (turn.Read variable stamp) = Some next.Silent
 next_of_turn (turn.Did moves) = Some (handed moves)
@@ -148,12 +159,12 @@ pub record HasStepped {D : Type 0} (state : D → DiskState) (path : Path) (old 
   pub is : IsStep state (step_of before path) before after step
   pub next : result ≡ next_of step
 
--- a kept turret is let go
+-- why the table stopped, but for a turret's fault, which a table that is taken out doesn't keep
 abbrev pub without_turret : Option Halt → Option Halt
 without_turret (Some (halt.Turret path)) = None
 without_turret why = why
 
--- what a table is that was held
+-- what a table is that was held and is taken out
 pub record IsTaken {D : Type 0} (held : HeldView D) (t : TableView D) : Type 0 where
   pub verified : t.verified ≡ held.verified
   pub machine : t.machine ≡ held.machine

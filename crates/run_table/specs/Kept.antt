@@ -1,4 +1,6 @@
--- What callers see of a table, and what is true of it.
+-- What callers see of a table, and what is true of it. The history and the journal in it are in
+-- Recording.
+-- lathe_top and turret_run use these words.
 use Rattle.std.specs.Prelude.{◌≡◌, ℕ, ◌+◌, ◌≤◌, ◌<◌, false, length, map, Option, Some, None, IsTrue, Bool}
 use Rattle.disk_model.specs.Device.{DiskState}
 use Rattle.nc_outside.specs.declared.halt.Halt.{Halt}
@@ -17,6 +19,7 @@ use Rattle.nc_number.specs.declared.both.Both.{Both}
 use Rattle.nc_number.specs.declared.limits.TheConstants.{MOST_PENDING}
 use Rattle.run_table.specs.Recording.{RecordingView, IsJournaled}
 
+-- what callers see of a table
 pub record TableView (D : Type 0) : Type 0 where
   pub verified : Verified
   pub machine : MachineView
@@ -26,6 +29,7 @@ pub record TableView (D : Type 0) : Type 0 where
   pub budget : ℕ  -- how many records it may still make
   pub owed : Both Bool  -- which paths have to be drained before they come to a wait
 
+-- the blocks of both tapes of the pair
 abbrev pub tapes_in : Verified → Tapes
 tapes_in verified = tapes_of verified.left verified.right
 
@@ -42,8 +46,11 @@ IsVerdictOf header verified =
 -- a table that has not stopped: no path has raised an alarm, the journal may be written, and the
 -- batch is not full
 pub record MayGoOn {D : Type 0} (machine : MachineView) (r : RecordingView D) : Type 0 where
+  -- there is no alarm
   pub calm : machine.alarm ≡ None
+  -- the journal may be written
   pub live : IsTrue r.log.file.live
+  -- fewer than 64 records pend
   pub few : length r.history < r.flushed + MOST_PENDING
 
 -- Why a table has stopped: for an alarm of the machine, for a fault of the disk, or as a turret was
@@ -61,9 +68,12 @@ HasReason machine r (Some Budget) = ⊥
 -- are the pair's.
 pub record IsTable {D : Type 0} (state : D → DiskState) (t : TableView D) : Type 0 where
   pub kept : IsKept (tapes_in t.verified) (opening_of t.verified) t.recording.history t.machine
+  -- each waiting path stands on a wait
   pub waits : AreAtTheirWaits t.verified.left.order t.verified.right.order t.machine
   pub few : length t.recording.history ≤ t.verified.settings.records
+  -- the machine has room for its turns,
   pub turns : t.budget ≤ t.turns
+  -- and the history for their records
   pub room : 1 ≤ t.budget → length t.recording.history + t.budget ≤ t.recording.room
   pub reason : HasReason t.machine t.recording t.halt
   pub journaled : (header : Header) × IsVerdictOf header t.verified × IsJournaled state header t.recording

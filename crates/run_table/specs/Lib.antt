@@ -1,3 +1,5 @@
+-- The words in which contracts speak of a run with its journal. Other crates cite Begun, Ending,
+-- Holding, Kept, Made, Recording, Recovered, Running and Since.
 pub mod Begun
 pub mod Draining
 pub mod Ending

@@ -1,4 +1,5 @@
 -- The moves of the records of a history.
+-- lathe_top and turret_run use these words.
 use Rattle.std.specs.Prelude.{ℕ, List, [], ◌∷◌, ◌++◌, take, drop, if◌then◌else◌}
 use Rattle.nc_number.specs.Path.{is_same}
 use Rattle.nc_number.specs.declared.path.Path.{Path}

@@ -1,4 +1,5 @@
 -- The history of a run, and the journal that holds a beginning of it.
+-- lathe_top and turret_run use these words.
 use Rattle.std.specs.Prelude.{◌≡◌, ℕ, ◌+◌, ◌-◌, ◌*◌, ◌≤◌, ◌<◌, ◌++◌, false, List, length, take, drop, IsTrue, Result, OnOk, OnErr, is_ok, if◌then◌else◌}
 use Rattle.disk_model.specs.Device.{DiskState, Reads}
 use Rattle.disk_model.specs.Moments.{LeavesOnly, Uses}
@@ -13,8 +14,11 @@ use Rattle.run_journal.specs.Stands.{Stands, Holds, Pends}
 -- the journal
 pub record RecordingView (D : Type 0) : Type 0 where
   pub history : List Entry
+  -- for how many records the list has room
   pub room : ℕ
+  -- how many of them are on the disk
   pub flushed : ℕ
+  -- the journal, with the batch that pends
   pub log : Log D
 
 -- The history is the part that is flushed and the part that pends, which has 64 records at most.
@@ -33,8 +37,10 @@ StandsForPrefix header least history image =
 -- it has by now, until it has failed. What a crash may leave of it stands, at any time, for a
 -- beginning of the history that has the flushed part.
 pub record IsJournaled {D : Type 0} (state : D → DiskState) (header : Header) (r : RecordingView D) : Type 0 where
+  -- while the journal may be written, the disk holds the flushed part,
   pub held : (bytes : List ℕ) → Reads (state r.log.file.disk) bytes → IsTrue r.log.file.live
       → Holds header r.log.version (take r.flushed r.history) (state r.log.file.disk) r.log.file.end
+  -- and what a crash may leave stands for a prefix of the history
   pub left : (bytes : List ℕ) → Reads (state r.log.file.disk) bytes
       → (c : List ℕ) → (state r.log.file.disk).image c → StandsForPrefix header r.flushed r.history c
 
@@ -96,6 +102,7 @@ pub record IsNoted {D : Type 0} (state : D → DiskState) (made : List Entry) (o
   pub flushed : new.flushed ≡ old.flushed
   pub version : new.log.version ≡ old.log.version
   pub room : new.room ≡ old.room
+  -- the journal stays that of the history
   pub journal : (header : Header) → IsJournaled state header old → IsJournaled state header new
 
 -- a recording to which one record more may be added

@@ -1,4 +1,5 @@
--- What a recovery finds.
+-- What a recovery finds. The table that is made of it is in Begun.
+-- lathe_top uses these words.
 use Rattle.std.specs.Prelude.{◌≡◌, ℕ, ◌≤◌, List, length}
 use Rattle.disk_model.specs.Device.{DiskState, Reads}
 use Rattle.run_records.specs.Entries.{Entry}

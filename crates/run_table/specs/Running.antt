@@ -1,4 +1,5 @@
--- How a run ends.
+-- How a run ends. Of a table that is no longer held; of a held one it is in Ending.
+-- lathe_top and turret_run use these words.
 use Rattle.std.specs.Prelude.{◌≡◌, ◌≢◌, false, length, Option, Some, None, IsTrue}
 use Rattle.disk_model.specs.Device.{DiskState, Rose}
 use Rattle.nc_outside.specs.declared.halt.Halt.{Halt}

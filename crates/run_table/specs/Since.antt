@@ -1,4 +1,5 @@
--- What has come of a table.
+-- What has come of a table. A step is in Stepping, and one record's way to the disk in Recording.
+-- lathe_top and turret_run use these words.
 use Rattle.std.specs.Prelude.{◌≡◌, ◌⊎◌, ◌+◌, List, length, Some}
 use Rattle.disk_model.specs.Device.{DiskState, Rose}
 use Rattle.nc_outside.specs.declared.halt.Halt.TheVariants.{Disk}
@@ -10,6 +11,7 @@ use Rattle.run_table.specs.Kept.{TableView}
 -- budget. Where it keeps that the disk failed, and did not before, a call has failed.
 pub record Since {D : Type 0} (state : D → DiskState) (old new : TableView D) : Type 0 where
   pub verified : new.verified ≡ old.verified
+  -- the records made since
   pub made : List Entry
   pub recording : Follows state made old.recording new.recording
   pub budget : new.budget + length made ≡ old.budget

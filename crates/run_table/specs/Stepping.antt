@@ -1,4 +1,6 @@
--- What a step of a table comes to.
+-- What a step of a table comes to. A row for each case: a kept reason, a full journal, a spent
+-- budget, a drain, or the path's turn.
+-- For this crate alone.
 use Rattle.std.specs.Prelude.{◌≡◌, ℕ, ◌+◌, ◌==◌, ◌||◌, ◌&&◌, not, nat_lt, is_some, is_none, Bool, true, false, List, [], ◌++◌, length, Option, Some, None, IsTrue, if◌then◌else◌}
 use Rattle.disk_model.specs.Device.{DiskState, Rose}
 use Rattle.nc_number.specs.declared.path.Path.{Path}
@@ -37,6 +39,7 @@ is_shown turn.Edited = false
 abbrev pub bound_by : ℕ → ℕ → ℕ → Option Halt
 bound_by count most budget = if count == most then Some halt.Full else if budget == 0 then Some halt.Budget else None
 
+-- why a turn of this table doesn't come: a full journal, a spent budget, or none
 abbrev pub bound_of : {D : Type 0} → TableView D → Option Halt
 bound_of t = bound_by (length t.recording.history) t.verified.settings.records t.budget
 
@@ -53,6 +56,7 @@ waits_in t path = (is_none t.halt && is_none (bound_of t)) && is_waiting path t.
 pub record StepResult : Type 0 where
   pub answer : TableStep
   pub machine : MachineView
+  -- the record, or none
   pub made : List Entry
   pub due : Bool
 
@@ -60,6 +64,7 @@ pub record StepResult : Type 0 where
 abbrev pub is_due : {D : Type 0} → RecordingView D → List Entry → Turn → Bool
 is_due r made turn = is_shown turn || r.flushed + MOST_PENDING == length (r.history ++ made)
 
+-- the step of a turn, with its record, if it made one
 abbrev pub turn_step : {D : Type 0} → TableView D → TurnResult → List Entry → StepResult
 turn_step t result made = record {
   answer = Turned result.turn;
@@ -85,7 +90,7 @@ bound_step t why = record {
   due = nat_lt t.recording.flushed (length t.recording.history);
 }
 
--- the path's turn
+-- the step of the path's turn
 abbrev pub turn_by : {D : Type 0} → TableView D → Path → StepResult
 turn_by t path =
     turn_step t (turn_of (tapes_in t.verified) path t.machine) (list_of (entry_of (tapes_in t.verified) path t.machine))
@@ -102,16 +107,20 @@ abbrev pub step_by : {D : Type 0} → TableView D → Path → Option Halt → O
 step_by t path None None true = idle_step t Drain
 step_by t path why bound drain = drained_by t path why bound
 
+-- a step of the path: a drain, its turn, or nothing
 abbrev pub step_of : {D : Type 0} → TableView D → Path → StepResult
 step_of t path = step_by t path t.halt (bound_of t) (drains t path)
 
 -- The answer that comes where the disk does not fail, with all records flushed before it where that
 -- is due, or a fault of the disk, which failed in that.
 pub data Answers {D : Type 0} (state : D → DiskState) (due : Bool) (answer : TableStep) (old new : RecordingView D) (result : TableStep) : Type 0 where
+  -- nothing has to be flushed, and the answer is the step's
   at_once : due ≡ false → result ≡ answer → new.log.file ≡ old.log.file → new.flushed ≡ old.flushed
       → Answers state due answer old new result
+  -- all is flushed, and the answer is the step's
   flushed : due ≡ true → result ≡ answer → IsTrue new.log.file.live → new.flushed ≡ length new.history
       → Answers state due answer old new result
+  -- the disk failed in the flush, and the answer is that fault
   failed : due ≡ true → result ≡ DiskFault → new.log.file.live ≡ false → new.flushed ≡ old.flushed
       → Rose (state old.log.file.disk).faults (state new.log.file.disk).faults → Answers state due answer old new result
 
@@ -123,6 +132,7 @@ reason_of Drain = None
 reason_of DiskFault = Some halt.Disk
 reason_of (Halted why) = None
 
+-- the reason that a table keeps behind this answer
 abbrev pub reason_behind : Option Halt → TableStep → Option Halt
 reason_behind (Some why) answer = Some why
 reason_behind None answer = reason_of answer
@@ -137,7 +147,7 @@ pub record IsStep {D : Type 0} (state : D → DiskState) (step : StepResult) (ol
   pub halt : new.halt ≡ reason_behind old.halt result
   pub verified : new.verified ≡ old.verified
 
--- the path's turn is that of a block
+-- the path's turn is that of a block: it neither waits nor has ended
 pub record GoesOn (tapes : Tapes) (path : Path) (m : MachineView) : Type 0 where
   pub waits : (code : ℕ) → (turn_of tapes path m).turn ≡ turn.Waiting code → ⊥
   pub ended : (turn_of tapes path m).turn ≡ turn.Finished → ⊥

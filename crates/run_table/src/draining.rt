@@ -1,4 +1,5 @@
 //! When a path has to be drained before it goes on.
+//! For this crate alone: table.rt uses it.
 ghost use Rattle.std.specs.Prelude.{◌≡◌};
 ghost use Rattle.nc_number.specs.Path.{other_of};
 ghost use Rattle.nc_number.specs.Both.{of_path};

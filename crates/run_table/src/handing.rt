@@ -1,4 +1,5 @@
 //! A step of a table, as it is handed on to the worker of its path.
+//! For this crate alone: held.rt uses it.
 ghost use Rattle.std.specs.Prelude.{◌≡◌, ◌&&◌, not, List};
 ghost use Rattle.nc_moves.specs.declared.motion.Move.{Move};
 ghost use Rattle.two_path.specs.Made.{turn_with};

@@ -1,4 +1,6 @@
-//! A table that keeps what it began with.
+//! A table that keeps what it began with. It also knows whether the moves of the last record were
+//! answered. The plain table is in table.rt.
+//! turret_run uses what it exports.
 ghost use Rattle.std.specs.Prelude.{◌≡◌, ◌≢◌, true, false, Some, IfSome, IfNone, MatchOption};
 ghost use Rattle.nc_outside.specs.Calls.{IsOfTurret};
 ghost use Rattle.nc_outside.specs.declared.halt.Halt.{Halt as AnyHalt};
@@ -37,6 +39,7 @@ impl<D> Opening<D> for Brand {
 /// was then: a run of the same pair, with more records.
 pub struct Held<D: Disk, O: Opening<D>> {
     table: Table<D>,
+    /// Whether the moves of its last record were answered.
     shown: bool,
     of: PhantomData<O>,
 }

@@ -1,4 +1,5 @@
 //! What holds of every table, for the crates above: who calls the function has the law.
+//! lathe_top and turret_run use them.
 ghost use Rattle.std.specs.Prelude.{◌≡◌, ◌≢◌, ℕ, ◌-◌, ◌*◌, ◌≤◌, List, length, Some};
 ghost use Rattle.nc_number.specs.declared.path.Path.{Path};
 ghost use Rattle.nc_number.specs.Path.{other_of};

@@ -1,4 +1,5 @@
 //! The history of a run, and the journal that holds a beginning of it.
+//! For this crate alone: stepping.rt and table.rt use it.
 ghost use Rattle.std.specs.Prelude.{◌≡◌, ◌+◌, ◌≤◌, [], ◌∷◌, length, None, IsTrue, IsErr, OnOk};
 ghost use Rattle.disk_model.specs.Device.{Rose};
 ghost use Rattle.nc_number.specs.declared.limits.TheConstants.{MOST_PENDING};
@@ -17,8 +18,11 @@ use std::marker::Model;
 /// most as many as one batch may have.
 #[derive(Drop)]
 pub(crate) struct Recording<D: Disk> {
+    /// All records.
     history: EntryList,
+    /// The journal, with the batch of those that pend.
     journal: Journal<D>,
+    /// How many of them are on the disk.
     flushed: usize,
 }
 
@@ -61,7 +65,7 @@ impl<D: Disk> Recording<D> {
         }
     }
 
-    /// Makes room for so many records more.
+    /// Makes room for so many records more. The error is that memory ran out.
     pub(crate) fn reserve(&mut self, n: usize) -> Result<(), NoMemory>
         ensures history { self.new.history ≡ self.old.history }
         ensures flushed { self.new.flushed ≡ self.old.flushed }

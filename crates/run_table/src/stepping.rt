@@ -1,4 +1,6 @@
-//! The parts of a step.
+//! The parts of a step: whether a turn shows something, its record, and the flush before its
+//! answer. When the path is drained instead is in draining.rt.
+//! For this crate alone: table.rt uses it.
 ghost use Rattle.std.specs.Prelude.{◌≡◌, ◌+◌, ◌<◌, [], true, length, nat_lt, None, IsTrue, IfSome};
 ghost use Rattle.run_records.specs.Entries.{edit_of};
 ghost use Rattle.two_path.specs.Histories.{list_of};

@@ -1,4 +1,6 @@
-//! The table of a run.
+//! The table of a run. The pair, the machine, the history with its journal, and why it stopped. A
+//! step's parts are in stepping.rt.
+//! lathe_top and turret_run use what it exports.
 ghost use Rattle.std.specs.Prelude.{◌≡◌, ℕ, ◌+◌, ◌≤◌, false, length, IfOk};
 ghost use Rattle.gate_file.specs.Creation.{without_disk};
 ghost use Rattle.nc_number.specs.declared.limits.TheConstants.{MOST_PENDING};
@@ -49,10 +51,15 @@ use two_path::{Machine, each_event_keeps_the_history, histories_are_runs};
 /// can go on.
 #[derive(Drop)]
 pub struct Table<D: Disk> {
+    /// The accepted pair.
     verified: Verified,
+    /// Its machine, which is the fold of the history.
     machine: Machine,
+    /// The history, and the journal with a prefix of it.
     recording: Recording<D>,
+    /// Why the table has stopped.
     halt: Option<Halt>,
+    /// How many records it may still make.
     budget: u32,
     /// Whether moves were answered to each path that its turret may not have yet.
     owed: Both<bool>,

@@ -1,4 +1,6 @@
--- Each step on the words of a table keeps its rule.
+-- Each step on the words of a table keeps its rule: to take the turn and to give it back, to count,
+-- to ask for a wake, to note, to cut a seat off and to join seats. At the end the table has the
+-- records that its seats list.
 use Rattle.std.proofs.Common.{◌≡◌, ◌≢◌, ◌⊎◌, ℕ, zero, suc, ◌<◌, eqb, Bool, true, false, ◌||◌, ◌&&◌, not, if◌then◌else◌, List, [], ◌∷◌, ◌++◌, length, get_or, set, sym, refl, ap, ◌∙◌, subst, ⊎_elim, inl, inr, arith, Option, Some, None, length-set, get_or-set_same, get_or-set_other, true≢false}
 use mathlib.Core.Option.{some, some-ne-none, some-injective}
 use mathlib.Core.Option as maybe
@@ -20,62 +22,76 @@ use Rattle.seat_table.specs.declared.knowing.Stop.{Stop}
 use Rattle.seat_table.specs.Knowing.{Lists, Right, steps, halts, has, Fits, Kept, no_lists, idle, opened, lists_of, stop_by, stop_of, AreStops, listed, first_stop, holding, took, gave, plus, minus, without, only, joined, picked, spent, called, no_rights, right_of}
 use Rattle.seat_table.specs.Passes.{HasStopped, IsStill}
 
+-- An entry of a list lies below its length.
 at_bound : {A : Type 0} (l : List A) (i : ℕ) (a : A) → get_elem? l i ≡ some a → i < length l
 at_bound [] i a e = absurd (some-ne-none a (sym e))
 at_bound (x ∷ xs) zero a e = omega arith
 at_bound (x ∷ xs) (suc i) a e = let h = at_bound xs i a e in omega arith
 
+-- An entry of a list with one more is one of the list, or the new one.
 at_end : {A : Type 0} (l : List A) (a b : A) (j : ℕ) → get_elem? (l ++ a ∷ []) j ≡ some b → (get_elem? l j ≡ some b) ⊎ ((j ≡ length l) × (a ≡ b))
 at_end [] a b zero e = inr (refl, some-injective a b e)
 at_end [] a b (suc j) e = absurd (some-ne-none b (sym e))
 at_end (x ∷ xs) a b zero e = inl e
 at_end (x ∷ xs) a b (suc j) e = ⊎_elim (λ t. inl t) (λ (t : (j ≡ length xs) × (a ≡ b)). inr (ap suc t.0, t.1)) (at_end xs a b j e)
 
+-- What holds of each seat still does after one was changed, if it holds of that one.
 each_set : (K : ℕ → Knows → Type 0) (vs : List Knows) (id : ℕ) (w : Knows) → K id w → ((j : ℕ) (v : Knows) → j ≢ id → get_elem? vs j ≡ some v → K j v)
     → (j : ℕ) (v : Knows) → get_elem? (set vs id w) j ≡ some v → K j v
 each_set K vs id w mine others j v e = ⊎_elim (λ (t : (j ≡ id) × (w ≡ v)). subst (λ (x : ℕ × Knows). K x.0 x.1) (λ i. (sym t.0 i, t.1 i)) mine)
     (λ (t : (j ≢ id) × (get_elem? vs j ≡ some v)). others j v t.0 t.1) (at_set vs id j w v e)
 
+-- A test is true or false.
 bool_cases : {X : Type 0} (b : Bool) → (b ≡ true → X) → (b ≡ false → X) → X
 bool_cases true y n = y refl
 bool_cases false y n = n refl
 
+-- A seat knows one thing.
 same_view : (vs : List Knows) (i : ℕ) (v w : Knows) → get_elem? vs i ≡ some v → get_elem? vs i ≡ some w → v ≡ w
 same_view vs i v w e f = some-injective v w (sym e ∙ f)
 
--- who knows a stop knows it of what the table has come to
+-- Who knows a stop knows it of what the table has come to.
 stops_on : (stop stop' : Option Stop) → ((s : Stop) → stop ≡ Some s → stop' ≡ Some s) → (stops : List Stop) → AreStops stop stops → AreStops stop' stops
 stops_on stop stop' on [] are = tt
 stops_on stop stop' on (s ∷ stops) are = (on s are.0, stops_on stop stop' on stops are.1)
 
+-- Two lists of the same stop are together one.
 stops_both : (stop : Option Stop) (first second : List Stop) → AreStops stop first → AreStops stop second → AreStops stop (first ++ second)
 stops_both stop [] second are others = others
 stops_both stop (s ∷ first) second are others = (are.0, stops_both stop first second are.1 others)
 
+-- And such a list is one in each part.
 stops_first : (stop : Option Stop) (first second : List Stop) → AreStops stop (first ++ second) → AreStops stop first × AreStops stop second
 stops_first stop [] second are = (tt, are)
 stops_first stop (s ∷ first) second are = let t = stops_first stop first second are.1 in ((are.0, t.0), t.1)
 
+-- The stop as a list is one of that stop.
 stops_listed : (stop : Option Stop) → AreStops stop (listed stop)
 stops_listed None = tt
 stops_listed (Some s) = (refl, tt)
 
 module _ {C : Type 0} (records : C → Path → Records) (reason : C → Option Halt) where
+  -- A state of the words, the slot, and what all seats know.
   abbrev St : Type 0
   St = State (Option C) Knows
 
+  -- What a seat knows, with what it took from the slot.
   abbrev Sat : Type 0
   Sat = Me (Option C) Knows
 
+  -- The rule of the table.
   abbrev Rule : St → Type 0
   Rule = Kept records reason
 
+  -- The table in its slot, with these records, halted or not.
   abbrev Home : List (maybe.Option (Option C)) → Lists → Option Stop → Type 0
   Home homes now stop = (c : C) × (get_elem? homes 0 ≡ some (some (Some c))) × ((p : Path) → records c p ≡ of_path now p) × (stop_of records reason c ≡ stop)
 
+  -- One seat has the turn.
   abbrev Away : List Knows → ℕ → Type 0
   Away views holder = (v : Knows) × (get_elem? views holder ≡ some v) × (v.busy ≡ true)
 
+  -- The rule, with the word of the turn by name.
   rule_of : (s : St) (n : ℕ) → get_or s.words 0 0 ≡ n → (now : Lists) (stop : Option Stop) (owner : Right → ℕ) (holder : ℕ) → 0 < length s.words → 0 < length s.homes
       → ((id : ℕ) (v : Knows) → get_elem? s.views id ≡ some v → Fits now stop owner holder n id v) → (n ≡ 0 → Home s.homes now stop) → (0 < n → Away s.views holder) → Rule s
   rule_of s n e now stop owner holder wide deep each home away = record {
@@ -90,13 +106,16 @@ module _ {C : Type 0} (records : C → Path → Records) (reason : C → Option 
     away = λ z. away (subst (λ (k : ℕ). 0 < k) e z);
   }
 
+  -- The list of a path is its records.
   list_is : (c : C) (p : Path) → of_path (lists_of records c) p ≡ records c p
   list_is c One = refl
   list_is c Two = refl
 
+  -- Tables with the same records of each path have the same lists.
   same_lists : (c : C) (now : Lists) → ((p : Path) → records c p ≡ of_path now p) → lists_of records c ≡ now
   same_lists c now e = λ i. record { one = e One i; two = e Two i }
 
+  -- To take the turn keeps the rule.
   pub takes_turn : (slots id : ℕ) (m : Sat) → m.0.busy ≡ false → (r : Right) → has r m.0.rights ≡ true
       → Allows Rule slots id m 0 (λ n. either (eqb n 0) 1 n) (took records reason (step slots 0 0 1 maybe.none) m)
   takes_turn slots id m rests r may s k long at small = exchanged (get_or s.words 0 0) 0 1 Goal hit miss
@@ -130,6 +149,7 @@ module _ {C : Type 0} (records : C → Path → Records) (reason : C → Option 
         ((λ e. absurd (ne e)), λ _. refl),
       )
 
+  -- To give the turn back keeps the rule, if only the paths of the seat have new records.
   pub gives_turn : (slots id : ℕ) (m : Sat) (v : Knows) (c : C) → m ≡ (v, (0, Some c) ∷ []) → v.busy ≡ true → ((p : Path) → has (steps p) v.rights ≡ false → records c p ≡ of_path v.found p)
       → ((s : Stop) → v.found_stop ≡ Some s → stop_of records reason c ≡ Some s) → Allows Rule slots id m 0 (λ _. 0) (gave records reason (step slots 0 0 0 maybe.none) m)
   gives_turn slots id m v c is busy others on = subst (λ (x : Sat). Allows Rule slots id x 0 (λ _. 0) (gave records reason (step slots 0 0 0 maybe.none) x)) (sym is) gives_here
@@ -156,6 +176,7 @@ module _ {C : Type 0} (records : C → Path → Records) (reason : C → Option 
             (refl, refl),
           )
 
+  -- To cut a seat off keeps the rule.
   pub splits : (id : ℕ) (v left right : Knows) → v.busy ≡ false → left.busy ≡ false → right.busy ≡ false → left.lists ≡ v.lists → right.lists ≡ v.lists → left.stops ≡ v.stops → right.stops ≡ []
       → ((r : Right) → has r left.rights ≡ true → has r v.rights ≡ true) → ((r : Right) → has r right.rights ≡ true → (has r v.rights ≡ true) × (has r left.rights ≡ false))
       → Splits Rule id v left right
@@ -202,6 +223,7 @@ module _ {C : Type 0} (records : C → Path → Records) (reason : C → Option 
         );
       }
 
+  -- To join two seats keeps the rule.
   pub joins : (id : ℕ) (v : Knows) (other : ℕ) (w both spent : Knows) → v.busy ≡ false → w.busy ≡ false → both.busy ≡ false → spent.busy ≡ false
       → ((r : Right) → has r spent.rights ≡ false) → ((r : Right) → has r both.rights ≡ true → (has r v.rights ≡ true) ⊎ (has r w.rights ≡ true))
       → ((p : Path) → has (steps p) both.rights ≡ true → ((has (steps p) v.rights ≡ true) × (of_path both.lists p ≡ of_path v.lists p)) ⊎ ((has (steps p) w.rights ≡ true) × (of_path both.lists p ≡ of_path w.lists p)))
@@ -249,6 +271,7 @@ module _ {C : Type 0} (records : C → Path → Records) (reason : C → Option 
         away = λ z. let a = k.away z in (a.0, set_else (set s.views id both) other k.holder spent (not_holder other w a.0 at_w wrests a.1 a.2) ∙ (set_else s.views id k.holder both (not_holder id v a.0 at rests a.1 a.2) ∙ a.1), a.2);
       }
 
+  -- A table without records starts with the rule.
   pub starts : (c : C) → ((p : Path) → records c p ≡ []) → Rule (opening (0 ∷ 0 ∷ 0 ∷ []) (Some c ∷ []) opened)
   starts c none = record {
     now = no_lists;
@@ -273,7 +296,7 @@ module _ {C : Type 0} (records : C → Path → Records) (reason : C → Option 
       first_alone zero u e = subst (Fits no_lists (stop_of records reason c) (λ _. 0) 0 0 0) (some-injective opened u e) fits
       first_alone (suc j) u e = absurd (some-ne-none u (sym e))
 
-  -- a change of a word behind the first
+  -- A change of a word other than that of the turn keeps the rule.
   pub touches : (slots id word : ℕ) (m : Sat) (f : ℕ → ℕ) → 0 < word → Allows Rule slots id m word f (λ _ w. w ≡ m)
   touches slots id word m f positive s k long at small = (
     m.0,
@@ -285,7 +308,7 @@ module _ {C : Type 0} (records : C → Path → Records) (reason : C → Option 
     refl,
   )
 
-  -- a wake is asked for, where a seat has the turn
+  -- To ask for a wake keeps the rule: the word of the turn becomes 2 only if a seat has it.
   pub asks : (slots id : ℕ) (m : Sat) → Allows Rule slots id m 0 (λ n. either (eqb n 1) 2 n) (λ _ w. w ≡ m)
   asks slots id m s k long at small = exchanged (get_or s.words 0 0) 1 2 Goal hit miss
     where
@@ -314,7 +337,7 @@ module _ {C : Type 0} (records : C → Path → Records) (reason : C → Option 
         refl,
       )
 
-  -- calls are noted at the second word, by a seat that has not the turn
+  -- To note calls at the second word keeps the rule, for a seat without the turn.
   pub notes : (slots id : ℕ) (m : Sat) (calls : List Call) → m.0.busy ≡ false → Allows Rule slots id m 1 (λ n. n) (λ _ w. w ≡ (called calls m.0, m.1))
   notes slots id m calls rests s k long at small = let w : Knows = called calls m.0 in let mine = k.each id m.0 at in (
     w,
@@ -331,7 +354,8 @@ module _ {C : Type 0} (records : C → Path → Records) (reason : C → Option 
     refl,
   )
 
-  -- at the end, in a state with a seat that has every right
+  -- At the end, with a seat that has every right, the table is in its slot with the records of that
+  -- seat.
   pub ends : (id : ℕ) (v : Knows) (ws : List ℕ) (xs : List (Option C)) → v.busy ≡ false → ((r : Right) → has r v.rights ≡ true) → Final (Seen Rule id v) ws xs
       → (c : C) × (get_elem? xs 0 ≡ some (Some c)) × ((p : Path) → records c p ≡ of_path v.lists p) × AreStops (stop_of records reason c) v.stops
   ends id v ws xs rests all end = let s : St = end.0 in let k = end.1.0 in let at = end.1.1 in let mine = k.each id v at in
@@ -344,50 +368,58 @@ module _ {C : Type 0} (records : C → Path → Records) (reason : C → Option 
           let same : k.holder ≡ id = f.owns b.3 b.4 ∙ sym (mine.owns b.3 (all b.3)) in
           absurd (true≢false (sym a.2 ∙ (ap (λ (x : Knows). x.busy) (same_view s.views id a.0 v (subst (λ (i : ℕ). get_elem? s.views i ≡ some a.0) same a.1) at) ∙ rests)))
 
+-- What was taken away is not left.
 not_both : (a b : Bool) → b ≡ true → (a && not b) ≡ false
 not_both true true e = refl
 not_both false true e = refl
 not_both a false e = absurd (true≢false (sym e))
 
+-- A right of two seats together is one of either.
 has_plus : (r : Right) (a b : Rights) → has r (plus a b) ≡ true → (has r a ≡ true) ⊎ (has r b ≡ true)
 has_plus (steps One) a b e = one_of a.steps.one b.steps.one e
 has_plus (steps Two) a b e = one_of a.steps.two b.steps.two e
 has_plus (halts One) a b e = one_of a.halts.one b.halts.one e
 has_plus (halts Two) a b e = one_of a.halts.two b.halts.two e
 
+-- A right that is left is one from before.
 has_minus : (r : Right) (a m : Rights) → has r (minus a m) ≡ true → has r a ≡ true
 has_minus (steps One) a m e = (both_hold a.steps.one (not m.steps.one) e).0
 has_minus (steps Two) a m e = (both_hold a.steps.two (not m.steps.two) e).0
 has_minus (halts One) a m e = (both_hold a.halts.one (not m.halts.one) e).0
 has_minus (halts Two) a m e = (both_hold a.halts.two (not m.halts.two) e).0
 
+-- A right that was cut off is not left.
 minus_lacks : (r : Right) (a m : Rights) → has r m ≡ true → has r (minus a m) ≡ false
 minus_lacks (steps One) a m e = not_both a.steps.one m.steps.one e
 minus_lacks (steps Two) a m e = not_both a.steps.two m.steps.two e
 minus_lacks (halts One) a m e = not_both a.halts.one m.halts.one e
 minus_lacks (halts Two) a m e = not_both a.halts.two m.halts.two e
 
+-- The one right is that right.
 own_right : (r : Right) → has r (right_of r) ≡ true
 own_right (steps One) = refl
 own_right (steps Two) = refl
 own_right (halts One) = refl
 own_right (halts Two) = refl
 
--- who has one right alone has one
+-- A seat of one right has a right.
 pub has_one : (r : Right) (m : Rights) → m ≡ right_of r → (q : Right) × (has q m ≡ true)
 has_one r m e = (r, ap (has r) e ∙ own_right r)
 
+-- A seat without rights has none.
 lacks_all : (r : Right) → has r no_rights ≡ false
 lacks_all (steps One) = refl
 lacks_all (steps Two) = refl
 lacks_all (halts One) = refl
 lacks_all (halts Two) = refl
 
+-- The records that are picked are those of the seat that may step the path.
 of_either : (a b : Bool) (x y : Records) → (a || b) ≡ true → ((a ≡ true) × ((if a then x else y) ≡ x)) ⊎ ((b ≡ true) × ((if a then x else y) ≡ y))
 of_either true b x y e = inl (refl, refl)
 of_either false b x y e = inr (e, refl)
 
 module _ {C : Type 0} (records : C → Path → Records) (reason : C → Option Halt) where
+  -- To join two seats keeps the rule, as the code joins them.
   pub glues : (id : ℕ) (v : Knows) (other : ℕ) (w : Knows) → v.busy ≡ false → w.busy ≡ false → Joins (Kept records reason) id v other w (joined v w) spent
   glues id v other w rests wrests = joins records reason id v other w (joined v w) spent rests wrests refl refl lacks_all (λ r. has_plus r v.rights w.rights) lists refl refl
     where
@@ -396,11 +428,13 @@ module _ {C : Type 0} (records : C → Path → Records) (reason : C → Option 
       lists One e = of_either v.rights.steps.one w.rights.steps.one v.lists.one w.lists.one e
       lists Two e = of_either v.rights.steps.two w.rights.steps.two v.lists.two w.lists.two e
 
+  -- To cut off some of a seat's rights keeps the rule.
   pub cuts : (id : ℕ) (u v : Knows) (m : Rights) → u ≡ v → v.busy ≡ false → ((r : Right) → has r m ≡ true → has r v.rights ≡ true) → Splits (Kept records reason) id u (without m u) (only m u)
   cuts id u v m e rests had = subst (λ (x : Knows). Splits (Kept records reason) id x (without m x) (only m x)) (sym e)
       (splits records reason id v (without m v) (only m v) rests refl refl refl refl refl refl (λ r. has_minus r v.rights m) (λ r h. (had r h, minus_lacks r v.rights m h)))
 
-  -- the seat that took in all others
+  -- The seat that took in all others has all rights, so the table is in its slot with the records
+  -- of both paths.
   pub ends_joined : (id : ℕ) (u a b c d : Knows) (ws : List ℕ) (xs : List (Option C)) → u ≡ joined (joined (joined a b) c) d → a.rights ≡ right_of (steps One) → b.rights ≡ right_of (steps Two)
       → c.rights ≡ right_of (halts One) → d.rights ≡ right_of (halts Two) → Final (Seen (Kept records reason) id u) ws xs
       → (t : C) × (get_elem? xs 0 ≡ some (Some t)) × (records t One ≡ a.lists.one) × (records t Two ≡ b.lists.two)
@@ -421,6 +455,7 @@ module _ {C : Type 0} (records : C → Path → Records) (reason : C → Option 
       second_is : (joined (joined (joined a b) c) d).lists.two ≡ b.lists.two
       second_is = subst (λ (x : Rights × Rights). (joined (joined (joined (record a { rights = x.0 }) (record b { rights = x.1 })) c) d).lists.two ≡ b.lists.two) (λ i. (sym ea i, sym eb i)) refl
 
+  -- The first cut: the seat that steps path 2.
   pub cuts_two : (id : ℕ) (u : Knows) → u ≡ opened → Splits (Kept records reason) id u (without (right_of (steps Two)) u) (only (right_of (steps Two)) u)
   cuts_two id u e = cuts id u opened (right_of (steps Two)) e refl all_had
     where
@@ -430,6 +465,7 @@ module _ {C : Type 0} (records : C → Path → Records) (reason : C → Option 
       all_had (halts One) h = refl
       all_had (halts Two) h = refl
 
+  -- The second cut: the seat that halts for path 1's turret.
   pub cuts_three : (id : ℕ) (u : Knows) → u ≡ without (right_of (steps Two)) opened → Splits (Kept records reason) id u (without (right_of (halts One)) u) (only (right_of (halts One)) u)
   cuts_three id u e = cuts id u (without (right_of (steps Two)) opened) (right_of (halts One)) e refl all_had
     where
@@ -439,6 +475,7 @@ module _ {C : Type 0} (records : C → Path → Records) (reason : C → Option 
       all_had (halts One) h = refl
       all_had (halts Two) h = refl
 
+  -- The third cut: the seat that halts for path 2's turret.
   pub cuts_four : (id : ℕ) (u : Knows) → u ≡ without (right_of (halts One)) (without (right_of (steps Two)) opened) → Splits (Kept records reason) id u (without (right_of (halts Two)) u) (only (right_of (halts Two)) u)
   cuts_four id u e = cuts id u (without (right_of (halts One)) (without (right_of (steps Two)) opened)) (right_of (halts Two)) e refl all_had
     where
@@ -448,24 +485,28 @@ module _ {C : Type 0} (records : C → Path → Records) (reason : C → Option 
       all_had (halts One) h = h
       all_had (halts Two) h = refl
 
+-- What is held, or this if nothing is.
 or_else : {C : Type 0} → C → Option C → C
 or_else c None = c
 or_else c (Some d) = d
 
+-- What is held in the same slot is the same.
 pub same_held : {C : Type 0} (x y : C) → ◌≡◌ {A = Option C} (Some x) (Some y) → x ≡ y
 unfolding or_else
 same_held x y e = ap (or_else x) e
 
 -- what a seat knows of a stop, of a table that has come to this
 module _ {C : Type 0} (records : C → Path → Records) (reason : C → Option Halt) where
+  -- No stop is a stop.
   none_some : {X : Type 0} (s : Stop) → None ≡ Some s → X
   none_some s is = absurd (let clash : ◌≡◌ {A = Option Stop} None (Some s) = is in cc)
 
+  -- A stop has the table's reason and records.
   reason_of_stop : (why : Option Halt) (l : Lists) (s : Stop) → stop_by why l ≡ Some s → (why ≡ Some s.why) × (l ≡ s.records)
   reason_of_stop None l s is = none_some s is
   reason_of_stop (Some why) l s is = let e : record { why = why; records = l } ≡ s = cc in (ap (λ (x : Stop). Some x.why) e, ap (λ (x : Stop). x.records) e)
 
-  -- a table that has halted stays so
+  -- A table that has halted stays so.
   pub stop_stays : (c c' : C) → ((why : Halt) → reason c ≡ Some why → (reason c' ≡ Some why) × ((p : Path) → records c' p ≡ records c p))
       → (s : Stop) → stop_of records reason c ≡ Some s → stop_of records reason c' ≡ Some s
   stop_stays c c' stays s is =
@@ -474,7 +515,7 @@ module _ {C : Type 0} (records : C → Path → Records) (reason : C → Option 
       let same : lists_of records c' ≡ lists_of records c = λ i. record { one = t.1 One i; two = t.1 Two i } in
       (λ i. stop_by (t.0 i) (lists_of records c')) ∙ ap (λ (l : Lists). stop_by (Some s.why) l) (same ∙ r.1)
 
-  -- what a stop says of the table
+  -- What a stop says of the table is so.
   has_stopped : (c : C) (s : Stop) → stop_of records reason c ≡ Some s → HasStopped records reason c s
   has_stopped c s is =
       let r = reason_of_stop (reason c) (lists_of records c) s is in
@@ -484,11 +525,12 @@ module _ {C : Type 0} (records : C → Path → Records) (reason : C → Option 
       list_is c One = refl
       list_is c Two = refl
 
+  -- If the seat knew of a halt, the table is what it was then.
   still : (c : C) (stops : List Stop) → AreStops (stop_of records reason c) stops → IsStill records reason c (first_stop stops)
   still c [] are = tt
   still c (s ∷ stops) are = has_stopped c s are.0
 
-  -- what each of four seats knew is so of the table that was taken out
+  -- What each of four seats knew is so of the table that was taken out.
   pub stills : (c held : C) → c ≡ held → (first second third fourth : List Stop) → AreStops (stop_of records reason c) (((first ++ second) ++ third) ++ fourth)
       → IsStill records reason held (first_stop first) × IsStill records reason held (first_stop second) × IsStill records reason held (first_stop third)
       × IsStill records reason held (first_stop fourth)
@@ -499,11 +541,12 @@ module _ {C : Type 0} (records : C → Path → Records) (reason : C → Option 
       subst (λ (x : C). IsStill records reason x (first_stop first) × IsStill records reason x (first_stop second) × IsStill records reason x (first_stop third)
       × IsStill records reason x (first_stop fourth)) same (still c first d.0, still c second d.1, still c third b.1, still c fourth a.1)
 
-  -- a seat that gives the table back knows what it knew before, where the table kept it
+  -- A seat that gives the table back knows what it knew before, if the table kept it.
   pub first_known : (stop : Option Stop) (stops : List Stop) (s : Stop) → AreStops stop stops → first_stop stops ≡ Some s → stop ≡ Some s
   first_known stop [] s are is = none_some s is
   first_known stop (x ∷ stops) s are is = are.0 ∙ is
 
+  -- The first of a stop as a list is that stop.
   pub first_listed : (stop : Option Stop) → first_stop (listed stop) ≡ stop
   first_listed None = refl
   first_listed (Some s) = refl

@@ -1,4 +1,6 @@
--- What the seats of a table know, the rule of the table, and what each step on its words tells.
+-- What the seats of a table know, the rule of the table, and what each step on its words tells. The
+-- table has three words (0: who has the turn, 1: how many waits ended, 2: how many seats sleep) and
+-- one slot for itself. For this crate alone.
 use Rattle.std.specs.Prelude.{◌≡◌, ◌≢◌, ⊤, ℕ, ◌<◌, Bool, true, false, ◌||◌, ◌&&◌, not, if◌then◌else◌}
 use Rattle.std.specs.Prelude.{List, [], ◌∷◌, ◌++◌, length, slice_index, Option, Some, None}
 use mathlib.Core.Option.{some}
@@ -16,73 +18,91 @@ use Rattle.seat_table.specs.declared.knowing.Rights.{Rights}
 use Rattle.seat_table.specs.declared.knowing.Stop.{Stop}
 use Rattle.seat_table.specs.declared.knowing.Knows.{Knows}
 
--- what a seat may do: step a path, or halt the run for the turret of a path
+-- What a seat may do: step a path, or halt the run for the turret of a path.
 pub data Right : Type 0 where
   steps : Path → Right
   halts : Path → Right
 
--- whether the right is one of these
+-- The right is one of these.
 abbrev pub has : Right → Rights → Bool
 has (steps path) r = of_path r.steps path
 has (halts path) r = of_path r.halts path
 
--- the records of both paths
+-- The records of both paths.
 abbrev pub Lists : Type 0
 Lists = Both Records
 
+-- The records of both paths of this table.
 abbrev pub lists_of : {C : Type 0} → (C → Path → Records) → C → Lists
 lists_of records c = record { one = records c One; two = records c Two }
 
--- that a table with these records has halted, where it has a reason
+-- That a table with these records has halted, if it has a reason.
 abbrev pub stop_by : Option Halt → Lists → Option Stop
 stop_by None l = None
 stop_by (Some why) l = Some (record { why = why; records = l })
 
+-- The same of this table.
 abbrev pub stop_of : {C : Type 0} → (C → Path → Records) → (C → Option Halt) → C → Option Stop
 stop_of records reason c = stop_by (reason c) (lists_of records c)
 
--- each of them is that stop
+-- Each of these is that stop.
 abbrev pub AreStops : Option Stop → List Stop → Type 0
 AreStops stop [] = ⊤
 AreStops stop (s ∷ stops) = (stop ≡ Some s) × AreStops stop stops
 
+-- The stop as a list.
 abbrev pub listed : Option Stop → List Stop
 listed None = []
 listed (Some stop) = stop ∷ []
 
+-- The first of these, if there is one.
 abbrev pub first_stop : List Stop → Option Stop
 first_stop [] = None
 first_stop (stop ∷ stops) = Some stop
 
 module _ (now : Lists) (stop : Option Stop) (owner : Right → ℕ) (holder word : ℕ) (id : ℕ) where
-  -- A right is that of one seat. Who may step a path has its records, and who has the turn has
-  -- found all of them. Who knows that the table has halted knows its records.
+  -- What a seat knows is so of the table. A right is that of one seat. Who may step a path has its
+  -- records, and who has the turn has found all of them. Who knows that the table has halted knows
+  -- its records.
   pub record Fits (v : Knows) : Type 0 where
+    -- Each right of the seat is its own.
     pub owns : (r : Right) → has r v.rights ≡ true → id ≡ owner r
+    -- It has the records of each path that it may step.
     pub lists : (p : Path) → has (steps p) v.rights ≡ true → of_path v.lists p ≡ of_path now p
+    -- What it knows of a halt is what the table has come to.
     pub stops : AreStops stop v.stops
+    -- If it has the turn, it has found the table's records, and it has some right.
     pub busy : v.busy ≡ true → (id ≡ holder) × (v.found ≡ now) × (0 < word) × (r : Right) × (has r v.rights ≡ true)
+    -- And it has found whether the table has halted.
     pub busy_stop : v.busy ≡ true → v.found_stop ≡ stop
 
--- The rule. While nobody has the turn, the table is in its place, with these records, and has
--- halted or not. While it is taken, one seat has it.
+-- The rule. While nobody has the turn, the table is in its slot, with these records, and has halted
+-- or not. While it is taken, one seat has it.
 pub record Kept {C : Type 0} (records : C → Path → Records) (reason : C → Option Halt) (s : State (Option C) Knows) : Type 0 where
+  -- The records of the table.
   pub now : Lists
+  -- That it has halted, if it has.
   pub stop : Option Stop
+  -- Which seat has a right.
   pub owner : Right → ℕ
+  -- Which seat has the turn, if one has.
   pub holder : ℕ
   pub wide : 0 < length s.words
   pub deep : 0 < length s.homes
+  -- Each seat knows what is so.
   pub each : (id : ℕ) (v : Knows) → get_elem? s.views id ≡ some v
       → Fits now stop owner holder (slice_index s.words 0) id v
+  -- If nobody has the turn (word 0 is 0), the table is in its slot.
   pub home : slice_index s.words 0 ≡ 0 → (c : C) × (get_elem? s.homes 0 ≡ some (some (Some c)))
       × ((p : Path) → records c p ≡ of_path now p) × (stop_of records reason c ≡ stop)
+  -- If somebody has it, that seat knows it.
   pub away : 0 < slice_index s.words 0 → (v : Knows) × (get_elem? s.views holder ≡ some v) × (v.busy ≡ true)
 
+-- No records of either path.
 abbrev pub no_lists : Lists
 no_lists = record { one = []; two = [] }
 
--- what a seat knows that has not the turn
+-- What a seat knows that does not have the turn.
 abbrev pub idle : Rights → Lists → List Stop → List Call → Knows
 idle r l stops calls = record {
   rights = r;
@@ -94,70 +114,80 @@ idle r l stops calls = record {
   calls = calls;
 }
 
--- for neither path, for one of them, for both
+-- For neither path.
 abbrev pub for_none : Both Bool
 for_none = record { one = false; two = false }
 
+-- For one path alone.
 abbrev pub for_one : Path → Both Bool
 for_one One = record { one = true; two = false }
 for_one Two = record { one = false; two = true }
 
+-- For both paths.
 abbrev pub for_both : Both Bool
 for_both = record { one = true; two = true }
 
+-- To step both paths, and to halt for both turrets.
 abbrev pub all_rights : Rights
 all_rights = record { steps = for_both; halts = for_both }
 
+-- No right at all.
 abbrev pub no_rights : Rights
 no_rights = record { steps = for_none; halts = for_none }
 
--- the one right alone
+-- This one right alone.
 abbrev pub right_of : Right → Rights
 right_of (steps path) = record { steps = for_one path; halts = for_none }
 right_of (halts path) = record { steps = for_none; halts = for_one path }
 
+-- What the first seat knows: it has all rights.
 abbrev pub opened : Knows
 opened = idle all_rights no_lists [] []
 
+-- What a seat knows that was joined to another: it has no right.
 abbrev pub spent : Knows
 spent = idle no_rights no_lists [] []
 
--- the rights without these
+-- For each path the right without that of `m`.
 abbrev pub rest_of : Both Bool → Both Bool → Both Bool
 rest_of r m = record { one = r.one && not m.one; two = r.two && not m.two }
 
+-- The rights without these.
 abbrev pub minus : Rights → Rights → Rights
 minus r m = record { steps = rest_of r.steps m.steps; halts = rest_of r.halts m.halts }
 
--- the rights of both
+-- For each path either right.
 abbrev pub joint_of : Both Bool → Both Bool → Both Bool
 joint_of r m = record { one = r.one || m.one; two = r.two || m.two }
 
+-- The rights of both.
 abbrev pub plus : Rights → Rights → Rights
 plus r m = record { steps = joint_of r.steps m.steps; halts = joint_of r.halts m.halts }
 
--- a seat is cut in two: one with these rights alone, and one without them
+-- A seat that is cut off: it has these rights alone.
 abbrev pub only : Rights → Knows → Knows
 only m v = idle m v.lists [] []
 
+-- The seat that it is cut off from: it has the other rights.
 abbrev pub without : Rights → Knows → Knows
 without m v = idle (minus v.rights m) v.lists v.stops v.calls
 
--- of each path the records that the one has which may step it
+-- Of each path the records that the one has which may step it.
 abbrev pub picked : Knows → Knows → Lists
 picked v w = record {
   one = if v.rights.steps.one then v.lists.one else w.lists.one;
   two = if v.rights.steps.two then v.lists.two else w.lists.two;
 }
 
+-- The seat that took another one in: it has the rights, records and stops of both.
 abbrev pub joined : Knows → Knows → Knows
 joined v w = idle (plus v.rights w.rights) (picked v w) (v.stops ++ w.stops) v.calls
 
--- it had these calls besides
+-- A stepper over the seat had these calls besides.
 abbrev pub called : List Call → Knows → Knows
 called calls v = record v { calls = v.calls ++ calls }
 
--- it has the turn, and found these records, and this stop
+-- The seat has the turn, and found these records, and this stop.
 abbrev pub holding : Knows → Lists → Option Stop → Knows
 holding v l stop = record {
   rights = v.rights;
@@ -170,10 +200,11 @@ holding v l stop = record {
 }
 
 module _ {C : Type 0} (records : C → Path → Records) (reason : C → Option Halt) where
+  -- What a seat knows, with what it took from the slot.
   abbrev Sat : Type 0
   Sat = Me (Option C) Knows
 
-  -- it got the turn where it found 0, and then it has the table, with these records
+  -- The seat got the turn, as it found 0 there. Then it has the table, with these records.
   pub record Got (m : Sat) (m' : Sat) : Type 0 where
     pub table : C
     pub view : m'.0 ≡ holding m.0 (lists_of records table) (stop_of records reason table)
@@ -181,33 +212,35 @@ module _ {C : Type 0} (records : C → Path → Records) (reason : C → Option 
     pub lists : (p : Path) → has (steps p) m.0.rights ≡ true → of_path m.0.lists p ≡ records table p
     pub stops : AreStops (stop_of records reason table) m.0.stops
 
+  -- It got the turn if it found 0; else nothing changed.
   abbrev pub took : Step (Option C) → Sat → ℕ → Sat → Type 0
   took st m n m' = (n ≡ 0 → Got m m') × (n ≢ 0 → m' ≡ m)
 
-  -- the records of the table in hand, and whether it has halted
+  -- The records of the table in hand.
   abbrev pub lists_at : List (ℕ × Option C) → Lists
   lists_at [] = no_lists
   lists_at ((k, Some c) ∷ xs) = lists_of records c
   lists_at ((k, None) ∷ xs) = no_lists
 
+  -- That the table in hand has halted, as a list.
   abbrev pub stops_at : List (ℕ × Option C) → List Stop
   stops_at [] = []
   stops_at ((k, Some c) ∷ xs) = listed (stop_of records reason c)
   stops_at ((k, None) ∷ xs) = []
 
-  -- it gave the table back, and has its records
+  -- The seat gave the table back, and has its records.
   abbrev pub gave : Step (Option C) → Sat → ℕ → Sat → Type 0
   gave st m n m' = (m'.0 ≡ idle m.0.rights (lists_at m.1) (stops_at m.1) m.0.calls) × (m'.1 ≡ [])
 
--- the seat is one of this table, which has three words and a slot
+-- The seat is one of this table, which has three words and a slot.
 abbrev pub IsAt : TableId → TableId → Type 0
 IsAt seat table = (seat ≡ table) × (table.words ≡ 3) × (table.slots ≡ 1)
 
--- the seat has not the turn
+-- The seat does not have the turn.
 abbrev pub Idle : {C : Type 0} → Me (Option C) Knows → Type 0
 Idle m = (m.0.busy ≡ false) × (m.1 ≡ [])
 
--- it has the turn, took the table out, and found all records
+-- It has the turn, took the table out, and found all records.
 pub record Took {C : Type 0} (records : C → Path → Records) (reason : C → Option Halt) (m : Me (Option C) Knows) (table : C)
     (m' : Me (Option C) Knows) : Type 0 where
   pub view : m'.0 ≡ holding m.0 (lists_of records table) (stop_of records reason table)
@@ -215,22 +248,22 @@ pub record Took {C : Type 0} (records : C → Path → Records) (reason : C → 
   pub lists : (p : Path) → has (steps p) m.0.rights ≡ true → of_path m.0.lists p ≡ records table p
   pub stops : AreStops (stop_of records reason table) m.0.stops
 
--- the records of a path that a seat lists
+-- The records of a path that a seat lists.
 abbrev pub list_at : {C : Type 0} → Path → Me (Option C) Knows → Records
 list_at p m = of_path m.0.lists p
 
--- that the table has halted, as the seat knows
+-- That the table has halted, as the seat knows.
 abbrev pub stop_at : {C : Type 0} → Me (Option C) Knows → Option Stop
 stop_at m = first_stop m.0.stops
 
--- an idle seat with this right alone
+-- The seat does not have the turn, and has this right alone.
 abbrev pub IsOf : {C : Type 0} → Right → Me (Option C) Knows → Type 0
 IsOf r m = (m.0.busy ≡ false) × (m.1 ≡ []) × (m.0.rights ≡ right_of r)
 
--- the seat keeps its rights and its calls
+-- The seat keeps its rights and its calls.
 abbrev pub Keeps : {C : Type 0} → Me (Option C) Knows → Me (Option C) Knows → Type 0
 Keeps m m' = (m'.0.rights ≡ m.0.rights) × (m'.0.calls ≡ m.0.calls)
 
--- who knew that the table has halted knows the same
+-- Who knew that the table has halted knows the same.
 abbrev pub KeepsStop : Option Stop → Option Stop → Type 0
 KeepsStop before after = (s : Stop) → before ≡ Some s → after ≡ Some s

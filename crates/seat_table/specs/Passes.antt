@@ -1,4 +1,4 @@
--- What the passes of a table mean.
+-- What the passes of a table mean: what clauses see of them. turret_run and lane_vectors read this.
 use Rattle.std.specs.Prelude.{◌≡◌, Bool, true, false, List, [], ◌∷◌, Option, Some, None, IfSome}
 use Rattle.atomic_table.specs.Seated.{TableId}
 use Rattle.atomic_table.specs.declared.badge.Badge.{Badge}
@@ -9,8 +9,9 @@ use Rattle.nc_outside.specs.declared.stepper.Call.{Call}
 use Rattle.seat_table.specs.Turning.{Records}
 use Rattle.seat_table.specs.declared.knowing.Stop.{Stop}
 
--- The pass of a path: its table, its path, the records that it lists, that the table has halted,
--- where it had when the pass gave the turn back last, and the calls that a stepper over it had.
+-- The pass of a path: its table, its path, and the records that it lists; that the table had
+-- halted, if it had when the pass last gave the turn back; and the calls that a stepper over it
+-- had.
 pub record Pass : Type 0 where
   pub table : TableId
   pub path : Path
@@ -18,18 +19,18 @@ pub record Pass : Type 0 where
   pub stop : Option Stop
   pub calls : List Call
 
--- The pass of the drive of a path's turret.
+-- The pass of the drive of a path's turret, which lists no records.
 pub record Halter : Type 0 where
   pub table : TableId
   pub path : Path
   pub stop : Option Stop
   pub calls : List Call
 
--- a pass that has made no step
+-- A pass that has made no step.
 abbrev pub fresh : TableId → Path → Pass
 fresh table path = record { table = table; path = path; records = []; stop = None; calls = [] }
 
--- a pass that has halted nothing
+-- A pass that has halted nothing.
 abbrev pub fresh_halter : TableId → Path → Halter
 fresh_halter table path = record { table = table; path = path; stop = None; calls = [] }
 
@@ -38,17 +39,17 @@ pub record HasStopped {C : Type 0} (records : C → Path → Records) (reason : 
   pub why : reason c ≡ Some stop.why
   pub records_are : (p : Path) → records c p ≡ of_path stop.records p
 
--- where a pass knows that the table has halted, the table is what it was then
+-- If a pass knows that the table has halted, the table is what it was then.
 abbrev pub IsStill : {C : Type 0} → (C → Path → Records) → (C → Option Halt) → C → Option Stop → Type 0
 IsStill records reason c stop = IfSome stop (HasStopped records reason c)
 
--- whether there is a halt among these calls
+-- There is a halt among these calls.
 abbrev pub has_halt : List Call → Bool
 has_halt [] = false
 has_halt (Call.Step path answer ∷ calls) = has_halt calls
 has_halt (Call.Drained path count ∷ calls) = has_halt calls
 has_halt (Call.Halt why ∷ calls) = true
 
--- what tells the steppers of one table and path from others
+-- What distinguishes the steppers of one table and path from others.
 abbrev pub origin_of : TableId → Path → Badge (Unit {0}) × Path
 origin_of table path = (record { marker = record {}; table_id = table; id = 0; views = [] }, path)

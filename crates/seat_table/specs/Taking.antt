@@ -1,4 +1,4 @@
--- What one try of a seat comes to, and what it may tell the table.
+-- What one try of a seat comes to, and what it may tell the table. For this crate alone.
 use Rattle.std.specs.Prelude.{◌≡◌, ⊤}
 use Rattle.nc_outside.specs.Calls.{IsOfTurret}
 use Rattle.nc_outside.specs.declared.halt.Next.TheVariants.{Halted}
@@ -9,23 +9,24 @@ use Rattle.seat_table.specs.declared.taking.Tried.TheVariants.{Busy, Waits, Step
 use Rattle.seat_table.specs.declared.taking.Notice.{Notice}
 use Rattle.seat_table.specs.declared.taking.Notice.TheVariants.{Drained, Halt}
 
--- what one try to step comes to
+-- What one try to step does to the records of its path: nothing, or what the step answered.
 abbrev pub Tries : Records → Tried → Records → Type 0
 Tries before Busy after = after ≡ before
 Tries before Waits after = after ≡ before
 Tries before (Stepped next) after = Answers before next after
 
--- a step of a table that has halted answers why
+-- A table that has halted makes no path wait, and its step answers why it halted.
 abbrev pub AnswersWhy : Stop → Tried → Type 0
 AnswersWhy stop Busy = ⊤
 AnswersWhy stop Waits = ⊥
 AnswersWhy stop (Stepped next) = next ≡ Halted stop.why
 
--- the notice may be given: a halt is that of a turret
+-- The notice may be given: a halt is that of a turret.
 abbrev pub IsGiven : Notice → Type 0
 IsGiven (Drained path) = ⊤
 IsGiven (Halt why) = IsOfTurret why
 
+-- The notice is a halt.
 abbrev pub IsHalt : Notice → Type 0
 IsHalt (Drained path) = ⊥
 IsHalt (Halt why) = ⊤

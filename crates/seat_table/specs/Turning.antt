@@ -1,5 +1,6 @@
 -- What a step of a path adds to the records of the path, and why a table has halted. Of a record
--- there are the moves that its step answered, each with the line of its block.
+-- there are the moves that its step answered, each with the line of its block. run_table,
+-- turret_run, lathe_top and lane_vectors read this.
 use Rattle.std.specs.Prelude.{◌≡◌, ◌≢◌, ◌⊎◌, Bool, true, false, List, [], ◌∷◌, ◌++◌, Option, Some, None}
 use Rattle.nc_outside.specs.declared.lined_move.LinedMove.{LinedMove}
 use Rattle.nc_outside.specs.Lined.{lined}
@@ -7,20 +8,20 @@ use Rattle.nc_outside.specs.declared.halt.Halt.{Halt}
 use Rattle.nc_outside.specs.declared.halt.Next.{Next}
 use Rattle.nc_outside.specs.declared.halt.Next.TheVariants.{Silent, Moves, Drain, Finished, Halted}
 
--- the records of a path, in order
+-- The records of a path, in order: of each its moves.
 abbrev pub Records : Type 0
 Records = List (List LinedMove)
 
--- the moves of records, in order
+-- The moves of records, in order.
 abbrev pub moves_in : Records → List LinedMove
 moves_in [] = []
 moves_in (moves ∷ records) = moves ++ moves_in records
 
--- one record more at most, of which no move was answered
+-- There is one record more at most, of which no move was answered.
 abbrev pub MayRecord : Records → Records → Type 0
 MayRecord before after = (after ≡ before) ⊎ (after ≡ before ++ [] ∷ [])
 
--- moves are those of one record more; a drain and an end add none
+-- The moves that are answered are those of one record more; a drain and an end add none.
 abbrev pub Answers : Records → Next → Records → Type 0
 Answers before Silent after = MayRecord before after
 Answers before (Moves moves) after = after ≡ before ++ lined moves ∷ []
@@ -28,13 +29,13 @@ Answers before Drain after = after ≡ before
 Answers before Finished after = after ≡ before
 Answers before (Halted why) after = MayRecord before after
 
--- a path that is to be drained is asked for that, and has no turn until it is; no other path is
--- asked
+-- A path that is to be drained is asked for that, and has no turn until it is; no other path is
+-- asked.
 abbrev pub AsksDrain : Bool → Option Next → Bool → Type 0
 AsksDrain true answer after = (answer ≡ Some Drain) × (after ≡ true)
 AsksDrain false answer after = answer ≢ Some Drain
 
--- the first reason to halt stays
+-- The first reason to halt stays.
 abbrev pub first_reason : Option Halt → Halt → Option Halt
 first_reason None why = Some why
 first_reason (Some first) why = Some first

@@ -1,4 +1,6 @@
 //! What a seat at the table knows, the rule of the table, and what each step on its words tells.
+//! These types are for proofs alone, and no value of most of them is made. What the seats do is in
+//! `taking`.
 ghost use Rattle.std.specs.Prelude.{◌≡◌, List, []};
 ghost use Rattle.nc_number.specs.declared.path.Path.TheVariants.{One, Two};
 ghost use Rattle.nc_outside.specs.declared.stepper.Call.{Call as Called};
@@ -16,33 +18,41 @@ pub type Records = LinkedList<LinkedList<LinedMove>>;
 
 /// That the table has halted: why, and its records.
 pub struct Stop {
+    /// Why the table has halted.
     pub why: Halt,
+    /// The records of both paths that it had then.
     pub records: Both<Records>,
 }
 
 /// What a seat may do: step a path, and halt for the turret of a path.
 pub struct Rights {
+    /// For each path: it may step that path.
     pub steps: Both<bool>,
+    /// For each path: it may halt the run for that path's turret.
     pub halts: Both<bool>,
 }
 
 /// What a seat knows. No value of it is made.
 pub struct Knows {
+    /// What the seat may do.
     pub rights: Rights,
+    /// The records of the paths that it may step.
     pub lists: Both<Records>,
-    /// That the table has halted, as it was when it gave the turn back. Who took others in has
-    /// theirs too.
+    /// That the table has halted, as it was when the seat gave the turn back. A seat that took
+    /// others in has what they knew too.
     pub stops: LinkedList<Stop>,
-    /// It has the turn, and found these records, and that the table has halted, where it has.
+    /// It has the turn, and found these records, and that the table has halted, if it has.
     pub busy: bool,
+    /// The records that it found as it took the turn.
     pub found: Both<Records>,
+    /// That the table had halted then.
     pub found_stop: Option<Stop>,
     /// The calls that a stepper over it had.
     pub calls: LinkedList<Call>,
 }
 
 /// The rule: while nobody has the turn, each seat that may step a path lists that path's records of
-/// the table. Where a seat knows that the table has halted, the table is what it was then.
+/// the table. If a seat knows that the table has halted, the table is what it was then.
 pub struct Law;
 
 impl<C: Turns> TableRule<Option<C>, Knows, ()> for Law {
@@ -51,35 +61,35 @@ impl<C: Turns> TableRule<Option<C>, Knows, ()> for Law {
     ghost first = { λ _. opened };
 }
 
-/// Takes the turn.
+/// The step that takes the turn.
 pub struct Take;
 
 impl<C: Turns> Play<Option<C>, Knows> for Take {
     ghost then = { took C.records C.reason };
 }
 
-/// Gives the turn back.
+/// The step that gives the turn back.
 pub struct Give;
 
 impl<C: Turns> Play<Option<C>, Knows> for Give {
     ghost then = { gave C.records C.reason };
 }
 
-/// Counts a change.
+/// The step that counts a change: the seat knows what it knew.
 pub struct Count;
 
 impl<S> Play<S, Knows> for Count {
     ghost then = { λ _ m _ w. w ≡ m };
 }
 
-/// Asks who has the turn for a wake.
+/// The step that asks the seat with the turn to wake this one: the seat knows what it knew.
 pub struct Ask;
 
 impl<S> Play<S, Knows> for Ask {
     ghost then = { λ _ m _ w. w ≡ m };
 }
 
-/// The calls that a note is to be of. Who notes one picks it.
+/// The calls that a note is of. Who notes them chooses them.
 pub trait Noted {
     ghost calls: { List Called };
 }
@@ -88,7 +98,7 @@ impl Noted for Brand {
     ghost calls = { [] };
 }
 
-/// Notes calls.
+/// The step that notes calls of a stepper over the seat.
 pub struct Note<N> {
     of: PhantomData<N>,
 }
@@ -97,7 +107,7 @@ impl<S, N: Noted> Play<S, Knows> for Note<N> {
     ghost then = { λ _ m _ w. w ≡ (called N.calls m.0, m.1) };
 }
 
-/// Cuts off who steps path 2.
+/// Cuts off the seat that steps path 2.
 pub struct CutSecond;
 
 impl Split<Knows> for CutSecond {
@@ -106,7 +116,7 @@ impl Split<Knows> for CutSecond {
     ghost right = { only (right_of (steps Two)) };
 }
 
-/// Cuts off who halts for the turret of path 1.
+/// Cuts off the seat that halts for the turret of path 1.
 pub struct CutFirstHalt;
 
 impl Split<Knows> for CutFirstHalt {
@@ -115,7 +125,7 @@ impl Split<Knows> for CutFirstHalt {
     ghost right = { only (right_of (halts One)) };
 }
 
-/// Cuts off who halts for the turret of path 2.
+/// Cuts off the seat that halts for the turret of path 2.
 pub struct CutSecondHalt;
 
 impl Split<Knows> for CutSecondHalt {
@@ -124,7 +134,7 @@ impl Split<Knows> for CutSecondHalt {
     ghost right = { only (right_of (halts Two)) };
 }
 
-/// Puts two seats together.
+/// Puts two seats together: one has what both had, the other nothing.
 pub struct Glue;
 
 impl Join<Knows> for Glue {

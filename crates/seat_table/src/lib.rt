@@ -5,7 +5,8 @@
 //! steps came to, and the layer above leans on this: the list of a path's seat is at any time that
 //! of the table's records of the path, each with the moves that its step answered, and `close`
 //! gives the table back with both lists. A step takes no memory. A stepper over a seat tells its
-//! calls too, and the moves that they answered are those of the listed records.
+//! calls too, and the moves that they answered are those of the listed records. The table of
+//! run_table takes its turns here, and turret_run gives the seats to threads.
 #![tactic(auto)]
 
 mod knowing;

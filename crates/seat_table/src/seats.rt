@@ -1,4 +1,5 @@
-//! The table with its seats.
+//! The table with its four seats, and the passes by which threads use them. One turn at the table
+//! is in `taking`; what a table does in it, in `turning`. turret_run is built on this.
 ghost use Rattle.std.specs.Prelude.{◌≡◌, ◌++◌, [], ◌∷◌, IfOk, IfErr, IfSome, IsTrue, is_some};
 ghost use Rattle.nc_number.specs.declared.path.Path.TheVariants.{One, Two};
 ghost use Rattle.nc_outside.specs.Calls.{IsOfTurret};
@@ -37,9 +38,10 @@ impl<C: Turns> Model for SeatTable<C> {
 }
 
 /// The right to step a path. It lists the records of the path that its steps made, and has what the
-/// table was where it found it halted.
+/// table was when it found it halted.
 #[derive(Drop)]
 pub struct SeatPass<C> {
+    /// The seat at the table.
     place: Place<Box<C>>,
     path: Path,
 }
@@ -64,6 +66,7 @@ impl<C> Model for SeatPass<C> {
 /// The right to halt the run for the turret of a path. It has what the table was when it halted it.
 #[derive(Drop)]
 pub struct HaltPass<C> {
+    /// The seat at the table.
     place: Place<Box<C>>,
     path: Path,
 }
@@ -86,10 +89,15 @@ impl<C> Model for HaltPass<C> {
 
 /// A table with its four passes.
 pub struct Seated<C: Turns> {
+    /// The table, which all threads share.
     pub table: SeatTable<C>,
+    /// The pass of path 1.
     pub first: SeatPass<C>,
+    /// The pass of path 2.
     pub second: SeatPass<C>,
+    /// The pass of the drive of path 1's turret.
     pub first_halt: HaltPass<C>,
+    /// The pass of the drive of path 2's turret.
     pub second_halt: HaltPass<C>,
 }
 
@@ -104,7 +112,7 @@ impl<C> SeatPass<C> {
 
 impl<C: Turns> SeatTable<C> {
     /// A table that has made no record since it was opened, with the passes of its paths and of
-    /// their drives. Where memory is wanting the table comes back.
+    /// their drives. If memory ran out, the table comes back as the error.
     pub fn new(alloc: Global, table: C) -> Result<Seated<C>, C>
         requires { (p : Path) → C.records table p ≡ [] }
         ensures passes { IfOk result (λ s. (s.first ≡ fresh s.table One) × (s.second ≡ fresh s.table Two)) }
@@ -160,8 +168,8 @@ impl<C: Turns> SeatTable<C> {
     }
 
     /// One step of the path of the pass, once it has the turn and the path does not wait. A path
-    /// that waits sleeps until its wait is over. Once the pass has found the table halted each step
-    /// answers why.
+    /// that waits sleeps until its wait is over. Once the pass has found the table halted, each
+    /// step answers why.
     pub fn step<R: Wait>(&self, rt: &R, pass: &mut SeatPass<C>) -> Next
         requires { pass.old.table ≡ self.now }
         ensures same { pass.new ≡ record pass.old { records = pass.new.records; stop = pass.new.stop } }
@@ -172,8 +180,8 @@ impl<C: Turns> SeatTable<C> {
         step_until(rt, &self.table.shared, &mut pass.place, pass.path)
     }
 
-    /// The line of the path was drained behind the last moves that were answered to it. It tells
-    /// the table once it has the turn.
+    /// Tells the table, once the pass has the turn, that the line of the path was drained after the
+    /// last moves that were answered to it.
     pub fn drained<R: Wait, P: Drain>(&self, rt: &R, pass: &mut SeatPass<C>, proof: &P)
         requires { pass.old.table ≡ self.now }
         ensures same { pass.new ≡ record pass.old { stop = pass.new.stop } }
@@ -217,7 +225,7 @@ impl<C: Turns> SeatTable<C> {
         note::<Box<C>, N>(&self.table.shared, &mut pass.place);
     }
 
-    /// Notes another call that a stepper over the pass had.
+    /// Notes another call (a drain or a halt) that a stepper over the pass had.
     pub(crate) fn note<N: Noted>(&self, pass: &mut SeatPass<C>, call: Call)
         requires { (pass.old.table ≡ self.now) × (N.calls ≡ call ∷ []) }
         ensures { pass.new ≡ record pass.old { calls = pass.old.calls ++ call ∷ [] } }
@@ -226,7 +234,7 @@ impl<C: Turns> SeatTable<C> {
         note::<Box<C>, N>(&self.table.shared, &mut pass.place);
     }
 
-    /// The same of a stepper over the pass of a drive.
+    /// Notes a call that a stepper over the pass of a drive had.
     pub(crate) fn note_halter<N: Noted>(&self, pass: &mut HaltPass<C>, call: Call)
         requires { (pass.old.table ≡ self.now) × (N.calls ≡ call ∷ []) }
         ensures { pass.new ≡ record pass.old { calls = pass.old.calls ++ call ∷ [] } }
@@ -235,9 +243,9 @@ impl<C: Turns> SeatTable<C> {
         note::<Box<C>, N>(&self.table.shared, &mut pass.place);
     }
 
-    /// The table, whose records of each path are just those that the pass of the path lists. Where
-    /// a pass found it halted, or halted it, it is halted for that reason, and its records are
-    /// those that it had then. It takes no turn, and waits for nobody.
+    /// The table, whose records of each path are just those that the pass of the path lists. If a
+    /// pass found it halted, or halted it, it is halted for that reason, and its records are those
+    /// that it had then. It takes no turn, and waits for nobody.
     pub fn close(
         self,
         first: SeatPass<C>,

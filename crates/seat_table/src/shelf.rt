@@ -1,9 +1,10 @@
-//! The one slot of a table, and the table on the heap.
+//! The one slot of a table, and the table on the heap. (This is no shelf of files: see nc_outside
+//! for that.)
 ghost use Rattle.std.specs.Prelude.{◌≡◌, [], ◌∷◌, IfOk, IfErr, Some};
 
 use std::alloc::{AllocFailed, Global};
 
-/// The table on the heap.
+/// The table, moved to the heap. If memory ran out, it comes back as the error.
 pub(crate) fn lift<C>(alloc: Global, table: C) -> Result<Box<C>, C>
     ensures ok { IfOk result (λ b. b.value ≡ table) }
     ensures err { IfErr result (λ t. t ≡ table) }
@@ -14,7 +15,7 @@ pub(crate) fn lift<C>(alloc: Global, table: C) -> Result<Box<C>, C>
     }
 }
 
-/// One slot, with the table.
+/// A list of one slot with the table in it. If memory ran out, the table comes back as the error.
 pub(crate) fn put_in<C>(alloc: Global, table: C) -> Result<Vec<Option<C>>, C>
     ensures ok { IfOk result (λ v. v.items ≡ Some table ∷ []) }
     ensures err { IfErr result (λ t. t ≡ table) }
@@ -29,7 +30,7 @@ pub(crate) fn put_in<C>(alloc: Global, table: C) -> Result<Vec<Option<C>>, C>
     Ok(slots)
 }
 
-/// The table of the only slot.
+/// The table out of the only slot.
 pub(crate) fn take_out<C>(mut slots: Vec<Option<C>>) -> C
     requires { (c : C) × (slots.items ≡ Some c ∷ []) }
     ensures { slots.items ≡ Some result ∷ [] }

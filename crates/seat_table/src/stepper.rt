@@ -1,5 +1,6 @@
 //! Steppers over the passes of a table: one for the worker of a path, and one for the drive of its
-//! turret.
+//! turret. A stepper notes its calls, so that a clause can say which moves they answered.
+//! turret_run hands them to path_worker.
 ghost use Rattle.std.specs.Prelude.{◌≡◌, [], ◌∷◌, ◌++◌, IsTrue, is_some};
 ghost use Rattle.nc_outside.specs.Calls.{moves_answered, IsOfTurret};
 ghost use Rattle.nc_outside.specs.declared.halt.Next.TheVariants.{Silent};
@@ -20,6 +21,7 @@ use std::sync::Wait;
 #[derive(Drop)]
 pub struct SeatStepper<'a, C: Turns, R> {
     table: &'a SeatTable<C>,
+    /// The runtime that lets the thread sleep.
     rt: &'a R,
     pass: SeatPass<C>,
 }
@@ -37,11 +39,12 @@ impl<'a, C: Turns, R> Model for SeatStepper<'a, C, R> {
     ghost invariant = { λ s. (s.pass.table ≡ s.table.now) × (moves_answered s.pass.calls ≡ moves_in s.pass.records) };
 }
 
-/// A stepper over the pass of a drive, which is for halts alone: its steps are silent, and make no
-/// turn. It tells its calls, and where a halt is among them the pass has what the table was then.
+/// A stepper over the pass of a drive, which is for halts alone: its steps are silent, and take no
+/// turn. It tells its calls, and if a halt is among them the pass has what the table was then.
 #[derive(Drop)]
 pub struct HaltStepper<'a, C: Turns, R> {
     table: &'a SeatTable<C>,
+    /// The runtime that lets the thread sleep.
     rt: &'a R,
     pass: HaltPass<C>,
 }
@@ -99,7 +102,7 @@ impl<'a, C: Turns, R> SeatStepper<'a, C, R> {
 }
 
 impl<'a, C: Turns, R> HaltStepper<'a, C, R> {
-    /// The pass. Where the stepper had a halt the table has halted, and the pass has what it was
+    /// The pass. If the stepper had a halt, the table has halted, and the pass has what it was
     /// then.
     pub fn into_pass(self) -> HaltPass<C>
         ensures pass { result ≡ self.entry }
@@ -110,7 +113,7 @@ impl<'a, C: Turns, R> HaltStepper<'a, C, R> {
     }
 }
 
-/// A step, which the pass notes.
+/// Makes a step, notes it in the pass, and gives what it answered.
 #[tactic(auto, using(crate::proofs::Telling::step_told))]
 fn step_noted<C: Turns, R: Wait>(
     table: &SeatTable<C>,
@@ -129,7 +132,7 @@ fn step_noted<C: Turns, R: Wait>(
     next
 }
 
-/// A drain, which the pass notes.
+/// Tells the table that the path was drained, and notes it in the pass.
 #[tactic(auto, using(crate::proofs::Telling::drain_told))]
 fn drained_noted<C: Turns, R: Wait, P: Drain>(
     table: &SeatTable<C>,
@@ -150,7 +153,7 @@ fn drained_noted<C: Turns, R: Wait, P: Drain>(
     table.note::<Brand>(pass, call);
 }
 
-/// A halt, which the pass notes.
+/// Halts the run, and notes it in the pass.
 #[tactic(auto, using(crate::proofs::Telling::halt_told))]
 fn halt_noted<C: Turns, R: Wait>(table: &SeatTable<C>, rt: &R, pass: &mut SeatPass<C>, why: &Halt)
     requires table { (pass.old.table ≡ table.now) × IsOfTurret why.now }
@@ -164,7 +167,7 @@ fn halt_noted<C: Turns, R: Wait>(table: &SeatTable<C>, rt: &R, pass: &mut SeatPa
     table.note::<Brand>(pass, call);
 }
 
-/// A call of a stepper over the pass of a drive, which the pass notes.
+/// Notes a call in the pass of a drive.
 fn call_noted<C: Turns>(table: &SeatTable<C>, pass: &mut HaltPass<C>, call: Call)
     requires table { pass.old.table ≡ table.now }
     requires told { IsTrue (has_halt pass.old.calls) → IsTrue (is_some pass.old.stop) }
@@ -175,7 +178,7 @@ fn call_noted<C: Turns>(table: &SeatTable<C>, pass: &mut HaltPass<C>, call: Call
     table.note_halter::<Brand>(pass, call);
 }
 
-/// A halt by a stepper over the pass of a drive, which the pass notes.
+/// Halts the run for a turret, and notes it in the pass of its drive.
 fn halter_noted<C: Turns, R: Wait>(table: &SeatTable<C>, rt: &R, pass: &mut HaltPass<C>, why: &Halt)
     requires table { (pass.old.table ≡ table.now) × IsOfTurret why.now }
     ensures same { (pass.new.table ≡ pass.old.table) × (pass.new.path ≡ pass.old.path) }

@@ -1,4 +1,6 @@
-//! One turn: the table is taken out of its place, does one thing, and is put back.
+//! One turn: the table is taken out of its slot, does one thing, and is put back. The table has
+//! three words: 0 says who has the turn, 1 counts the waits that ended, 2 counts the seats that
+//! sleep in a wait. For this crate alone.
 ghost use Rattle.std.specs.Prelude.{◌≡◌, ◌≢◌, ◌&&◌, ◌||◌, not, true, false, [], ◌∷◌, MatchOption, IsTrue, is_some, Some, None};
 ghost use Rattle.nc_number.specs.declared.path.Path.TheVariants.{One, Two};
 ghost use Rattle.nc_outside.specs.declared.halt.Next.TheVariants.{Halted};
@@ -18,6 +20,7 @@ use std::alloc::Global;
 use std::sync::Wait;
 use std::thread;
 
+/// A seat at the table, with what it knows.
 pub(crate) type Place<C> = Seat<Option<C>, Knows>;
 
 /// What came of one try to step.
@@ -44,8 +47,8 @@ pub enum Notice {
 /// memory is done by then, and one that waits for a disk is not.
 const LOOKS: u32 = 64;
 
-/// Takes the turn if nobody has it, and the table with it. The word of the turn is 0 where nobody
-/// has it, 1 where a seat has it, and 2 where another seat sleeps until it is given back.
+/// Takes the turn if nobody has it, and the table with it. The word of the turn is 0 if nobody has
+/// it, 1 if a seat has it, and 2 if besides another seat sleeps until it is given back.
 fn take<C: Turns>(shared: &Shared<Option<C>, Knows, (), Law>, place: &mut Place<C>) -> Option<C>
     requires table { IsAt place.old.table_id shared.now.table_id }
     requires idle { Idle place.old.me }
@@ -63,7 +66,7 @@ fn take<C: Turns>(shared: &Shared<Option<C>, Knows, (), Law>, place: &mut Place<
     Some(table)
 }
 
-/// Puts the table back, and gives the turn back. It wakes those that sleep until then.
+/// Puts the table back, gives the turn back, and wakes the seats that sleep until then.
 fn give<C: Turns>(shared: &Shared<Option<C>, Knows, (), Law>, place: &mut Place<C>, table: C)
     requires table { IsAt place.old.table_id shared.now.table_id }
     requires busy { (place.old.me.0.busy ≡ true) × (place.old.me.1 ≡ (0, None) ∷ []) }
@@ -84,7 +87,7 @@ fn give<C: Turns>(shared: &Shared<Option<C>, Knows, (), Law>, place: &mut Place<
     }
 }
 
-/// Lets the seat that has the turn go on: yields, and after many looks sleeps until the turn is
+/// Lets the seat that has the turn go on: yields, and after LOOKS looks sleeps until the turn is
 /// given back.
 fn stand_by<C: Turns, R: Wait>(
     rt: &R,
@@ -103,8 +106,8 @@ fn stand_by<C: Turns, R: Wait>(
     }
 }
 
-/// Counts that a wait is over, and wakes those that sleep until then. Most often nobody does, and a
-/// wake is a call of the system.
+/// Counts that a wait is over, and wakes the seats that sleep until then. Most often none does, and
+/// a wake is a call of the system.
 fn count_change<C: Turns>(shared: &Shared<Option<C>, Knows, (), Law>, place: &mut Place<C>)
     requires { IsAt place.old.table_id shared.now.table_id }
     ensures { (place.new.table_id ≡ place.old.table_id) × (place.new.id ≡ place.old.id)
@@ -116,9 +119,9 @@ fn count_change<C: Turns>(shared: &Shared<Option<C>, Knows, (), Law>, place: &mu
     }
 }
 
-/// Sleeps until a wait is over, unless the count of those is another already than before the turn
-/// in which the path waited. Who counts one looks behind that for sleepers, and a sleeper is
-/// counted before it looks at the count: so one of the two sees the other.
+/// Sleeps until a wait is over, unless one has ended since before the turn in which the path waited
+/// (`seen` is the count of then). A seat that counts an end looks for sleepers after that, and a
+/// sleeper is counted before it looks at the count: so one of the two sees the other.
 fn await_change<C: Turns, R: Wait>(
     rt: &R,
     shared: &Shared<Option<C>, Knows, (), Law>,
@@ -151,8 +154,8 @@ fn is_freed(before: Both<bool>, after: Both<bool>) -> bool
     (before.one && !after.one) || (before.two && !after.two)
 }
 
-/// Counts a change where a path that waited does not wait any more. A path sleeps only behind a
-/// turn in which it waited, and nothing but the end of that wait is worth its while.
+/// Counts a change if a path that waited does not wait any more. A path sleeps only after a turn in
+/// which it waited, and only the end of that wait is worth a wake.
 fn count_freed<C: Turns>(
     shared: &Shared<Option<C>, Knows, (), Law>,
     place: &mut Place<C>,
@@ -168,7 +171,7 @@ fn count_freed<C: Turns>(
     }
 }
 
-/// Notes calls that a stepper over the seat had.
+/// Notes calls that a stepper over the seat had. It takes no turn.
 pub(crate) fn note<C: Turns, N: Noted>(
     shared: &Shared<Option<C>, Knows, (), Law>,
     place: &mut Place<C>,
@@ -181,7 +184,7 @@ pub(crate) fn note<C: Turns, N: Noted>(
     shared.load::<Note<N>>(place, 1);
 }
 
-/// One try to step the path.
+/// One try to step the path: takes the turn, steps, and gives the turn back.
 fn turn<C: Turns>(
     shared: &Shared<Option<C>, Knows, (), Law>,
     place: &mut Place<C>,
@@ -210,7 +213,7 @@ fn turn<C: Turns>(
     Tried::Stepped(next)
 }
 
-/// Tells the table.
+/// Tells the table that a path was drained, or that the run is to halt.
 fn tell<C: Turns>(table: &mut C, notice: &Notice)
     requires { IsGiven notice.now }
     ensures records { (p : Path) → C.records table.new p ≡ C.records table.old p }
@@ -223,7 +226,7 @@ fn tell<C: Turns>(table: &mut C, notice: &Notice)
     }
 }
 
-/// One try to tell the table: false where another seat has the turn.
+/// One try to tell the table: false if another seat has the turn.
 fn tell_turn<C: Turns>(
     shared: &Shared<Option<C>, Knows, (), Law>,
     place: &mut Place<C>,
@@ -307,8 +310,7 @@ pub(crate) fn tell_until<C: Turns, R: Wait>(
     unreachable!()
 }
 
-/// Puts the four seats together and takes the table out, whose records are those that the seats
-/// list.
+/// Puts the four seats together and gives the table, whose records are those that the seats list.
 pub(crate) fn close_all<C: Turns>(
     table: Table<Option<C>, Knows, (), Law, Global>,
     first: Place<C>,

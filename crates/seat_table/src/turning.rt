@@ -1,4 +1,5 @@
-//! What a table does in one turn of a path.
+//! What a table does in one turn of a path: the trait that run_table's table has. How a turn is
+//! taken is in `taking`.
 ghost use Rattle.std.specs.Prelude.{◌≡◌, ◌≢◌, true, false, List, Some, MatchOption};
 ghost use Rattle.nc_outside.specs.Calls.{IsOfTurret};
 ghost use Rattle.nc_outside.specs.declared.halt.Halt.{Halt as Reason};
@@ -8,7 +9,7 @@ ghost use Rattle.seat_table.specs.Turning.{Answers, AsksDrain, first_reason};
 use nc_number::Path;
 use nc_outside::{Halt, Next};
 
-/// A table of which two paths take turns.
+/// A table at which two paths take turns.
 pub trait Turns {
     ghost use Rattle.std.specs.Prelude.{Bool, Option};
     ghost use Rattle.nc_number.specs.declared.path.Path.{Path};
@@ -16,11 +17,11 @@ pub trait Turns {
     ghost use Rattle.nc_outside.specs.declared.halt.Halt.{Halt};
 
     /// For each path its records since the table was opened: of each the moves that its step
-    /// answered, with the line of their block. A record that did not get to the disk stands there
-    /// without a move.
+    /// answered, with the line of their block. A record that did not get to the disk has no move
+    /// here.
     ghost records: { Self → Path → List (List LinedMove) };
 
-    /// Why the table has halted, where it has. It makes no record then.
+    /// Why the table has halted, if it has. It makes no record then.
     ghost reason: { Self → Option Halt };
 
     /// Whether the path waits. A step of the other path may end that, and a halt does.
@@ -33,8 +34,8 @@ pub trait Turns {
     fn waits(&self, path: Path) -> bool
         ensures { result ≡ waits self.now path };
 
-    /// One step of the path. None comes exactly where the path waits, and changes nothing. Drain
-    /// comes exactly where the path is to be drained. A table that has halted answers why, and
+    /// One step of the path. The answer is none exactly if the path waits; then nothing changes. It
+    /// is `Drain` exactly if the path is to be drained. A table that has halted answers why, and
     /// makes no record.
     fn turn_step(&mut self, path: Path) -> Option<Next>
         ensures answer { MatchOption result (self.new ≡ self.old)

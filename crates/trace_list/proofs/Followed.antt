@@ -54,22 +54,27 @@ own_stops other = []
 abbrev chosen : Bool → List Label → List Label
 chosen b stops = if b then stops else []
 
+-- nothing chosen of nothing is nothing
 chosen_none : (b : Bool) → chosen b [] ≡ []
 chosen_none true = refl
 chosen_none false = refl
 
+-- the lines of moves have no stops,
 no_moves : (path of : Path) (line : ℕ) (moves : List Move) → stops_of path (moved_lines of line moves) ≡ []
 no_moves path of line [] = refl
 no_moves path of line (x ∷ xs) = no_moves path of line xs
 
+-- nor has the line of a shift,
 no_shift : (path of : Path) (line : ℕ) (after : Point) (b : Bool) → stops_of path (if b then [] else Shift of line after ∷ []) ≡ []
 no_shift path of line after true = refl
 no_shift path of line after false = refl
 
+-- nor that of the spindle,
 no_way : (path of : Path) (line : ℕ) (after b : Bool) → stops_of path (if b then [] else Spindle of line after ∷ []) ≡ []
 no_way path of line after true = refl
 no_way path of line after false = refl
 
+-- so a block has none
 block_stops : (path of : Path) (moves : Moves) (before after : Look) → stops_of path (block_lines of moves before after) ≡ []
 block_stops path of moves before after =
     let shift = shift_lines of moves.line before.shift after.shift in
@@ -81,6 +86,7 @@ block_stops path of moves before after =
     ∙ ap (λ (t : List Label). t ++ stops_of path rest) (no_way path of moves.line after.surface (is_same_way before.surface after.surface || says_speed moves.list))
     ∙ no_moves path of moves.line moves.list
 
+-- the stops in the lines of a turn are the turn's own, if it is a turn of this path
 turn_stops : (path of : Path) (met : ℕ) (before : Standing) (after : Look) (t : Turn)
     → stops_of path (turn_lines of met before after t) ≡ chosen (is_same path of) (own_stops t)
 turn_stops path of met before after (turn.Read variable stamp) = sym (chosen_none (is_same path of))
@@ -103,9 +109,12 @@ left_of true [] = []
 left_of true (x ∷ xs) = xs
 left_of false xs = xs
 
+-- the path waits or has ended
 abbrev idle : Option ℕ → Bool → Bool
 idle waiting finished = finished || is_some waiting
 
+-- the labels that a path has still to tell: those ahead of its place, without the first one if it
+-- waits or has ended
 abbrev due : List ControlProgram → Part → List Label
 due tape p = left_of (idle p.waiting p.finished) (ahead tape p.path.place)
 
@@ -114,6 +123,7 @@ record IsSide (tape : List ControlProgram) (at : List Frame) (waiting : Option �
   place : IsPlace tape at
   waits : (code : ℕ) → waiting ≡ Some code → (standing tape at ≡ Some (control.Wait code)) × (finished ≡ false)
 
+-- the same of the path's part of the machine
 abbrev SideOf : List ControlProgram → Part → Type 0
 SideOf tape p = IsSide tape p.path.place p.waiting p.finished
 
@@ -133,12 +143,15 @@ kept_labels tape f (g ∷ stack) control.Back to rest k follows = subst (λ xs. 
 kept_labels tape f [] control.Back to rest k follows =
     subst (λ xs. Follows (list tape) xs rest) (sym k.0) (anew rest (subst (λ xs. Follows (list tape) xs rest) k.1 follows))
 
+-- a step keeps what may follow: the labels ahead of where it leads follow those ahead of where it
+-- began
 step_labels : (tape : List ControlProgram) → KeepsLabels tape → (from to : List Frame) (rest : List Label) → IsPlace tape from → Step tape from to
     → Follows (list tape) (ahead tape to) rest → Follows (list tape) (ahead tape from) rest
 step_labels tape law [] to rest place step follows = absurd place
 step_labels tape law (f ∷ stack) to rest place (c, is, goes) follows =
     kept_labels tape f stack c to rest (law.step f stack place c is to goes).1 follows
 
+-- a step leads to a place
 step_place : (tape : List ControlProgram) → KeepsLabels tape → (from to : List Frame) → IsPlace tape from → Step tape from to → IsPlace tape to
 step_place tape law [] to place step = absurd place
 step_place tape law (f ∷ stack) to place (c, is, goes) = (law.step f stack place c is to goes).0
@@ -253,6 +266,7 @@ record IsAwake (m : MachineView) (r rest : TurnResult) : Type 0 where
   unfinished : m.paths.one.finished ≡ false
   same : r ≡ rest
 
+-- a path that makes a record neither waits nor has ended, and its turn is that of its block
 awake_by : (m : MachineView) (a : Option Alarm) (f : Bool) (w : Option ℕ) (rest : TurnResult) (kind : EntryKind) → m.paths.one.finished ≡ f → m.paths.one.waiting ≡ w
     → kind_of (unless_idle m a f w rest).turn ≡ Some kind → IsAwake m (unless_idle m a f w rest) rest
 awake_by m (Some alarm) f w rest kind ends is makes = absurd (cc)
@@ -260,9 +274,11 @@ awake_by m None true w rest kind ends is makes = absurd (cc)
 awake_by m None false (Some code) rest kind ends is makes = absurd (cc)
 awake_by m None false None rest kind ends is makes = record { none_waits = is; unfinished = ends; same = refl }
 
+-- each block of the path leads where the order of blocks allows
 abbrev AreLed : List ControlProgram → Blocks → Type 0
 AreLed tape blocks = (path : PathView) (values : List Var) → GoesAsOrdered tape path (blocks.effect path values)
 
+-- a turn of path 1 tells the next of its labels, or none,
 own_passes : (tape : List ControlProgram) (blocks : Blocks) (path : Path) (kind : EntryKind) (stamps : List ℕ) (m : MachineView) → KeepsLabels tape → AreLed tape blocks
     → SideOf tape m.paths.one → IsStep blocks path m kind stamps
     → Passes tape m.paths.one (own_turn blocks path (with_reads blocks stamps m)).machine.paths.one (own_stops (own_turn blocks path (with_reads blocks stamps m)).turn)
@@ -273,6 +289,7 @@ own_passes tape blocks path kind stamps m law led side step =
     (blocks.effect now.paths.one.path now.paths.one.values) (led now.paths.one.path now.paths.one.values) in
     subst (λ (r : TurnResult). Passes tape m.paths.one r.machine.paths.one (own_stops r.turn)) (sym is.same) (record { side = by.side; follows = by.follows })
 
+-- and a turn of the other path tells none of them
 other_passes : (tape : List ControlProgram) (blocks : Blocks) (path : Path) (kind : EntryKind) (stamps : List ℕ) (m : MachineView) → KeepsLabels tape
     → SideOf tape m.paths.two → IsStep blocks path m kind stamps → Passes tape m.paths.two (own_turn blocks path (with_reads blocks stamps m)).machine.paths.two []
 other_passes tape blocks path kind stamps m law side step =
@@ -281,9 +298,11 @@ other_passes tape blocks path kind stamps m law side step =
     let by = by_other tape law path (blocks.line now.paths.one.path.place) now (record { place = side.place; waits = side.waits }) (blocks.effect now.paths.one.path now.paths.one.values) in
     subst (λ (r : TurnResult). Passes tape m.paths.two r.machine.paths.two []) (sym is.same) (record { side = by.side; follows = by.follows })
 
+-- the turn of a record with these stamps, as its own path sees it
 abbrev turn_after : Tapes → Path → List ℕ → MachineView → Turn
 turn_after tapes path stamps m = (own_turn (of_path tapes path) path (with_reads (of_path tapes path) stamps (own_first path m))).turn
 
+-- and the machine behind it
 abbrev machine_after : Tapes → Path → List ℕ → MachineView → MachineView
 machine_after tapes path stamps m = own_first path (behind_step (of_path tapes path) path stamps (own_first path m))
 
@@ -337,6 +356,7 @@ follows_from path tapes tape law led met m (e ∷ entries) side legal =
 start_side : (tape : List ControlProgram) → IsSide tape (start tape) None false
 start_side tape = record { place = (refl, refl); waits = λ code is. absurd cc }
 
+-- in the trace of a legal history the stops of each path are its labels, from the first one on
 pub follows : (left right : Flow) → KeepsLabels left.order → KeepsLabels right.order → IsPair left right → (first second : PathView)
     → AreAtStart left.order right.order first second → (entries : List Entry) → IsLegal (tapes_of left right) (opening first second) entries
     → Follows (list left.order) (list left.order) (stops_of One (traced (tapes_of left right) 0 (opening first second) entries))

@@ -19,6 +19,7 @@ pub lines_then : (a b c : SinkState) (xs ys : List TraceLine) (result : Result (
 lines_then a b c xs ys result one two =
     subst (λ t. IsPut a c t result) (sym (flat_map-append trace_line_text xs ys)) (put_then a b c (lines_text xs) (lines_text ys) result one two)
 
+-- what failed within the first lines failed within all
 pub lines_stop : (a b : SinkState) (xs ys : List TraceLine) (fault : PutFault) → IsPut a b (lines_text xs) (Err fault)
     → IsPut a b (lines_text (xs ++ ys)) (Err fault)
 lines_stop a b xs ys fault one =
@@ -30,9 +31,11 @@ pub record HasPut (a b : SinkState) (rest whole : List ℕ) : Type 0 where
   pub put : IsPut a b front (Ok tt)
   pub is_whole : front ++ rest ≡ whole
 
+-- before the first piece nothing is put,
 pub has_begun : (a : SinkState) (rest whole : List ℕ) → rest ≡ whole → HasPut a a rest whole
 has_begun a rest whole is = record { front = []; put = put_nothing a; is_whole = is }
 
+-- a piece more is put,
 pub has_more : (a b c : SinkState) (piece more rest whole : List ℕ) → rest ≡ piece ++ more → HasPut a b rest whole → IsPut b c piece (Ok tt) → HasPut a c more whole
 has_more a b c piece more rest whole is so_far put = record {
   front = so_far.front ++ piece;
@@ -40,12 +43,14 @@ has_more a b c piece more rest whole is so_far put = record {
   is_whole = append_assoc so_far.front piece more ∙ ap (λ t. so_far.front ++ t) (sym is) ∙ so_far.is_whole;
 }
 
+-- a piece fails, and so does the whole;
 pub has_broken : (a b c : SinkState) (piece more rest whole : List ℕ) (fault : PutFault) → rest ≡ piece ++ more → HasPut a b rest whole
     → IsPut b c piece (Err fault) → IsPut a c whole (Err fault)
 has_broken a b c piece more rest whole fault is so_far put =
     subst (λ t. IsPut a c t (Err fault)) (ap (λ t. so_far.front ++ t) (sym is) ∙ so_far.is_whole)
     (put_then a b c so_far.front (piece ++ more) (Err fault) so_far.put (put_stops b c piece more fault put))
 
+-- the last piece ends as the whole does
 pub has_ended : (a b c : SinkState) (piece rest whole : List ℕ) (result : Result (Unit {0}) PutFault) → rest ≡ piece → HasPut a b rest whole
     → IsPut b c piece result → IsPut a c whole result
 has_ended a b c piece rest whole result is so_far put =

@@ -39,42 +39,50 @@ shift_on : (path : Path) (other : Option OpenWait) (met line : ℕ) (by : Point)
 shift_on One other met line by rest p = (refl, p)
 shift_on Two other met line by rest p = (refl, p)
 
+-- the line of the spindle's way,
 way_on : (path : Path) (other : Option OpenWait) (met line : ℕ) (surface : Bool) (rest : List TraceLine) → PairedFor path None other met rest
     → PairedFor path None other met (Spindle path line surface ∷ rest)
 way_on One other met line surface rest p = (refl, p)
 way_on Two other met line surface rest p = (refl, p)
 
+-- lines of moves,
 moves_on : (path : Path) (other : Option OpenWait) (met line : ℕ) (moves : List Move) (rest : List TraceLine) → PairedFor path None other met rest
     → PairedFor path None other met (moved_lines path line moves ++ rest)
 moves_on path other met line [] rest p = p
 moves_on One other met line (x ∷ xs) rest p = (refl, moves_on One other met line xs rest p)
 moves_on Two other met line (x ∷ xs) rest p = (refl, moves_on Two other met line xs rest p)
 
+-- the line of an end,
 ended_on : (path : Path) (other : Option OpenWait) (met line : ℕ) (rest : List TraceLine) → PairedFor path None other met rest
     → PairedFor path None other met (Ended path line ∷ rest)
 ended_on One other met line rest p = (refl, p)
 ended_on Two other met line rest p = (refl, p)
 
+-- and that of an alarm leave the open waits as they are
 raised_on : (path : Path) (other : Option OpenWait) (met line cause : ℕ) (value : _) (rest : List TraceLine) → PairedFor path None other met rest
     → PairedFor path None other met (Raised (alarm_at path line cause value) ∷ rest)
 raised_on One other met line cause value rest p = (refl, p)
 raised_on Two other met line cause value rest p = (refl, p)
 
+-- the line of a wait opens it
 wait_on : (path : Path) (other : Option OpenWait) (met line code : ℕ) (rest : List TraceLine) → PairedFor path (Some (open_wait line code)) other met rest
     → PairedFor path None other met (Wait path line code ∷ rest)
 wait_on One other met line code rest p = (refl, p)
 wait_on Two other met line code rest p = (refl, p)
 
+-- the line of a shift, if there is one,
 if_shift : (path : Path) (other : Option OpenWait) (met line : ℕ) (by : Point) (b : Bool) (rest : List TraceLine) → PairedFor path None other met rest
     → PairedFor path None other met ((if b then [] else Shift path line by ∷ []) ++ rest)
 if_shift path other met line by true rest p = p
 if_shift path other met line by false rest p = shift_on path other met line by rest p
 
+-- that of the spindle, if there is one,
 if_way : (path : Path) (other : Option OpenWait) (met line : ℕ) (surface b : Bool) (rest : List TraceLine) → PairedFor path None other met rest
     → PairedFor path None other met ((if b then [] else Spindle path line surface ∷ []) ++ rest)
 if_way path other met line surface true rest p = p
 if_way path other met line surface false rest p = way_on path other met line surface rest p
 
+-- and so all lines of a block leave the open waits as they are
 block_on : (path : Path) (other : Option OpenWait) (met : ℕ) (moves : Moves) (before after : Look) (rest : List TraceLine) → PairedFor path None other met rest
     → PairedFor path None other met (block_lines path moves before after ++ rest)
 block_on path other met moves before after rest p =
@@ -96,6 +104,7 @@ abbrev other_line : Path → Standing → ℕ
 other_line One s = s.lines.two
 other_line Two s = s.lines.one
 
+-- a wait at which the other path stands already, and the meeting of both, close both waits
 met_on : (path : Path) (met code there : ℕ) (before : Standing) (other_line_is : ℕ) (rest : List TraceLine) → code ≡ there → other_line path before ≡ other_line_is
     → PairedFor path None None (met + 1) rest
     → PairedFor path None (Some (open_wait other_line_is there)) met (Wait path (of_path before.lines path) code ∷ Met (met + 1) code before.lines.one before.lines.two ∷ rest)
@@ -164,6 +173,7 @@ record IsAwake (m : MachineView) (r rest : TurnResult) : Type 0 where
   none : m.paths.one.waiting ≡ None
   same : r ≡ rest
 
+-- a path that makes a record does not wait, and its turn is that of its block
 awake_by : (m : MachineView) (a : Option Alarm) (f : Bool) (w : Option ℕ) (rest : TurnResult) (kind : EntryKind) → m.paths.one.waiting ≡ w
     → kind_of (unless_idle m a f w rest).turn ≡ Some kind → IsAwake m (unless_idle m a f w rest) rest
 awake_by m (Some alarm) f w rest kind is makes = absurd (cc)
@@ -194,6 +204,7 @@ open_in tapes path m = waits (of_path tapes path) (path_in path m) (of_path m.pa
 abbrev turn_after : Tapes → Path → Option Edit → List ℕ → MachineView → Turn
 turn_after tapes path edit stamps m = turn_by (of_path tapes path) path edit stamps (own_first path m)
 
+-- the machine behind a record, as the record's own path sees it
 abbrev machine_after : Tapes → Path → Option Edit → List ℕ → MachineView → MachineView
 machine_after tapes path edit stamps m = own_first path (behind_own (of_path tapes path) path edit stamps (own_first path m))
 
@@ -220,6 +231,7 @@ paired_from tapes met m (e ∷ entries) legal =
     (traced tapes (met_after met (turn_of_entry tapes e m)) (behind_entry tapes e m) entries) (λ step. step_of_next tapes m e step legal.0)
     (paired_from tapes (met_after met (turn_of_entry tapes e m)) (behind_entry tapes e m) entries legal.1)
 
+-- in the trace of a legal history each meeting closes the open waits of both paths
 pub paired : (tapes : Tapes) (first second : PathView) (entries : List Entry) → IsLegal tapes (opening first second) entries
     → ArePaired None None 0 (traced tapes 0 (opening first second) entries)
 paired tapes first second entries legal = paired_from tapes 0 (opening first second) entries legal

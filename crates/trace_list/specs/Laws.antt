@@ -1,4 +1,5 @@
 -- What a trace says of one path, or of the meetings alone.
+-- For this crate alone.
 use Rattle.std.specs.Prelude.{if◌then◌else◌, List, [], ◌∷◌}
 use Rattle.std.specs.List.{flat_map}
 use Rattle.nc_number.specs.Path.{is_same}

@@ -1,4 +1,5 @@
 -- The waits and meetings of a trace, as one who reads it line by line keeps them.
+-- For this crate alone.
 use Rattle.std.specs.Prelude.{◌≡◌, ℕ, ◌+◌, List, [], ◌∷◌, Option, Some, None}
 use Rattle.nc_number.specs.declared.path.Path.{Path}
 use Rattle.nc_number.specs.declared.path.Path.TheVariants.{One, Two}
@@ -9,6 +10,7 @@ pub record OpenWait : Type 0 where
   pub line : ℕ
   pub code : ℕ
 
+-- the wait at this line with this code
 abbrev pub open_wait : ℕ → ℕ → OpenWait
 open_wait line code = record { line = line; code = code }
 

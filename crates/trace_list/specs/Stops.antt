@@ -1,4 +1,5 @@
 -- The waits and the end of a path in a trace, beside the labels of its tape.
+-- For this crate alone.
 use Rattle.std.specs.Prelude.{if◌then◌else◌, List, [], ◌∷◌}
 use Rattle.std.specs.List.{flat_map}
 use Rattle.nc_number.specs.Path.{is_same}

@@ -1,4 +1,5 @@
 -- The trace of a history: its events in their order, and the text of all.
+-- lathe_calls takes `line_of` and `trace_text` and lathe_top `trace_text`.
 use Rattle.std.specs.Prelude.{ℕ, ◌+◌, ◌&&◌, ◌||◌, Bool, true, false, if◌then◌else◌, List, [], ◌∷◌, ◌++◌, length, map}
 use Rattle.std.specs.List.{list_any}
 use Rattle.std.specs.Ordering.{int_eq}
@@ -41,9 +42,11 @@ look_of path = record { shift = shift_now path; surface = path.modal.surface }
 abbrev pub standing_of : Tapes → Path → MachineView → Standing
 standing_of tapes path m = record { lines = record { one = line_of tapes One m; two = line_of tapes Two m }; look = look_of (path_in path m) }
 
+-- the points are the same, in 0.001 mm
 abbrev pub is_same_point : Point → Point → Bool
 is_same_point a b = int_eq a.x b.x && int_eq a.z b.z
 
+-- the spindle keeps its way: a surface speed, or none
 abbrev pub is_same_way : Bool → Bool → Bool
 is_same_way true b = b
 is_same_way false true = false
@@ -54,6 +57,7 @@ abbrev pub is_speed : Move → Bool
 is_speed (move.Speed surface s) = true
 is_speed other = false
 
+-- some move of the block says the speed of the spindle
 abbrev pub says_speed : List Move → Bool
 says_speed moves = list_any is_speed moves
 
@@ -62,6 +66,7 @@ says_speed moves = list_any is_speed moves
 abbrev pub shift_lines : Path → ℕ → Point → Point → List TraceLine
 shift_lines path line before after = if is_same_point before after then [] else Shift path line after ∷ []
 
+-- the way of the spindle, if the block changed it without saying the speed
 abbrev pub spindle_lines : Path → Moves → Bool → Bool → List TraceLine
 spindle_lines path moves before after =
     if is_same_way before after || says_speed moves.list then [] else Spindle path moves.line after ∷ []

@@ -1,4 +1,5 @@
 -- The lines of a trace, and how they are printed.
+-- For this crate alone.
 use Rattle.std.specs.Prelude.{ℕ, Bool, if◌then◌else◌, List, ◌++◌, codes, decimal}
 use Rattle.std.specs.List.{flat_map}
 use Rattle.nc_number.specs.declared.path.Path.{Path}
@@ -31,6 +32,7 @@ pub data TraceLine : Type 0 where
 unfoldable pub path_text : Path → List ℕ
 path_text path = decimal (number_of path) ++ codes " "
 
+-- how the line of an event begins: the path, and the line of its tape
 unfoldable pub event_text : Path → ℕ → List ℕ
 event_text path line = decimal (number_of path) ++ codes " " ++ decimal line
 
@@ -46,6 +48,7 @@ met_text number code = codes "met " ++ decimal number ++ codes " M" ++ code_text
 unfoldable pub waits_text : ℕ → ℕ → List ℕ
 waits_text one two = numbered (codes " path 1 line ") one ++ numbered (codes " path 2 line ") two ++ codes "\n"
 
+-- the line of an event, as it is printed
 unfoldable pub trace_line_text : TraceLine → List ℕ
 trace_line_text (At path at) = point_line path 0 (codes " at") at
 trace_line_text (Home path at) = point_line path 0 (codes " home") at

@@ -1,4 +1,6 @@
-//! The lines of a record into a sink.
+//! The lines of one record, put into a sink. How a line reads is in lines.rt, the whole text in
+//! tracing.rt.
+//! For this crate alone.
 ghost use Rattle.std.specs.Prelude.{◌≡◌, ◌+◌, ◌≤◌, [], ◌∷◌, ◌++◌};
 ghost use Rattle.nc_number.specs.declared.limits.TheConstants.{MOST_RECORDS};
 ghost use Rattle.nc_number.specs.Both.{of_path};

@@ -1,5 +1,6 @@
-//! What holds of every trace. Each law is the contract of a function that does nothing: who calls
+//! What holds of every trace. Each law is the contract of a function that does nothing: a caller of
 //! it has the law.
+//! These laws are for readers: no other crate calls them.
 ghost use Rattle.std.specs.Prelude.{◌≡◌, ℕ, List, None};
 ghost use Rattle.block_order.specs.Labels.{list};
 ghost use Rattle.nc_number.specs.declared.path.Path.TheVariants.{One, Two};

@@ -1,4 +1,5 @@
 //! The lines of a trace, each as a piece.
+//! For this crate alone.
 ghost use Rattle.std.specs.Prelude.{◌≡◌, ◌+◌, ◌≤◌, ◌++◌, length};
 ghost use Rattle.trace_list.specs.TraceText.{event_text, head_text, met_text, path_text, point_line, trace_line_text, waits_text};
 ghost use Rattle.trace_list.specs.TraceText as said;
@@ -84,7 +85,7 @@ pub(crate) fn wait_line(path: Path, line: u32, code: u16) -> Piece
     piece
 }
 
-/// The beginning of the line of a meeting: its number and its code.
+/// How the line of a meeting begins: its number and its code.
 #[tactic(auto, unfolding(crate::specs::TraceText::met_text))]
 fn met(number: u64, code: u16) -> Piece
     ensures text { result ≡ met_text number code }

@@ -1,4 +1,6 @@
-//! What a trace looks at between two records.
+//! What a trace looks at between two records: where both paths stand, and what a block changed
+//! without a move.
+//! For this crate alone.
 ghost use Rattle.std.specs.Prelude.{◌≡◌};
 ghost use Rattle.nc_number.specs.Both.{of_path};
 ghost use Rattle.two_path.specs.Turns.{tapes_of};

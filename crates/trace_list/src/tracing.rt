@@ -1,4 +1,6 @@
-//! The trace of a history.
+//! The text of the trace of a history: how both paths begin, then each record, done again once, and
+//! the end.
+//! lathe_calls uses it.
 ghost use Rattle.std.specs.Prelude.{◌≡◌, ◌≤◌, ◌<◌, [], ◌∷◌, ◌++◌, length, OnOk};
 ghost use Rattle.nc_number.specs.declared.limits.TheConstants.{MOST_RECORDS};
 ghost use Rattle.nc_number.specs.declared.path.Path.TheVariants as Path;

@@ -1,4 +1,5 @@
 -- A run whose paths take turns makes no record once it has ended, so it is one run.
+-- For the law `one_run_in_turn`.
 use Rattle.std.proofs.Common.{◌≡◌, ℕ, zero, suc, ◌+◌, ◌-◌, ◌≤◌, ◌&&◌, Bool, true, false, List, [], ◌∷◌, ◌++◌, length, refl, sym, ◌∙◌, ap, subst, arith, append_assoc, append-nil, length-append, Option, Some, None}
 use Rattle.std.specs.Prelude.{nat_le}
 use Rattle.nc_number.specs.declared.path.Path.{Path}
@@ -22,14 +23,18 @@ IsOver m = end_of m ≡ None → ⊥
 
 -- the turn of such a machine leaves it as it is, and makes no record
 record IsStill (m : MachineView) (r : TurnResult) : Type 0 where
+  -- the machine is as before
   same : r.machine ≡ m
+  -- and there is no record
   none : kind_of r.turn ≡ None
 
+-- an own turn of a machine that has ended, by its alarm and its ends
 still_by : (m : MachineView) (a : Option Alarm) (f second : Bool) (w : Option ℕ) (rest : TurnResult) → (end_by a (f && second) ≡ None → ⊥) → IsStill m (unless_idle m a f w rest)
 still_by m (Some alarm) f second w rest over = record { same = refl; none = refl }
 still_by m None true second w rest over = record { same = refl; none = refl }
 still_by m None false second w rest over = absurd (over refl)
 
+-- whether both paths have ended does not depend on which comes first
 swap : (a : Option Alarm) (f s : Bool) → (end_by a (f && s) ≡ None → ⊥) → end_by a (s && f) ≡ None → ⊥
 swap (Some alarm) f s over is = absurd cc
 swap None true true over is = absurd cc
@@ -37,13 +42,16 @@ swap None true false over is = over refl
 swap None false true over is = over refl
 swap None false false over is = over refl
 
+-- so each own turn of such a machine
 own_still : (blocks : Blocks) (path : Path) (m : MachineView) → IsOver m → IsStill m (own_turn blocks path m)
 own_still blocks path m over = still_by m m.alarm m.paths.one.finished m.paths.two.finished m.paths.one.waiting (block_turn blocks path m) over
 
+-- a turn of this path leaves the machine, and makes no record
 record IsPassed (tapes : Tapes) (path : Path) (m : MachineView) : Type 0 where
   same : (turn_of tapes path m).machine ≡ m
   none : list_of (entry_of tapes path m) ≡ []
 
+-- so each turn of a machine that has ended
 passed : (tapes : Tapes) (path : Path) (m : MachineView) → IsOver m → IsPassed tapes path m
 passed tapes One m over =
     let still = own_still tapes.one One m over in
@@ -89,6 +97,7 @@ none_left : (xs ys : List Entry) (n : ℕ) → length xs ≡ n → length (xs ++
 none_left xs [] n all within = refl
 none_left xs (y ∷ ys) n all within = absurd (let both = length-append xs (y ∷ ys) in omega (arith, both, all, within))
 
+-- a run that has ended has no further records
 over_further : (tapes : Tapes) (m : MachineView) (path : Path) (n more : ℕ) → IsOver (run tapes m (in_turn path n)) → further tapes m path n more ≡ []
 unfolding further
 over_further tapes m path n more over = none_more tapes (path_after path n) (run tapes m (in_turn path n)) more over
@@ -121,6 +130,7 @@ module _ (tapes : Tapes) (first second : PathView) (limit : ℕ) (law : Historie
           whole (over_further tapes (opening first second) One n more
           (λ none. let clash : ◌≡◌ {A = Option Reason} (Some end) None = sym is ∙ ends ∙ none in cc))
 
+  -- two such runs have the same records
   pub one_run : (one two : List Entry) → IsInTurn tapes (opening first second) limit one → IsInTurn tapes (opening first second) limit two → one ≡ two
   one_run one two a b = go (nat_le a.turns b.turns) refl
     where

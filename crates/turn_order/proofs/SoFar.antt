@@ -1,4 +1,5 @@
 -- A run whose paths take turns, as far as it has come.
+-- Invariant of the loop of src/turns.rt.
 use Rattle.std.proofs.Common.{◌≡◌, ℕ, suc, ◌+◌, ◌≤◌, ◌<◌, ◌==◌, Bool, true, false, List, [], ◌++◌, length, refl, sym, ◌∙◌, ap, arith, append_assoc, append-nil, Option, Some, None}
 use Rattle.std.specs.Prelude.{if◌then◌else◌, unwrap_or}
 use Rattle.nc_number.specs.declared.path.Path.{Path}
@@ -19,9 +20,12 @@ use Rattle.turn_order.specs.InTurn.{IsInTurn, in_turn}
 -- After some turns the run has these records, stands at this machine, and this path is next: so it
 -- is with all its further turns.
 pub record IsSoFar (tapes : Tapes) (start : MachineView) (path : Path) (m : MachineView) (entries : List Entry) : Type 0 where
+  -- how many turns there were
   pub turns : ℕ
+  -- the records of these and of any further turns
   pub records : (more : ℕ) → history tapes start (in_turn One (turns + more)) ≡ entries ++ history tapes m (in_turn path more)
 
+-- before the first turn there is no record
 pub begins : (tapes : Tapes) (start m : MachineView) (entries : List Entry) → m ≡ start → entries ≡ [] → IsSoFar tapes start One m entries
 begins tapes start m entries at none = record {
   turns = 0;
@@ -32,6 +36,7 @@ begins tapes start m entries at none = record {
       ∙ ap (λ (es : List Entry). es ++ history tapes m (in_turn One more)) (sym none);
 }
 
+-- with one turn more its record is added
 goes_on : (tapes : Tapes) (start : MachineView) (path : Path) (m : MachineView) (entries : List Entry) → IsSoFar tapes start path m entries
     → IsSoFar tapes start (other_of path) (turn_of tapes path m).machine (entries ++ list_of (entry_of tapes path m))
 goes_on tapes start path m entries so_far = record {
@@ -42,12 +47,13 @@ goes_on tapes start path m entries so_far = record {
       ∙ sym (append_assoc entries (list_of (entry_of tapes path m)) (history tapes (turn_of tapes path m).machine (in_turn (other_of path) more)));
 }
 
--- with one turn more
+-- the run so far, with one turn more, and the other path next
 pub goes_on_to : (tapes : Tapes) (start : MachineView) (path next : Path) (m after : MachineView) (entries more : List Entry) → IsSoFar tapes start path m entries
     → next ≡ other_of path → after ≡ (turn_of tapes path m).machine → more ≡ entries ++ list_of (entry_of tapes path m) → IsSoFar tapes start next after more
 goes_on_to tapes start path next m after entries more so_far is_next is_after is_more =
     rw (is_next, is_after, is_more) (goes_on tapes start path m entries so_far)
 
+-- the history that is kept, with the record of one turn more
 pub kept_on : (tapes : Tapes) (start : MachineView) (path : Path) (m after : MachineView) (entries more : List Entry)
     → IsKept tapes start (entries ++ records_of tapes (TurnOf path) m) (behind_event tapes (TurnOf path) m)
     → after ≡ (turn_of tapes path m).machine → more ≡ entries ++ list_of (entry_of tapes path m) → IsKept tapes start more after
@@ -68,6 +74,7 @@ not_ended (Some alarm) both is = absurd cc
 not_ended None true is = absurd cc
 not_ended None false is = (refl, refl)
 
+-- below its limit a run has room for a record
 no_bound : (count limit most : ℕ) → bound_by count limit most ≡ None → count ≤ limit → count < limit
 no_bound count limit most = go (count == limit) refl
   where
@@ -75,6 +82,7 @@ no_bound count limit most = go (count == limit) refl
     go true e is le = absurd cc
     go false e is le = grind arith
 
+-- a run that is not halted has not ended, and has room
 pub may_go_on : (end : Option Reason) (count limit most : ℕ) → end_or_bound end (bound_by count limit most) ≡ None → count ≤ limit → (end ≡ None) × (count < limit)
 may_go_on (Some end) count limit most is le = absurd cc
 may_go_on None count limit most is le = (refl, no_bound count limit most (unbound (bound_by count limit most) is) le)
@@ -83,6 +91,7 @@ may_go_on None count limit most is le = (refl, no_bound count limit most (unboun
     unbound None none = refl
     unbound (Some why) none = absurd cc
 
+-- a run that is halted by its limit has as many records
 at_bound : (count limit most : ℕ) (end : Reason) → end_or_bound None (bound_by count limit most) ≡ Some end → (count ≡ limit) × (end ≡ end_at count most)
 at_bound count limit most end = go (count == limit) refl
   where
@@ -92,9 +101,12 @@ at_bound count limit most end = go (count == limit) refl
 
 -- how a run ended
 pub record HasEnded (m : MachineView) (most limit : ℕ) (end : Reason) : Type 0 where
+  -- by the machine, or else by the number of its records
   pub told : end ≡ unwrap_or (end_of m) (end_at m.count most)
+  -- if not by the machine, it has as many as the limit
   pub at_limit : end_of m ≡ None → m.count ≡ limit
 
+-- a run that is told as ended has ended so
 pub ended_by : (m : MachineView) (limit most : ℕ) (end : Reason) (o : Option Reason) → end_of m ≡ o → end_or_bound o (bound_by m.count limit most) ≡ Some end
     → HasEnded m most limit end
 ended_by m limit most end (Some e) is told = record {
@@ -121,6 +133,7 @@ in_turn_at_end tapes start path m entries limit most end so_far kept count withi
   ended = λ none. sym count ∙ ended.at_limit (sym (same_end tapes start m entries kept) ∙ none);
 }
 
+-- the end that is told is that of the records
 pub told_at_end : (tapes : Tapes) (start m : MachineView) (entries : List Entry) (limit most : ℕ) (end : Reason)
     → IsKept tapes start entries m → m.count ≡ length entries → HasEnded m most limit end → end ≡ end_told tapes start most entries
 told_at_end tapes start m entries limit most end kept count ended =

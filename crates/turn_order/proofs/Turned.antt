@@ -1,5 +1,6 @@
 -- A turn of a path makes a record, or reads, or is passed over; and a path is passed over only
 -- while the other goes on. So there are only so many turns.
+-- The measure of the loop of src/turns.rt, and its steps.
 use Rattle.std.proofs.Common.{◌≡◌, ◌⊎◌, inl, inr, ℕ, ◌+◌, ◌-◌, ◌*◌, ◌≤◌, ◌<◌, ◌==◌, ◌||◌, ◌&&◌, Bool, true, false, List, [], ◌∷◌, ◌++◌, length, refl, ◌∙◌, ap, subst, arith, length-append, Option, Some, None, is_some}
 use Rattle.std.specs.Prelude.{if◌then◌else◌}
 use Rattle.nc_number.specs.declared.path.Path.{Path}
@@ -37,6 +38,7 @@ turns_left limit path m =
 abbrev AsksFew : Blocks → Type 0
 AsksFew blocks = (path : PathView) (reads : List Var) (variable : ℕ) → blocks.effect path reads ≡ Need variable → length reads < MOST_READS
 
+-- what a path asked for and what it has read are 32 at most
 asks_few : (blocks : Blocks) → AsksFew blocks → (path : PathView) (writes : _) (values : List Var) (stamps : List ℕ)
     → AsksFrom blocks path writes values stamps → length values ≤ MOST_READS → length values + length stamps ≤ MOST_READS
 asks_few blocks most path writes values [] asks few = omega (arith, few)
@@ -46,12 +48,15 @@ asks_few blocks most path writes values (stamp ∷ stamps) asks few =
     let rest = asks_few blocks most path writes (and_next blocks path writes stamp values) stamps asks.1 (omega (arith, less, one)) in
     omega (arith, one, rest)
 
+-- so a path of a lawful machine has made few reads
 lawful_few : (blocks : Blocks) (m : MachineView) → AsksFew blocks → IsLawful blocks m → length m.paths.one.stamps ≤ MOST_READS
 lawful_few blocks m most lawful = omega (arith, asks_few blocks most m.paths.one.path m.writes [] m.paths.one.stamps lawful.may.asks (omega arith))
 
+-- the blocks of a flow ask for few
 flow_asks_few : ((flow : Flow) (path : PathView) (reads : List Var) → AsksForShared path reads (effect_of flow path reads)) → (flow : Flow) → AsksFew (blocks_of flow)
 flow_asks_few law flow path reads variable is = (subst (AsksForShared path reads) is (law flow path reads)).1
 
+-- both paths together have made 64 reads at most
 pub few_reads : ((flow : Flow) (path : PathView) (reads : List Var) → AsksForShared path reads (effect_of flow path reads)) → (left right : Flow) (m : MachineView)
     → AreLawful (tapes_of left right) m → reads_of m ≤ 64
 few_reads law left right m lawful =
@@ -59,10 +64,14 @@ few_reads law left right m lawful =
 
 -- what a turn of the first path comes to
 data Went (m : MachineView) (r : TurnResult) : Type 0 where
+  -- passed over: nothing changes
   over : is_idle m.paths.one ≡ true → r.machine ≡ m → kind_of r.turn ≡ None → Went m r
+  -- one read more, and no record
   read : kind_of r.turn ≡ None → reads_of r.machine ≡ reads_of m + 1 → r.machine.count ≡ m.count → Went m r
+  -- one record more
   made : (kind : EntryKind) → kind_of r.turn ≡ Some kind → r.machine.count ≡ m.count + 1 → Went m r
 
+-- a turn at a wait makes a record
 wait_went : (path : Path) (line : ℕ) (m : MachineView) (code : ℕ) (o : Option ℕ) → Went m (result_at_wait path line m code o)
 wait_went path line m code None = made kind.Arrived refl refl
 wait_went path line m code (Some there) = go (code == there) refl
@@ -71,6 +80,7 @@ wait_went path line m code (Some there) = go (code == there) refl
     go true e = rw e (made kind.Met refl refl)
     go false e = rw e (made kind.Alarmed refl refl)
 
+-- a turn by the effect of a block reads or makes a record
 by_went : (path : Path) (line : ℕ) (m : MachineView) (e : Effect) → Went m (result_by path line m e)
 by_went path line m (Need variable) =
     let one : length (m.paths.one.stamps ++ m.count ∷ []) ≡ length m.paths.one.stamps + 1 = length-append m.paths.one.stamps (m.count ∷ []) in
@@ -80,6 +90,7 @@ by_went path line m (AtWait code) = wait_went path line m code m.paths.two.waiti
 by_went path line m (AtEnd after moves) = made kind.Ended refl refl
 by_went path line m (effect.Alarm number value) = made kind.Alarmed refl refl
 
+-- a turn of a path that may be idle is passed over, or is that of its block
 went_by : (m : MachineView) (a : Option Alarm) (f : Bool) (w : Option ℕ) (rest : TurnResult) → a ≡ None → m.paths.one.finished ≡ f → m.paths.one.waiting ≡ w
     → Went m rest → Went m (unless_idle m a f w rest)
 went_by m (Some alarm) f w rest calm ends waits goes = absurd cc
@@ -88,6 +99,7 @@ went_by m None false (Some code) rest calm ends waits goes =
     over (ap (λ b. b || is_some m.paths.one.waiting) ends ∙ ap (λ (o : Option ℕ). is_some o) waits) refl refl
 went_by m None false None rest calm ends waits goes = goes
 
+-- so each turn of the first path comes to one of these
 own_went : (blocks : Blocks) (path : Path) (m : MachineView) → m.alarm ≡ None → Went m (own_turn blocks path m)
 own_went blocks path m calm =
     went_by m m.alarm m.paths.one.finished m.paths.one.waiting (block_turn blocks path m) calm refl refl
@@ -95,35 +107,43 @@ own_went blocks path m calm =
 
 -- what a turn of either path comes to
 pub data Gave (path : Path) (before after : MachineView) (made : List Entry) : Type 0 where
+  -- passed over: nothing changes
   passed : is_idle (of_path before.paths path) ≡ true → after ≡ before → length made ≡ 0 → Gave path before after made
+  -- one read more, and no record
   has_read : length made ≡ 0 → reads_of after ≡ reads_of before + 1 → after.count ≡ before.count → Gave path before after made
+  -- one record more
   recorded : length made ≡ 1 → after.count ≡ before.count + 1 → Gave path before after made
 
+-- the same kind of record makes as many
 made_by : (path : Path) (stamps : List ℕ) (k k' : Option EntryKind) → k ≡ k' → length (list_of (entry_with path stamps k)) ≡ length (list_of (entry_with path stamps k'))
 made_by path stamps k k' is = ap (λ (o : Option EntryKind). length (list_of (entry_with path stamps o))) is
 
+-- a turn of path 1 comes to one of these
 one_gave : (tapes : Tapes) (m : MachineView) → Went m (own_turn tapes.one One m)
     → Gave One m (turn_of tapes One m).machine (list_of (entry_of tapes One m))
 one_gave tapes m (over idle same none) = passed idle same (made_by One m.paths.one.stamps _ None none)
 one_gave tapes m (read none more still) = has_read (made_by One m.paths.one.stamps _ None none) more still
 one_gave tapes m (made kind is more) = recorded (made_by One m.paths.one.stamps _ (Some kind) is) more
 
+-- a turn of path 2, seen with both paths exchanged, comes to one of these
 two_gave : (tapes : Tapes) (m : MachineView) → Went (own_first Two m) (own_turn tapes.two Two (own_first Two m))
     → Gave Two m (turn_of tapes Two m).machine (list_of (entry_of tapes Two m))
 two_gave tapes m (over idle same none) = passed idle (ap (own_first Two) same) (made_by Two m.paths.two.stamps _ None none)
 two_gave tapes m (read none more still) = has_read (made_by Two m.paths.two.stamps _ None none) (omega (arith, more)) still
 two_gave tapes m (made kind is more) = recorded (made_by Two m.paths.two.stamps _ (Some kind) is) more
 
+-- so each turn of either path comes to one of these
 pub gave : (tapes : Tapes) (path : Path) (m : MachineView) → m.alarm ≡ None
     → Gave path m (turn_of tapes path m).machine (list_of (entry_of tapes path m))
 gave tapes One m calm = one_gave tapes m (own_went tapes.one One m calm)
 gave tapes Two m calm = two_gave tapes m (own_went tapes.two Two (own_first Two m) calm)
 
--- the other path goes on
+-- if not both have ended, one has not
 unfinished : (first second : Bool) → (first && second) ≡ false → (first ≡ false) ⊎ (second ≡ false)
 unfinished true second is = inr is
 unfinished false second is = inl refl
 
+-- if one path is idle, the other is not: it goes on
 other_awake : (path : Path) (m : MachineView) → (IsStuck (without_reads m) → ⊥) → m.alarm ≡ None → (m.paths.one.finished && m.paths.two.finished) ≡ false
     → is_idle (of_path m.paths path) ≡ true → is_idle (of_path m.paths (other_of path)) ≡ false
 other_awake One m free calm some idle =
@@ -135,21 +155,26 @@ other_awake Two m free calm some idle =
 abbrev left : ℕ → ℕ → ℕ → ℕ
 left budget reads flag = 2 * (65 * (budget + 1) - reads) + flag
 
+-- fewer turns are left after a path was passed over
 left_passed : (budget budget' reads reads' flag flag' : ℕ) → budget' ≡ budget → reads' ≡ reads → reads ≤ 64 → flag ≡ 1 → flag' ≡ 0
     → left budget' reads' flag' < left budget reads flag
 left_passed budget budget' reads reads' flag flag' b r few one none = omega (arith, b, r, few, one, none)
 
+-- fewer turns are left after a read
 left_read : (budget budget' reads reads' flag flag' : ℕ) → budget' ≡ budget → reads' ≡ reads + 1 → reads ≤ 64 → flag' ≤ 1
     → left budget' reads' flag' < left budget reads flag
 left_read budget budget' reads reads' flag flag' b r few most = omega (arith, b, r, few, most)
 
+-- fewer turns are left after a record
 left_made : (budget budget' reads reads' flag flag' : ℕ) → budget' + 1 ≡ budget → reads ≤ 64 → flag' ≤ 1
     → left budget' reads' flag' < left budget reads flag
 left_made budget budget' reads reads' flag flag' b few most = omega (arith, b, few, most)
 
+-- 1 if the path whose turn it is will be passed over
 abbrev flag : Bool → ℕ
 flag idle = if idle then 1 else 0
 
+-- at most 1
 flag_most : (b : Bool) → flag b ≤ 1
 flag_most true = omega arith
 flag_most false = omega arith
@@ -157,6 +182,7 @@ flag_most false = omega arith
 -- behind a turn fewer are left
 module _ (limit : ℕ) (path : Path) (m after : MachineView) (unstuck : IsStuck (without_reads m) → ⊥) (calm : m.alarm ≡ None)
     (some : (m.paths.one.finished && m.paths.two.finished) ≡ false) (few : reads_of m ≤ 64) (below : m.count < limit) where
+  -- fewer turns are left after any turn
   pub fewer : (entries : List Entry) → Gave path m after entries → turns_left limit (other_of path) after < turns_left limit path m
   fewer entries (passed idle same none) =
       let other = ap (λ (x : MachineView). is_idle (of_path x.paths (other_of path))) same ∙ other_awake path m unstuck calm some idle in

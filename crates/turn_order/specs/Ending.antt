@@ -1,4 +1,5 @@
 -- How a run whose paths take turns ends.
+-- Which records it has is in InTurn.
 use Rattle.std.specs.Prelude.{ℕ, ◌==◌, List, length, Option, Some, None, unwrap_or, if◌then◌else◌}
 use Rattle.nc_outside.specs.declared.halt.Halt.{Halt}
 use Rattle.nc_outside.specs.declared.halt.Halt.TheVariants as halt

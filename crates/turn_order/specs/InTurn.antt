@@ -1,4 +1,5 @@
 -- The run of a pair whose paths take turns.
+-- How it ended is in Ending.
 use Rattle.std.specs.Prelude.{◌≡◌, ℕ, zero, suc, ◌≤◌, List, [], ◌∷◌, length, None}
 use Rattle.nc_number.specs.declared.path.Path.{Path}
 use Rattle.nc_number.specs.declared.path.Path.TheVariants.{One}
@@ -15,6 +16,7 @@ use Rattle.two_path.specs.Histories.{Event, TurnOf, history, fold}
 abbrev pub tapes_in : Verified → Tapes
 tapes_in verified = tapes_of verified.left verified.right
 
+-- the machine of an accepted pair before its first turn
 abbrev pub start_of : Verified → MachineView
 start_of verified = machine_at_start verified.left verified.right verified.settings
 
@@ -26,7 +28,11 @@ in_turn path (suc n) = TurnOf path ∷ in_turn (other_of path) n
 -- The records of a run whose paths take turns, from path 1 on: it has no more than so many, and
 -- only a run that has ended has fewer.
 pub record IsInTurn (tapes : Tapes) (start : MachineView) (limit : ℕ) (entries : List Entry) : Type 0 where
+  -- how many turns there were
   pub turns : ℕ
+  -- their records are these
   pub records : history tapes start (in_turn One turns) ≡ entries
+  -- there are no more than the limit
   pub within : length entries ≤ limit
+  -- a run that has not ended has as many as the limit
   pub ended : end_of (fold tapes start entries) ≡ None → length entries ≡ limit

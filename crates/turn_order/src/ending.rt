@@ -1,12 +1,13 @@
 //! Why a run whose paths take turns ends.
+//! What an end is told as is in specs/Ending.antt.
 ghost use Rattle.std.specs.Prelude.{◌≡◌};
 ghost use Rattle.turn_order.specs.Ending.{bound_by, end_before};
 
 use nc_outside::{Halt, Reason};
 use two_path::Machine;
 
-/// What halts a run of so many records, of which it may have `limit`, and the settings allow
-/// `most`.
+/// What halts a run of so many records: `Full` if the settings allow no more than these, `Budget`
+/// if only `limit` does, and nothing below the limit.
 fn bound_by(count: u32, limit: u32, most: u32) -> Option<Halt>
     ensures { result ≡ bound_by count limit most }
 {
@@ -19,7 +20,7 @@ fn bound_by(count: u32, limit: u32, most: u32) -> Option<Halt>
     }
 }
 
-/// Why no further turn comes, if the run has ended.
+/// Why no further turn comes, if none does: by the machine, or else by the number of its records.
 pub(crate) fn end_before(machine: &Machine, limit: u32, most: u32) -> Option<Reason>
     ensures { result ≡ end_before machine.now.machine limit most }
 {

@@ -1,4 +1,6 @@
 //! Turns of both paths, one after the other, until the run ends.
+//! The turns themselves are in two_path.
+//! lathe_calls writes a trace of them.
 ghost use Rattle.std.specs.Prelude.{◌≡◌, ◌<◌, ◌≤◌, ◌++◌, length, min, IfOk, OnOk};
 ghost use Rattle.nc_number.specs.declared.limits.TheConstants.{MOST_RECORDS};
 ghost use Rattle.two_path.specs.Turns.{tapes_of, turn_of, entry_of};
@@ -25,12 +27,14 @@ use two_path::{
 /// A run whose paths took turns: its records, and why it ended.
 #[derive(Drop)]
 pub struct InTurn {
+    /// The records of the run, in order.
     pub entries: EntryList,
+    /// Why it ended.
     pub end: Reason,
 }
 
 /// Gives the path its turn, and keeps the record that it makes, if it makes one. The list is lent
-/// for its moves, which nobody asks for.
+/// for its moves, which nobody asks for. The only error is that memory runs out.
 fn give_turn(
     machine: &mut Machine,
     entries: &mut EntryList,

@@ -1,3 +1,4 @@
+-- What proves the clauses of this crate. No other crate takes any of it.
 mod ServedOn
 mod TablesCross
 mod TurretsGet

@@ -1,4 +1,5 @@
--- The moves of a path behind a block of them, and behind a step.
+-- The moves of a path after a block of them, and after a step.
+-- `give_turn` (src/turns.rt) rests on it.
 use Rattle.std.proofs.Common.{◌≡◌, ◌+◌, ◌<◌, ℕ, List, [], ◌∷◌, ◌++◌, length, map, take, get_or, ap, sym, ◌∙◌, subst, append_assoc, append-nil}
 use Rattle.std.proofs.lemmas.List.{map-append, take_more}
 use Rattle.nc_moves.specs.declared.motion.Move.{Move}
@@ -9,7 +10,7 @@ use Rattle.nc_outside.specs.Lined.{lined_move}
 use Rattle.seat_table.specs.Turning.{Records, moves_in, Answers}
 use Rattle.seat_table.proofs.Telling.{answered}
 
--- behind one move more of a block
+-- after one move more of a block
 pub block_more : (line : ℕ) (moves : List LinedMove) (list items : List Move) (i : ℕ) (what : Move) → items ≡ list → i < length items → what ≡ get_or items i what
     → (moves ++ map (lined_move line) (take i list)) ++ lined_move line what ∷ [] ≡ moves ++ map (lined_move line) (take (i + 1) list)
 block_more line moves list items i what same within is =
@@ -18,9 +19,11 @@ block_more line moves list items i what same within is =
     append_assoc moves (map (lined_move line) (take i list)) (lined_move line what ∷ [])
     ∙ ap (λ l. moves ++ l) (sym (map-append (lined_move line) (take i list) (what ∷ [])) ∙ ap (map (lined_move line)) more)
 
+-- a turn that answers moves adds them to those of the path's records
 pub moves_behind : (before : Records) (next : Next) (after : Records) (moves : List LinedMove) → moves_of next ≡ moves → Answers before next after
     → moves_in before ++ moves ≡ moves_in after
 moves_behind before next after moves are a = sym (answered before next after a ∙ ap (λ l. moves_in before ++ l) are)
 
+-- a turn that answers none leaves them
 pub none_behind : (before : Records) (next : Next) (after : Records) → moves_of next ≡ [] → Answers before next after → moves_in before ≡ moves_in after
 none_behind before next after are a = sym (append-nil (moves_in before)) ∙ moves_behind before next after [] are a

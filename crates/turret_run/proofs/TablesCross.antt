@@ -1,4 +1,5 @@
--- A table may go to another thread where its disk may, and what it is made of.
+-- A table may go to another thread if its disk may, and what it is made of.
+-- `held_crosses` and `table_crosses` (src/crossing.rt) rest on it.
 use denote.RattleType.{RattleType}
 use denote.Param.Send.{IsSend, sendable, view_send}
 use denote.Param.SendFields.{declared_send}
@@ -21,19 +22,25 @@ use Rattle.run_table.specs.contracts.recording.Recording.TheInside as recorded
 use Rattle.run_table.specs.declared.held.Opening as opening
 use Rattle.two_path.specs.contracts.machine.Machine as machine
 
+-- a batch of records may go to another thread
 batch_sent : IsSend batch.the_row
 batch_sent = view_send _ _ _ _ _ (declared_send batched.the_type (search (sendable, crosses) depth 20, tt))
 
+-- The disk may go to another thread.
 module _ (D : RattleType) (g : disk.Ghosts D.Denot) (d : IsSend D) where
+  -- so may a file of gates on it
   gate_sent : IsSend (gate.the_row D g)
   gate_sent = view_send _ _ _ _ _ (declared_send (gated.the_type D g) (search (sendable, d) depth 20, (search sendable depth 20, (search sendable depth 20, (search (sendable, crosses) depth 20, tt)))))
 
+  -- so may the journal
   journal_sent : IsSend (journal.the_row D g)
   journal_sent = view_send _ _ _ _ _ (declared_send (journaled.the_type D g) (gate_sent, (batch_sent, (search sendable depth 20, (search sendable depth 20, tt)))))
 
+  -- so may the journal with its records
   recording_sent : IsSend entries.the_row → IsSend (recording.the_row D g)
   recording_sent list = view_send _ _ _ _ _ (declared_send (recorded.the_type D g) (list, (journal_sent, (search sendable depth 20, tt))))
 
+  -- so may a table
   pub table_sent : IsSend verified.the_row → IsSend machine.the_row → IsSend entries.the_row → IsSend (table.the_row D g)
   table_sent pair m list = view_send _ _ _ _ _ (declared_send (tabled.the_type D g)
       (pair, (m, (recording_sent list, (search sendable depth 20, (search sendable depth 20, (search sendable depth 20, tt)))))))

@@ -1,4 +1,5 @@
 -- What a turret got in several calls, one after another.
+-- `place_both` (src/placing.rt) and `run_opened` and `run_with_turrets` (src/run.rt) rest on it.
 use Rattle.std.proofs.Common.{arith, ◌≡◌, ◌⊎◌, ◌+◌, ◌≤◌, ℕ, suc, Bool, true, false, true≢false, IsTrue, List, [], ◌∷◌, length, map, take, refl, ap, sym, ◌∙◌, subst, inl, inr}
 use Rattle.std.proofs.lemmas.List.{length-map, take-map}
 use Rattle.nc_number.specs.declared.point.Point.{Point}
@@ -36,6 +37,7 @@ placed at a b got same = record {
   counted = record { later = omega (arith, same); rose = λ p. absurd (true≢false (sym p)); kept = λ _. same };
 }
 
+-- a turret that failed at its place got nothing
 pub not_placed : (at : Point) (a b : TurretState) → Receives a b [] 1 → a.faults ≤ b.faults → Rose a.faults b.faults → FailsAmong (told at []) a b
 not_placed at a b got later rose = (
   0,
@@ -54,9 +56,11 @@ not_placed at a b got later rose = (
 abbrev pub GotBy : Bool → ℕ → List Got → TurretState → TurretState → Type 0
 GotBy failed missed what a c = (n : ℕ) × (n + missed ≡ length what) × (failed ≡ false → missed ≡ 0) × GetsFirst what n failed a c
 
+-- the first of the moves, as a turret gets them, are the first of what it gets
 take_map : (n : ℕ) (moves : List LinedMove) → map Moved (take n moves) ≡ take n (map Moved moves)
 take_map n moves = sym (take-map (λ m. Moved m) n moves)
 
+-- a turret that was placed and then served the moves got its place and those that it did not miss
 pub served : (at : Point) (moves : List LinedMove) (a b : TurretState) (d : DrivenState) → GetsAll (told at []) a b → Serves moves b d
     → GotBy (has_failed d.phase) d.missed (told at moves) a d.state
 served at moves a b d place s =
@@ -85,7 +89,9 @@ served at moves a b d place s =
       },
     )
 
+-- A turret that got what is due but so many moves, and failed or not.
 module _ (failed : Bool) (missed : ℕ) (what : List Got) (a c : TurretState) (got : GotBy failed missed what a c) where
+  -- if it did not fail it got all
   pub all_of : failed ≡ false → GetsAll what a c
   all_of is =
       let none = got.2 is in
@@ -95,12 +101,15 @@ module _ (failed : Bool) (missed : ℕ) (what : List Got) (a c : TurretState) (g
       all : (n m l : ℕ) → n + m ≡ l → m ≡ 0 → n ≡ l
       all n m l both none = omega (arith, both, none)
 
+  -- if it failed it got the first of them
   pub fails_of : failed ≡ true → FailsAmong what a c
   fails_of is = (got.0, subst (λ f. GetsFirst what got.0 f a c) is got.3)
 
+  -- in any case it got the first of them
   pub some_of : GetsSome what a c
   some_of = (got.0, failed, got.3)
 
+  -- it missed those that it did not get
   pub misses_of : Misses what missed a c
   misses_of = (got.0, failed, got.1, got.2, got.3)
 

@@ -1,4 +1,5 @@
--- How a run with turrets ends, from what its threads and the turns behind them left.
+-- How a run with turrets ends, from what its threads and the turns after them left.
+-- `end_of_run` (src/rest.rt) and `run_opened` and `run_with_turrets` (src/run.rt) rest on it.
 use Rattle.std.proofs.Common.{arith, ◌≡◌, ◌≢◌, ℕ, Bool, true, false, List, [], ◌-◌, length, refl, ap, sym, ◌∙◌, subst, Option, Some, None, ⊎_elim, inl, inr}
 use Rattle.std.specs.Prelude.{IsTrue, IfSome, IfNone, Result, Ok, Err}
 use Rattle.std.proofs.lemmas.List.{drop_all}
@@ -39,6 +40,7 @@ abbrev with_file : {D : Type 0} → RecordingView D → List Entry → ℕ → G
 with_file r history flushed file version =
     record { history = history; room = r.room; flushed = flushed; log = record r.log { file = file; version = version } }
 
+-- such a recording has the same records, so what follows it follows the other
 follows_with : {D : Type 0} (state : D → DiskState) (made : List Entry) (a b new : RecordingView D)
     → Follows state made (with_file b a.history a.flushed a.log.file a.log.version) new → Follows state made a new
 follows_with state made a b new p = record {
@@ -65,6 +67,7 @@ follows_as state made a b new history flushed file version p = follows_with stat
     (subst (λ n. Follows state made (with_file b a.history n b.log.file b.log.version) new) flushed
     (subst (λ l. Follows state made (with_file b l b.flushed b.log.file b.log.version) new) history p))))
 
+-- A table got leave and room for its records, and is else as it was.
 module _ {D : Type 0} (state : D → DiskState) (limit : ℕ) (old ready : TableView D) (stays : Stays old ready) (leave : ready.budget ≡ limit) where
   -- what comes of a table that was made ready is what comes of it before, with that leave
   pub since_ready : (new : TableView D) → Since state ready new → Since state (record old { budget = limit }) new
@@ -77,6 +80,7 @@ module _ {D : Type 0} (state : D → DiskState) (limit : ℕ) (old ready : Table
         (λ rose. inr (subst (λ (file : Gate D). Rose (state file.disk).faults (state new.recording.log.file.disk).faults) stays.file rose)) (since.cause is);
   }
 
+  -- why it ended is why the table before ended
   ends_ready : (new : TableView D) (end : Reason) → EndsBy state ready new end → EndsBy state old new end
   ends_ready new (reason.Alarm alarm) e = e
   ends_ready new reason.Done e = e
@@ -86,11 +90,13 @@ module _ {D : Type 0} (state : D → DiskState) (limit : ℕ) (old ready : Table
   ends_ready new reason.DiskFault e =
       (e.0, subst (λ (file : Gate D). Rose (state file.disk).faults (state new.recording.log.file.disk).faults) stays.file e.1)
 
+  -- what is due to a turret is the same
   pub due_ready : (path : Path) (new : TableView D) → due path ready new ≡ due path old new
   due_ready path new =
       ap (λ (m : MachineView). due path (record ready { machine = m }) new) stays.machine
       ∙ ap (λ (n : ℕ). told (position_of path old.machine) (moves_made new.verified path n new.recording.flushed new.recording.history)) (ap length stays.history)
 
+  -- what stays stays
   stays_ready : (new : TableView D) → Stays ready new → Stays old new
   stays_ready new same = record {
     verified = same.verified ∙ stays.verified;
@@ -102,10 +108,12 @@ module _ {D : Type 0} (state : D → DiskState) (limit : ℕ) (old ready : Table
     halt = same.halt ∙ stays.halt;
   }
 
+  -- what stands beside a failed turret stands so
   stands_ready : (path other : Path) (a b : TurretState) → StandsBeside path (told (position_of other ready.machine) []) a b → StandsBeside path (told (position_of other old.machine) []) a b
   stands_ready One other a b same = same
   stands_ready Two other a b place = subst (λ (m : MachineView). GetsAll (told (position_of other m) []) a b) stays.machine place
 
+  -- how it ended is how the table before ended
   ended_ready : (new : TableView D) (before after : Both TurretState) (missed : Both ℕ) (end : Reason) → HasEnded state ready.budget ready new before after missed end
       → HasEnded state limit old new before after missed end
   ended_ready new before after missed end r = record {
@@ -115,6 +123,7 @@ module _ {D : Type 0} (state : D → DiskState) (limit : ℕ) (old ready : Table
     misses = λ path. subst (λ what. Misses what (of_path missed path) (of_path before path) (of_path after path)) (due_ready path new) (r.misses path);
   }
 
+  -- if a turret failed in the run of the ready table, it failed in that of the table before
   failed_ready : (new : TableView D) (before after : Both TurretState) (missed : Both ℕ) (path : Path) → HasFailed state ready.budget ready new before after missed path
       → HasFailed state limit old new before after missed path
   failed_ready new before after missed path r = record {
@@ -126,6 +135,7 @@ module _ {D : Type 0} (state : D → DiskState) (limit : ℕ) (old ready : Table
     misses = λ p. subst (λ what. Misses what (of_path missed p) (of_path before p) (of_path after p)) (due_ready p new) (r.misses p);
   }
 
+  -- if a turret failed at its place, that is so for the table before too
   unplaced_ready : (new : TableView D) (before after : Both TurretState) (missed : Both ℕ) (path : Path) → IsNotPlaced state ready.budget ready new before after missed path
       → IsNotPlaced state limit old new before after missed path
   unplaced_ready new before after missed path r = record {
@@ -158,11 +168,13 @@ pub for_each : (P : Path → Type 0) → P One → P Two → (path : Path) → P
 for_each P one two One = one
 for_each P one two Two = two
 
+-- if no path is named, neither turret failed
 none_by : (one two : Bool) → first_by one two ≡ None → (one ≡ false) × (two ≡ false)
 none_by true two is = absurd cc
 none_by false true is = absurd cc
 none_by false false is = (refl, refl)
 
+-- if no path is named as failed, the turret of each path works
 none_failed : (failed : Both Bool) → first_failed failed ≡ None → (path : Path) → of_path failed path ≡ false
 none_failed failed is One = (none_by failed.one failed.two is).0
 none_failed failed is Two = (none_by failed.one failed.two is).1
@@ -176,6 +188,7 @@ not_disk (Some (halt.Turret path)) other is = absurd cc
 not_disk (Some halt.Full) other is = absurd cc
 not_disk (Some halt.Budget) other is = absurd cc
 
+-- a table that has halted for nothing but an alarm has no fault of the disk
 pub calm_is_no_disk : (why : Option Halt) → IsNoneOrAlarm why → why ≢ Some halt.Disk
 calm_is_no_disk None may is = absurd cc
 calm_is_no_disk (Some (halt.Alarm alarm)) may is = absurd cc
@@ -184,6 +197,7 @@ calm_is_no_disk (Some (halt.Turret path)) may is = may
 calm_is_no_disk (Some halt.Full) may is = may
 calm_is_no_disk (Some halt.Budget) may is = may
 
+-- and none of a turret that is let go
 pub calm_stays : (why : Option Halt) → IsNoneOrAlarm why → without_turret why ≡ why
 calm_stays None may = refl
 calm_stays (Some (halt.Alarm alarm)) may = refl
@@ -200,9 +214,11 @@ none_since opened t held is held_is path = subst (λ o. records_since o held pat
 -- What each turret got by a run, of which the table was taken out.
 module _ {D : Type 0} (state : D → DiskState) (opened : Option (TableView D)) (start taken : TableView D) (held : HeldView D) (is : opened ≡ Some start)
     (of : IsOf state opened taken) (shown : ShowsFlushed opened held taken) where
+  -- the table that was taken out comes of the one at the start
   pub taken_since : Since state start taken
   taken_since = subst (λ o. IsOf state o taken) is of
 
+  -- a turret that was placed and then served the records got what is due but what it missed
   pub got : (path : Path) (before now : TurretState) (d : DrivenState) → GetsAll (told (position_of path start.machine) []) before now
       → Serves (moves_in (records_since opened held path)) now d → GotBy (has_failed d.phase) d.missed (due path start taken) before d.state
   got path before now d place s =
@@ -218,6 +234,7 @@ placed_only m before now placed path = (1, placed path)
 -- a turret failed at its place, and nothing else was done
 module _ {D : Type 0} (state : D → DiskState) (limit : ℕ) (old ready : TableView D) (stays : Stays old ready) (leave : ready.budget ≡ limit)
     (itself : Since state ready ready) (may : IsNoneOrAlarm old.halt) (before after : Both TurretState) where
+  -- a turret that failed at its place ends the run before its first record
   pub place_failed : (path : Path) → FailsAtPlace ready.machine before after path → IsNotPlaced state limit old ready before after none_missed path
   place_failed path f = record {
     since = since_ready state limit old ready stays leave ready itself;
@@ -230,9 +247,11 @@ module _ {D : Type 0} (state : D → DiskState) (limit : ℕ) (old ready : Table
 
 -- The first of the causes: the end of the run of a held table, and the turret that failed.
 module _ {D : Type 0} (held : HeldView D) where
+  -- a held table that is at its end has no fault of the disk
   no_disk : (end : Option Reason) → IsAtEnd held end → held.halt ≢ Some halt.Disk
   no_disk end at is = subst (λ why. IsNoneOrAlarm (without_turret why)) is at.halt
 
+  -- the cause that is told is the first of the two
   pub has_cause : (end : Option Reason) (failed : Option Path) → IfSome end (λ e. Ends held e) → IfNone end (HasNotEnded held)
       → IfSome (first_cause end failed) (λ e. HasCause held failed e)
   has_cause None None ends on = tt
@@ -252,12 +271,15 @@ module _ {D : Type 0} (held : HeldView D) where
 module _ {D : Type 0} (state : D → DiskState) (start taken : TableView D) (since : Since state start taken) (held : HeldView D) (before after : Both TurretState) (failed : Both Bool) (missed : Both ℕ)
     (ends : (end : Reason) → Ends held end → EndsBy state start taken end) (halt_is : taken.halt ≡ without_turret held.halt) (file_is : taken.recording.log.file ≡ held.file)
     (gots : (path : Path) → GotBy (of_path failed path) (of_path missed path) (due path start taken) (of_path before path) (of_path after path)) where
+  -- each turret missed what it did not get
   misses : (path : Path) → Misses (due path start taken) (of_path missed path) (of_path before path) (of_path after path)
   misses path = misses_of (of_path failed path) (of_path missed path) (due path start taken) (of_path before path) (of_path after path) (gots path)
 
+  -- a turret that did not fail got all
   gets_all : (path : Path) → of_path failed path ≡ false → GetsAll (due path start taken) (of_path before path) (of_path after path)
   gets_all path none = all_of (of_path failed path) (of_path missed path) (due path start taken) (of_path before path) (of_path after path) (gots path) none
 
+  -- at an end for which no turret failed, each turret got what such an end asks for
   ended_at : (end : Reason) → (end ≢ reason.DiskFault → first_failed failed ≡ None) → (path : Path)
       → GetsAt end (due path start taken) (of_path before path) (of_path after path)
   ended_at (reason.Alarm alarm) none path = gets_all path (none_failed failed (none (λ is. absurd cc)) path)
@@ -267,6 +289,7 @@ module _ {D : Type 0} (state : D → DiskState) (start taken : TableView D) (sin
   ended_at (reason.TurretFault which) none path = gets_all path (none_failed failed (none (λ is. absurd cc)) path)
   ended_at reason.DiskFault none path = some_of (of_path failed path) (of_path missed path) (due path start taken) (of_path before path) (of_path after path) (gots path)
 
+  -- a turret that failed first got a first part, and the other one all, or it failed too
   failed_at : (path : Path) → first_failed failed ≡ Some path → FailsAmong (due path start taken) (of_path before path) (of_path after path)
       × GetsBeside path (due (other_of path) start taken) (of_path before (other_of path)) (of_path after (other_of path))
   failed_at One is = (
@@ -289,9 +312,11 @@ module _ {D : Type 0} (state : D → DiskState) (start taken : TableView D) (sin
       two_failed false true e = (refl, refl)
       two_failed false false e = absurd cc
 
+  -- the run ended so, by its table
   run_ended : (end : Reason) → Ends held end × (end ≢ reason.DiskFault → first_failed failed ≡ None) → HasEnded state start.budget start taken before after missed end
   run_ended end cause = record { since = since; ends = ends end cause.0; turrets = ended_at end cause.1; misses = misses }
 
+  -- the run ended so, by its table or by a turret
   pub run_ends : (end : Reason) → HasCause held (first_failed failed) end → RunsWith state start.budget start taken before after missed (Ok end)
   run_ends reason.Done cause = run_ended reason.Done cause
   run_ends (reason.Alarm alarm) cause = run_ended (reason.Alarm alarm) cause

@@ -1,4 +1,5 @@
--- What a turn of a path comes to that is to be drained.
+-- What a turn of a path comes to if the path is to be drained, which it is before a wait.
+-- For this crate alone: src/turns.rt.
 use Rattle.std.specs.Prelude.{◌≡◌, ◌⊎◌, Bool, true, false}
 use Rattle.drive_line.specs.declared.phase.Phase.{Phase}
 use Rattle.drive_line.specs.declared.phase.Phase.TheVariants.{Still}

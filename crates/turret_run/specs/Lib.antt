@@ -1,4 +1,4 @@
--- What callers read.
+-- What callers read: what a turret gets, and how a run ends. lathe_top takes Served and Runs.
 pub mod Served
 pub mod Runs
 pub mod Draining

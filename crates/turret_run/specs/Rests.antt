@@ -1,4 +1,5 @@
--- How both turrets are placed, and how the turns that are left behind the threads are given.
+-- How both turrets are placed, and how the turns that are left after the threads are given.
+-- For this crate alone.
 use Rattle.std.specs.Prelude.{◌≡◌, ◌≢◌, ◌⊎◌, Bool, true, false, IsTrue, [], Option, Some, None}
 use Rattle.nc_number.specs.declared.both.Both.{Both}
 use Rattle.nc_number.specs.declared.path.Path.{Path}
@@ -47,6 +48,7 @@ first_by true two = Some One
 first_by false true = Some Two
 first_by false false = None
 
+-- the path whose turret failed, that of path 1 first
 abbrev pub first_failed : Both Bool → Option Path
 first_failed failed = first_by failed.one failed.two
 

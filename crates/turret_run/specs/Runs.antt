@@ -1,4 +1,5 @@
 -- A run with turrets, and how it ends.
+-- lathe_top says by it what a session leaves.
 use Rattle.std.specs.Prelude.{◌≡◌, ◌≢◌, ◌⊎◌, ℕ, List, [], length, Some, Result, Ok, Err}
 use Rattle.disk_model.specs.Device.{DiskState}
 use Rattle.nc_number.specs.declared.both.Both.{Both}
@@ -25,7 +26,7 @@ abbrev pub due : {D : Type 0} → Path → TableView D → TableView D → List 
 due path old new = told (position_of path old.machine)
     (moves_made new.verified path (length old.recording.history) new.recording.flushed new.recording.history)
 
--- at an end of the run a turret got all that is due, and where the disk failed a first part of it
+-- at an end of the run a turret got all that is due, and if the disk failed a first part of it
 abbrev pub GetsAt : Reason → List Got → TurretState → TurretState → Type 0
 GetsAt reason.DiskFault what old new = GetsSome what old new
 GetsAt end what old new = GetsAll what old new
@@ -68,7 +69,7 @@ module _ {D : Type 0} (state : D → DiskState) (limit : ℕ) (old new : TableVi
     pub turrets : (path : Path) → GetsAt end (due path old new) (of_path before path) (of_path after path)
     pub misses : (path : Path) → Misses (due path old new) (of_path missed path) (of_path before path) (of_path after path)
 
-  -- A turret failed behind its place, and no call of the disk failed.
+  -- A turret failed after its place, and no call of the disk failed.
   pub record HasFailed (path : Path) : Type 0 where
     pub since : Since state (record old { budget = limit }) new
     pub disk : new.halt ≢ Some Disk
@@ -87,7 +88,7 @@ module _ {D : Type 0} (state : D → DiskState) (limit : ℕ) (old new : TableVi
     pub other : StandsBeside path (told (position_of (other_of path) old.machine) []) (of_path before (other_of path)) (of_path after (other_of path))
     pub none : missed ≡ none_missed
 
-  -- Memory was wanting before the first step, or a thread was refused: no record was made, and no
+  -- Memory ran out before the first step, or a thread was refused: no record was made, and no
   -- turret got more than its place.
   pub record HasNotBegun : Type 0 where
     pub same : Stays old new

@@ -1,4 +1,5 @@
 -- What the two threads of a path begin with, and what they leave.
+-- For this crate alone.
 use Rattle.std.specs.Prelude.{◌≡◌, true, false, [], IsTrue, Option, is_some}
 use Rattle.atomic_table.specs.Seated.{TableId}
 use Rattle.drive_line.specs.declared.phase.Phase.{Phase}
@@ -24,6 +25,6 @@ pub record AreFresh (table : TableId) (path : Path) (pass : Pass) (halter : Halt
   pub pass_is : pass ≡ fresh table path
   pub halter_is : halter ≡ fresh_halter table path
 
--- where the turret failed the table has halted
+-- if the turret failed the table has halted
 abbrev pub StopsBy : Phase → Option Halt → Type 0
 StopsBy phase reason = has_failed phase ≡ true → IsTrue (is_some reason)

@@ -1,4 +1,5 @@
 -- What a turret gets in a run: its place, and then moves.
+-- lathe_top says by it what the turrets get from a session.
 use Rattle.std.specs.Prelude.{◌≡◌, ℕ, ◌+◌, ◌≤◌, Bool, true, false, IsTrue, List, ◌∷◌, length, map, take}
 use Rattle.nc_number.specs.declared.point.Point.{Point}
 use Rattle.nc_outside.specs.declared.got.Got.{Got}
@@ -12,7 +13,7 @@ use Rattle.drive_line.specs.Driving.{most}
 abbrev pub told : Point → List LinedMove → List Got
 told at moves = Placed at ∷ map Moved moves
 
--- A turret got the first n of these, a call each. Where it failed, that was at one call more, for
+-- A turret got the first n of these, a call each. If it failed, that was at one call more, for
 -- the next of them, or at a settle. Only then its count of faults rose.
 pub record GetsFirst (what : List Got) (n : ℕ) (failed : Bool) (old new : TurretState) : Type 0 where
   pub at_call : ℕ  -- how many calls failed

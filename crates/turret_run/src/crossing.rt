@@ -1,5 +1,6 @@
 //! A held table may go to another thread. Each law stands on the ones before it, which keeps each
 //! proof short.
+//! For run.rt of this crate.
 ghost use denote.Param.Send.{IsSend};
 ghost use Rattle.cell_settings.specs.contracts.settings.Settings.{the_row as settings_row};
 ghost use Rattle.nc_number.specs.contracts.list_of.ListOf.{the_row as list_row};
@@ -32,7 +33,7 @@ fn programs_cross()
     crosses::<FlowProgramList>();
 }
 
-/// So may a tape.
+/// A tape may go to another thread.
 fn flow_crosses()
     ensures { IsSend flow_row }
 {
@@ -40,14 +41,14 @@ fn flow_crosses()
     crosses::<Flow>();
 }
 
-/// So may settings.
+/// The settings may go to another thread.
 fn settings_cross()
     ensures { IsSend settings_row }
 {
     crosses::<Settings>();
 }
 
-/// So may an accepted pair.
+/// An accepted pair may go to another thread.
 fn pair_crosses()
     ensures { IsSend pair_row }
 {
@@ -55,21 +56,21 @@ fn pair_crosses()
     settings_cross();
 }
 
-/// So may a machine.
+/// A machine may go to another thread.
 fn machine_crosses()
     ensures { IsSend machine_row }
 {
     crosses::<Machine>();
 }
 
-/// So may the records of a run.
+/// The records of a run may go to another thread.
 fn entries_cross()
     ensures { IsSend entries_row }
 {
     crosses::<EntryList>();
 }
 
-/// So may a table, where its disk may.
+/// A table may go to another thread, if its disk may.
 fn table_crosses<D: Disk + Send>()
     ensures { IsSend (table_row D.row D.Disk) }
 {
@@ -78,7 +79,7 @@ fn table_crosses<D: Disk + Send>()
     entries_cross();
 }
 
-/// A held table may go to another thread, where its disk may.
+/// A held table may go to another thread, if its disk may.
 pub(crate) fn held_crosses<D: Disk + Send, O: Opening<D> + Send + Sync>()
     ensures { IsSend (held_row D.row O.row D.Disk O.Opening) }
 {

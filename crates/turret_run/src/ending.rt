@@ -1,4 +1,5 @@
-//! How a run with turrets ends.
+//! What a run with turrets leaves. Why it ended is in specs/Runs.antt.
+//! lathe_top uses it.
 use disk_model::Disk;
 use nc_number::{Both, NoMemory};
 use nc_outside::{Reason, Turret};
@@ -7,10 +8,12 @@ use run_table::Table;
 /// What a run with turrets leaves.
 #[derive(Drop)]
 pub struct TurretRun<D: Disk, T: Turret> {
+    /// The table with the records that were made.
     pub table: Table<D>,
+    /// The turrets of path 1 and path 2.
     pub turrets: Both<T>,
-    /// Why it ended. It is out of memory where that was wanting before the first step, or a thread
-    /// was refused.
+    /// Why it ended. It is out of memory if memory ran out before the first step, or a thread was
+    /// refused.
     pub end: Result<Reason, NoMemory>,
     /// How many moves of records that are on the disk each turret did not get.
     pub missed: Both<u64>,

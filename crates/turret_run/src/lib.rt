@@ -9,7 +9,7 @@
 //!
 //! It runs both paths by `run_pair`: each has a worker, which steps it from its seat, and a drive,
 //! which hands its moves to its turret. The turns that are left then are given one by one, in the
-//! caller's thread, by `give_turn`. Behind both, each turret took the moves of its path's records,
+//! caller's thread, by `give_turn`. After both, each turret took the moves of its path's records,
 //! all of them, or those before the point at which it failed.
 #![tactic(auto)]
 

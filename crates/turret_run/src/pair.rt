@@ -1,4 +1,6 @@
-//! Both paths at once.
+//! Both paths at once: a worker and a drive for each, in four threads. What they leave undone is in
+//! rest.rt.
+//! For run.rt of this crate.
 ghost use Rattle.std.specs.Prelude.{◌≡◌, [], true, IfOk, IfErr, IsTrue, is_some};
 ghost use Rattle.nc_number.specs.declared.path.Path.{Path as OnePath};
 ghost use Rattle.nc_number.specs.declared.path.Path.TheVariants.{One, Two};
@@ -23,11 +25,13 @@ const BOUND: usize = 64;
 /// What a run of both paths leaves.
 #[derive(Drop)]
 pub struct Ran<C: Turns, T: Turret> {
+    /// The table, closed.
     pub table: C,
+    /// Each turret, with what it took and missed.
     pub turrets: Both<Driven<T>>,
 }
 
-/// What comes back where memory was wanting for a run: all as it was.
+/// What comes back if there is no memory for a run: all as it was.
 #[derive(Drop)]
 pub struct Unrun<C: Turns, T: Turret> {
     pub table: C,
@@ -37,12 +41,16 @@ pub struct Unrun<C: Turns, T: Turret> {
 /// What the two threads of a path give back.
 #[derive(Drop)]
 struct Seat<C, T: Turret> {
+    /// The pass by which the worker stepped its path.
     pass: SeatPass<C>,
+    /// The pass by which the drive may halt the run.
     halter: HaltPass<C>,
+    /// The turret, with what it took and missed.
     driven: Driven<T>,
 }
 
-/// Runs the worker and the drive of a path, over its passes and the two ends of a new line.
+/// Runs the worker and the drive of a path, over its passes and the two ends of a new line. Gives
+/// back the passes and the turret with what it took.
 fn run_seat<R, C, T>(
     rt: &R,
     table: &SeatTable<C>,
@@ -76,7 +84,8 @@ where
     }
 }
 
-/// Runs both paths, each over its passes and a new line, and closes the table.
+/// Runs both paths, each over its passes and a new line, and closes the table. Gives back the table
+/// and both turrets.
 fn run_seats<R, C, T>(
     rt: &R,
     seated: Seated<C>,
@@ -149,12 +158,12 @@ where
 }
 
 /// Runs both paths of a table that has made no record since it was opened, until each path has
-/// ended or the run has stopped: a worker and a drive for each, in four threads. Behind it each
-/// turret has taken the moves of its path's records, of which the table gives those since it was
-/// opened, and stands still; or it failed, and then the table has halted.
+/// ended or the run has stopped: a worker and a drive for each, in four threads. After it each
+/// turret has taken the moves of its path's records, and stands still; the table gives those
+/// records since it was opened. Or the turret failed, and then the table has halted.
 ///
-/// Where memory is wanting nothing is done, and all comes back. Where no thread can be made it may
-/// not return.
+/// If memory runs out nothing is done, and all comes back. If no thread can be made it may not
+/// return.
 pub fn run_pair<R, C, T>(
     rt: &R,
     alloc: Global,

@@ -1,4 +1,5 @@
 //! What comes before a run: leave for its records, and the places of both turrets.
+//! For run.rt of this crate.
 ghost use Rattle.std.specs.Prelude.{◌≡◌, IfErr, OnOk};
 ghost use Rattle.nc_number.specs.Both.{both_of};
 ghost use Rattle.turret_run.specs.Runs.{Stays};
@@ -9,7 +10,8 @@ use nc_number::{Both, NoMemory, Path};
 use nc_outside::Turret;
 use run_table::Table;
 
-/// Leave for so many records, and room for them.
+/// Gives leave for so many records, and makes room for them, or answers `NoMemory`. Else the table
+/// stays as it was.
 pub(crate) fn make_ready<D: Disk>(table: &mut Table<D>, limit: u32) -> Result<(), NoMemory>
     ensures budget { OnOk result (table.new.budget ≡ limit) }
     ensures same { Stays table.old table.new }
@@ -17,7 +19,7 @@ pub(crate) fn make_ready<D: Disk>(table: &mut Table<D>, limit: u32) -> Result<()
     table.prepare(limit)
 }
 
-/// Places both turrets where their paths stand, that of path 1 first. It answers the path whose
+/// Places both turrets where their paths are, that of path 1 first. An error is the path whose
 /// turret failed.
 pub(crate) fn place_both<D: Disk, T: Turret>(
     table: &Table<D>,

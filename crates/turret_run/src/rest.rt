@@ -1,4 +1,5 @@
-//! The turns that are left behind the threads.
+//! The turns that are left after the threads have ended, given one by one in the caller's thread.
+//! For run.rt of this crate.
 ghost use Rattle.std.specs.Prelude.{◌≡◌, List, IfSome};
 ghost use Rattle.drive_line.specs.Driving.{Serves};
 ghost use Rattle.nc_outside.specs.declared.lined_move.LinedMove.{LinedMove as Lined};
@@ -39,7 +40,7 @@ fn first_failed(failed: Both<bool>) -> Option<Path>
     None
 }
 
-/// Why no turn is to be given any more, if that is so.
+/// Why no turn is to be given any more, or none if the run goes on.
 fn end_of_run<D: Disk, O: Opening<D>>(
     table: &mut Held<D, O>,
     failed: Option<Path>,
@@ -59,7 +60,7 @@ fn settle<T: Turret>(driven: &mut Driven<T>)
     driven.settle();
 }
 
-/// A turn of the path, whose moves go to its turret.
+/// Gives a path of the held table one turn, and its moves to its turret.
 fn give_turn_of<R: Wait, D: Disk, O: Opening<D>, T: Turret>(
     rt: &R,
     table: &mut Held<D, O>,

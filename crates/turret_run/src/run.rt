@@ -1,4 +1,4 @@
-//! A run of an opened table with its turrets.
+//! A run of an opened table with its turrets. lathe_top calls `run_with_turrets`.
 ghost use Rattle.std.specs.Prelude.{◌≡◌, length, Some, None, Err};
 ghost use Rattle.run_table.specs.Running.{MayRun, IsNoneOrAlarm};
 ghost use Rattle.two_path.specs.Ending.{end_of};
@@ -24,8 +24,8 @@ use std::marker::Brand;
 use std::sync::Wait;
 use std::thread::Threads;
 
-/// Runs both paths of the table that is the opening, and then gives the turns that are left. Both
-/// turrets were placed.
+/// Runs both paths of the opened table, and then gives the turns that are left. Both turrets were
+/// placed. Gives the table, the turrets, and why the run ended.
 fn run_opened<O, R, D, T>(
     rt: &R,
     alloc: Global,
@@ -69,7 +69,7 @@ where
     }
 }
 
-/// How many moves each turret did not get.
+/// How many moves each turret did not get of those that were due to it.
 fn who_missed<T: Turret>(turrets: &Both<Driven<T>>) -> Both<u64>
     ensures { result ≡ both_of (λ d. d.missed) turrets.now }
 {
@@ -90,7 +90,7 @@ fn let_go<T: Turret>(turrets: Both<Driven<T>>) -> Both<T>
     }
 }
 
-/// A run that has not begun, for want of memory or threads.
+/// A run that has not begun, since memory or threads ran out.
 fn unbegun<D: Disk, T: Turret>(table: Table<D>, turrets: Both<T>) -> TurretRun<D, T>
     ensures { result ≡ record { table = table; turrets = turrets; end = Err (record {}); missed = none_missed } }
 {
@@ -102,13 +102,13 @@ fn unbegun<D: Disk, T: Turret>(table: Table<D>, turrets: Both<T>) -> TurretRun<D
     }
 }
 
-/// Places both turrets where their paths stand, that of path 1 first, and then runs both paths at
+/// Places both turrets where their paths stand, that of path 1 first. Then it runs both paths at
 /// once, until the run ends or has made `limit` records. Each path has a worker and a drive, in
 /// threads of their own.
 ///
-/// Memory may be wanting only before the first step. So are threads: before a turret is placed as
-/// many are made at once as the run needs, and where one is refused nothing is done. A thread that
-/// is refused after that makes it wait for ever.
+/// Memory may run out only before the first step. Before a turret is placed, as many threads are
+/// made at once as the run needs; if one is refused nothing is done. A thread that is refused after
+/// that makes it wait for ever.
 pub fn run_with_turrets<R, D, T>(
     rt: &R,
     alloc: Global,

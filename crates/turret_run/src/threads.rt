@@ -1,11 +1,12 @@
-//! Whether the threads of a run can be made.
+//! Whether the threads of a run can be made. It is tried before a turret is placed.
+//! For run.rt of this crate.
 use std::sync::Wait;
 use std::sync::atomic::AtomicU64;
 use std::sync::atomic::Ordering::SeqCst;
 use std::thread;
 use std::thread::Threads;
 
-/// Waits until all were tried.
+/// Waits, in one of the tried threads, until all of them were tried.
 fn hold<R: Wait>(rt: &R, tried: &AtomicU64) {
     for _ in rt.forever() {
         if tried.load(SeqCst) != 0 {
@@ -17,7 +18,7 @@ fn hold<R: Wait>(rt: &R, tried: &AtomicU64) {
 }
 
 /// Makes as many threads at once as a run needs besides its caller's, and lets them end. False
-/// where one is refused. Between this and the run a thread may still be refused.
+/// if one is refused. Between this and the run a thread may still be refused.
 pub(crate) fn can_make_threads<R: Threads + Wait + Sync>(rt: &R) -> bool {
     let tried = AtomicU64::new(0);
     let all = &tried;

@@ -1,4 +1,5 @@
-//! Single turns of a path.
+//! Single turns of a path, without threads: for the turns that are left after a run of both paths.
+//! For rest.rt of this crate.
 ghost use Rattle.std.specs.Prelude.{◌≡◌, ◌≢◌, ◌++◌, true, false, List};
 ghost use Rattle.drive_line.specs.declared.phase.Phase.TheVariants.{Still};
 ghost use Rattle.drive_line.specs.Driving.{Serves};
@@ -16,7 +17,7 @@ use nc_outside::{LinedMove, Next, Turret};
 use seat_table::Turns;
 use std::sync::Wait;
 
-/// Hands the moves of a block on, in order.
+/// Hands the moves of a block on to the turret, in order, until it fails.
 fn hand_all<R: Wait, T: Turret>(rt: &R, block: &Moves, driven: &mut Driven<T>)
     ensures { (moves : List Lined) (start : TurretState)
         → Serves moves start driven.old → Serves (moves ++ lined block.now) start driven.new }
@@ -40,7 +41,7 @@ fn tell_drained<C: Turns, T: Turret>(table: &mut C, path: Path, driven: &Driven<
     table.drained(path);
 }
 
-/// Waits until the turret stands still, and then tells the table that the path is drained. Where
+/// Waits until the turret stands still, and then tells the table that the path is drained. If
 /// the turret fails it is told nothing.
 fn drain<C: Turns, T: Turret>(table: &mut C, path: Path, driven: &mut Driven<T>)
     ensures serves { (moves : List Lined) (start : TurretState)
@@ -58,7 +59,7 @@ fn drain<C: Turns, T: Turret>(table: &mut C, path: Path, driven: &mut Driven<T>)
 }
 
 /// Gives a path one turn, and hands the moves that it answers to the turret before anything else is
-/// done, until it fails. Where the path is to be drained it tells the table that it is, once the
+/// done, until it fails. If the path is to be drained it tells the table that it is, once the
 /// turret stands still. If the turret fails in that, the table is told nothing.
 pub fn give_turn<R: Wait, C: Turns, T: Turret>(
     rt: &R,

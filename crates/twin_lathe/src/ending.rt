@@ -1,4 +1,5 @@
-//! How the program ends.
+//! How the program ends: with the exit status of its command. lathe_calls names the statuses, and
+//! lathe_top says which one a command has.
 ghost use Rattle.std.specs.Prelude.{◌≡◌};
 ghost use Rattle.std.specs.Process.{exit_status};
 

@@ -1,4 +1,5 @@
 -- A turn and its moves, put apart and joined again.
+-- run_table uses these lemmas.
 use Rattle.std.proofs.Common.{◌≡◌, ℕ, ◌==◌, Bool, true, false, List, Option, Some, None, refl, sym, ap, ◌∙◌}
 use Rattle.nc_number.specs.declared.path.Path.{Path}
 use Rattle.nc_moves.specs.declared.motion.Move.{Move}
@@ -28,11 +29,12 @@ rejoined turn.Edited = refl
 pub is_joined : (t : Turn) (answer : TurnAnswer) (moves : List Move) → answer ≡ answer_of t → moves ≡ moves_of_turn t → turn_with answer moves ≡ t
 is_joined t answer moves is are = (λ i. turn_with (is i) (are i)) ∙ rejoined t
 
--- and these moves are apart in it
+-- and these moves are the moves of the turn that they are put in
 pub still_apart : (t : Turn) (answer : TurnAnswer) (moves : List Move) → answer ≡ answer_of t → moves ≡ moves_of_turn t
     → moves_of_turn (turn_with answer moves) ≡ moves
 still_apart t answer moves is are = ap moves_of_turn (is_joined t answer moves is are) ∙ sym are
 
+-- a turn at a wait makes no moves, whether the other path waits or not
 wait_still : (path : Path) (line : ℕ) (m : MachineView) (code : ℕ) (o : Option ℕ) → moves_of (AtWait code) ≡ moves_of_turn (result_at_wait path line m code o).turn
 wait_still path line m code None = refl
 wait_still path line m code (Some there) = go (code == there) refl

@@ -1,4 +1,5 @@
 -- A record that is legal there is done again.
+-- trace_list uses these lemmas.
 use Rattle.std.proofs.Common.{Result, Ok, Err, IsOk, OnErr, refl}
 use Rattle.run_records.specs.Entries.{Entry}
 use Rattle.two_path.specs.declared.turn.Turn.{Turn}
@@ -7,6 +8,7 @@ use Rattle.two_path.specs.Turns.{Tapes}
 use Rattle.two_path.specs.Histories.{IsNext}
 use Rattle.two_path.specs.Again.{IsRefused}
 
+-- a call that refuses only illegal records doesn't refuse a legal one
 pub is_done : {E : Type 0} (result : Result Turn E) (tapes : Tapes) (entry : Entry) (before after : MachineView)
     → OnErr result (IsRefused tapes entry before after) → IsNext tapes before entry → IsOk result
 is_done (Ok turn) tapes entry before after refused legal = refl

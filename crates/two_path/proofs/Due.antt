@@ -21,10 +21,12 @@ use Rattle.two_path.specs.Turns.{Blocks}
 use Rattle.two_path.specs.Joined.{HasTaken}
 use Rattle.two_path.specs.Again.{is_did, is_ended, changes_only_by, kind_of_effect, kind_of_block}
 
+-- a kind that tests as a done block is one,
 did_is : (k : EntryKind) → is_did k ≡ true → k ≡ kind.Did
 did_is kind.Did is = refl
 did_is _ is = absurd cc
 
+-- and a kind that tests as an end is one
 ended_is : (k : EntryKind) → is_ended k ≡ true → k ≡ kind.Ended
 ended_is kind.Ended is = refl
 ended_is _ is = absurd cc
@@ -39,6 +41,7 @@ did_at None (Some Back) k is wait end = did_is k is
 did_at (Some f) (Some Back) k is wait end = did_is k is
 did_at caller (Some other) k is wait end = did_is k is
 
+-- at an end the only record that changes the path is the end
 ended_at : (caller : Option Frame) (s : Option Control) (k : EntryKind) → changes_only_by (label_of caller s) k ≡ true → s ≡ Some End → k ≡ kind.Ended
 ended_at caller s k is end = ended_is k (ap (λ x. changes_only_by (label_of caller x) k) (sym end) ∙ is)
 

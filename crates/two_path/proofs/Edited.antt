@@ -1,4 +1,5 @@
 -- Records that are edits, and records that are steps: which a record is, and what is behind it.
+-- nc_restart, run_table and trace_list use these lemmas.
 use Rattle.std.proofs.Common.{◌≡◌, ℕ, ◌+◌, true, List, [], Option, Some, None, is_some, refl, sym, ap, ◌∙◌, inl, inr}
 use Rattle.nc_number.specs.declared.path.Path.{Path}
 use Rattle.nc_number.specs.declared.path.Path.TheVariants.{One, Two}
@@ -19,6 +20,7 @@ use Rattle.two_path.specs.Edits.{behind_edit_of, edit_entry, unless_alarm}
 use Rattle.two_path.specs.Histories.{with_reads, IsStep, behind_step, behind_own, behind_entry, IsNext}
 use Rattle.two_path.specs.Again.{turn_by, turn_of_entry, IsDoneAgain, IsRefused}
 
+-- a record of this path and kind, with these stamps
 abbrev pub entry : Path → EntryKind → List ℕ → Entry
 entry p k ks = record { path = p; kind = k; stamps = ks }
 
@@ -44,22 +46,23 @@ no_edit turn.Edited k e = absurd cc
 pub step_no_edit : (blocks : Blocks) (p : Path) (m : MachineView) (k : EntryKind) (ks : List ℕ) → IsStep blocks p m k ks → edit_of k ≡ None
 step_no_edit blocks p m k ks i = no_edit (own_turn blocks p (with_reads blocks ks m)).turn k i.is
 
--- what is behind the record of a step
+-- the machine behind the record of a step is that behind the step
 pub behind_step_entry : (tapes : Tapes) (m : MachineView) (e : Entry) → edit_of e.kind ≡ None
     → behind_entry tapes e m ≡ own_first e.path (behind_step (of_path tapes e.path) e.path e.stamps (own_first e.path m))
 behind_step_entry tapes m e step =
     ap (λ o. own_first e.path (behind_own (of_path tapes e.path) e.path o e.stamps (own_first e.path m))) step
 
--- and behind the record of an edit
+-- the machine behind the record of an edit is that behind the edit
 pub behind_edit_entry : (tapes : Tapes) (m : MachineView) (e : Entry) (edit : Edit) → e ≡ edit_entry e.path edit
     → behind_entry tapes e m ≡ behind_edit_of e.path edit m
 behind_edit_entry tapes m e edit is = ap (λ (x : Entry). behind_entry tapes x m) is
 
--- what the turn of a step answers, and that of an edit
+-- what the turn of a step answers,
 pub turn_of_step : (tapes : Tapes) (m : MachineView) (e : Entry) → edit_of e.kind ≡ None
     → turn_of_entry tapes e m ≡ (own_turn (of_path tapes e.path) e.path (with_reads (of_path tapes e.path) e.stamps (own_first e.path m))).turn
 turn_of_step tapes m e step = ap (λ o. turn_by (of_path tapes e.path) e.path o e.stamps (own_first e.path m)) step
 
+-- and that of an edit
 pub turn_of_edit : (tapes : Tapes) (m : MachineView) (e : Entry) (edit : Edit) → edit_of e.kind ≡ Some edit → turn_of_entry tapes e m ≡ turn.Edited
 turn_of_edit tapes m e edit is = ap (λ o. turn_by (of_path tapes e.path) e.path o e.stamps (own_first e.path m)) is
 
@@ -74,7 +77,7 @@ entry_bare tapes e m = go e.path (edit_of e.kind)
     go One (Some edit) = refl
     go Two (Some edit) = refl
 
--- an edit moves no path and lets none go on
+-- an edit moves no path and lets none go on: of one path it leaves this as it was,
 pub record StaysPart (before after : Part) : Type 0 where
   pub place : after.path.place ≡ before.path.place
   pub position : after.path.position ≡ before.path.position
@@ -83,36 +86,41 @@ pub record StaysPart (before after : Part) : Type 0 where
   pub waiting : after.waiting ≡ before.waiting
   pub finished : after.finished ≡ before.finished
 
+-- and of both paths, with the alarm
 pub record StayPaths (before after : MachineView) : Type 0 where
   pub first : StaysPart before.paths.one after.paths.one
   pub second : StaysPart before.paths.two after.paths.two
   pub alarm : after.alarm ≡ before.alarm
 
+-- the path that isn't edited stays so,
 stays_part : (p : Part) (since : ℕ) → StaysPart p (part_at p.path since p)
 stays_part p since = record { place = refl; position = refl; modal = refl; fixed = refl; waiting = refl; finished = refl }
 
+-- and so does the one that is,
 edited_part : (edit : Edit) (p : Part) (since : ℕ) → StaysPart p (part_at (edited edit p.path) since p)
 edited_part edit p since = record { place = refl; position = refl; modal = refl; fixed = refl; waiting = refl; finished = refl }
 
+-- so an edit leaves both
 pub edit_stays : (p : Path) (edit : Edit) (m : MachineView) → StayPaths m (behind_edit_of p edit m)
 edit_stays One edit m = record { first = edited_part edit m.paths.one (m.count + 1); second = stays_part m.paths.two (m.count + 1); alarm = refl }
 edit_stays Two edit m = record { first = stays_part m.paths.one (m.count + 1); second = edited_part edit m.paths.two (m.count + 1); alarm = refl }
 
--- a step is legal where it is the machine's, and a legal record that is no edit is a step
+-- a step of the machine is a legal record,
 pub next_of_step : (tapes : Tapes) (m : MachineView) (e : Entry) → IsStep (of_path tapes e.path) e.path (own_first e.path m) e.kind e.stamps → IsNext tapes m e
 next_of_step tapes m e i = inl i
 
+-- and a legal record that is no edit is a step
 pub step_of_next : (tapes : Tapes) (m : MachineView) (e : Entry) → edit_of e.kind ≡ None → IsNext tapes m e
     → IsStep (of_path tapes e.path) e.path (own_first e.path m) e.kind e.stamps
 step_of_next tapes m e step (inl i) = i
 step_of_next tapes m e step (inr i) =
     absurd (let edit : edit_of e.kind ≡ Some i.edit = ap (λ (x : Entry). edit_of x.kind) i.is in cc)
 
--- the record of a kind that is an edit
+-- a record of an edit's kind, with no stamps, is the record of that edit
 pub edit_is : (e : Entry) (edit : Edit) → edit_of e.kind ≡ Some edit → e.stamps ≡ [] → e ≡ edit_entry e.path edit
 edit_is e edit is bare = let same : e.kind ≡ kind.Edited edit = edited_kind e.kind edit is in λ i. record { path = e.path; kind = same i; stamps = bare i }
 
--- a record of an edit is done again where there is no alarm, and refused where there is one
+-- a record of an edit is done again if there is no alarm,
 pub edit_done : (tapes : Tapes) (e : Entry) (edit : Edit) (before after : MachineView) → edit_of e.kind ≡ Some edit → e.stamps ≡ []
     → before.alarm ≡ None → after ≡ behind_edit_of e.path edit before → IsDoneAgain tapes e before after turn.Edited
 edit_done tapes e edit before after kind bare calm is =
@@ -123,6 +131,7 @@ edit_done tapes e edit before after kind bare calm is =
       answer = sym (turn_of_edit tapes before e edit kind);
     }
 
+-- and refused if there is one
 pub edit_refused : (tapes : Tapes) (e : Entry) (edit : Edit) (before after : MachineView) → edit_of e.kind ≡ Some edit
     → is_some before.alarm ≡ true → after ≡ before → IsRefused tapes e before after
 edit_refused tapes e edit before after kind halted is = record { illegal = illegal; unchanged = is }

@@ -11,6 +11,7 @@ use Rattle.two_path.specs.Histories.{is_idle}
 abbrev pub is_still : MachineView → Bool
 is_still m = is_some m.alarm || is_idle m.paths.one
 
+-- without an alarm, an end or a wait the turn is that of its block
 unless_awake : (m : MachineView) (a : Option Alarm) (f : Bool) (w : Option ℕ) (rest : TurnResult) → (is_some a || (f || is_some w)) ≡ false
     → unless_idle m a f w rest ≡ rest
 unless_awake m (Some alarm) f w rest e = absurd cc
@@ -18,6 +19,7 @@ unless_awake m None true w rest e = absurd cc
 unless_awake m None false (Some code) rest e = absurd cc
 unless_awake m None false None rest e = refl
 
+-- with one of them the machine stays as it is, and there is no record
 unless_still : (m : MachineView) (a : Option Alarm) (f : Bool) (w : Option ℕ) (rest : TurnResult) → (is_some a || (f || is_some w)) ≡ true
     → ((unless_idle m a f w rest).machine ≡ m) × (kind_of (unless_idle m a f w rest).turn ≡ None)
 unless_still m (Some alarm) f w rest e = (refl, refl)
@@ -25,11 +27,12 @@ unless_still m None true w rest e = (refl, refl)
 unless_still m None false (Some code) rest e = (refl, refl)
 unless_still m None false None rest e = absurd cc
 
--- what its block comes to
+-- the turn of a path that isn't still is what its block comes to
 pub own_awake : (blocks : Blocks) (path : Path) (m : MachineView) → is_still m ≡ false
     → own_turn blocks path m ≡ result_by path (blocks.line m.paths.one.path.place) m (blocks.effect m.paths.one.path m.paths.one.values)
 own_awake blocks path m e = unless_awake m m.alarm m.paths.one.finished m.paths.one.waiting _ e
 
+-- the turn of a path that is still changes nothing and makes no record
 pub own_still : (blocks : Blocks) (path : Path) (m : MachineView) → is_still m ≡ true
     → ((own_turn blocks path m).machine ≡ m) × (kind_of (own_turn blocks path m).turn ≡ None)
 own_still blocks path m e = unless_still m m.alarm m.paths.one.finished m.paths.one.waiting _ e
@@ -42,6 +45,7 @@ awake_of blocks path m kind e = go (is_still m) refl
     go true i = absurd (let none : kind_of (own_turn blocks path m).turn ≡ None = (own_still blocks path m i).1 in cc)
     go false i = refl
 
+-- if neither of the two holds, the second doesn't
 pub awake_part : (a : Option Alarm) (f : Bool) → (is_some a || f) ≡ false → f ≡ false
 awake_part (Some x) f e = absurd cc
 awake_part None f e = e

@@ -14,6 +14,7 @@ use Rattle.two_path.proofs.Recorded.{joins_event}
 use Rattle.two_path.proofs.Scheduled.{from_end, legal_front, fold_bare}
 use Rattle.two_path.proofs.Counted.{since_after, grows, legal_take}
 
+-- one event more keeps that the machine is the fold of its records
 event_kept : (tapes : Tapes) (m : MachineView) (rs : List Entry) (now : MachineView) (e : Event) → IsKept tapes m rs now
     → IsKept tapes m (rs ++ records_of tapes e now) (behind_event tapes e now)
 event_kept tapes m rs now e k =
@@ -27,6 +28,7 @@ event_kept tapes m rs now e k =
       lawful = event_sound tapes e now k.lawful;
     }
 
+-- a path came to its block no later than the last record, also after one more
 since_kept : (b : Bool) (count since : ℕ) → since ≤ count → since_after b count since ≤ count + 1
 since_kept true count since h = omega arith
 since_kept false count since h = omega arith
@@ -37,6 +39,7 @@ entry_none : (tapes : Tapes) (e : Entry) (m : MachineView)
     × ((behind_entry tapes e m).paths.two ≡ part_without_reads (behind_entry tapes e m).paths.two)
 entry_none tapes e m = let is = entry_bare tapes e m in (ap (λ (n : MachineView). n.paths.one) (sym is), ap (λ (n : MachineView). n.paths.two) (sym is))
 
+-- one record more, done again, keeps it
 entry_kept : (tapes : Tapes) (m : MachineView) (rs : List Entry) (now : MachineView) (e : Entry) → IsKept tapes m rs now → IsNext tapes (without_reads now) e
     → IsKept tapes m (rs ++ e ∷ []) (behind_entry tapes e (without_reads now))
 entry_kept tapes m rs now e k next =
@@ -54,9 +57,11 @@ entry_kept tapes m rs now e k next =
       };
     }
 
+-- it holds before the first turn, with no records
 opening_kept : (tapes : Tapes) (first second : PathView) → IsKept tapes (opening first second) [] (opening first second)
 opening_kept tapes first second = record { legal = tt; folds = refl; lawful = opening_sound tapes first second }
 
+-- so it holds at the opening and is kept
 pub keeps : (tapes : Tapes) (first second : PathView) → Keeps tapes (opening first second)
 keeps tapes first second = record {
   opening = opening_kept tapes first second;
@@ -64,7 +69,7 @@ keeps tapes first second = record {
   entry = entry_kept tapes (opening first second);
 }
 
--- a legal history and the fold of it
+-- the fold of a legal history is a machine beside that history
 pub fold_kept : (tapes : Tapes) (first second : PathView) (rs : List Entry) → IsLegal tapes (opening first second) rs
     → IsKept tapes (opening first second) rs (fold tapes (opening first second) rs)
 fold_kept tapes first second =
@@ -77,18 +82,21 @@ fold_kept tapes first second =
     rw (fold_push tapes m rs e) (subst (λ n. IsKept tapes m (rs ++ e ∷ []) (behind_entry tapes e n)) is
     (entry_kept tapes m rs (fold tapes m rs) e (rest l.0) (rw is l.1))))
 
+-- one event or one restart keeps it,
 episode_kept : (tapes : Tapes) (first second : PathView) (e : Episode) (now : Recorded) → IsKept tapes (opening first second) now.history now.machine
     → IsKept tapes (opening first second) (behind_episode tapes (opening first second) e now).history (behind_episode tapes (opening first second) e now).machine
 episode_kept tapes first second (Happens e) now k = event_kept tapes (opening first second) now.history now.machine e k
 episode_kept tapes first second (Restarts n) now k =
     fold_kept tapes first second (take n now.history) (legal_take tapes (opening first second) n now.history k.legal)
 
+-- and so does each list of them,
 episodes_kept : (tapes : Tapes) (first second : PathView) (es : List Episode) (now : Recorded) → IsKept tapes (opening first second) now.history now.machine
     → IsKept tapes (opening first second) (behind_episodes tapes (opening first second) es now).history (behind_episodes tapes (opening first second) es now).machine
 episodes_kept tapes first second [] now k = k
 episodes_kept tapes first second (e ∷ es) now k =
     episodes_kept tapes first second es (behind_episode tapes (opening first second) e now) (episode_kept tapes first second e now k)
 
+-- from the opening of a pair on
 pub kept_over_restarts : (tapes : Tapes) (first second : PathView) → IsKeptOverRestarts tapes (opening first second)
 kept_over_restarts tapes first second es =
     episodes_kept tapes first second es (record { machine = opening first second; history = [] }) (opening_kept tapes first second)

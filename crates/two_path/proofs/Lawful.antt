@@ -1,4 +1,5 @@
--- Whatever happens, what blocks have read is lawful.
+-- Whatever happens, what blocks have read is lawful. Lawful: what the block asked for, at stamps
+-- in order, and the values that these stamps stand for.
 use Rattle.std.proofs.Common.{◌≡◌, ℕ, ◌+◌, ◌≤◌, ◌<◌, Bool, true, false, ◌==◌, List, [], ◌∷◌, ◌++◌, Option, Some, None, refl, sym, ap, ◌∙◌, arith}
 use Rattle.std.proofs.lemmas.Bool.Decides.{nat_tests}
 use Rattle.nc_number.specs.declared.path.Path.{Path}
@@ -19,9 +20,11 @@ use Rattle.two_path.specs.Edits.{behind_edit_of, unless_alarm}
 use Rattle.two_path.specs.Histories.{Event, TurnOf, EditOf, behind_event, value_asked, and_next, values_from, AsksFrom, AreInOrder, is_idle, IsLawful, AreLawful}
 use Rattle.two_path.proofs.Idle.{is_still, own_awake, own_still, awake_part}
 
+-- a write of a later record isn't one that a reader after k records sees
 passes_over : (k v : ℕ) (w : Write) → k < w.stamp → is_write_of k v w ≡ false
 passes_over k v w later = grind (arith, nat_tests)
 
+-- so a later write at the end changes no value of then
 value_push : (writes : List Write) (w : Write) (k v : ℕ) → k < w.stamp → value_after k v (writes ++ w ∷ []) ≡ value_after k v writes
 value_push writes w k v later = seen_from_its_stamp writes w k v ∙ rw (passes_over k v w later) refl
 
@@ -30,6 +33,7 @@ pub value_written : (o : Option Written) (writes : List Write) (c k v : ℕ) →
 value_written None writes c k v h = refl
 value_written (Some w) writes c k v h = value_push writes (record { stamp = c + 1; variable = w.variable; value = w.value }) k v (omega arith)
 
+-- the same of the value that a block asks for,
 asked_written : (e : Effect) (o : Option Written) (writes : List Write) (c k : ℕ) → k ≤ c
     → value_asked e k (with_write (c + 1) o writes) ≡ value_asked e k writes
 asked_written (Need v) o writes c k h = value_written o writes c k v h
@@ -38,36 +42,42 @@ asked_written (AtWait code) o writes c k h = refl
 asked_written (AtEnd path moves) o writes c k h = refl
 asked_written (effect.Alarm number value) o writes c k h = refl
 
+-- of the values with the next one,
 pub next_written : (blocks : Blocks) (path : PathView) (o : Option Written) (writes : List Write) (c k : ℕ) (values : List Var) → k ≤ c
     → and_next blocks path (with_write (c + 1) o writes) k values ≡ and_next blocks path writes k values
 next_written blocks path o writes c k values h = ap (λ v. values ++ v ∷ []) (asked_written (blocks.effect path values) o writes c k h)
 
+-- of all values that stamps stand for,
 pub values_written : (blocks : Blocks) (path : PathView) (o : Option Written) (writes : List Write) (c low : ℕ) (values : List Var) (ks : List ℕ)
     → AreInOrder low c ks → values_from blocks path (with_write (c + 1) o writes) values ks ≡ values_from blocks path writes values ks
 values_written blocks path o writes c low values [] i = refl
 values_written blocks path o writes c low values (k ∷ ks) i =
     rw (next_written blocks path o writes c k values i.1) (values_written blocks path o writes c k (and_next blocks path writes k values) ks i.2)
 
+-- and of whether the block asks for each of them
 asks_written : (blocks : Blocks) (path : PathView) (o : Option Written) (writes : List Write) (c low : ℕ) (values : List Var) (ks : List ℕ)
     → AreInOrder low c ks → AsksFrom blocks path writes values ks → AsksFrom blocks path (with_write (c + 1) o writes) values ks
 asks_written blocks path o writes c low values [] i a = tt
 asks_written blocks path o writes c low values (k ∷ ks) i a =
     (a.0, rw (next_written blocks path o writes c k values i.1) (asks_written blocks path o writes c k (and_next blocks path writes k values) ks i.2 a.1))
 
+-- stamps in order up to one number are so up to a greater one
 order_up : (low high more : ℕ) (ks : List ℕ) → AreInOrder low high ks → high ≤ more → AreInOrder low more ks
 order_up low high more [] i h = tt
 order_up low high more (k ∷ ks) i h = (i.0, omega (arith, i.1), order_up k high more ks i.2 h)
 
--- one more at the end
+-- stamps in order are so with one more at the end that is no less than all
 order_push : (low high c : ℕ) (ks : List ℕ) → AreInOrder low high ks → low ≤ c → high ≤ c → AreInOrder low c (ks ++ c ∷ [])
 order_push low high c [] i l h = (l, omega arith, tt)
 order_push low high c (k ∷ ks) i l h = let up : k ≤ c = omega (arith, i.1) in (i.0, up, order_push k high c ks i.2 up h)
 
+-- one stamp more stands for one value more
 pub values_push : (blocks : Blocks) (path : PathView) (writes : List Write) (values : List Var) (ks : List ℕ) (k : ℕ)
     → values_from blocks path writes values (ks ++ k ∷ []) ≡ and_next blocks path writes k (values_from blocks path writes values ks)
 values_push blocks path writes values [] k = refl
 values_push blocks path writes values (j ∷ ks) k = values_push blocks path writes (and_next blocks path writes j values) ks k
 
+-- and the block asks for it, if that is the variable that it needs
 asks_push : (blocks : Blocks) (path : PathView) (writes : List Write) (values : List Var) (ks : List ℕ) (k v : ℕ)
     → AsksFrom blocks path writes values ks → blocks.effect path (values_from blocks path writes values ks) ≡ Need v
     → AsksFrom blocks path writes values (ks ++ k ∷ [])
@@ -87,7 +97,7 @@ later blocks m x o a l = record {
   came = omega (arith, l.came);
 }
 
--- without reads they are lawful
+-- a block that has read nothing has read lawfully
 pub lawful_none : (blocks : Blocks) (m : MachineView) → m.paths.one.values ≡ [] → m.paths.one.stamps ≡ [] → m.paths.one.since ≤ m.count → IsLawful blocks m
 lawful_none blocks m e' e c = record {
   may = record { order = rw e tt; asks = rw e tt };
@@ -96,18 +106,22 @@ lawful_none blocks m e' e c = record {
   came = c;
 }
 
+-- what both paths' blocks have read is lawful: of the path whose part is first, and of the other
 abbrev pub Sound : Blocks → Blocks → MachineView → Type 0
 Sound mine theirs m = AreLawful (record { one = mine; two = theirs }) m
 
+-- it holds with the paths changed over,
 sound_swap : (mine theirs : Blocks) (m : MachineView) → Sound mine theirs m → Sound theirs mine (own_first Two m)
 sound_swap mine theirs m s = record { first = s.second; second = s.first }
 
+-- after an alarm,
 alarm_sound : (mine theirs : Blocks) (alarm : Alarm) (m : MachineView) → Sound mine theirs m → Sound mine theirs (with_alarm alarm m)
 alarm_sound mine theirs alarm m s = record {
   first = lawful_none mine (with_alarm alarm m) refl refl (omega (arith, s.first.came));
   second = later theirs (own_first Two m) (part_without_reads m.paths.one) None (Some alarm) s.second;
 }
 
+-- after a turn at a wait,
 wait_sound : (mine theirs : Blocks) (path : Path) (line : ℕ) (m : MachineView) (code : ℕ) (o : Option ℕ) → Sound mine theirs m
     → Sound mine theirs (result_at_wait path line m code o).machine
 wait_sound mine theirs path line m code None s = record {
@@ -123,6 +137,7 @@ wait_sound mine theirs path line m code (Some there) s = go (code == there) refl
     })
     go false e = rw e (alarm_sound mine theirs (crossed_waits path line) m s)
 
+-- after a turn by what the block comes to,
 by_sound : (mine theirs : Blocks) (path : Path) (line : ℕ) (m : MachineView) (e : Effect) → Sound mine theirs m → is_still m ≡ false
     → mine.effect m.paths.one.path m.paths.one.values ≡ e → Sound mine theirs (result_by path line m e).machine
 by_sound mine theirs path line m (Need v) s awake e = record {
@@ -148,6 +163,7 @@ by_sound mine theirs path line m (AtEnd to moves) s awake e = record {
 }
 by_sound mine theirs path line m (effect.Alarm number value) s awake e = alarm_sound mine theirs (alarm_at path line number value) m s
 
+-- and after each turn of the first path
 turn_sound : (mine theirs : Blocks) (path : Path) (m : MachineView) → Sound mine theirs m → Sound mine theirs (own_turn mine path m).machine
 turn_sound mine theirs path m s = go (is_still m) refl
   where
@@ -167,6 +183,7 @@ edit_sound tapes Two edit m = record {
   second = lawful_none tapes.two (own_first Two (behind_edit_of Two edit m)) refl refl (omega arith);
 }
 
+-- each event keeps lawful what blocks have read
 pub event_sound : (tapes : Tapes) (e : Event) (m : MachineView) → AreLawful tapes m → AreLawful tapes (behind_event tapes e m)
 event_sound tapes (TurnOf One) m s = turn_sound tapes.one tapes.two One m s
 event_sound tapes (TurnOf Two) m s =
@@ -178,6 +195,7 @@ event_sound tapes (EditOf p edit) m s = go m.alarm
     go (Some alarm) = s
     go None = edit_sound tapes p edit m
 
+-- before the first turn no block has read anything, which is lawful
 pub opening_sound : (tapes : Tapes) (first second : PathView) → AreLawful tapes (opening first second)
 opening_sound tapes first second = record {
   first = lawful_none tapes.one (opening first second) refl refl (omega arith);

@@ -1,3 +1,5 @@
+-- The lemmas of this crate, each file by its subject. Other crates use Folds, Edited, NoCrossing,
+-- Apart, DoneAgain and Replays.
 mod Idle
 pub mod Folds
 pub mod Edited

@@ -1,5 +1,6 @@
 -- No step of a block raises the alarm of waits that differ: the numbers of alarms, and what an
 -- expression comes to.
+-- zone_check uses these lemmas.
 use Rattle.std.proofs.Common.{◌≡◌, ℕ, ◌==◌, Bool, true, false, List, [], ◌∷◌, Option, Some, None, Result, Ok, Err, ℤ, unsigned_abs, refl, if◌then◌else◌}
 use Rattle.std.specs.Int.{is_negative}
 use Rattle.nc_number.specs.declared.cause.Cause.{Cause}
@@ -22,7 +23,7 @@ use Rattle.path_state.specs.Looks.{look_of}
 use Rattle.block_values.specs.Outcomes.{Outcome, Gives, Needs, Alarms, ◌>>=◌, reading_none, answered}
 use Rattle.path_state.specs.Said.{evaluated}
 
--- the number of another alarm
+-- the number of another alarm than that of waits that differ
 abbrev pub IsOther : ℕ → Type 0
 IsOther number = (number == cause_number WaitDiffers) ≡ false
 
@@ -31,10 +32,11 @@ abbrev pub IsOtherError : {A E : Type 0} → (E → ℕ) → Result A E → Type
 IsOtherError number (Ok value) = Unit {0}
 IsOtherError number (Err error) = IsOther (number error)
 
+-- the same of a cause of the table of alarms
 abbrev pub IsOtherCause : {A : Type 0} → Result A Cause → Type 0
 IsOtherCause r = IsOtherError cause_number r
 
--- an alarm, if there is one, is another
+-- the alarm of a step, if there is one, is another
 abbrev pub IsOtherAlarm : {A : Type 0} → Outcome A → Type 0
 IsOtherAlarm (Gives value left) = Unit {0}
 IsOtherAlarm (Needs variable) = Unit {0}
@@ -45,18 +47,19 @@ pub either : {A : Type 0} (P : A → Type 0) (b : Bool) (x y : A) → P x → P 
 either P true x y one other = one
 either P false x y one other = other
 
--- one step behind another
+-- if no alarm of a step and of the next is it, none of both together is
 pub alarm_behind : {A B : Type 0} (step : Outcome A) (next : A → List Var → Outcome B) → IsOtherAlarm step
     → ((value : A) (left : List Var) → IsOtherAlarm (next value left)) → IsOtherAlarm (step >>= next)
 alarm_behind (Gives value left) next first further = further value left
 alarm_behind (Needs variable) next first further = tt
 alarm_behind (Alarms number value) next first further = first
 
--- a step that takes no read
+-- a step that takes no read has no other alarm than its cause
 pub none_other : {A : Type 0} (r : Result A Cause) → IsOtherCause r → (left : List Var) → IsOtherAlarm (reading_none r left)
 none_other (Ok value) other left = tt
 none_other (Err cause) other left = other
 
+-- a fault of a number is another alarm
 fault_other : (f : NumberFault) → IsOther (cause_number (cause_of_number_fault f))
 fault_other fault.Overflow = refl
 fault_other fault.ZeroDivide = refl
@@ -64,6 +67,7 @@ fault_other fault.NegativeRoot = refl
 fault_other fault.NotWhole = refl
 fault_other fault.TooManyDigits = refl
 
+-- so is that of a number that must be whole,
 whole_other : (n : Option ℤ) → IsOtherCause (whole_or_alarm n)
 whole_other (Some n) = tt
 whole_other None = refl
@@ -72,30 +76,35 @@ whole_other None = refl
 pub whole_number_other : (v : Var) → IsOtherCause (whole_number v)
 whole_number_other v = whole_other (whole_of (or_zero v))
 
+-- of a number that names no variable,
 named_by_other : (n : Result ℤ Cause) → IsOtherCause n → IsOtherCause (named_by n)
 named_by_other (Ok n) other =
     either (λ (r : Result ℕ Cause). IsOtherCause r) (is_negative n) (Err VariableRange) (Ok (unsigned_abs n)) refl tt
 named_by_other (Err cause) other = other
 
+-- of a value that names a variable,
 pub variable_number_other : (v : Var) → IsOtherCause (variable_number v)
 variable_number_other v = named_by_other (whole_number v) (whole_number_other v)
 
--- the same of an expression
+-- the alarm of an expression, if there is one, is another
 abbrev IsOtherEval : Eval → Type 0
 IsOtherEval (Got v) = Unit {0}
 IsOtherEval (Need n) = Unit {0}
 IsOtherEval (Fault n) = IsOther n
 
+-- of one evaluation behind another,
 answer_behind : (a : Answer) (next : Var → List Var → Answer) → IsOtherEval a.0
     → ((v : Var) (left : List Var) → IsOtherEval (next v left).0) → IsOtherEval (then_with a next).0
 answer_behind (Got v, left) next first further = further v left
 answer_behind (Need n, left) next first further = tt
 answer_behind (Fault n, left) next first further = first
 
+-- of a calculation,
 made_other : (r : Result ℤ NumberFault) → IsOtherEval (made r)
 made_other (Ok z) = tt
 made_other (Err f) = fault_other f
 
+-- of a read of a variable,
 seen_other : (found : Result Look VarFault) (n : ℕ) (reads : List Var) → IsOtherEval (seen found n reads).0
 seen_other (Ok (look.Is v)) n reads = tt
 seen_other (Ok look.Shared) n [] = tt
@@ -103,11 +112,13 @@ seen_other (Ok look.Shared) n (v ∷ left) = tt
 seen_other (Err f) n reads = refl
 
 module _ (table : ℕ → Result Look VarFault) where
+  -- none of these raises the alarm of waits that differ: a variable by its computed number,
   by_other : (number : Result ℕ Cause) → IsOtherCause number → (reads : List Var)
       → IsOtherEval (looked_by table number reads).0
   by_other (Ok n) other reads = seen_other (table n) n reads
   by_other (Err cause) other reads = other
 
+  -- or an expression
   meaning_other : (t : Tree) (reads : List Var) → IsOtherEval (meaning table t reads).0
   meaning_other (Number z) reads = tt
   meaning_other (Variable n) reads = seen_other (table n) n reads
@@ -124,12 +135,13 @@ module _ (table : ℕ → Result Look VarFault) where
       (λ v left. answer_behind (meaning table b left) _ (meaning_other b left)
       (λ w rest. made_other (operator_value op (or_zero v) (or_zero w))))
 
+-- and of an answer of an expression
 answered_other : (a : Answer) → IsOtherEval a.0 → IsOtherAlarm (answered a)
 answered_other (Got v, left) other = tt
 answered_other (Need n, left) other = tt
 answered_other (Fault n, left) other = other
 
--- the value of an expression
+-- the value of an expression doesn't raise it
 pub tree_other : (fixed : Fixed) (path : PathView) (tree : Tree) (reads : List Var)
     → IsOtherAlarm (evaluated fixed path tree reads)
 tree_other fixed path tree reads =

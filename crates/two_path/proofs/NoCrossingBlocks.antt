@@ -47,6 +47,7 @@ use Rattle.two_path.proofs.NoCrossingPlaces.{behind_other}
 use Rattle.two_path.proofs.NoCrossingStatements.{statement_other}
 use Rattle.two_path.proofs.NoCrossingMotion.{itself, motion_other}
 
+-- the alarm that stands there, if there is one, is another than that of waits that differ
 abbrev IsOtherNumber : {A : Type 0} → Result A ℕ → Type 0
 IsOtherNumber r = IsOtherError itself r
 
@@ -55,30 +56,34 @@ abbrev IsOtherEffect : Effect → Type 0
 IsOtherEffect (effect.Alarm number value) = IsOther number
 IsOtherEffect _ = Unit {0}
 
+-- no written word raises it,
 taken_other : (sense : Sense) (letter : ℕ) (literal : Literal) (values : Values) → IsOtherCause (taken sense letter literal values)
 taken_other sense letter literal values =
     either (λ (r : Result Values Cause). IsOtherCause r) (not (is_meant sense letter)) (Err UnknownCode) _ refl
     (either (λ (r : Result Values Cause). IsOtherCause r) (fits (range_of sense.purpose letter) literal)
     (Ok (with_word sense letter literal values)) (Err WordRange) tt refl)
 
+-- and no computed one
 taken_var_other : (sense : Sense) (letter : ℕ) (minus : Bool) (value : Var) (values : Values)
     → IsOtherCause (taken_var sense letter minus value values)
 taken_var_other sense letter minus Vacant values = tt
 taken_var_other sense letter minus (Is value) values = taken_other sense letter (computed minus value) values
 
--- the codes and words of a block, and its motion
+-- the codes and words of a block don't raise it,
 modal_other : (modal : ModalView) (system : System) (words : List FlowWord) (values : Values)
     → IsOtherNumber (modal_after modal system words values)
 modal_other modal system words values =
     let after : ModalView = with_words (with_codes modal (rows system words)) (modal_words (gives system is_limit words) values) in
     either (λ (f : Option ModalFault). IsOtherNumber (unless_fault f after)) (has_tool_offset values.tool) None (Some (fault OffsetNumber)) tt refl
 
+-- nor does what follows its motion,
 after_motion_other : (path : PathView) (modal : ModalView) (system : System) (words : List FlowWord) (values : Values)
     (motion : Result Motion ℕ)
     → IsOtherNumber motion → IsOtherNumber (after_motion path modal system words values motion)
 after_motion_other path modal system words values (Ok motion) other = tt
 after_motion_other path modal system words values (Err number) other = other
 
+-- its motion with the modal state,
 motion_with_other : (fixed : Fixed) (path : PathView) (system : System) (words : List FlowWord) (values : Values)
     (modal : Result ModalView ℕ)
     → IsOtherNumber modal → IsOtherNumber (motion_with fixed path system words values modal)
@@ -88,6 +93,7 @@ motion_with_other fixed path system words values (Ok modal) other =
     (motion_other fixed.home path.position path.offsets modal (motion_kind modal (one_shot system words)) (has (codes "L") words) values)
 motion_with_other fixed path system words values (Err number) other = other
 
+-- or the whole act of the words
 acted_other : (fixed : Fixed) (path : PathView) (system : System) (words : List FlowWord) (values : Values)
     → IsOtherNumber (acted fixed path system words values)
 acted_other fixed path system words values =
@@ -95,6 +101,7 @@ acted_other fixed path system words values =
     (modal_other path.modal system words values)
 
 module _ (fixed : Fixed) (path : PathView) where
+  -- none of these raises the alarm of waits that differ: a word,
   word_other : (sense : Sense) (letter : ℕ) (value : WordValue) (values : Values) (reads : List Var)
       → IsOtherAlarm (word_taken fixed path sense letter value values reads)
   word_other sense letter (Written literal) values reads =
@@ -103,6 +110,7 @@ module _ (fixed : Fixed) (path : PathView) where
       alarm_behind (evaluated fixed path tree reads) _ (tree_other fixed path tree reads)
       (λ value left. none_other (taken_var sense letter minus value values) (taken_var_other sense letter minus value values) left)
 
+  -- all words of a block,
   words_other : (sense : Sense) (words : List FlowWord) (values : Values) (reads : List Var)
       → IsOtherAlarm (words_taken fixed path sense words values reads)
   words_other sense [] values reads = tt
@@ -110,12 +118,14 @@ module _ (fixed : Fixed) (path : PathView) where
       alarm_behind (word_taken fixed path sense word.letter word.value values reads) _
       (word_other sense word.letter word.value values reads) (λ next left. words_other sense words next left)
 
+  -- an argument of a call,
   argument_other : (letter : ℕ) (value : WordValue) (arguments reads : List Var)
       → IsOtherAlarm (argument_taken fixed path letter value arguments reads)
   argument_other letter (Written literal) arguments reads = tt
   argument_other letter (Computed minus tree) arguments reads =
       alarm_behind (evaluated fixed path tree reads) _ (tree_other fixed path tree reads) (λ value left. tt)
 
+  -- all arguments of a call,
   arguments_other : (words : List FlowWord) (arguments reads : List Var)
       → IsOtherAlarm (arguments_taken fixed path words arguments reads)
   arguments_other [] arguments reads = tt
@@ -124,20 +134,24 @@ module _ (fixed : Fixed) (path : PathView) where
       (argument_other word.letter word.value arguments reads) (λ next left. arguments_other words next left)
 
 module _ (tape : List ControlProgram) where
+  -- the end of a block that has moved,
   done_other : (moved : Moved) (to : Result Standing Cause) → IsOtherCause to → IsOtherEffect (done_by moved to)
   done_other moved (Ok to) other = tt
   done_other moved (Err cause) other = other
 
+  -- where its control goes,
   controlled_other : (moved : Moved) (arguments : Option (List Var)) (c : Control)
       → IsOtherEffect (controlled tape moved arguments c)
   controlled_other moved arguments control.End = tt
   controlled_other moved arguments c =
       done_other moved (standing_behind tape (standing_of moved.path) arguments c) (behind_other tape (standing_of moved.path) arguments c)
 
+  -- what it moved,
   moved_other : (c : Control) (moved : Result Moved ℕ) → IsOtherNumber moved → IsOtherEffect (of_moved tape c moved)
   moved_other c (Ok moved) other = controlled_other moved None c
   moved_other c (Err number) other = other
 
+  -- the values of its words,
   values_other : (fixed : Fixed) (path : PathView) (system : System) (words : List FlowWord) (c : Control)
       (values : Outcome Values)
       → IsOtherAlarm values → IsOtherEffect (of_values tape fixed path system words c values)
@@ -146,6 +160,7 @@ module _ (tape : List ControlProgram) where
   values_other fixed path system words c (Needs variable) other = tt
   values_other fixed path system words c (Alarms number value) other = other
 
+  -- a call with its arguments,
   of_arguments_other : (path : PathView) (c : Control) (arguments : Outcome (List Var)) → IsOtherAlarm arguments
       → IsOtherEffect (of_arguments tape path c arguments)
   of_arguments_other path c (Gives arguments left) other =
@@ -153,6 +168,7 @@ module _ (tape : List ControlProgram) where
   of_arguments_other path c (Needs variable) other = tt
   of_arguments_other path c (Alarms number value) other = other
 
+  -- a block by its purpose,
   purpose_other : (fixed : Fixed) (path : PathView) (purpose : Purpose) (system : System) (words : List FlowWord) (c : Control)
       (reads : List Var)
       → IsOtherEffect (of_purpose tape fixed path purpose system words c reads)
@@ -162,17 +178,20 @@ module _ (tape : List ControlProgram) where
       values_other fixed path system words c (words_taken fixed path (sense_of path purpose system words) words nothing_said reads)
       (words_other fixed path (sense_of path purpose system words) words nothing_said reads)
 
+  -- a block of words,
   block_other : (fixed : Fixed) (path : PathView) (purpose : Purpose) (system : System) (words : List FlowWord) (c : Control)
       (reads : List Var)
       → IsOtherEffect (block_of_words tape fixed path purpose system words c reads)
   block_other fixed path purpose system words (control.Wait code) reads = tt
   block_other fixed path purpose system words c reads = purpose_other fixed path purpose system words c reads
 
+  -- a statement,
   after_other : (after : Outcome After) → IsOtherAlarm after → IsOtherEffect (of_after after)
   after_other (Gives after left) other = tt
   after_other (Needs variable) other = tt
   after_other (Alarms number value) other = other
 
+  -- a block by its body,
   body_other : (fixed : Fixed) (path : PathView) (body : FlowBody) (c : Control) (reads : List Var)
       → IsOtherEffect (effect_of_body tape fixed path body c reads)
   body_other fixed path (Words words) c reads = block_other fixed path words.purpose words.dialect.system words.words c reads
@@ -180,6 +199,7 @@ module _ (tape : List ControlProgram) where
       after_other (statement_effect tape fixed path (sentence_of statement.statement) reads)
       (statement_other fixed path tape (sentence_of statement.statement) reads)
 
+  -- a block that was found, or none
   found_other : (path : PathView) (found : Option FlowBlock) (reads : List Var)
       → IsOtherEffect (effect_of_block tape path found reads)
   found_other path None reads = refl

@@ -53,10 +53,12 @@ record IsPaired (left right : List ControlProgram) (all : List Label) (m : Machi
   sound : m.alarm ≡ None → IsSound left right all m
   never : (alarm : Alarm) → m.alarm ≡ Some alarm → alarm.cause ≢ cause_number WaitDiffers
 
+-- of two facts one holds, in either order
 one_swap : {A B : Type 0} → A ⊎ B → B ⊎ A
 one_swap (inl a) = inr a
 one_swap (inr b) = inl b
 
+-- the invariant holds with the paths changed over,
 sound_swap : (left right : List ControlProgram) (all : List Label) (m : MachineView) → IsSound left right all m → IsSound right left all (own_first Two m)
 sound_swap left right all m s = record {
   first = s.second;
@@ -65,18 +67,20 @@ sound_swap left right all m s = record {
   one = one_swap s.one;
 }
 
+-- and so it does beside an alarm
 paired_swap : (left right : List ControlProgram) (all : List Label) (m : MachineView) → IsPaired left right all m
     → IsPaired right left all (own_first Two m)
 paired_swap left right all m k = record { sound = λ e. sound_swap left right all m (k.sound e); never = k.never }
 
+-- a machine without an alarm has none
 no_alarm : {A : Type 0} {x : Option Alarm} {alarm : Alarm} → x ≡ None → x ≡ Some alarm → A
 no_alarm e d = absurd cc
 
--- a machine without an alarm
+-- without an alarm the invariant is that both paths are sound
 calmly : (left right : List ControlProgram) (all : List Label) (m : MachineView) → m.alarm ≡ None → IsSound left right all m → IsPaired left right all m
 calmly left right all m calm s = record { sound = λ _. s; never = λ alarm e. no_alarm calm e }
 
--- what its block leaves behind
+-- a block that is done keeps the invariant,
 done_sound : (left right : List ControlProgram) → KeepsLabels left → (path : Path) (line : ℕ) (m : MachineView) (to : PathView) (write : Option Written) (moves : List Move)
     → IsSound left right (list left) m → m.paths.one.waiting ≡ None → m.paths.one.finished ≡ false → Step left m.paths.one.path.place to.place
     → IsSound left right (list left) (result_by path line m (Done to write moves)).machine
@@ -89,6 +93,7 @@ done_sound left right law path line m to write moves s awake going step =
       one = inl awake;
     }
 
+-- and so does the end of a path
 end_sound : (left right : List ControlProgram) (path : Path) (line : ℕ) (m : MachineView) (to : PathView) (moves : List Move)
     → IsSound left right (list left) m → m.paths.one.waiting ≡ None → standing left m.paths.one.path.place ≡ Some control.End → to.place ≡ m.paths.one.path.place
     → IsSound left right (list left) (result_by path line m (AtEnd to moves)).machine
@@ -108,6 +113,7 @@ meeting left right here_law there_law m s code there is waits =
     let other = (there_law.wait m.paths.two.path.place there s.second.place (s.second.waits there waits)).1 in
     agree_waits (list left) (ahead left (place_behind m.paths.one.path.place)) (ahead right (place_behind m.paths.two.path.place)) code there (rw (← here, ← other) (s.agree))
 
+-- a turn at a wait keeps it, and never raises the alarm of waits that differ
 wait_paired : (left right : List ControlProgram) → KeepsLabels left → KeepsLabels right → (path : Path) (line : ℕ) (m : MachineView) → m.alarm ≡ None
     → IsSound left right (list left) m → m.paths.one.finished ≡ false → (code : ℕ) → standing left m.paths.one.path.place ≡ Some (control.Wait code)
     → (o : Option ℕ) → m.paths.two.waiting ≡ o → IsPaired left right (list left) (result_at_wait path line m code o).machine
@@ -153,6 +159,7 @@ alarm_paired left right a raises all path line m number value x values is = reco
     cause_in None = 0
     cause_in (Some alarm) = alarm.cause
 
+-- so does a turn by what the block comes to
 by_paired : (left right : List ControlProgram) (a : Blocks) → RaisesNoCrossing a → KeepsLabels left → KeepsLabels right → (path : Path) (line : ℕ) (m : MachineView) → m.alarm ≡ None
     → IsSound left right (list left) m → m.paths.one.waiting ≡ None → m.paths.one.finished ≡ false → (e : Effect) → GoesAsOrdered left m.paths.one.path e
     → a.effect m.paths.one.path m.paths.one.values ≡ e → IsPaired left right (list left) (result_by path line m e).machine
@@ -174,12 +181,14 @@ by_paired left right a raises law law' path line m calm s awake going (AtEnd to 
 by_paired left right a raises law law' path line m calm s awake going (effect.Alarm number value) goes is =
     alarm_paired left right a raises (list left) path line m number value m.paths.one.path m.paths.one.values is
 
+-- a path that isn't still has no alarm, no end and no wait
 awake_all : (x : Option Alarm) (f : Bool) (o : Option ℕ) → (is_some x || (f || is_some o)) ≡ false → (x ≡ None) × (f ≡ false) × (o ≡ None)
 awake_all (Some x) f o e = absurd cc
 awake_all None true o e = absurd cc
 awake_all None false (Some n) e = absurd cc
 awake_all None false None e = (refl, refl, refl)
 
+-- each turn of the path whose part is first keeps the invariant
 turn_paired : (left right : List ControlProgram) (a : Blocks) → RaisesNoCrossing a → KeepsLabels left → KeepsLabels right → AreLed left a → (path : Path) (m : MachineView)
     → IsPaired left right (list left) m → IsPaired left right (list left) (own_turn a path m).machine
 turn_paired left right a raises law law' led path m k = go (is_still m) refl
@@ -224,6 +233,7 @@ edit_paired left right all m edit k Two = record {
   never = k.never;
 }
 
+-- so does each event,
 event_paired : (left right : List ControlProgram) (tapes : Tapes) → IsLawfulPair left right tapes → (e : Event) (m : MachineView)
     → IsPaired left right (list left) m → IsPaired left right (list left) (behind_event tapes e m)
 event_paired left right tapes pair (TurnOf One) m k = turn_paired left right tapes.one pair.first_raises pair.first pair.second pair.first_led One m k
@@ -241,12 +251,14 @@ event_paired left right tapes pair (EditOf p edit) m k = go m.alarm
     go (Some alarm) = k
     go None = edit_paired left right (list left) m edit k p
 
+-- and each list of events
 run_paired : (left right : List ControlProgram) (tapes : Tapes) → IsLawfulPair left right tapes → (es : List Event) (m : MachineView)
     → IsPaired left right (list left) m → IsPaired left right (list left) (run tapes m es)
 run_paired left right tapes pair [] m k = k
 run_paired left right tapes pair (e ∷ es) m k =
     run_paired left right tapes pair es (behind_event tapes e m) (event_paired left right tapes pair e m k)
 
+-- the invariant holds if both paths begin their main programs
 opening_paired : (left right : List ControlProgram) (tapes : Tapes) → IsLawfulPair left right tapes → (first second : PathView)
     → first.place ≡ start left → second.place ≡ start right
     → IsPaired left right (list left) (opening first second)
@@ -274,11 +286,13 @@ waiting_stuck left right law law' all m s false fe (Some code) oe un i false fe'
     go (inl e) = absurd cc
     go (inr e) = absurd cc
 
+-- an unfinished first path isn't stuck while both are idle,
 first_stuck : (left right : List ControlProgram) → KeepsLabels left → KeepsLabels right → (all : List Label) (m : MachineView) → IsSound left right all m
     → m.paths.one.finished ≡ false → is_idle m.paths.one ≡ true → is_idle m.paths.two ≡ true → ⊥
 first_stuck left right law law' all m s un i i' =
     waiting_stuck left right law law' all m s m.paths.one.finished refl m.paths.one.waiting refl un i m.paths.two.finished refl m.paths.two.waiting refl i'
 
+-- so the machine isn't,
 not_stuck : (left right : List ControlProgram) → KeepsLabels left → KeepsLabels right → (all : List Label) (m : MachineView)
     → (m.alarm ≡ None → IsSound left right all m) → IsStuck m → ⊥
 not_stuck left right law law' all m sound stuck = go stuck.unfinished
@@ -287,12 +301,14 @@ not_stuck left right law law' all m sound stuck = go stuck.unfinished
     go (inl un) = first_stuck left right law law' all m (sound stuck.calm) un stuck.first stuck.second
     go (inr un) = first_stuck right left law' law all (own_first Two m) (sound_swap left right all m (sound stuck.calm)) un stuck.second stuck.first
 
+-- and no path comes to a wait while the other waits at another
 not_crossed : (left right : List ControlProgram) (a : Blocks) → KeepsLabels left → KeepsLabels right → AreLed left a → (m : MachineView)
     → (m.alarm ≡ None → IsSound left right (list left) m) → IsCrossed a m → ⊥
 not_crossed left right a law law' led m sound x =
     let goes : GoesAsOrdered left m.paths.one.path (AtWait x.code) = subst (GoesAsOrdered left m.paths.one.path) x.comes (led m.paths.one.path m.paths.one.values) in
     x.differs (meeting left right law law' m (sound x.calm) x.code x.there goes x.waits).0
 
+-- all three together of a machine with the invariant
 free : (left right : List ControlProgram) (tapes : Tapes) → IsLawfulPair left right tapes → (m : MachineView)
     → IsPaired left right (list left) m → IsFree tapes m
 free left right tapes pair m k = record {
@@ -306,7 +322,7 @@ free left right tapes pair m k = record {
     crossed Two x = not_crossed right left tapes.two pair.second pair.first pair.second_led (own_first Two m)
         (λ e. subst (λ all. IsSound right left all (own_first Two m)) pair.equal (sound_swap left right (list left) m (k.sound e))) x
 
--- whatever the order of events
+-- so neither path is ever stuck, whatever the order of events
 pub run_free : (left right : List ControlProgram) (tapes : Tapes) → IsLawfulPair left right tapes → (first second : PathView)
     → first.place ≡ start left → second.place ≡ start right → (es : List Event) → IsFree tapes (run tapes (opening first second) es)
 run_free left right tapes pair first second at at' es =

@@ -26,6 +26,7 @@ Alike path line m e =
     ((result_by path line (alone m) e).turn ≡ (result_by path line m e).turn)
     × (without_reads (result_by path line (alone m) e).machine ≡ without_reads (result_by path line m e).machine)
 
+-- a turn at a wait doesn't see what the other path's block has read
 wait_alike : (path : Path) (line : ℕ) (m : MachineView) (code : ℕ) (o : Option ℕ)
     → ((result_at_wait path line (alone m) code o).turn ≡ (result_at_wait path line m code o).turn)
     × (without_reads (result_at_wait path line (alone m) code o).machine ≡ without_reads (result_at_wait path line m code o).machine)
@@ -46,6 +47,7 @@ by_alike path line m (AtWait code) = wait_alike path line m code m.paths.two.wai
 by_alike path line m (AtEnd to moves) = (refl, refl)
 by_alike path line m (effect.Alarm number value) = (refl, refl)
 
+-- each turn at a wait makes a record
 wait_records : (path : Path) (line : ℕ) (m : MachineView) (code : ℕ) (o : Option ℕ) → kind_of (result_at_wait path line m code o).turn ≡ None → ⊥
 wait_records path line m code None e = cc
 wait_records path line m code (Some there) e = go (code == there) e
@@ -68,6 +70,7 @@ abbrev MakesFirst : Blocks → Path → MachineView → MachineView → Option E
 MakesFirst blocks path b to None stamps = to ≡ b
 MakesFirst blocks path b to (Some kind) stamps = IsStep blocks path b kind stamps × (behind_step blocks path stamps b ≡ to)
 
+-- each turn of the first path makes nothing, or the record that follows
 turn_makes : (blocks : Blocks) (path : Path) (m : MachineView) → IsLawful blocks m → (k : Option EntryKind) → kind_of (own_turn blocks path m).turn ≡ k
     → MakesFirst blocks path (without_reads m) (without_reads (own_turn blocks path m).machine) k m.paths.one.stamps
 turn_makes blocks path m l k e = go (is_still m) refl k e
@@ -90,17 +93,20 @@ turn_makes blocks path m l k e = go (is_still m) refl k e
           rw (← l.values) (ap (λ r. without_reads r.machine) same ∙ alike.1 ∙ ap (λ r. without_reads r.machine) (sym is)),
         )
 
+-- what a turn of either path makes: nothing, or a record that follows
 Makes : Tapes → MachineView → MachineView → Path → Option EntryKind → List ℕ → Type 0
 Makes tapes b to path None stamps = to ≡ b
 Makes tapes b to path (Some kind) stamps =
     IsNext tapes b (entry path kind stamps) × (behind_entry tapes (entry path kind stamps) b ≡ to)
 
+-- that of the first path is so,
 makes_first : (tapes : Tapes) (b to : MachineView) (k : Option EntryKind) (ks : List ℕ) → MakesFirst tapes.one One b to k ks → Makes tapes b to One k ks
 unfolding Makes
 makes_first tapes b to None ks h = h
 makes_first tapes b to (Some k) ks h =
     (inl h.0, behind_step_entry tapes b (entry One k ks) (step_no_edit tapes.one One b k ks h.0) ∙ h.1)
 
+-- and that of the second
 makes_second : (tapes : Tapes) (b to : MachineView) (k : Option EntryKind) (ks : List ℕ) → MakesFirst tapes.two Two (own_first Two b) to k ks → Makes tapes b (own_first Two to) Two k ks
 unfolding Makes
 makes_second tapes b to None ks h = ap (own_first Two) h
@@ -109,6 +115,7 @@ makes_second tapes b to (Some k) ks h = (
   behind_step_entry tapes b (entry Two k ks) (step_no_edit tapes.two Two (own_first Two b) k ks h.0) ∙ ap (own_first Two) h.1,
 )
 
+-- what one event makes, and a legal history behind it, are a legal history together
 joins : (tapes : Tapes) (b to end : MachineView) (p : Path) (k : Option EntryKind) (ks : List ℕ) (rs : List Entry) → Makes tapes b to p k ks
     → IsLegal tapes to rs → fold tapes to rs ≡ end
     → IsLegal tapes b (list_of (entry_with p ks k) ++ rs) × (fold tapes b (list_of (entry_with p ks k) ++ rs) ≡ end)
@@ -116,6 +123,7 @@ unfolding Makes
 joins tapes b to end p None ks rs may legal folds = rw (← may) (legal, folds)
 joins tapes b to end p (Some k) ks rs may legal folds = ((may.0, rw may.1 legal), rw may.1 folds)
 
+-- the same of any event of lawful paths
 pub joins_event : (tapes : Tapes) (m end : MachineView) (e : Event) (rs : List Entry) → AreLawful tapes m
     → IsLegal tapes (without_reads (behind_event tapes e m)) rs → fold tapes (without_reads (behind_event tapes e m)) rs ≡ end
     → IsLegal tapes (without_reads m) (records_of tapes e m ++ rs) × (fold tapes (without_reads m) (records_of tapes e m ++ rs) ≡ end)
@@ -145,6 +153,7 @@ joins_event tapes m end (EditOf p edit) rs s = go m.alarm refl
       rw (bare p) folds,
     )
 
+-- the records of any events are a legal history from a lawful machine on
 pub history_from : (tapes : Tapes) (m : MachineView) (es : List Event) → AreLawful tapes m → IsHistory tapes m es
 history_from tapes m [] s = record { legal = tt; folds = refl; lawful = s }
 history_from tapes m (e ∷ es) s =

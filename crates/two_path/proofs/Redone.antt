@@ -30,11 +30,13 @@ asked low count stamp path reads e v due asks = subst (AsksForShared path reads)
 stamp_at : (all : List ℕ) (i : ℕ) → i < length all → drop i all ≡ slice_index_or all i 0 ∷ drop (i + 1) all
 stamp_at all i within = drop_more all i 0 within
 
+-- before the first stamp nothing has been read again
 pub begins_at : (blocks : Blocks) (start : Part) (joint : JointView) (low : ℕ) (all : List ℕ) → low ≡ start.since → part_without_reads start ≡ start
     → IsReplaying blocks start start joint.shared.writes joint.count low all all
 begins_at blocks start joint low all e bare =
     subst (λ n. IsReplaying blocks start start joint.shared.writes joint.count n all all) (sym e) (begins blocks start joint.shared.writes joint.count all bare)
 
+-- one read more keeps what the loop says
 pub goes_on_at : (blocks : Blocks) (start now after : Part) (joint : JointView) (low i : ℕ) (all : List ℕ) → i < length all
     → IsReplaying blocks start now joint.shared.writes joint.count low all (drop i all) → IsReadAgain blocks joint low (slice_index_or all i 0) now after
     → IsReplaying blocks start after joint.shared.writes joint.count (slice_index_or all i 0) all (drop (i + 1) all)
@@ -45,6 +47,7 @@ goes_on_at blocks start now after joint low i all within k again =
     subst (λ (p : Part). IsReplaying blocks start p joint.shared.writes joint.count stamp all (drop (i + 1) all)) (sym (again.part))
     (goes_on blocks start now joint.shared.writes joint.count low stamp again.variable all (drop (i + 1) all) here again.due)
 
+-- if no read with this stamp is due, the block may not have read with all these stamps
 pub stops_at : (blocks : Blocks) (start now after : Part) (joint : JointView) (low i : ℕ) (all : List ℕ) → i < length all → part_without_reads start ≡ start
     → IsReplaying blocks start now joint.shared.writes joint.count low all (drop i all) → IsUnread blocks joint low (slice_index_or all i 0) now after
     → MayNotRead blocks joint all start after
@@ -57,6 +60,7 @@ stops_at blocks start now after joint low i all within bare k unread =
       rest = ap part_without_reads (unread.unchanged) ∙ rests blocks start now joint.shared.writes joint.count low all (drop i all) bare k;
     }
 
+-- behind the last stamp the block has read what all stamps stand for
 pub ends_at : (blocks : Blocks) (start now : Part) (joint : JointView) (low i : ℕ) (all : List ℕ) → length all ≤ i
     → IsReplaying blocks start now joint.shared.writes joint.count low all (drop i all) → HasRead blocks joint all start now
 ends_at blocks start now joint low i all past k =
@@ -67,6 +71,7 @@ ends_at blocks start now joint low i all past k =
       part = has_read blocks start now joint.shared.writes joint.count low all here;
     }
 
+-- what a block reads again changes nothing of what both paths share
 pub shared_still : (blocks : Blocks) (start now : Part) (joint : JointView) (low : ℕ) (all left : List ℕ)
     → IsReplaying blocks start now joint.shared.writes joint.count low all left → AreShared start joint → AreShared now joint
 shared_still blocks start now joint low all left k shared = record {
@@ -74,14 +79,17 @@ shared_still blocks start now joint low all left k shared = record {
   upper = shared.upper ∙ ap (λ (p : Part). p.path.fixed.shared500) (sym (k.part));
 }
 
+-- what holds anyway holds of an error,
 pub on_err : {A E : Type 0} (r : Result A E) {P : Type 0} → P → OnErr r P
 on_err (Ok x) p = tt
 on_err (Err e) p = p
 
+-- and of a success
 pub on_ok : {A E : Type 0} (r : Result A E) {P : Type 0} → P → OnOk r P
 on_ok (Ok x) p = p
 on_ok (Err e) p = tt
 
+-- the kind of the record of a turn at a wait
 kind_at : (path : Path) (line : ℕ) (m : MachineView) (code : ℕ) (o : Option ℕ) → kind_of (result_at_wait path line m code o).turn ≡ Some (kind_at_wait code o)
 kind_at path line m code None = refl
 kind_at path line m code (Some there) = go (code == there) refl
@@ -109,6 +117,7 @@ kind_read blocks path stamps start now other joint awake is =
     ∙ kind_by path (blocks.line m.paths.one.path.place) m (blocks.effect m.paths.one.path m.paths.one.values)
     ∙ ap (λ (p : Part). kind_of_effect (blocks.effect p.path p.values) other.waiting) (sym is)
 
+-- a record whose kind is that of the path's block with these reads is legal there
 pub fit : (blocks : Blocks) (entry : Entry) (start now other : Part) (joint : JointView) → is_still (machine_of start other joint) ≡ false
     → HasRead blocks joint entry.stamps start now → kind_of_effect (blocks.effect now.path now.values) other.waiting ≡ Some entry.kind
     → IsFit blocks entry other joint start now
@@ -128,10 +137,12 @@ unfit_still blocks entry start other joint still none = record {
   rest = none;
 }
 
+-- a record isn't legal whose block may not have read so,
 pub unfit_reads : (blocks : Blocks) (entry : Entry) (start now other : Part) (joint : JointView) → MayNotRead blocks joint entry.stamps start now
     → IsUnfit blocks entry other joint start now
 unfit_reads blocks entry start now other joint may = record { illegal = λ step. may.illegal other (step.reads); rest = may.rest }
 
+-- or whose kind is another
 pub unfit_kind : (blocks : Blocks) (entry : Entry) (start now other : Part) (joint : JointView) → is_still (machine_of start other joint) ≡ false
     → part_without_reads start ≡ start → HasRead blocks joint entry.stamps start now
     → (kind_of_effect (blocks.effect now.path now.values) other.waiting ≡ Some entry.kind → ⊥) → IsUnfit blocks entry other joint start now
@@ -140,6 +151,7 @@ unfit_kind blocks entry start now other joint awake none has differs = record {
   rest = ap part_without_reads (has.part) ∙ none;
 }
 
+-- a turn at a wait leaves no reads of the other path, if it had none
 wait_bare : (path : Path) (line : ℕ) (m : MachineView) (code : ℕ) (o : Option ℕ) → part_without_reads m.paths.two ≡ m.paths.two
     → without_reads (result_at_wait path line m code o).machine ≡ (result_at_wait path line m code o).machine
 wait_bare path line m code None none = ap (λ (p : Part). record (with_arrival code m) { paths = record (with_arrival code m).paths { two = p } }) none
@@ -177,6 +189,7 @@ done blocks entry start now other joint after turn fit none machine answer =
       answer = answer ∙ ap (λ (p : Part). (block_turn blocks entry.path (machine_of p other joint)).turn) (fit.part) ∙ ap (λ r. r.turn) (sym own);
     }
 
+-- an illegal record is refused, and the machine is as it was
 pub refused : (blocks : Blocks) (entry : Entry) (start now after other : Part) (joint : JointView) → IsUnfit blocks entry other joint start now
     → after ≡ part_without_reads now → IsStepRefused blocks entry.path entry.kind entry.stamps (machine_of start other joint) (machine_of after other joint)
 refused blocks entry start now after other joint unfit is = record {
@@ -184,17 +197,18 @@ refused blocks entry start now after other joint unfit is = record {
   unchanged = ap (λ (p : Part). machine_of p other joint) (is ∙ unfit.rest);
 }
 
--- nothing changes, and nothing is lost
+-- a joint part lasts as it is: nothing changes, and no room is lost
 pub lasts : (joint : JointView) → IsLasting joint joint
 lasts joint = record { hundreds = refl; upper = refl; room = omega arith }
 
+-- and the parts stay ready for another record
 pub still_ready : (tape other_tape : List ControlProgram) (start now after other : Part) (joint : JointView) (blocks : Blocks) (entry : Entry)
     → AreReady tape other_tape start other joint → IsUnfit blocks entry other joint start now → after ≡ part_without_reads now
     → AreReady tape other_tape after other joint
 still_ready tape other_tape start now after other joint blocks entry ready unfit is =
     subst (λ (p : Part). AreReady tape other_tape p other joint) (sym (is ∙ unfit.rest)) ready
 
--- what a path that has read again shares
+-- a path that has read again shares the same variables
 pub fit_shared : (blocks : Blocks) (entry : Entry) (start now other : Part) (joint : JointView) → IsFit blocks entry other joint start now
     → AreShared start joint → AreShared now joint
 fit_shared blocks entry start now other joint fit shared =
@@ -220,6 +234,6 @@ ready_behind tape other_tape blocks led keeps path kind stamps me other me' othe
       other_reads = ap (λ (m : MachineView). m.paths.two) bare;
     }
 
--- a test that holds, and does not
+-- no test both holds and doesn't
 pub not_due : (b : Bool) → IsTrue b → b ≡ false → ⊥
 not_due b is e = cc

@@ -16,17 +16,23 @@ use Rattle.two_path.specs.Histories.{value_asked, and_next, values_from, values_
 use Rattle.two_path.specs.Again.{variable_asked, variable_due}
 use Rattle.two_path.specs.Joined.{JointView, machine_of, AreShared}
 
--- the block may have read so from here on
+-- the block may read with these stamps from here on: they are in order, and it asks for each
 abbrev Reads : Blocks → PathView → List Write → ℕ → ℕ → List Var → List ℕ → Type 0
 Reads blocks path writes low count values stamps = AreInOrder low count stamps × AsksFrom blocks path writes values stamps
 
+-- the loop over the stamps of a record: some are read again, and these are left
 pub record IsReplaying (blocks : Blocks) (start now : Part) (writes : List Write) (count low : ℕ) (all left : List ℕ) : Type 0 where
+  -- but for what its block has read the path is as at the start
   pub part : now ≡ record start { values = now.values; stamps = now.stamps }
+  -- the stamps read and those left are all stamps
   pub stamps : now.stamps ++ left ≡ all
   pub values : values_from blocks start.path writes now.values left ≡ values_at blocks start.path writes all
+  -- if the rest may be read so, all of it may,
   pub forth : Reads blocks start.path writes low count now.values left → Reads blocks start.path writes start.since count [] all
+  -- and the other way round
   pub back : Reads blocks start.path writes start.since count [] all → Reads blocks start.path writes low count now.values left
 
+-- before the first stamp
 pub begins : (blocks : Blocks) (start : Part) (writes : List Write) (count : ℕ) (all : List ℕ) → part_without_reads start ≡ start
     → IsReplaying blocks start start writes count start.since all all
 begins blocks start writes count all bare =
@@ -40,7 +46,7 @@ begins blocks start writes count all bare =
       back = λ r. (r.0, subst (λ vs. AsksFrom blocks start.path writes vs all) values r.1);
     }
 
--- a read that is due is in order, and the block asks for it
+-- a read that is due is in order, and the block asks for it;
 pub due_some : (low count stamp : ℕ) (e : Effect) (v : ℕ) → variable_due low count stamp e ≡ Some v → (low ≤ stamp) × (stamp ≤ count) × (e ≡ Need v)
 due_some low count stamp e v is = go (nat_le low stamp) refl (nat_le stamp count) refl is
   where
@@ -54,6 +60,7 @@ due_some low count stamp e v is = go (nat_le low stamp) refl (nat_le stamp count
     go true a false b is = absurd cc
     go false a y b is = absurd cc
 
+-- if none is due, a stamp in order is one that the block doesn't ask for
 pub due_none : (low count stamp : ℕ) (e : Effect) (v : ℕ) → variable_due low count stamp e ≡ None → low ≤ stamp → stamp ≤ count → e ≡ Need v → ⊥
 due_none low count stamp e v is a b need =
     let x : nat_le low stamp ≡ true = grind (arith, nat_tests) in
@@ -62,6 +69,7 @@ due_none low count stamp e v is a b need =
     let there : variable_asked (Need v) ≡ None = subst (λ x. variable_asked x ≡ None) need asked in
     cc there
 
+-- one stamp more is read
 pub goes_on : (blocks : Blocks) (start now : Part) (writes : List Write) (count low stamp v : ℕ) (all left : List ℕ)
     → IsReplaying blocks start now writes count low all (stamp ∷ left) → variable_due low count stamp (blocks.effect now.path now.values) ≡ Some v
     → IsReplaying blocks start (record now { values = now.values ++ value_after stamp v writes ∷ []; stamps = now.stamps ++ stamp ∷ [] }) writes count stamp all left
@@ -79,6 +87,7 @@ goes_on blocks start now writes count low stamp v all left k due =
       back = λ r. let b = k.back r in (b.0.2, subst (λ vs. AsksFrom blocks start.path writes vs left) next b.1.1);
     }
 
+-- a stamp that isn't due makes the whole list illegal
 pub stops : (blocks : Blocks) (start now other : Part) (joint : JointView) (low stamp : ℕ) (all left : List ℕ)
     → IsReplaying blocks start now joint.shared.writes joint.count low all (stamp ∷ left)
     → variable_due low joint.count stamp (blocks.effect now.path now.values) ≡ None
@@ -88,28 +97,31 @@ stops blocks start now other joint low stamp all left k due may =
     let b = k.back (may.order, may.asks) in
     due_none low joint.count stamp (blocks.effect now.path now.values) b.1.0.0 due b.0.0 b.0.1 (ap (λ p. blocks.effect p now.values) at ∙ b.1.0.1)
 
+-- without its reads the path is as at the start
 pub rests : (blocks : Blocks) (start now : Part) (writes : List Write) (count low : ℕ) (all left : List ℕ) → part_without_reads start ≡ start
     → IsReplaying blocks start now writes count low all left → part_without_reads now ≡ start
 rests blocks start now writes count low all left bare k = ap part_without_reads (k.part) ∙ bare
 
+-- once no stamp is left, the block may have read with all of them,
 pub may_read : (blocks : Blocks) (start now other : Part) (joint : JointView) (low : ℕ) (all : List ℕ)
     → IsReplaying blocks start now joint.shared.writes joint.count low all [] → MayRead blocks (machine_of start other joint) all
 may_read blocks start now other joint low all k = let r = k.forth (tt, tt) in record { order = r.0; asks = r.1 }
 
+-- and has read what they stand for
 pub has_read : (blocks : Blocks) (start now : Part) (writes : List Write) (count low : ℕ) (all : List ℕ) → IsReplaying blocks start now writes count low all []
     → now ≡ record start { values = values_at blocks start.path writes all; stamps = all }
 has_read blocks start now writes count low all k =
     k.part ∙ ap (λ vs. record start { values = vs; stamps = now.stamps }) (k.values)
     ∙ ap (λ ks. record start { values = values_at blocks start.path writes all; stamps = ks }) (sym (append-nil now.stamps) ∙ k.stamps)
 
--- what a block needs is shared by both
+-- a variable that a block needs and that its path shares is one that both share,
 pub needs_shared : (part : Part) (joint : JointView) (v : ℕ) → AreShared part joint → is_shared part.path.fixed v ≡ true → IsShared joint.shared.shared100 joint.shared.shared500 v
 needs_shared part joint v shared e = rw (shared.hundreds, shared.upper) (of_fixed part.path.fixed v e)
   where
     of_fixed : (fixed : Fixed) (v : ℕ) → is_shared fixed v ≡ true → IsShared fixed.shared100 fixed.shared500 v
     of_fixed fixed v e = grind (arith, nat_tests)
 
--- and so is what it writes
+-- and so is one that it writes
 pub writes_shared : (part : Part) (joint : JointView) (e : Effect) (after : PathView) (write : Option (ℕ × Var)) (moves : List Move) → AreShared part joint
     → ((to : PathView) (w : Written) (ms : List Move) → e ≡ Done to (Some w) ms → is_shared part.path.fixed w.variable ≡ true)
     → Done after (write_seen write) moves ≡ e → IfSome write (λ w. IsShared joint.shared.shared100 joint.shared.shared500 w.0)

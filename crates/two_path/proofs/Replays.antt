@@ -1,4 +1,5 @@
 -- A history that is done again record by record.
+-- lathe_calls, move_list, run_table, trace_list and zone_check use these lemmas.
 use Rattle.std.proofs.Common.{◌≡◌, ℕ, ◌+◌, ◌<◌, ◌≤◌, List, [], ◌∷◌, ◌++◌, length, take, drop, get_or, append_assoc, append-nil, length-take-le, sym, subst, ◌∙◌, ap, Option, Some, None}
 use Rattle.std.proofs.lemmas.List.{at_drop_all, take_more, drop_more}
 use Rattle.block_order.specs.declared.program.ControlProgram.{ControlProgram}
@@ -15,15 +16,16 @@ use Rattle.two_path.proofs.Folds.{fold_push}
 use Rattle.nc_outside.specs.declared.lined_move.LinedMove.{LinedMove}
 use Rattle.two_path.specs.Made.{PathTurn, made_by, moves_in, turns_from}
 
--- the turn of a record
+-- the turn of a record, with whose it was
 abbrev pub turn_at : Tapes → MachineView → Entry → PathTurn
 turn_at tapes m e = record { path = e.path; turn = turn_of_entry tapes e m }
 
--- the records from one on, and those up to it
+-- the records from one on are that record and those behind it,
 pub records_from : (entries : List Entry) (i : ℕ) (e : Entry) → i < length entries → e ≡ get_or entries i e
     → drop i entries ≡ e ∷ drop (i + 1) entries
 records_from entries i e within is = drop_more entries i e within ∙ ap (λ x. x ∷ drop (i + 1) entries) (sym is)
 
+-- and those up to it are those before and it
 pub records_to : (entries : List Entry) (i : ℕ) (e : Entry) → i < length entries → e ≡ get_or entries i e
     → take (i + 1) entries ≡ take i entries ++ e ∷ []
 records_to entries i e within is = take_more entries i e within ∙ ap (λ x. take i entries ++ x ∷ []) (sym is)

@@ -25,7 +25,7 @@ use Rattle.two_path.proofs.Idle.{is_still, own_awake, awake_of}
 use Rattle.two_path.proofs.Edited.{entry, calmly, step_no_edit, behind_step_entry, behind_edit_entry, entry_bare}
 use Rattle.two_path.proofs.Lawful.{next_written, values_written, values_push}
 
--- a list from its end
+-- what holds of the empty list, and of each list with one more at its end, holds of all lists
 pub from_end : {X : Type 0} (P : List X → Type 0) → P [] → ((xs : List X) (x : X) → P xs → P (xs ++ x ∷ [])) → (xs : List X) → P xs
 from_end P none more [] = none
 from_end P none more (x ∷ xs) = from_end (λ ys. P (x ∷ ys)) (more [] x none) (λ ys y p. more (x ∷ ys) y p) xs
@@ -35,11 +35,12 @@ pub legal_front : (tapes : Tapes) (m : MachineView) (rs : List Entry) (e : Entry
 legal_front tapes m [] e legal = (tt, legal.0)
 legal_front tapes m (r ∷ rs) e legal = let rest = legal_front tapes (behind_entry tapes r m) rs e legal.1 in ((legal.0, rest.0), rest.1)
 
--- one event more at the end
+-- one event more at the end: its machine is that behind it,
 run_push : (tapes : Tapes) (m : MachineView) (es : List Event) (e : Event) → run tapes m (es ++ e ∷ []) ≡ behind_event tapes e (run tapes m es)
 run_push tapes m [] e = refl
 run_push tapes m (f ∷ es) e = run_push tapes (behind_event tapes f m) es e
 
+-- its records are added at the end
 history_push : (tapes : Tapes) (m : MachineView) (es : List Event) (e : Event)
     → history tapes m (es ++ e ∷ []) ≡ history tapes m es ++ records_of tapes e (run tapes m es)
 history_push tapes m [] e = append-nil (records_of tapes e m)
@@ -52,20 +53,24 @@ record Ready (blocks : Blocks) (m : MachineView) (ks : List ℕ) : Type 0 where
   may : MayRead blocks m ks
   idle : is_still m ≡ true → ks ≡ []
 
+-- each stamp is less than this number
 abbrev Below : ℕ → List ℕ → Type 0
 Below c [] = Unit {0}
 Below c (k ∷ ks) = (k < c) × Below c ks
 
+-- a path whose block has read these values with these stamps
 abbrev reading : List Var → List ℕ → Part → Part
 reading values ks p = record p { values = values; stamps = ks }
 
--- with these values read, whatever the stamps, and the other's
+-- a machine in which both paths' blocks have read these values, whatever the stamps
 abbrev both : List Var → List ℕ → List Var → List ℕ → MachineView → MachineView
 both values ks others ko m = record m { paths = record { one = reading values ks m.paths.one; two = reading others ko m.paths.two } }
 
+-- a machine in which both paths' blocks have read what these stamps stand for
 abbrev loaded : Blocks → Blocks → List ℕ → List ℕ → MachineView → MachineView
 loaded a b ks ko m = both (values_at a m.paths.one.path m.writes ks) ks (values_at b m.paths.two.path m.writes ko) ko m
 
+-- a block that asks so with a later write asked so without it
 asks_before : (blocks : Blocks) (path : PathView) (o : Option Written) (ws : List Write) (c low : ℕ) (rs : List Var) (ks : List ℕ)
     → AreInOrder low c ks → AsksFrom blocks path (with_write (c + 1) o ws) rs ks → AsksFrom blocks path ws rs ks
 asks_before blocks path o ws c low rs [] i a = tt
@@ -75,11 +80,13 @@ asks_before blocks path o ws c low rs (k ∷ ks) i a = (
       (subst (λ xs. AsksFrom blocks path (with_write (c + 1) o ws) xs ks) (next_written blocks path o ws c k rs i.1) a.1),
 )
 
+-- a block that asks for one read more asks for those before, and then for that
 asks_front : (blocks : Blocks) (path : PathView) (ws : List Write) (rs : List Var) (ks : List ℕ) (k : ℕ) → AsksFrom blocks path ws rs (ks ++ k ∷ [])
     → AsksFrom blocks path ws rs ks × ((v : ℕ) × (blocks.effect path (values_from blocks path ws rs ks) ≡ Need v))
 asks_front blocks path ws rs [] k a = (tt, a.0)
 asks_front blocks path ws rs (j ∷ ks) k a = let rest = asks_front blocks path ws (and_next blocks path ws j rs) ks k a.1 in ((a.0, rest.0), rest.1)
 
+-- stamps in order are so without the last, which lies between both bounds
 order_front : (low high : ℕ) (ks : List ℕ) (k : ℕ) → AreInOrder low high (ks ++ k ∷ []) → AreInOrder low high ks × (low ≤ k) × (k ≤ high)
 order_front low high [] k i = (tt, i.0, i.1)
 order_front low high (j ∷ ks) k i =
@@ -87,6 +94,7 @@ order_front low high (j ∷ ks) k i =
     let le : low ≤ k = omega (arith, i.0, rest.1) in
     ((i.0, i.1, rest.0), le, rest.2)
 
+-- if the last stamp is less than the number, each is
 below_push : (low high c : ℕ) (ks : List ℕ) (k : ℕ) → AreInOrder low high (ks ++ k ∷ []) → k < c → Below c (ks ++ k ∷ [])
 below_push low high c [] k i h = (h, tt)
 below_push low high c (j ∷ ks) k i h =
@@ -94,10 +102,12 @@ below_push low high c (j ∷ ks) k i h =
     let le : j < c = omega (arith, rest.1) in
     (le, below_push j high c ks k i.2 h)
 
+-- stamps in order that are all less than the next number are in order up to this one
 order_below : (low c : ℕ) (ks : List ℕ) → AreInOrder low (c + 1) ks → Below (c + 1) ks → AreInOrder low c ks
 order_below low c [] i b = tt
 order_below low c (k ∷ ks) i b = (i.0, omega (arith, b.0), order_below k c ks i.2 b.1)
 
+-- no stamp is both at least and less than the number
 order_none : (c high : ℕ) (ks : List ℕ) → AreInOrder c high ks → Below c ks → ks ≡ []
 order_none c high [] i b = refl
 order_none c high (k ∷ ks) i b = absurd (omega (arith, i.0, b.0))
@@ -105,12 +115,16 @@ order_none c high (k ∷ ks) i b = absurd (omega (arith, i.0, b.0))
 -- from n a record of the first path leads to this machine, whatever the other has read: what either
 -- path may have read since, and before
 record StepsTo (a b : Blocks) (n to : MachineView) (from_reads : List Var → List ℕ → MachineView) : Type 0 where
+  -- a record counts one,
   count : to.count ≡ n.count + 1
+  -- the path that made it has read nothing of before,
   mine : (ks : List ℕ) → Ready a to ks → Below (n.count + 1) ks → ks ≡ []
+  -- and the other path may have read so before it too, with the same turn
   theirs : (ko : List ℕ) → Ready b (own_first Two to) ko → Below (n.count + 1) ko
       → Ready b (own_first Two n) ko
       × (from_reads (values_at b n.paths.two.path n.writes ko) ko ≡ both [] [] (values_at b to.paths.two.path to.writes ko) ko to)
 
+-- a block may have read nothing
 ready_none : (blocks : Blocks) (m : MachineView) → Ready blocks m []
 ready_none blocks m = record { may = record { order = tt; asks = tt }; idle = λ _. refl }
 
@@ -131,6 +145,7 @@ before b n x o al ko awake r below =
     calm (Some t) f g e i = absurd cc
     calm None f g e i = i
 
+-- what a turn at a wait leads to,
 stepped_wait : (a b : Blocks) (path : Path) (line : ℕ) (n : MachineView) (rs : List Var) (ks : List ℕ) (code : ℕ) (o : Option ℕ) → is_still n ≡ false
     → StepsTo a b n (without_reads (result_at_wait path line (with_values rs ks n) code o).machine) (λ ro ko. (result_at_wait path line (both rs ks ro ko n) code o).machine)
 stepped_wait a b path line n rs ks code None awake = record {
@@ -155,6 +170,7 @@ stepped_wait a b path line n rs ks code (Some there) awake = go (code == there) 
       theirs = λ ko r below. rw (order_none (n.count + 1) (n.count + 1) ko r.may.order below) (ready_none b (own_first Two n), refl);
     })
 
+-- and a turn by what the block comes to
 stepped : (a b : Blocks) (path : Path) (line : ℕ) (n : MachineView) (rs : List Var) (ks : List ℕ) (e : Effect) (k : EntryKind) → is_still n ≡ false
     → kind_of (result_by path line (with_values rs ks n) e).turn ≡ Some k
     → StepsTo a b n (without_reads (result_by path line (with_values rs ks n) e).machine) (λ ro ko. (result_by path line (both rs ks ro ko n) e).machine)
@@ -180,10 +196,12 @@ stepped a b path line n rs ks (effect.Alarm number value) k awake e = record {
       let p = before b n (part_without_reads n.paths.one) None (result_by path line n (effect.Alarm number value)).machine.alarm ko awake r below in (p.0, refl);
 }
 
+-- a turn that reads makes no record,
 read_kind : (a b : Blocks) (path : Path) (n : MachineView) (ks ko : List ℕ) (v : ℕ) → is_still n ≡ false → a.effect n.paths.one.path (values_at a n.paths.one.path n.writes ks) ≡ Need v
     → kind_of (own_turn a path (loaded a b ks ko n)).turn ≡ None
 read_kind a b path n ks ko v awake e = rw (own_awake a path (loaded a b ks ko n) awake, e) refl
 
+-- and adds the present number of records to the stamps
 read_turn : (a b : Blocks) (path : Path) (n : MachineView) (ks ko : List ℕ) (v : ℕ) → is_still n ≡ false → a.effect n.paths.one.path (values_at a n.paths.one.path n.writes ks) ≡ Need v
     → (own_turn a path (loaded a b ks ko n)).machine ≡ loaded a b (ks ++ n.count ∷ []) ko n
 read_turn a b path n ks ko v awake e =
@@ -200,6 +218,7 @@ wait_kind path line m n code (Some there) = go (code == there) refl
     go true e = rw e refl
     go false e = rw e refl
 
+-- the same of a turn by what the block comes to
 kind_alike : (path : Path) (line : ℕ) (m n : MachineView) (e : Effect) → m.paths.two.waiting ≡ n.paths.two.waiting
     → kind_of (result_by path line m e).turn ≡ kind_of (result_by path line n e).turn
 kind_alike path line m n (Need v) w = refl
@@ -209,9 +228,11 @@ kind_alike path line m n (AtWait code) w =
 kind_alike path line m n (AtEnd to moves) w = refl
 kind_alike path line m n (effect.Alarm number value) w = refl
 
+-- a path that makes a step isn't still
 step_awake : (a : Blocks) (path : Path) (n : MachineView) (k : EntryKind) (ks : List ℕ) → IsStep a path n k ks → is_still n ≡ false
 step_awake a path n k ks i = awake_of a path (with_reads a ks n) k i.is
 
+-- a step's kind is the same whatever the other path has read
 step_kind : (a b : Blocks) (path : Path) (n : MachineView) (k : EntryKind) (ks ko : List ℕ) → IsStep a path n k ks
     → kind_of (own_turn a path (loaded a b ks ko n)).turn ≡ Some k
 step_kind a b path n k ks ko i =
@@ -222,7 +243,7 @@ step_kind a b path n k ks ko i =
     ∙ sym (ap (λ r. kind_of r.turn) (own_awake a path (with_reads a ks n) awake))
     ∙ i.is
 
--- the same of a whole step
+-- a whole step leads on like that, whatever the other path has read
 applied_steps : (a b : Blocks) (path : Path) (n : MachineView) (k : EntryKind) (ks : List ℕ) → IsStep a path n k ks
     → StepsTo a b n (behind_step a path ks n) (λ ro ko. (own_turn a path (both (values_at a n.paths.one.path n.writes ks) ks ro ko n)).machine)
 applied_steps a b path n k ks i =
@@ -240,10 +261,12 @@ applied_steps a b path n k ks i =
           (p.0, ap (λ r. r.machine) (own_awake a path (both rs ks (values_at b n.paths.two.path n.writes ko) ko n) awake) ∙ p.1);
     }
 
+-- a list with one stamp more isn't empty
 not_none : (ks : List ℕ) (k : ℕ) → ks ++ k ∷ [] ≡ [] → ⊥
 not_none [] k e = cc
 not_none (j ∷ ks) k e = cc
 
+-- who may read with one stamp more may read without it,
 ready_front : (blocks : Blocks) (m : MachineView) (ks : List ℕ) (k : ℕ) → Ready blocks m (ks ++ k ∷ []) → Ready blocks m ks
 ready_front blocks m ks k r = record {
   may = record {
@@ -253,6 +276,7 @@ ready_front blocks m ks k r = record {
   idle = λ i. absurd (not_none ks k (r.idle i));
 }
 
+-- and isn't still
 ready_awake : (blocks : Blocks) (m : MachineView) (ks : List ℕ) (k : ℕ) → Ready blocks m (ks ++ k ∷ []) → is_still m ≡ false
 ready_awake blocks m ks k r = go (is_still m) refl
   where
@@ -260,7 +284,7 @@ ready_awake blocks m ks k r = go (is_still m) refl
     go true e = absurd (not_none ks k (r.idle e))
     go false e = refl
 
--- one more event
+-- if some events make these records, one event more makes its own behind them
 more : (tapes : Tapes) (m n to : MachineView) (rs : List Entry) (e : Event) (made : List Entry) → IsReached tapes m rs n → records_of tapes e n ≡ made
     → behind_event tapes e n ≡ to → IsReached tapes m (rs ++ made) to
 more tapes m n to rs e made x new is = record {
@@ -269,11 +293,12 @@ more tapes m n to rs e made x new is = record {
   reaches = rw (run_push tapes m x.events e, x.reaches) is;
 }
 
+-- an event that makes no record leads on with the same records
 more_none : (tapes : Tapes) (m n to : MachineView) (rs : List Entry) (e : Event) → IsReached tapes m rs n → records_of tapes e n ≡ []
     → behind_event tapes e n ≡ to → IsReached tapes m rs to
 more_none tapes m n to rs e x new is = subst (λ es. IsReached tapes m es to) (append-nil rs) (more tapes m n to rs e [] x new is)
 
--- one more read of either path
+-- one more read of the first path,
 read_first : (tapes : Tapes) (m n : MachineView) (rs : List Entry) (ks ko : List ℕ) → Ready tapes.one n (ks ++ n.count ∷ [])
     → IsReached tapes m rs (loaded tapes.one tapes.two ks ko n)
     → IsReached tapes m rs (loaded tapes.one tapes.two (ks ++ n.count ∷ []) ko n)
@@ -285,6 +310,7 @@ read_first tapes m n rs ks ko r x =
     (rw (read_kind tapes.one tapes.two One n ks ko need.0 awake need.1) refl)
     (read_turn tapes.one tapes.two One n ks ko need.0 awake need.1)
 
+-- and of the second
 read_second : (tapes : Tapes) (m n : MachineView) (rs : List Entry) (ks ko : List ℕ) → Ready tapes.two (own_first Two n) (ko ++ n.count ∷ [])
     → IsReached tapes m rs (loaded tapes.one tapes.two ks ko n)
     → IsReached tapes m rs (loaded tapes.one tapes.two ks (ko ++ n.count ∷ []) n)
@@ -308,6 +334,7 @@ Base tapes m rs n =
     (ks ko : List ℕ) → Ready tapes.one n ks → Ready tapes.two (own_first Two n) ko → Below n.count ks → Below n.count ko
     → IsReached tapes m rs (loaded tapes.one tapes.two ks ko n)
 
+-- a number up to another is it, or less
 below_or : (k c : ℕ) → k ≤ c → (k ≡ c) ⊎ (k < c)
 below_or k c h = go (k == c) refl
   where
@@ -315,6 +342,7 @@ below_or k c h = go (k == c) refl
     go true e = inl (grind (arith, nat_tests))
     go false e = inr (grind (arith, nat_tests))
 
+-- what the second path may have read can be read now,
 extend_second : (tapes : Tapes) (m n : MachineView) (rs : List Entry) → Base tapes m rs n → (ks : List ℕ) → Ready tapes.one n ks → Below n.count ks
     → (ko : List ℕ) → Ready tapes.two (own_first Two n) ko → IsReached tapes m rs (loaded tapes.one tapes.two ks ko n)
 extend_second tapes m n rs base ks r b =
@@ -327,6 +355,7 @@ extend_second tapes m n rs base ks r b =
     go ko k x s (inl e) = rw e (read_second tapes m n rs ks ko (rw e at s) x)
     go ko k x s (inr lt) = base ks (ko ++ k ∷ []) r s b (below_push n.paths.two.since n.count n.count ko k s.may.order lt)
 
+-- and then what the first may have read
 extend_first : (tapes : Tapes) (m n : MachineView) (rs : List Entry) → Base tapes m rs n → Claim tapes m rs n
 extend_first tapes m n rs base ks ko r s = from_end
     (λ ks. Ready tapes.one n ks → IsReached tapes m rs (loaded tapes.one tapes.two ks ko n))
@@ -339,9 +368,11 @@ extend_first tapes m n rs base ks ko r s = from_end
     go ks k x r (inl e) = rw e (read_first tapes m n rs ks ko (rw e at r) x)
     go ks k x r (inr lt) = extend_second tapes m n rs base (ks ++ k ∷ []) r (below_push n.paths.one.since n.count n.count ks k r.may.order lt) ko s
 
+-- with the stamps of its step a block may have read
 step_ready : (blocks : Blocks) (path : Path) (m : MachineView) (k : EntryKind) (ks : List ℕ) → IsStep blocks path m k ks → Ready blocks m ks
 step_ready blocks path m k ks i = record { may = i.reads; idle = λ e. absurd (let awake : is_still m ≡ false = step_awake blocks path m k ks i in cc) }
 
+-- a step of the first path leads to the machine behind its record,
 turned_first : (tapes : Tapes) (m n : MachineView) (rs : List Entry) (k : EntryKind) (ks : List ℕ) → Claim tapes m rs n → IsStep tapes.one One n k ks
     → Base tapes m (rs ++ entry One k ks ∷ []) (behind_step tapes.one One ks n)
 turned_first tapes m n rs k ks claim i ks' ko r s b b' =
@@ -354,6 +385,7 @@ turned_first tapes m n rs k ks claim i ks' ko r s b b' =
     (claim ks ko (step_ready a One n k ks i) th.0)
     (rw (step_kind a c One n k ks ko i) refl) th.1)
 
+-- one of the second does too,
 turned_second : (tapes : Tapes) (m n : MachineView) (rs : List Entry) (k : EntryKind) (ks : List ℕ) → Claim tapes m rs n → IsStep tapes.two Two (own_first Two n) k ks
     → Base tapes m (rs ++ entry Two k ks ∷ []) (own_first Two (behind_step tapes.two Two ks (own_first Two n)))
 turned_second tapes m n rs k ks claim i ko ks' s r b' b =
@@ -366,6 +398,7 @@ turned_second tapes m n rs k ks claim i ko ks' s r b' b =
     (claim ko ks th.0 (step_ready a Two (own_first Two n) k ks i))
     (rw (step_kind a c Two (own_first Two n) k ks ko i) refl) (ap (own_first Two) th.1))
 
+-- and so one of either
 turned : (tapes : Tapes) (m n : MachineView) (rs : List Entry) (p : Path) (k : EntryKind) (ks : List ℕ) → Claim tapes m rs n
     → IsStep (of_path tapes p) p (own_first p n) k ks
     → Base tapes m (rs ++ entry p k ks ∷ []) (own_first p (behind_step (of_path tapes p) p ks (own_first p n)))
@@ -396,6 +429,7 @@ edited_base tapes m n rs p edit claim calm ks ko r s b b' =
     same One = refl
     same Two = refl
 
+-- the same of each legal record
 base_of : (tapes : Tapes) (m n : MachineView) (rs : List Entry) (e : Entry) → Claim tapes m rs n → IsNext tapes n e
     → Base tapes m (rs ++ e ∷ []) (behind_entry tapes e n)
 base_of tapes m n rs e claim (inl i) =
@@ -406,12 +440,13 @@ base_of tapes m n rs e claim (inr i) =
     (subst (λ (x : Entry). Base tapes m (rs ++ x ∷ []) (behind_edit_of e.path i.edit n)) (sym i.is)
     (edited_base tapes m n rs e.path i.edit claim i.calm))
 
--- at the opening no read has been made
+-- at the opening no read has been made, and no event is needed
 base_none : (tapes : Tapes) (first second : PathView) → Base tapes (opening first second) [] (opening first second)
 base_none tapes first second [] [] r r' b b' = record { events = []; records = refl; reaches = refl }
 base_none tapes first second (k ∷ ks) ko r r' b b' = absurd (omega (arith, b.0))
 base_none tapes first second [] (k ∷ ko) r r' b b' = absurd (omega (arith, b'.0))
 
+-- each legal history is that of some events
 reached : (tapes : Tapes) (first second : PathView) (rs : List Entry) → IsLegal tapes (opening first second) rs
     → Claim tapes (opening first second) rs (fold tapes (opening first second) rs)
 reached tapes first second =
@@ -422,10 +457,12 @@ reached tapes first second =
     extend_first tapes m (fold tapes m (rs ++ e ∷ [])) (rs ++ e ∷ [])
     (rw (fold_push tapes m rs e) (base_of tapes m (fold tapes m rs) rs e (rest l.0) l.1)))
 
+-- a fold leaves no reads
 pub fold_bare : (tapes : Tapes) (m : MachineView) (rs : List Entry) → without_reads m ≡ m → without_reads (fold tapes m rs) ≡ fold tapes m rs
 fold_bare tapes m [] h = h
 fold_bare tapes m (e ∷ es) h = fold_bare tapes (behind_entry tapes e m) es (entry_bare tapes e m)
 
+-- some events make these records and lead to their fold but for block reads,
 pub run_of : (tapes : Tapes) (first second : PathView) (rs : List Entry) → IsLegal tapes (opening first second) rs
     → IsRun tapes (opening first second) rs (fold tapes (opening first second) rs)
 run_of tapes first second rs legal =
@@ -433,6 +470,7 @@ run_of tapes first second rs legal =
     let x = reached tapes first second rs legal [] [] (ready_none tapes.one n) (ready_none tapes.two (own_first Two n)) in
     record { events = x.events; records = x.records; reaches = rw x.reaches (fold_bare tapes (opening first second) rs refl) }
 
+-- and to each machine with lawful reads whose fold it is
 pub lawful_of : (tapes : Tapes) (first second : PathView) (rs : List Entry) (to : MachineView) → IsLegal tapes (opening first second) rs
     → fold tapes (opening first second) rs ≡ without_reads to → to.alarm ≡ None → AreLawful tapes to → IsReached tapes (opening first second) rs to
 lawful_of tapes first second rs to legal folds calm l =

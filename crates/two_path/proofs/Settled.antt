@@ -28,7 +28,7 @@ went blocks path line before now other joint told moves here taken =
     ∙ ap (λ e. result_by path line (machine_of before other joint) e) taken.effect
     ∙ ap (λ n. result_by path n (machine_of before other joint) (blocks.effect before.path before.values)) (sym here)
 
--- and where it stands where it stood
+-- and if it stands where it stood, it is that turn too
 pub stood : (blocks : Blocks) (path : Path) (line : ℕ) (before now other : Part) (joint : JointView) (told : BlockAnswer) (moves : List Move)
     → blocks.line before.path.place ≡ line → HasTaken blocks before now told moves → now.path ≡ before.path
     → result_by path line (machine_of now other joint) (effect_told told moves now.path) ≡ block_turn blocks path (machine_of before other joint)
@@ -42,7 +42,7 @@ pub same_stamps : (blocks : Blocks) (before now : Part) (told : BlockAnswer) (mo
     → now.stamps ≡ before.stamps
 same_stamps blocks before now told moves taken = ap (λ (p : Part). p.stamps) taken.rest
 
--- the record of such a turn
+-- the record of such a turn is that of the turn of the block
 pub entry_of_block : (path : Path) (before now : Part) (entry : Option Entry) (kind : Option EntryKind) (came : TurnResult) (of_block : TurnResult)
     → now.stamps ≡ before.stamps → came ≡ of_block → kind_of came.turn ≡ kind → entry ≡ entry_with path now.stamps kind
     → entry ≡ entry_with path before.stamps (kind_of of_block.turn)

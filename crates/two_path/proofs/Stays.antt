@@ -5,14 +5,15 @@ use Rattle.path_state.specs.View.{PathView}
 use Rattle.two_path.specs.Machine.{Part, MachineView}
 use Rattle.two_path.specs.Turns.{crossed_waits, with_alarm, result_at_wait}
 
--- a path that stands where it stood
+-- a path that changed nothing but its state, and not that, is as it was
 pub stays : (me now : Part) → now ≡ record me { path = now.path } → now.path ≡ me.path → now ≡ me
 stays me now rest e = rest ∙ ap (λ (q : PathView). record me { path = q }) e
 
--- but for where it stands it is as it was
+-- a path that changed nothing but its state is as it was but for that
 pub else_same : (me now : Part) → now ≡ record me { path = now.path } → record now { path = me.path } ≡ me
 else_same me now rest = ap (λ (p : Part). record p { path = me.path }) rest
 
+-- a turn at a wait while the other path waits at another code is the alarm of both
 pub crossed : (path : Path) (line : ℕ) (m : MachineView) (code there : ℕ) (o : Option ℕ) → o ≡ Some there → (code == there) ≡ false
     → (result_at_wait path line m code o).machine ≡ with_alarm (crossed_waits path line) m
 crossed path line m code there o e n = rw (e, n) refl

@@ -19,11 +19,12 @@ use Rattle.two_path.specs.Histories.{with_reads, behind_step}
 use Rattle.two_path.specs.Joined.{JointView, machine_of, AreShared, IsLasting, AreAtTheirWaits}
 use Rattle.two_path.proofs.Idle.{is_still, own_awake, own_still}
 
--- what is fixed for both paths
+-- what is fixed for each path, as the settings and which variables are shared, is as it was
 pub record IsFixed (before after : MachineView) : Type 0 where
   pub first : after.paths.one.path.fixed ≡ before.paths.one.path.fixed
   pub second : after.paths.two.path.fixed ≡ before.paths.two.path.fixed
 
+-- a turn at a wait leaves it,
 wait_fixed : (path : Path) (line : ℕ) (m : MachineView) (code : ℕ) (o : Option ℕ) → IsFixed m (result_at_wait path line m code o).machine
 wait_fixed path line m code None = record { first = refl; second = refl }
 wait_fixed path line m code (Some there) = go (code == there) refl
@@ -32,6 +33,7 @@ wait_fixed path line m code (Some there) = go (code == there) refl
     go true e = rw e (record { first = refl; second = refl })
     go false e = rw e (record { first = refl; second = refl })
 
+-- a turn by what the block comes to does,
 by_fixed : (path : Path) (line : ℕ) (m : MachineView) (e : Effect) → KeepsFixed m.paths.one.path e → IsFixed m (result_by path line m e).machine
 by_fixed path line m (Need v) k = record { first = refl; second = refl }
 by_fixed path line m (Done to write moves) k = record { first = k; second = refl }
@@ -39,6 +41,7 @@ by_fixed path line m (AtWait code) k = wait_fixed path line m code m.paths.two.w
 by_fixed path line m (AtEnd to moves) k = record { first = k; second = refl }
 by_fixed path line m (effect.Alarm number value) k = record { first = refl; second = refl }
 
+-- and so each turn of the path whose part is first
 pub own_fixed : (blocks : Blocks) → ((at : PathView) (values : List Var) → KeepsFixed at (blocks.effect at values)) → (path : Path) (m : MachineView)
     → IsFixed m (own_turn blocks path m).machine
 own_fixed blocks keeps path m = go (is_still m) refl
@@ -55,9 +58,11 @@ still_shared before after joint left fixed lasting shared = record {
   upper = lasting.upper ∙ shared.upper ∙ ap (λ f. f.shared500) (sym fixed);
 }
 
+-- a path that doesn't wait waits at no code
 none_waits : {A : Type 0} {o : Option ℕ} {code : ℕ} → o ≡ None → o ≡ Some code → A
 none_waits e w = absurd cc
 
+-- after a turn at a wait each waiting path stands on a wait,
 wait_waits : (left right : List ControlProgram) (path : Path) (line : ℕ) (m : MachineView) (code : ℕ) → m.paths.one.waiting ≡ None
     → standing left m.paths.one.path.place ≡ Some (Wait code) → AreAtTheirWaits left right m → (o : Option ℕ)
     → AreAtTheirWaits left right (result_at_wait path line m code o).machine
@@ -71,6 +76,7 @@ wait_waits left right path line m code none is k (Some there) = go (code == ther
     go true e = rw e (record { first = λ c same. absurd cc; second = λ c same. absurd cc })
     go false e = rw e (record { first = λ c same. none_waits none same; second = k.second })
 
+-- and so it does after a turn by what the block comes to
 by_waits : (left right : List ControlProgram) (path : Path) (line : ℕ) (m : MachineView) (e : Effect) → m.paths.one.waiting ≡ None → GoesAsOrdered left m.paths.one.path e
     → AreAtTheirWaits left right m → AreAtTheirWaits left right (result_by path line m e).machine
 by_waits left right path line m (Need v) none goes k = record { first = λ c same. none_waits none same; second = k.second }
@@ -79,12 +85,14 @@ by_waits left right path line m (AtWait code) none goes k = wait_waits left righ
 by_waits left right path line m (AtEnd to moves) none goes k = record { first = λ c same. none_waits none same; second = k.second }
 by_waits left right path line m (effect.Alarm number value) none goes k = record { first = λ c same. none_waits none same; second = k.second }
 
+-- a path that isn't still doesn't wait
 not_waiting : (a : Option Alarm) (f : Bool) (o : Option ℕ) → (is_some a || (f || is_some o)) ≡ false → o ≡ None
 not_waiting (Some x) f o e = absurd cc
 not_waiting None true o e = absurd cc
 not_waiting None false (Some n) e = absurd cc
 not_waiting None false None e = refl
 
+-- after each turn of the first path each waiting path stands on a wait
 pub own_waits : (left right : List ControlProgram) (blocks : Blocks) → ((at : PathView) (values : List Var) → GoesAsOrdered left at (blocks.effect at values))
     → (path : Path) (m : MachineView) → AreAtTheirWaits left right m → AreAtTheirWaits left right (own_turn blocks path m).machine
 own_waits left right blocks led path m k = go (is_still m) refl
@@ -95,6 +103,7 @@ own_waits left right blocks led path m k = go (is_still m) refl
         (by_waits left right path (blocks.line m.paths.one.path.place) m (blocks.effect m.paths.one.path m.paths.one.values)
         (not_waiting m.alarm m.paths.one.finished m.paths.one.waiting e) (led m.paths.one.path m.paths.one.values) k)
 
+-- it is so with the paths changed over
 pub swapped : (left right : List ControlProgram) (m : MachineView) → AreAtTheirWaits left right m → AreAtTheirWaits right left (own_first Two m)
 swapped left right m k = record { first = k.second; second = k.first }
 
@@ -108,6 +117,7 @@ shared_behind blocks keeps path me other me' other' joint joint' is lasting mine
       still_shared other other' joint joint' (ap (λ (m : MachineView). m.paths.two.path.fixed) is ∙ fixed.second) lasting theirs,
     )
 
+-- the same of a turn that the code has made
 pub waits_behind : (left right : List ControlProgram) (blocks : Blocks) → ((at : PathView) (values : List Var) → GoesAsOrdered left at (blocks.effect at values))
     → (path : Path) (m to : MachineView) → to ≡ (own_turn blocks path m).machine → AreAtTheirWaits left right m → AreAtTheirWaits left right to
 waits_behind left right blocks led path m to is k = rw is (own_waits left right blocks led path m k)
@@ -122,6 +132,7 @@ step_shared blocks keeps path stamps me other me' other' joint joint' is lasting
       still_shared other other' joint joint' (ap (λ (m : MachineView). m.paths.two.path.fixed) is ∙ fixed.second) lasting theirs,
     )
 
+-- parts of the same machine share the same variables
 pub same_shared : (me other me' other' : Part) (joint joint' : JointView) → machine_of me' other' joint' ≡ machine_of me other joint
     → IsLasting joint joint' → AreShared me joint → AreShared other joint → AreShared me' joint' × AreShared other' joint'
 same_shared me other me' other' joint joint' is lasting mine theirs = (
@@ -129,6 +140,7 @@ same_shared me other me' other' joint joint' is lasting mine theirs = (
   still_shared other other' joint joint' (ap (λ (m : MachineView). m.paths.two.path.fixed) is) lasting theirs,
 )
 
+-- after a record that is done again each waiting path stands on a wait
 pub step_waits : (left right : List ControlProgram) (blocks : Blocks) → ((at : PathView) (values : List Var) → GoesAsOrdered left at (blocks.effect at values))
     → (path : Path) (stamps : List ℕ) (m to : MachineView) → to ≡ behind_step blocks path stamps m → AreAtTheirWaits left right m → AreAtTheirWaits left right to
 step_waits left right blocks led path stamps m to is k =

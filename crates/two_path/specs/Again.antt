@@ -1,4 +1,6 @@
--- A record that is done again.
+-- A record that is done again. What makes a record legal is in Histories, and what a turn does in
+-- Turns.
+-- lathe_top, nc_restart, run_table, trace_list and zone_check use these words.
 use Rattle.std.specs.Prelude.{◌≡◌, Bool, true, false, ℕ, ◌==◌, ◌&&◌, nat_le, List, [], ◌∷◌, ◌++◌, Option, Some, None, if◌then◌else◌}
 use Rattle.run_records.specs.Entries.{Entry, edit_of}
 use Rattle.run_records.specs.declared.edit.Edit.{Edit}
@@ -60,10 +62,12 @@ kind_of_effect (effect.Alarm number value) other = Some kind.Alarmed
 abbrev pub kind_of_block : Blocks → Part → Part → Option EntryKind
 kind_of_block blocks part other = kind_of_effect (blocks.effect part.path part.values) other.waiting
 
+-- the kind is that of a block that was done
 abbrev pub is_did : EntryKind → Bool
 is_did kind.Did = true
 is_did _ = false
 
+-- the kind is that of a path that ended
 abbrev pub is_ended : EntryKind → Bool
 is_ended kind.Ended = true
 is_ended _ = false
@@ -90,6 +94,7 @@ pub record IsNotDue (blocks : Blocks) (kind : EntryKind) (other before now : Par
 
 -- the block read once more, with this stamp
 pub record IsReadAgain (blocks : Blocks) (joint : JointView) (lowest stamp : ℕ) (before after : Part) : Type 0 where
+  -- the variable that was read
   pub variable : ℕ
   pub due : variable_due lowest joint.count stamp (blocks.effect before.path before.values) ≡ Some variable
   pub part : after ≡ record before {
@@ -143,12 +148,14 @@ pub record IsRefused (tapes : Tapes) (entry : Entry) (before after : MachineView
   pub illegal : IsNext tapes before entry → ⊥
   pub unchanged : after ≡ before
 
--- the same of a record of the path whose part is the first
+-- A record of the path whose part is the first is legal there and was done: the turn's answer, and
+-- the machine behind it.
 pub record IsStepDone (blocks : Blocks) (path : Path) (kind : EntryKind) (stamps : List ℕ) (before after : MachineView) (turn : Turn) : Type 0 where
   pub legal : IsStep blocks path before kind stamps
   pub machine : after ≡ behind_step blocks path stamps before
   pub answer : turn ≡ (own_turn blocks path (with_reads blocks stamps before)).turn
 
+-- a record of the path whose part is the first is not legal there, and nothing changed
 pub record IsStepRefused (blocks : Blocks) (path : Path) (kind : EntryKind) (stamps : List ℕ) (before after : MachineView) : Type 0 where
   pub illegal : IsStep blocks path before kind stamps → ⊥
   pub unchanged : after ≡ before

@@ -1,4 +1,5 @@
--- An operator's edit of a path, and its record.
+-- An operator's edit of a path, and its record. What an edit does to one path is in path_state.
+-- run_edits uses these words.
 use Rattle.std.specs.Prelude.{◌+◌, [], Option, Some, None}
 use Rattle.nc_number.specs.declared.path.Path.{Path}
 use Rattle.nc_moves.specs.declared.alarm.Alarm.{Alarm}
@@ -22,15 +23,15 @@ behind_edit edit m = record m {
   count = m.count + 1;
 }
 
--- the same of either path
+-- the machine behind an edit of either path
 abbrev pub behind_edit_of : Path → Edit → MachineView → MachineView
 behind_edit_of path edit m = own_first path (behind_edit edit (own_first path m))
 
--- its record, which has no reads
+-- the record of an edit, which has no reads
 abbrev pub edit_entry : Path → Edit → Entry
 edit_entry path edit = record { path = path; kind = kind.Edited edit; stamps = [] }
 
--- nothing happens once there is an alarm
+-- the first answer once there is an alarm, which stops all; else the second
 abbrev pub unless_alarm : {A : Type 0} → Option Alarm → A → A → A
 unless_alarm (Some alarm) still rest = still
 unless_alarm None still rest = rest

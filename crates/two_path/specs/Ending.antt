@@ -1,4 +1,5 @@
--- How a machine ends its run.
+-- How a machine ends its run. Full journals and spent budgets are causes of a table: run_table.
+-- lathe_calls, lathe_top, run_table, turn_order and turret_run use these words.
 use Rattle.std.specs.Prelude.{◌&&◌, Option}
 use Rattle.nc_outside.specs.declared.reason.Reason.{Reason}
 use Rattle.nc_outside.specs.Reasons.{end_by}

@@ -1,4 +1,6 @@
 -- Runs and histories: any list of events, the records of it, and which lists of records are legal.
+-- lathe_calls, lathe_top, move_list, nc_restart, race_order, race_report, run_edits, run_table,
+-- trace_list, turn_order, turret_run and zone_check use these words.
 use Rattle.std.specs.Prelude.{◌≡◌, ℕ, ◌+◌, ◌≤◌, ◌⊎◌, Bool, true, false, ◌||◌, List, [], ◌∷◌, ◌++◌, length, take, map, Option, Some, None, is_some, if◌then◌else◌}
 use Rattle.nc_number.specs.declared.path.Path.{Path}
 use Rattle.nc_number.specs.declared.path.Path.TheVariants.{One, Two}
@@ -32,6 +34,7 @@ abbrev pub behind_event : Tapes → Event → MachineView → MachineView
 behind_event tapes (TurnOf path) m = (turn_of tapes path m).machine
 behind_event tapes (EditOf path edit) m = unless_alarm m.alarm m (behind_edit_of path edit m)
 
+-- a list of this record, or an empty one
 abbrev pub list_of : Option Entry → List Entry
 list_of None = []
 list_of (Some entry) = entry ∷ []
@@ -66,6 +69,7 @@ values_from blocks path writes values [] = values
 values_from blocks path writes values (stamp ∷ stamps) =
     values_from blocks path writes (and_next blocks path writes stamp values) stamps
 
+-- the values that these stamps stand for, from the first on
 abbrev pub values_at : Blocks → PathView → List Write → List ℕ → List Var
 values_at blocks path writes stamps = values_from blocks path writes [] stamps
 
@@ -91,6 +95,7 @@ pub record MayRead (blocks : Blocks) (m : MachineView) (stamps : List ℕ) : Typ
 abbrev pub with_values : List Var → List ℕ → MachineView → MachineView
 with_values values stamps m = record m { paths = record m.paths { one = record m.paths.one { values = values; stamps = stamps } } }
 
+-- the machine in which the first path's block has read what these stamps stand for
 abbrev pub with_reads : Blocks → List ℕ → MachineView → MachineView
 with_reads blocks stamps m = with_values (values_at blocks m.paths.one.path m.writes stamps) stamps m
 
@@ -108,7 +113,7 @@ abbrev pub behind_own : Blocks → Path → Option Edit → List ℕ → Machine
 behind_own blocks path (Some edit) stamps m = behind_edit edit m
 behind_own blocks path None stamps m = behind_step blocks path stamps m
 
--- behind a record
+-- the machine behind a record of either path, a step or an edit
 abbrev pub behind_entry : Tapes → Entry → MachineView → MachineView
 behind_entry tapes entry m =
     own_first entry.path (behind_own (of_path tapes entry.path) entry.path (edit_of entry.kind) entry.stamps (own_first entry.path m))
@@ -145,6 +150,7 @@ pub record IsLawful (blocks : Blocks) (m : MachineView) : Type 0 where
   pub may : MayRead blocks m m.paths.one.stamps
   pub values : m.paths.one.values ≡ values_at blocks m.paths.one.path m.writes m.paths.one.stamps
   pub none : is_idle m.paths.one ≡ true → m.paths.one.stamps ≡ []
+  -- the path came to its block by a record that exists
   pub came : m.paths.one.since ≤ m.count
 
 -- what both paths' blocks have read is lawful
@@ -223,7 +229,9 @@ pub record Keeps (tapes : Tapes) (m : MachineView) : Type 0 where
 
 -- an event, or a restart that finds the first so many records
 pub data Episode : Type 0 where
+  -- a turn or an edit
   Happens : (event : Event) → Episode
+  -- a restart, which finds so many of the first records
   Restarts : (kept : ℕ) → Episode
 
 -- a machine and all records so far
@@ -242,6 +250,7 @@ behind_episode tapes m (Restarts kept) now = record {
   history = take kept now.history;
 }
 
+-- the machine and all records after these events and restarts
 abbrev pub behind_episodes : Tapes → MachineView → List Episode → Recorded → Recorded
 behind_episodes tapes m [] now = now
 behind_episodes tapes m (e ∷ episodes) now = behind_episodes tapes m episodes (behind_episode tapes m e now)

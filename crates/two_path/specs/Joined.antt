@@ -1,4 +1,7 @@
--- The machine in the parts that the code keeps.
+-- The machine in the parts that the code keeps. Each path has a part, and what both share is the
+-- joint part.
+-- lathe_calls, move_list, nc_restart, run_edits, run_table, trace_list, turn_order and zone_check
+-- use these words.
 use Rattle.std.specs.Prelude.{◌≡◌, ℕ, ◌+◌, ◌≤◌, List, Option, Some}
 use Rattle.nc_moves.specs.declared.alarm.Alarm.{Alarm}
 use Rattle.common_vars.specs.Writes.{Writes}
@@ -19,15 +22,20 @@ use Rattle.two_path.specs.Histories.{values_at}
 
 -- what both paths have in common
 pub record JointView : Type 0 where
+  -- the writes to shared variables, and room for more
   pub shared : Writes
+  -- how many records there are
   pub count : ℕ
+  -- the alarm that stopped both paths
   pub alarm : Option Alarm
 
 -- a machine, and for how many turns it has room
 pub record RoomyMachine : Type 0 where
   pub machine : MachineView
+  -- in turns
   pub room : ℕ
 
+-- the machine of these parts
 abbrev pub machine_of : Part → Part → JointView → MachineView
 machine_of first second joint = record {
   paths = record { one = first; two = second };
@@ -76,6 +84,7 @@ pub record AreItsMoves (blocks : Blocks) (part : Part) (moves : List Move) : Typ
 abbrev pub IsAtItsWait : List ControlProgram → Part → Type 0
 IsAtItsWait tape part = (code : ℕ) → part.waiting ≡ Some code → standing tape part.path.place ≡ Some (Wait code)
 
+-- each path that waits stands on a wait of its tape
 pub record AreAtTheirWaits (left right : List ControlProgram) (m : MachineView) : Type 0 where
   pub first : IsAtItsWait left m.paths.one
   pub second : IsAtItsWait right m.paths.two

@@ -1,3 +1,4 @@
+-- The words in which contracts speak of the machine of two paths. Other crates cite all of these.
 pub mod Machine
 pub mod Start
 pub mod Ending

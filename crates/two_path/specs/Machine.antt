@@ -1,4 +1,7 @@
--- The machine: two paths, and what they share.
+-- The machine: two paths, and what they share. What a turn does to it is in Turns, and an edit in
+-- Edits.
+-- lathe_calls, lathe_looks, lathe_top, move_list, nc_restart, race_order, race_report, run_edits,
+-- run_table, trace_list, turn_order, turret_run and zone_check use these words.
 use Rattle.std.specs.Prelude.{ℕ, Bool, false, List, [], Option, None}
 use Rattle.nc_number.specs.declared.both.Both.{Both}
 use Rattle.nc_number.specs.declared.path.Path.{Path}
@@ -19,11 +22,13 @@ pub record Part : Type 0 where
   pub stamps : List ℕ
   -- the code of the wait at which it waits
   pub waiting : Option ℕ
+  -- whether the path has ended
   pub finished : Bool
   -- how many records there were just after the one by which it came to its block, or just after a
   -- later edit
   pub since : ℕ
 
+-- the machine of two paths
 pub record MachineView : Type 0 where
   pub paths : Both Part
   -- the writes to shared variables

@@ -1,4 +1,5 @@
 -- The moves of a history: of each of its records the turn, and of a turn its moves.
+-- lathe_top, move_list, nc_restart, run_table, trace_list and zone_check use these words.
 use Rattle.std.specs.Prelude.{if◌then◌else◌, List, [], ◌∷◌}
 use Rattle.std.specs.List.{flat_map}
 use Rattle.nc_number.specs.Path.{is_same}
@@ -42,7 +43,7 @@ answer_of (Alarm alarm) = answer.Alarm alarm
 answer_of (Halted alarm) = answer.Halted alarm
 answer_of Edited = answer.Edited
 
--- and with them in it again
+-- a turn, its moves put in it again
 abbrev pub turn_with : TurnAnswer → List Move → Turn
 turn_with (answer.Did line) moves = Did (moves_at line moves)
 turn_with (answer.Ended line) moves = Ended (moves_at line moves)

@@ -1,4 +1,6 @@
 -- The machine of a pair before its first turn.
+-- lathe_calls, move_list, nc_restart, run_table, trace_list, turn_order and zone_check use these
+-- words.
 use Rattle.nc_number.specs.declared.path.Path.TheVariants.{One, Two}
 use Rattle.cell_settings.specs.declared.settings.Settings.{Settings}
 use Rattle.tape_flow.specs.declared.flow.Flow.{Flow}

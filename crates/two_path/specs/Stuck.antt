@@ -1,4 +1,5 @@
 -- When two paths can't go on, and the pairs of tapes over which that never happens.
+-- lathe_top, nc_restart, run_table, trace_list and turn_order use these words.
 use Rattle.std.specs.Prelude.{◌≡◌, ◌≢◌, ℕ, ◌⊎◌, true, false, List, Some, None, ℤ}
 use Rattle.nc_number.specs.declared.cause.Cause.TheVariants.{WaitDiffers}
 use Rattle.nc_number.specs.declared.path.Path.{Path}
@@ -28,7 +29,9 @@ pub record IsStuck (m : MachineView) : Type 0 where
 
 -- the first path comes to a wait while the other waits at another
 pub record IsCrossed (blocks : Blocks) (m : MachineView) : Type 0 where
+  -- the code to which the first path comes,
   pub code : ℕ
+  -- and that at which the other waits
   pub there : ℕ
   pub calm : m.alarm ≡ None
   pub comes : blocks.effect m.paths.one.path m.paths.one.values ≡ AtWait code
@@ -43,8 +46,11 @@ RaisesNoCrossing blocks = (path : PathView) (values : List Var) (value : ℤ)
 -- the paths are not stuck, no wait meets another, and no alarm is that of paths that wait at
 -- different codes
 pub record IsFree (tapes : Tapes) (m : MachineView) : Type 0 where
+  -- the machine is not stuck,
   pub stuck : IsStuck m → ⊥
+  -- no path comes to another wait than the other,
   pub crossed : (path : Path) → IsCrossed (of_path tapes path) (own_first path m) → ⊥
+  -- and no alarm is that of different waits
   pub alarm : (alarm : Alarm) → m.alarm ≡ Some alarm → alarm.cause ≢ cause_number WaitDiffers
 
 -- Flows whose blocks go as their order allows: each has one list of labels, whatever the variables
@@ -59,12 +65,12 @@ pub record AreAtStart (left right : List ControlProgram) (first second : PathVie
   pub one : first.place ≡ start left
   pub two : second.place ≡ start right
 
--- whatever the order of events
+-- from the start of both main programs the paths can always go on, whatever the order of events
 abbrev pub IsNeverStuck : Flow → Flow → Type 0
 IsNeverStuck left right = (first second : PathView) → AreAtStart left.order right.order first second
     → (events : List Event) → IsFree (tapes_of left right) (run (tapes_of left right) (opening first second) events)
 
--- whoever made the records, and wherever they were cut off
+-- the same behind each legal history, whoever made the records and wherever they were cut off
 abbrev pub IsNeverStuckBehindRecords : Flow → Flow → Type 0
 IsNeverStuckBehindRecords left right = (first second : PathView) → AreAtStart left.order right.order first second
     → (entries : List Entry) → IsLegal (tapes_of left right) (opening first second) entries

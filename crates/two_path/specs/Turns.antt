@@ -1,4 +1,6 @@
 -- A turn of a path: what it answers, what it does, and its record.
+-- lathe_calls, lathe_top, move_list, nc_restart, race_order, race_report, run_edits, run_table,
+-- trace_list, turn_order and zone_check use these words.
 use Rattle.std.specs.Prelude.{ℕ, ◌+◌, ◌==◌, Bool, true, false, List, [], ◌∷◌, ◌++◌, Option, Some, None, ℤ, pos, if◌then◌else◌}
 use Rattle.nc_number.specs.declared.cause.Cause.TheVariants.{WaitDiffers}
 use Rattle.nc_number.specs.declared.both.Both.{Both}
@@ -36,9 +38,11 @@ pub record Blocks : Type 0 where
 abbrev pub Tapes : Type 0
 Tapes = Both Blocks
 
+-- the blocks of a checked tape
 abbrev pub blocks_of : Flow → Blocks
 blocks_of flow = record { effect = effect_of flow; line = line_at flow.order }
 
+-- the blocks of both tapes
 abbrev pub tapes_of : Flow → Flow → Tapes
 tapes_of left right = record { one = blocks_of left; two = blocks_of right }
 
@@ -47,6 +51,7 @@ pub record TurnResult : Type 0 where
   pub turn : Turn
   pub machine : MachineView
 
+-- this turn, with this machine behind it
 abbrev pub result : Turn → MachineView → TurnResult
 result answer m = record { turn = answer; machine = m }
 
@@ -70,7 +75,7 @@ abbrev pub with_write : ℕ → Option Written → List Write → List Write
 with_write stamp None writes = writes
 with_write stamp (Some write) writes = writes ++ record { stamp = stamp; variable = write.variable; value = write.value } ∷ []
 
--- behind a block of the first path
+-- the machine behind a block of the first path
 abbrev pub behind_block : PathView → Option Written → MachineView → MachineView
 behind_block path write m = record m {
   paths = record m.paths { one = part_at path (m.count + 1) m.paths.one };
@@ -78,6 +83,7 @@ behind_block path write m = record m {
   count = m.count + 1;
 }
 
+-- a path whose place is the block behind its wait
 abbrev pub path_behind_wait : PathView → PathView
 path_behind_wait path = record path { place = place_behind path.place }
 
@@ -85,41 +91,44 @@ path_behind_wait path = record path { place = place_behind path.place }
 abbrev pub part_behind_wait : ℕ → Part → Part
 part_behind_wait since part = record (part_at (path_behind_wait part.path) since part) { waiting = None }
 
--- both paths behind their wait
+-- the machine with both paths behind their wait
 abbrev pub behind_meeting : MachineView → MachineView
 behind_meeting m = record m {
   paths = both_of (part_behind_wait (m.count + 1)) m.paths;
   count = m.count + 1;
 }
 
--- with the first path waiting at this code
+-- the machine with the first path waiting at this code
 abbrev pub with_arrival : ℕ → MachineView → MachineView
 with_arrival code m = record m {
   paths = record m.paths { one = record (part_without_reads m.paths.one) { waiting = Some code } };
   count = m.count + 1;
 }
 
--- with the first path ended
+-- the machine with the first path ended
 abbrev pub with_end : PathView → MachineView → MachineView
 with_end path m = record m {
   paths = record m.paths { one = record (part_without_reads m.paths.one) { path = path; finished = true } };
   count = m.count + 1;
 }
 
--- with this alarm, raised by the first path
+-- the machine with this alarm, raised by the first path, which stops both
 abbrev pub with_alarm : Alarm → MachineView → MachineView
 with_alarm alarm m = record m { paths = record m.paths { one = part_without_reads m.paths.one }; count = m.count + 1; alarm = Some alarm }
 
+-- moves, with the line of their block
 abbrev pub moves_at : ℕ → List Move → Moves
 moves_at line moves = record { line = line; list = moves }
 
+-- an alarm of this path at this line, with the number of its cause and its value
 abbrev pub alarm_at : Path → ℕ → ℕ → ℤ → Alarm
 alarm_at path line cause value = record { path = path; line = line; cause = cause; value = value }
 
--- a path is at a wait while the other waits at another
+-- the alarm of a path that is at a wait while the other waits at another code
 abbrev pub crossed_waits : Path → ℕ → Alarm
 crossed_waits path line = alarm_at path line (cause_number WaitDiffers) (pos 0)
 
+-- the turn that raises this alarm, by which both paths stop
 abbrev pub alarm_result : Alarm → MachineView → TurnResult
 alarm_result alarm m = result (turn.Alarm alarm) (with_alarm alarm m)
 
@@ -172,6 +181,7 @@ kind_of (turn.Alarm alarm) = Some kind.Alarmed
 kind_of (turn.Halted alarm) = None
 kind_of turn.Edited = None
 
+-- a record of this path, these stamps and this kind, if there is one
 abbrev pub entry_with : Path → List ℕ → Option EntryKind → Option Entry
 entry_with path stamps None = None
 entry_with path stamps (Some kind) = Some (record { path = path; kind = kind; stamps = stamps })

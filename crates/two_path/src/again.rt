@@ -1,5 +1,6 @@
 //! A record that is done again, over the path's own part, the other's, and what both have in
 //! common.
+//! nc_restart uses what it exports.
 ghost use Rattle.std.specs.Prelude.{◌≡◌, ◌≤◌, ◌<◌, ◌||◌, true, false, List, [], Some, None, is_some, IsTrue, OnOk, OnErr, IfOk};
 ghost use Rattle.nc_number.specs.declared.limits.TheConstants.{MOST_RECORDS};
 ghost use Rattle.motion_track.specs.Within.{AreMovesWithin};

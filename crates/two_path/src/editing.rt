@@ -1,4 +1,5 @@
 //! An operator's edit of a path, over its own part, the other's, and what both have in common.
+//! For this crate alone: machine.rt uses it.
 ghost use Rattle.std.specs.Prelude.{◌≡◌, ◌≤◌, ◌<◌, IfSome};
 ghost use Rattle.nc_number.specs.declared.limits.TheConstants.{MOST_RECORDS};
 ghost use Rattle.common_vars.specs.Writes.{IsShared};

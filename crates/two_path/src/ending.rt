@@ -1,4 +1,5 @@
-//! How a machine ends its run.
+//! How a machine ends its run. run_table and turn_order ask for it after each step. By an alarm or
+//! by the ends of both paths; other causes are run_table's.
 ghost use Rattle.std.specs.Prelude.{◌≡◌};
 ghost use Rattle.two_path.specs.Ending.{end_of};
 

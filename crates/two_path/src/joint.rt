@@ -1,4 +1,6 @@
-//! What both paths have in common.
+//! What both paths have in common. The shared variables' writes, the number of records, and the
+//! alarm.
+//! For this crate alone: again.rt, editing.rt, machine.rt and turning.rt use it.
 ghost use Rattle.std.specs.Prelude.{◌≡◌, ◌≤◌, ◌<◌, ◌+◌, ◌↔◌, IsTrue, [], Some, None, IfOk, OnOk, IfSome};
 ghost use Rattle.nc_number.specs.declared.limits.TheConstants.{MOST_RECORDS};
 ghost use Rattle.common_vars.specs.Writes.{IsShared, value_after};
@@ -16,8 +18,11 @@ use std::marker::Model;
 /// both paths.
 #[derive(Debug, Drop)]
 pub(crate) struct Joint {
+    /// The writes to shared variables.
     shared: Shared,
+    /// How many records there are.
     count: u32,
+    /// The alarm that stopped both paths.
     alarm: Option<Alarm>,
 }
 
@@ -33,7 +38,7 @@ impl Model for Joint {
 }
 
 impl Joint {
-    /// Nothing recorded and nothing written.
+    /// Nothing recorded and nothing written. The error is that memory ran out.
     pub(crate) fn new(alloc: Global, shared100: u32, shared500: u32) -> Result<Joint, NoMemory>
         requires lower { shared100 ≤ 100 }
         requires upper { shared500 ≤ 500 }
@@ -51,7 +56,7 @@ impl Joint {
         })
     }
 
-    /// Makes room for `n` more records.
+    /// Makes room for `n` more records. The error is that memory ran out.
     pub(crate) fn reserve(&mut self, n: usize) -> Result<(), NoMemory>
         ensures writes { self.new.shared.writes ≡ self.old.shared.writes }
         ensures hundreds { self.new.shared.shared100 ≡ self.old.shared.shared100 }

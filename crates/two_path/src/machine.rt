@@ -1,4 +1,7 @@
-//! The machine of two paths.
+//! The machine of two paths. Its public calls; the turns themselves are in turning.rt, again.rt
+//! and editing.rt.
+//! lathe_calls, lathe_looks, move_list, nc_restart, run_edits, run_table, trace_list, turn_order,
+//! turret_run and zone_check use what it exports.
 ghost use Rattle.std.specs.Prelude.{◌≡◌, ◌≤◌, ◌<◌, ◌+◌, ◌↔◌, IsTrue, List, [], Some, None, IfOk, OnOk, OnErr};
 ghost use Rattle.nc_number.specs.declared.limits.TheConstants.{MOST_RECORDS};
 ghost use Rattle.nc_number.specs.Both.{of_path};
@@ -51,7 +54,8 @@ impl Model for Machine {
 }
 
 impl Machine {
-    /// Both paths at the first block of their main programs, as the settings have them.
+    /// Both paths at the first block of their main programs, as the settings have them. The error
+    /// is that memory ran out.
     pub fn new(
         alloc: Global,
         left: &Flow,
@@ -72,7 +76,7 @@ impl Machine {
         })
     }
 
-    /// Makes room for `n` more records.
+    /// Makes room for `n` more records. The error is that memory ran out.
     pub fn reserve(&mut self, n: usize) -> Result<(), NoMemory>
         ensures machine { self.new.machine ≡ self.old.machine }
         ensures room { OnOk result (n ≤ self.new.room) }

@@ -1,4 +1,6 @@
-//! One path in the machine.
+//! One path in the machine. A path's state, what its block has read, and whether it waits or has
+//! ended.
+//! For this crate alone: again.rt, editing.rt, machine.rt and turning.rt use it.
 ghost use Rattle.std.specs.Prelude.{◌≡◌, ◌<◌, ℕ, List, [], ◌∷◌, ◌++◌, Some, None, true, length};
 ghost use Rattle.block_order.specs.declared.control.Control.TheVariants.{Wait};
 ghost use Rattle.block_order.specs.Steps.{standing};
@@ -25,11 +27,18 @@ use tape_flow::Flow;
 /// One path in the machine, with what its block has read so far.
 #[derive(Debug, Drop)]
 pub(crate) struct Part {
+    /// Its state as its block begins.
     path: PathState,
+    /// What its block has read so far.
     values: ArrayVec<Var, MOST_READS>,
+    /// How many records there were at each of these reads.
     stamps: StampList,
+    /// The code of the wait at which it waits.
     waiting: Option<u16>,
+    /// Whether it has ended.
     finished: bool,
+    /// How many records there were just after the one by which it came to its block, or just after
+    /// a later edit.
     since: u32,
 }
 

@@ -1,5 +1,6 @@
 //! What a turn of a path answers: with its moves in it, or with these apart, in a list that was
 //! lent.
+//! lathe_calls, move_list, run_table, trace_list, turn_order and zone_check use what it exports.
 ghost use Rattle.std.specs.Prelude.{◌≡◌};
 ghost use Rattle.two_path.specs.Made.{turn_with};
 

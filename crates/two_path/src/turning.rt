@@ -1,4 +1,5 @@
 //! A turn of a path, over its own part, the other's, and what both have in common.
+//! For this crate alone: again.rt and machine.rt use it.
 ghost use Rattle.std.specs.Prelude.{◌≡◌, ◌≤◌, ◌<◌, ℕ, List, [], Some, None, length, IfSome};
 ghost use Rattle.nc_number.specs.declared.limits.TheConstants.{MOST_RECORDS};
 ghost use Rattle.nc_moves.specs.declared.motion.Move.{Move};
@@ -30,7 +31,7 @@ use path_state::{
 use run_records::EntryKind;
 use tape_flow::Flow;
 
-/// Its block reads a shared variable.
+/// A turn in which the path's block reads a shared variable. It makes no record.
 fn read(me: &mut Part, joint: &Joint, variable: u32) -> Answered
     requires few { length me.old.values < 32 }
     requires shared { IsShared joint.now.shared.shared100 joint.now.shared.shared500 variable }
@@ -49,7 +50,7 @@ fn read(me: &mut Part, joint: &Joint, variable: u32) -> Answered
     }
 }
 
-/// Its block, of this line, is done, and it stands behind it.
+/// A turn in which the path's block, of this line, is done. The path stands behind it.
 fn did(
     me: &mut Part,
     joint: &mut Joint,
@@ -77,7 +78,7 @@ fn did(
     }
 }
 
-/// It has ended, with its block of this line.
+/// A turn in which the path ends, with its block of this line.
 fn ended(me: &mut Part, joint: &mut Joint, path: Path, line: u32) -> Answered
     requires room { 0 < joint.old.shared.room }
     requires few { joint.old.count ≤ MOST_RECORDS }
@@ -98,7 +99,7 @@ fn ended(me: &mut Part, joint: &mut Joint, path: Path, line: u32) -> Answered
     }
 }
 
-/// It raises an alarm, which stops both paths.
+/// A turn in which the path raises an alarm, which stops both paths.
 fn alarmed(me: &mut Part, joint: &mut Joint, alarm: &Alarm) -> Answered
     requires few { joint.old.count ≤ MOST_RECORDS }
     ensures answer { result.answer ≡ Answer.Alarm alarm.now }
@@ -115,7 +116,7 @@ fn alarmed(me: &mut Part, joint: &mut Joint, alarm: &Alarm) -> Answered
     }
 }
 
-/// It arrives at a wait, where it waits.
+/// A turn in which the path arrives at a wait. It waits there.
 fn arrived(me: &mut Part, joint: &mut Joint, path: Path, code: u16) -> Answered
     requires room { 0 < joint.old.shared.room }
     requires few { joint.old.count ≤ MOST_RECORDS }
@@ -134,7 +135,7 @@ fn arrived(me: &mut Part, joint: &mut Joint, path: Path, code: u16) -> Answered
     }
 }
 
-/// It meets the other path, which waits at the same code, and both go on.
+/// A turn in which the path meets the other, which waits at the same code. Both go on.
 fn met(
     me: &mut Part,
     other: &mut Part,
@@ -163,7 +164,8 @@ fn met(
     }
 }
 
-/// It is at a wait, at this line. The other path waits at the same code, at another, or not at all.
+/// A turn of a path at a wait of this code, at this line. The other path waits at the same code,
+/// at another, or not at all.
 fn came_to_wait(
     me: &mut Part,
     other: &mut Part,

@@ -1,5 +1,6 @@
 //! The walk over a history: its records, each of which is legal where it stands, are done again one
 //! by one.
+//! move_list and zone_check use what it exports.
 ghost use Rattle.std.specs.Prelude.{◌≡◌, ◌≤◌, ◌<◌, ◌+◌};
 ghost use Rattle.nc_number.specs.declared.limits.TheConstants.{MOST_RECORDS};
 ghost use Rattle.motion_track.specs.Within.{AreMovesWithin};

@@ -40,6 +40,7 @@ what_made (Alarm alarm) = refl
 what_made (Halted alarm) = refl
 what_made Edited = refl
 
+-- the moves of a turn without their lines
 pub what_by : (path of : Path) (turn : Turn) → map (λ (made : LinedMove). made.what) (made_by path (record { path = of; turn = turn })) ≡ moves_by path of turn
 what_by One One turn = what_made turn
 what_by One Two turn = refl
@@ -55,6 +56,7 @@ moves_more tapes m path (x ∷ front) e =
     ap (λ (ms : List LinedMove). made_by path (turn_at tapes m x) ++ ms) (moves_more tapes (behind_entry tapes x m) path front e)
     ∙ sym (append_assoc (made_by path (turn_at tapes m x)) (moves_of tapes (behind_entry tapes x m) path front) (made_by path (turn_at tapes (fold tapes (behind_entry tapes x m) front) e)))
 
+-- a record more adds the moves of its turn to its path
 path_more : (tapes : Tapes) (m : MachineView) (path : Path) (front : List Entry) (e : Entry)
     → path_moves tapes m path (front ++ e ∷ [])
     ≡ path_moves tapes m path front ++ moves_by path e.path (turn_of_entry tapes e (fold tapes m front))
@@ -72,6 +74,7 @@ swept_on s (move ∷ front) back = swept_on (swept_with s move) front back
 abbrev standing_of : Segment → Both SweptView
 standing_of s = record { one = swept_along (swept_at s.left_at) s.left; two = swept_along (swept_at s.right_at) s.right }
 
+-- and the areas of the segment that goes on take them
 standing_more : (tapes : Tapes) (m : MachineView) (front : List Entry) (e : Entry)
     → standing_of (segment_of tapes m (front ++ e ∷ []))
     ≡ standing_with (standing_of (segment_of tapes m front)) e.path (turn_of_entry tapes e (fold tapes m front))
@@ -98,6 +101,7 @@ begun : (tapes : Tapes) (m : MachineView) → standing_at m ≡ standing_of (seg
 unfolding moves_in turns_from
 begun tapes m = refl
 
+-- the zones kept so far, with those of the records that are left, are the zones of the segments
 pub folded : (tapes : Tapes) (zones : ZonesView) (m : MachineView) (front : List Entry) (done : List Zone) (entries : List Entry)
     → zones_from tapes zones (fold tapes m front) (record { list = done; standing = standing_of (segment_of tapes m front) }) entries
     ≡ done ++ map (zone_of zones) (segments_from tapes m front entries)
@@ -125,6 +129,7 @@ folded tapes zones m front done (e ∷ entries) =
     (segment_of tapes m front ∷ segments_from tapes next [] entries) (segments_from tapes m (front ++ e ∷ []) entries)
     meeting other
 
+-- so those of a whole history are
 pub zones_are_those_of_the_segments : (tapes : Tapes) (m : MachineView) (zones : ZonesView) (entries : List Entry)
     → zones_from tapes zones m (record { list = []; standing = standing_at m }) entries ≡ zones_of_history tapes m zones entries
 zones_are_those_of_the_segments tapes m zones entries =

@@ -48,12 +48,14 @@ StaysAt path (Gives after left) = after.path.position ≡ path.position
 StaysAt path (Needs variable) = Unit {0}
 StaysAt path (Alarms number value) = Unit {0}
 
+-- what goes on with a value stays where the path stands,
 stays_behind : {A : Type 0} (path : PathView) (step : Outcome A) (then_on : A → List Var → Outcome After)
     → ((value : A) (left : List Var) → StaysAt path (then_on value left)) → StaysAt path (step >>= then_on)
 stays_behind path (Gives value left) then_on further = further value left
 stays_behind path (Needs variable) then_on further = tt
 stays_behind path (Alarms number value) then_on further = tt
 
+-- and so does what goes on to the next block
 stays_on : (path : PathView) (step : Outcome After) → StaysAt path step → StaysAt path (step >>= λ after left. Gives (then_next after) left)
 stays_on path (Gives after left) stays = stays
 stays_on path (Needs variable) stays = tt
@@ -115,23 +117,28 @@ LeadsOn at (effect.Need variable) = Unit {0}
 LeadsOn at (effect.AtWait code) = Unit {0}
 LeadsOn at (effect.Alarm number value) = Unit {0}
 
+-- the path stands at the end of the moves from this place
 abbrev IsMovedFrom : Point → Moved → Type 0
 IsMovedFrom at moved = moved.path.position ≡ last_end at moved.moves
 
+-- so it does if the words move it
 abbrev AreMovedFrom : Point → Result Moved ℕ → Type 0
 AreMovedFrom at (Ok moved) = IsMovedFrom at moved
 AreMovedFrom at (Err number) = Unit {0}
 
+-- the motion of a block leads there,
 motion_leads : (path : PathView) (modal : ModalView) (system : System) (words : List FlowWord) (values : Values) (motion : Result Motion ℕ)
     → AreMovedFrom path.position (after_motion path modal system words values motion)
 motion_leads path modal system words values (Ok motion) = refl
 motion_leads path modal system words values (Err number) = tt
 
+-- also with its modal state,
 modal_leads : (fixed : Fixed) (path : PathView) (system : System) (words : List FlowWord) (values : Values) (modal : Result ModalView ℕ)
     → AreMovedFrom path.position (motion_with fixed path system words values modal)
 modal_leads fixed path system words values (Ok modal) = motion_leads path modal system words values _
 modal_leads fixed path system words values (Err number) = tt
 
+-- and with where control goes
 done_leads : (at : Point) (moved : Moved) (to : Result Standing Cause) → IsMovedFrom at moved → LeadsOn at (done_by moved to)
 done_leads at moved (Ok standing) is = is
 done_leads at moved (Err cause) is = tt
@@ -185,5 +192,6 @@ module _ (tape : List ControlProgram) where
   found_leads path None reads = tt
   found_leads path (Some block) reads = body_leads path.fixed path block.body block.control reads
 
+-- each block of a flow leaves its path at the end of its moves
 pub block_leads : (flow : Flow) (path : PathView) (reads : List Var) → LeadsOn path.position (effect_of flow path reads)
 block_leads flow path reads = found_leads flow.order path (block_at flow.programs path.place) reads

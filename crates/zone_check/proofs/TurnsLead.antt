@@ -33,11 +33,13 @@ abbrev LeadsBy : MachineView → TurnResult → Type 0
 LeadsBy m r = (r.machine.paths.one.path.position ≡ last_end m.paths.one.path.position (moves_of_turn r.turn))
     × (r.machine.paths.two.path.position ≡ m.paths.two.path.position)
 
+-- a turn at a wait moves no path,
 wait_leads : (path : Path) (line : ℕ) (m : MachineView) (code : ℕ) (there : Option ℕ) → LeadsBy m (result_at_wait path line m code there)
 wait_leads path line m code None = (refl, refl)
 wait_leads path line m code (Some other) =
     either (λ (r : TurnResult). LeadsBy m r) (code == other) (result (turn.Met code) (behind_meeting m)) (alarm_result (crossed_waits path line) m) (refl, refl) (refl, refl)
 
+-- a turn that does a block leads its path to the end of its moves,
 effect_leads : (path : Path) (line : ℕ) (m : MachineView) (what : Effect) → LeadsOn m.paths.one.path.position what → LeadsBy m (result_by path line m what)
 effect_leads path line m (effect.Need variable) is = (refl, refl)
 effect_leads path line m (effect.Done after write moves) is = (is, refl)
@@ -45,6 +47,7 @@ effect_leads path line m (effect.AtWait code) is = wait_leads path line m code m
 effect_leads path line m (effect.AtEnd after moves) is = (is, refl)
 effect_leads path line m (effect.Alarm number value) is = (refl, refl)
 
+-- a turn of a path that can't go on moves none,
 idle_leads : (m : MachineView) (alarm : Option Alarm) (finished : Bool) (waiting : Option ℕ) (rest : TurnResult) → LeadsBy m rest
     → LeadsBy m (unless_idle m alarm finished waiting rest)
 idle_leads m (Some alarm) finished waiting rest is = (refl, refl)
@@ -52,6 +55,7 @@ idle_leads m None true waiting rest is = (refl, refl)
 idle_leads m None false (Some code) rest is = (refl, refl)
 idle_leads m None false None rest is = is
 
+-- so a turn leads its path where its moves end
 own_leads : (flow : Flow) (path : Path) (m : MachineView) → LeadsBy m (own_turn (blocks_of flow) path m)
 own_leads flow path m =
     idle_leads m m.alarm m.paths.one.finished m.paths.one.waiting (block_turn (blocks_of flow) path m)
@@ -77,6 +81,7 @@ entry_leads left right One Two (Some edit) stamps m = refl
 entry_leads left right Two One (Some edit) stamps m = refl
 entry_leads left right Two Two (Some edit) stamps m = refl
 
+-- the last end of moves is that of the later ones from that of the earlier ones
 last_end_on : (at : Point) (front back : List Move) → last_end at (front ++ back) ≡ last_end (last_end at front) back
 last_end_on at [] back = refl
 last_end_on at (move ∷ front) back = last_end_on (unwrap_or (end_of move) at) front back
@@ -89,6 +94,7 @@ path_first tapes m path e entries =
     map-append (λ (made : LinedMove). made.what) (made_by path (turn_at tapes m e)) (moves_of tapes (behind_entry tapes e m) path entries)
     ∙ ap (λ (ms : List Move). ms ++ path_moves tapes (behind_entry tapes e m) path entries) (what_by path e.path (turn_of_entry tapes e m))
 
+-- behind any records a path stands where its moves led it
 pub positions_lead : (left right : Flow) (m : MachineView) (path : Path) (entries : List Entry)
     → position_of path (fold (tapes_of left right) m entries)
     ≡ last_end (position_of path m) (path_moves (tapes_of left right) m path entries)

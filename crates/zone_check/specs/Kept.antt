@@ -1,5 +1,6 @@
 -- What is kept while the records of a history are done again: the zones of the segments that have
 -- ended, and of the one that goes on the areas so far and where the paths stand.
+-- For this crate alone.
 use Rattle.std.specs.Prelude.{List, [], ◌∷◌, ◌++◌, if◌then◌else◌}
 use Rattle.nc_number.specs.Both.{both_of}
 use Rattle.nc_number.specs.Path.{is_same}
@@ -33,9 +34,11 @@ standing_with s of turn = record {
   two = swept_along s.two (moves_by Two of turn);
 }
 
+-- the zone of the segment that goes on
 abbrev pub standing_zone : ZonesView → Both SweptView → Zone
 standing_zone zones s = zone_of_areas zones (both_of (λ (swept : SweptView). swept.area) s)
 
+-- the zones of the segments that have ended, and of each path what it has swept since
 pub record KeptView : Type 0 where
   pub list : List Zone
   pub standing : Both SweptView

@@ -1,4 +1,5 @@
 -- The segments of a history, and their zones.
+-- lathe_looks takes `zones_of_history` and lathe_top `zones_of_history`.
 use Rattle.std.specs.Prelude.{List, [], ◌∷◌, ◌++◌, map, if◌then◌else◌}
 use Rattle.nc_number.specs.declared.path.Path.{Path}
 use Rattle.nc_number.specs.declared.path.Path.TheVariants.{One, Two}

@@ -1,5 +1,6 @@
 //! What a zone says of its segment. Each law is the contract of a function that does nothing: who
 //! calls it has the law.
+//! These laws are for readers: no other crate calls them.
 ghost use Rattle.std.specs.Prelude.{◌≡◌, ◌≤◌, ℕ, List, true};
 ghost use Rattle.nc_number.specs.declared.point.Point.{Point};
 ghost use Rattle.zone_area.specs.Passing.{MayPassSome, IsInside, AreApart, point_in_cell};

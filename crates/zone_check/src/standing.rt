@@ -1,4 +1,6 @@
-//! What is kept of the segment that goes on, and the zones of those that have ended.
+//! What is kept while records are done again: the zones of the segments that have ended, and what
+//! each path has swept since the last meeting.
+//! For this crate alone.
 ghost use Rattle.std.specs.Prelude.{◌≡◌, [], ◌∷◌, ◌++◌, IfOk, OnOk};
 ghost use Rattle.nc_number.specs.declared.path.Path.TheVariants as Path;
 ghost use Rattle.motion_track.specs.Within.{AreMovesWithin};

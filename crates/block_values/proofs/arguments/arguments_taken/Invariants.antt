@@ -1,3 +1,5 @@
+-- The arguments so far, with the rest of the words, come to what all words come to (loop of
+-- src/arguments.rt).
 use Rattle.std.proofs.Common.{◌≡◌, drop}
 use Rattle.block_values.specs.Arguments.{arguments_with}
 use Rattle.block_values.proofs.arguments.arguments_taken.Given as goal

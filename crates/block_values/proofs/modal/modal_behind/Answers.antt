@@ -1,3 +1,4 @@
+-- The modal state behind the codes and words of a block (src/modal.rt).
 use Rattle.std.proofs.Common.{ap, sym, ◌∙◌}
 use Rattle.block_values.specs.InForce.{modal_behind, settings_said}
 use Rattle.block_values.specs.Seen.{values_seen}

@@ -1,3 +1,5 @@
+-- Where the turret stands behind these moves, which begin at `at`: the end of the last one that
+-- goes somewhere (src/moves.rt).
 use Rattle.std.proofs.Common.{subst, sym, arith}
 use Rattle.std.proofs.lemmas.Grind.{common_steps}
 use Rattle.nc_number.specs.Position.{IsPosition}

@@ -1,3 +1,4 @@
+-- Lets the list hold all moves of a block, and nothing that it held before (src/moves.rt).
 use Rattle.std.proofs.Common.{rules, subst, sym}
 use Rattle.nc_number.specs.declared.value.Var.TheVariants.{Vacant}
 use Rattle.motion_track.specs.declared.targets.TheConstants.{LONGEST}

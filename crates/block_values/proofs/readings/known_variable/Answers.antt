@@ -1,8 +1,10 @@
+-- The variable of a number, if there is one (src/readings.rt).
 use Rattle.std.proofs.Common.{◌≡◌, ℕ, Option, Some, None, IfSome, sym}
 use Rattle.common_vars.specs.declared.variable.Variable.{Variable}
 use Rattle.common_vars.specs.Variables.{IsVariable, variable_of}
 use Rattle.block_values.proofs.readings.known_variable.Goals as goal
 
+-- a variable that was found by its number exists
 found_exists : (number : ℕ) (found : Option Variable) → found ≡ variable_of number
     → ((variable : Variable) → variable_of number ≡ Some variable → IsVariable variable) → IfSome found IsVariable
 found_exists number None e law = tt

@@ -1,3 +1,5 @@
+-- What is said so far, with the rest of the words, comes to what all words say; no length is too
+-- long (loop of src/words.rt).
 use Rattle.std.proofs.Common.{◌≡◌, drop}
 use Rattle.block_values.specs.Values.{nothing_said, words_with}
 use Rattle.block_values.specs.Seen.{values_seen, sense_seen}

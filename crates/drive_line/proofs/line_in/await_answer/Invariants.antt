@@ -1,3 +1,4 @@
+-- Other answers came so far, on the same wire (loop of src/line_in.rt).
 use Rattle.std.proofs.Common.{◌≡◌, ◌++◌, List, ℕ}
 use Rattle.drive_line.proofs.line_in.await_answer.Given as goal
 

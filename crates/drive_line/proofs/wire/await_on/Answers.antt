@@ -1,3 +1,4 @@
+-- Taking an item keeps the order of the channel (src/wire.rt).
 use Rattle.std.proofs.Common.{ap, ◌∙◌}
 use Rattle.drive_line.proofs.Orders.{takes}
 use Rattle.drive_line.proofs.wire.await_on.Goals as goal

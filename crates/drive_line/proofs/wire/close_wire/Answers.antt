@@ -1,3 +1,5 @@
+-- The two ends are put together, and the whole has what was taken before what is left
+-- (src/wire.rt).
 use Rattle.std.proofs.Common.{rules}
 use Rattle.drive_line.proofs.Orders.{joins, totals}
 use Rattle.drive_line.proofs.wire.close_wire.Goals as goal

@@ -1,3 +1,4 @@
+-- Nothing was taken in the looks so far (loop of src/wire.rt).
 use Rattle.std.proofs.Common.{◌≡◌}
 use Rattle.crossbeam_channel.specs.Claims.{view, IsSeatAt}
 use Rattle.crossbeam_channel.specs.Ends.{receives_on}

@@ -1,3 +1,4 @@
+-- Sending an item keeps the order of the channel (src/wire.rt).
 use Rattle.std.proofs.Common.{ap, ◌∙◌}
 use Rattle.drive_line.proofs.Orders.{sends}
 use Rattle.drive_line.proofs.wire.send_on.Goals as goal

@@ -1,3 +1,4 @@
+-- Nothing was sent so far, and the item is the same (loop of src/wire.rt).
 use Rattle.std.proofs.Common.{◌≡◌}
 use Rattle.crossbeam_channel.specs.Claims.{view, IsSeatAt}
 use Rattle.crossbeam_channel.specs.Ends.{sends_on}

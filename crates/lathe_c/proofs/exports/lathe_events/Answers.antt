@@ -1,3 +1,4 @@
+-- The events are those of the three texts and this order of turns (src/exports.rt).
 use Rattle.lathe_c.proofs.Told.{events_told}
 use Rattle.lathe_c.proofs.exports.lathe_events.Goals as goal
 

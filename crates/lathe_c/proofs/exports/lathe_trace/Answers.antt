@@ -1,3 +1,4 @@
+-- The trace is that of the three texts (src/exports.rt).
 use Rattle.lathe_calls.specs.declared.question.Question.TheVariants as ask
 use Rattle.lathe_c.proofs.Told.{answered}
 use Rattle.lathe_c.proofs.exports.lathe_trace.Goals as goal

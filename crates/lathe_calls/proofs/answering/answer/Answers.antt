@@ -1,3 +1,5 @@
+-- Answers a question about the texts: the front of the text that is due goes into the room, and
+-- what lies behind it there stays as it was (src/answering.rt).
 use Rattle.std.proofs.Common.{List, ℕ, sym, subst, ◌∙◌}
 use Rattle.lathe_calls.specs.Answers.{Ends}
 use Rattle.lathe_calls.specs.Due.{IsDueTo}

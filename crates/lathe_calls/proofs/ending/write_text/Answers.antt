@@ -1,3 +1,4 @@
+-- Writes a text and gives the status that goes with it, or that of what went wrong (src/ending.rt).
 use Rattle.std.proofs.Common.{refl}
 use Rattle.lathe_calls.proofs.Ended.{ends_put}
 use Rattle.lathe_calls.proofs.ending.write_text.Goals as goal

@@ -1,3 +1,5 @@
+-- The events of a pair whose paths get their turns in this order, a byte for each turn, 1 or 2:
+-- where both turrets begin, and then what each turn came to (src/happening.rt).
 use Rattle.std.proofs.Common.{sym, ◌∙◌}
 use Rattle.lathe_calls.proofs.Handed.{events_said}
 use Rattle.lathe_calls.proofs.happening.events.Goals as goal

@@ -1,3 +1,4 @@
+-- The events that are due to the texts and an order (src/happening.rt).
 use Rattle.std.proofs.Common.{sym, ◌∙◌}
 use Rattle.lathe_calls.specs.Order.{disordered}
 use Rattle.lathe_calls.specs.Texts.{texts_of}

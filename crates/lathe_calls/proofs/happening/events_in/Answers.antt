@@ -1,3 +1,4 @@
+-- The events of two flows whose paths get their turns in this order (src/happening.rt).
 use Rattle.std.proofs.Common.{◌≡◌, ◌++◌, List, map, sym, subst, ◌∙◌, ap}
 use Rattle.nc_number.specs.declared.path.Path.TheVariants.{One, Two}
 use Rattle.path_state.specs.Opening.{opening_path}

@@ -1,3 +1,4 @@
+-- The events of a pair whose paths get their turns in this order (src/happening.rt).
 use Rattle.lathe_calls.proofs.happening.events_of.Goals as goal
 
 pub returns : goal.returns

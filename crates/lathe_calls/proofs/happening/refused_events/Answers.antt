@@ -1,3 +1,4 @@
+-- No event, since the texts are refused (src/happening.rt).
 use Rattle.lathe_calls.proofs.happening.refused_events.Goals as goal
 
 pub returns-in-Fault : goal.returns-in-Fault

@@ -1,3 +1,4 @@
+-- Writes the verdict of the texts, and gives its status (src/judging.rt).
 use Rattle.lathe_calls.proofs.Ended.{ends_by}
 use Rattle.lathe_calls.proofs.VerdictTold.{judged_accepted, judged_refused}
 use Rattle.lathe_calls.proofs.judging.judge.Goals as goal

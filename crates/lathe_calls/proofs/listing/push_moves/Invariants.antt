@@ -1,4 +1,4 @@
--- The events so far and those of the other moves are all events.
+-- The events so far and those of the other moves are all events (loop of src/listing.rt).
 use Rattle.std.proofs.Common.{◌≡◌, ◌++◌, drop, map}
 use Rattle.lathe_calls.specs.Events.{move_event}
 use Rattle.lathe_calls.proofs.listing.push_moves.Given as goal

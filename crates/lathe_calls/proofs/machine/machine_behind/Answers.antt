@@ -1,3 +1,4 @@
+-- The machine behind a history of the pair (src/machine.rt).
 use Rattle.lathe_calls.proofs.machine.machine_behind.Goals as goal
 
 pub machine_done-requires-clause-legal : goal.machine_done-requires-clause-legal

@@ -1,3 +1,4 @@
+-- The machine behind a history: its records are done again once (src/machine.rt).
 use Rattle.std.proofs.Common.{◌≡◌, ◌+◌, ◌≤◌, ◌<◌, drop, length, take, refl, sym, subst, ◌∙◌, ap, arith}
 use Rattle.std.proofs.lemmas.List.{take_all}
 use Rattle.nc_number.specs.declared.path.Path.TheVariants.{One, Two}

@@ -1,3 +1,4 @@
+-- Writes the races of the texts, and gives their status (src/racing.rt).
 use Rattle.lathe_calls.specs.Due.{accepted}
 use Rattle.lathe_calls.proofs.Ended.{ends_by}
 use Rattle.lathe_calls.proofs.PairTold.{refused_texts}

@@ -1,3 +1,4 @@
+-- Writes the list of the races of a pair, and gives its status (src/racing.rt).
 use Rattle.lathe_calls.specs.Races.{listed, unlisted}
 use Rattle.lathe_calls.proofs.Ended.{ends_put, ends_untold}
 use Rattle.lathe_calls.proofs.racing.tell_races.Goals as goal

@@ -1,3 +1,4 @@
+-- Writes the report of the run of the texts, and gives its status (src/running.rt).
 use Rattle.lathe_calls.proofs.Ended.{ends_by}
 use Rattle.lathe_calls.specs.Due.{accepted}
 use Rattle.lathe_calls.proofs.PairTold.{refused_texts}

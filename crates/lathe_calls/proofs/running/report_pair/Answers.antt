@@ -1,3 +1,4 @@
+-- Writes the report of a pair, and gives its status (src/running.rt).
 use Rattle.lathe_calls.proofs.Ended.{ends_put, ends_untold}
 use Rattle.lathe_calls.specs.Due.{unran}
 use Rattle.lathe_calls.proofs.PairTold.{reported}

@@ -1,3 +1,4 @@
+-- Writes the state of the machine behind a history of a pair (src/running.rt).
 use Rattle.std.proofs.Common.{refl, sym, ◌∙◌}
 use Rattle.lathe_calls.proofs.Ended.{ends_put, ends_unwritten}
 use Rattle.lathe_calls.proofs.running.show_machine.Goals as goal

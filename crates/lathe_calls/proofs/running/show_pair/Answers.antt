@@ -1,3 +1,4 @@
+-- Writes the state of a pair, and gives its status (src/running.rt).
 use Rattle.lathe_calls.proofs.Ended.{ends_by, ends_untold}
 use Rattle.lathe_calls.specs.Due.{unran}
 use Rattle.lathe_calls.proofs.PairTold.{state_told}

@@ -1,3 +1,4 @@
+-- Writes the trace of a pair that has these races, and gives its status (src/running.rt).
 use Rattle.lathe_calls.specs.Traced.{unran}
 use Rattle.lathe_calls.proofs.Ended.{ends_put, ends_untold}
 use Rattle.lathe_calls.proofs.TurnsTold.{ran_so}

@@ -1,3 +1,4 @@
+-- Writes the trace of a history of a pair, and behind it the races of the pair (src/running.rt).
 use Rattle.nc_verify.proofs.Put.{put_then, put_stops}
 use Rattle.lathe_calls.proofs.running.write_traced.Goals as goal
 

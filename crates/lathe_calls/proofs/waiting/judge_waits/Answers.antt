@@ -1,3 +1,4 @@
+-- Writes the meetings of the texts, and gives their status (src/waiting.rt).
 use Rattle.lathe_calls.proofs.Ended.{ends_by}
 use Rattle.lathe_calls.proofs.WaitsTold.{waits_told, waits_refused}
 use Rattle.lathe_calls.proofs.waiting.judge_waits.Goals as goal

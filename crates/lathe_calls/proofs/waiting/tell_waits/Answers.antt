@@ -1,3 +1,4 @@
+-- Writes the text of a pair that is accepted for its waits (src/waiting.rt).
 use Rattle.std.proofs.Common.{refl}
 use Rattle.lathe_calls.proofs.Ended.{ends_unwritten}
 use Rattle.lathe_calls.proofs.waiting.tell_waits.Goals as goal

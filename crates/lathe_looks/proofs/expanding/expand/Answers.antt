@@ -1,3 +1,4 @@
+-- What is due to the text is due to its file; else the file can't be read (src/expanding.rt).
 use Rattle.lathe_looks.specs.Fetched.{answers}
 use Rattle.lathe_calls.proofs.Ended.{ends_by, ends_just}
 use Rattle.lathe_looks.proofs.NotHad.{unfetched_due}

@@ -1,3 +1,5 @@
+-- The bytes that are written out, the refusal, or no text if memory ran out are the answer
+-- (src/expanding.rt).
 use Rattle.std.proofs.Common.{subst}
 use Rattle.nc_number.specs.declared.fault.Failing.TheVariants.{Fault}
 use Rattle.nc_number.specs.Answers.{Fails}

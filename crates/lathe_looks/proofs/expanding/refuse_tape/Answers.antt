@@ -1,3 +1,4 @@
+-- The cause is the one that has the refusal's number (src/expanding.rt).
 use Rattle.lathe_calls.proofs.Ended.{ends_just}
 use Rattle.lathe_looks.proofs.ExpansionTold.{refusal_told}
 use Rattle.lathe_looks.proofs.expanding.refuse_tape.Goals as goal

@@ -1,3 +1,4 @@
+-- Both tapes have texts; else the first or the second can't be read (src/fetching.rt).
 use Rattle.lathe_looks.proofs.NotHad.{first_not_had, second_not_had, tapes_had}
 use Rattle.lathe_looks.proofs.fetching.fetch_tapes.Goals as goal
 

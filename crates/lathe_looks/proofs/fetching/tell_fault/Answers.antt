@@ -1,3 +1,4 @@
+-- If memory ran out, nothing is written (src/fetching.rt).
 use Rattle.std.proofs.Common.{refl}
 use Rattle.lathe_calls.proofs.Ended.{ends_unwritten}
 use Rattle.lathe_looks.proofs.fetching.tell_fault.Goals as goal

@@ -1,3 +1,4 @@
+-- The file's status and line are told; if memory ran out, nothing is (src/fetching.rt).
 use Rattle.std.proofs.Common.{sym, ap}
 use Rattle.lathe_looks.specs.Fetched.{unfetched}
 use Rattle.lathe_calls.proofs.Ended.{ends_untold}

@@ -1,3 +1,4 @@
+-- The law of src/laws.rt is the lemma of OfFiles.
 use Rattle.lathe_looks.specs.Named.{files_of}
 use Rattle.lathe_looks.proofs.OfFiles.{due_to_texts}
 use Rattle.lathe_looks.proofs.laws.the_program_answers_what_the_library_answers.Goals as goal

@@ -1,3 +1,4 @@
+-- Each cause why no run is found has its status and text (src/refusing.rt).
 use Rattle.std.proofs.Common.{sym, ap}
 use Rattle.lathe_looks.specs.Shown.{unfound}
 use Rattle.lathe_calls.proofs.Ended.{ends_untold}

@@ -1,3 +1,4 @@
+-- The report and the state are those of the history that was found (src/showing.rt).
 use Rattle.std.proofs.Common.{sym, subst, ◌∙◌}
 use Rattle.nc_verify.specs.Printed.{IsPut}
 use Rattle.lathe_looks.proofs.TextsShown.{moves_are, state_is}

@@ -1,3 +1,4 @@
+-- The text of a run that was found, or why there is none, is the answer (src/showing.rt).
 use Rattle.std.proofs.Common.{sym, subst}
 use Rattle.lathe_calls.specs.Answers.{tells}
 use Rattle.lathe_looks.specs.Shown.{IsShown, shown, unshown, shown_text}

@@ -1,3 +1,4 @@
+-- The zones of the history are written, or memory ran out (src/zoning.rt).
 use Rattle.nc_verify.proofs.InPieces.{none_put}
 use Rattle.lathe_looks.proofs.zoning.put_zones.Goals as goal
 

@@ -1,3 +1,4 @@
+-- The zones of a run that was found, or why there is none, are the answer (src/zoning.rt).
 use Rattle.std.proofs.Common.{sym, subst}
 use Rattle.lathe_calls.specs.Answers.{tells}
 use Rattle.lathe_looks.specs.Shown.{IsShown, shown, unshown}

@@ -1,3 +1,5 @@
+-- The zones, or what is due to the text, are those of the file; else the file can't be read
+-- (src/zoning.rt).
 use Rattle.lathe_calls.proofs.Ended.{ends_just}
 use Rattle.lathe_looks.proofs.NotHad.{unfetched_due}
 use Rattle.lathe_looks.proofs.ZonesTold.{zones_read, zones_unread}

@@ -1,3 +1,4 @@
+-- A bad line is told; if memory ran out, nothing is (src/zoning.rt).
 use Rattle.std.proofs.Common.{subst}
 use Rattle.nc_number.specs.declared.fault.Failing.TheVariants.{Fault}
 use Rattle.nc_number.specs.Answers.{FailsBy}

@@ -1,3 +1,4 @@
+-- The pair of three files is run anew, or it is said why no file was read (src/beginning.rt).
 use Rattle.lathe_looks.specs.Fetched.{answers}
 use Rattle.lathe_looks.specs.Texts.{texts_of}
 use Rattle.lathe_calls.proofs.Ended.{ends_by, ends_just}

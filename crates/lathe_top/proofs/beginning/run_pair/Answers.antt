@@ -1,3 +1,4 @@
+-- A journal is begun and the run goes on, or it is said why there is none (src/beginning.rt).
 use Rattle.std.proofs.Common.{refl}
 use Rattle.lathe_calls.specs.Answers.{Ends}
 use Rattle.nc_number.specs.Both.{both_of}

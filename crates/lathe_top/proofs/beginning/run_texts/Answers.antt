@@ -1,3 +1,4 @@
+-- Texts that are refused are told so, and nothing is run (src/beginning.rt).
 use Rattle.lathe_calls.proofs.Ended.{ends_by}
 use Rattle.lathe_top.proofs.Opened.{none_called}
 use Rattle.lathe_top.proofs.RunsBegun.{run_refused}

@@ -1,3 +1,4 @@
+-- The run that was found is branched, or it is said why not (src/branching.rt).
 use Rattle.std.proofs.Common.{sym, subst}
 use Rattle.lathe_calls.specs.Answers.{tells}
 use Rattle.lathe_calls.specs.Statuses as exit

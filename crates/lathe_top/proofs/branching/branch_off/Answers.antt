@@ -1,3 +1,4 @@
+-- A branch is made on the second disk, and the turrets rest (src/branching.rt).
 use Rattle.std.proofs.Common.{refl}
 use Rattle.lathe_calls.proofs.Ended.{ends_by}
 use Rattle.lathe_top.proofs.branching.branch_off.Goals as goal

@@ -1,3 +1,4 @@
+-- A branch is made of the run on the disk, or it is said why there is none (src/branching.rt).
 use Rattle.std.proofs.Common.{refl}
 use Rattle.lathe_calls.proofs.Ended.{ends_just}
 use Rattle.lathe_top.specs.Branched.{not_found}

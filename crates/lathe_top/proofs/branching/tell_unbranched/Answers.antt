@@ -1,3 +1,4 @@
+-- Each cause for which no branch is made has its text and its status (src/branching.rt).
 use Rattle.std.proofs.Common.{refl}
 use Rattle.lathe_calls.proofs.Ended.{ends_untold}
 use Rattle.lathe_top.proofs.branching.tell_unbranched.Goals as goal

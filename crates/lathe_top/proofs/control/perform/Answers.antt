@@ -1,3 +1,5 @@
+-- Each command does what it says, and leaves the second disk alone unless it branches
+-- (src/control.rt).
 use Rattle.std.proofs.Common.{refl}
 use Rattle.lathe_calls.proofs.Ended.{ends_by}
 use Rattle.lathe_top.proofs.control.perform.Goals as goal

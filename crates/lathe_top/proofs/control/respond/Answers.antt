@@ -1,3 +1,4 @@
+-- Words that are a command are done; others are told with status 2 (src/control.rt).
 use Rattle.std.proofs.Common.{refl, rules}
 use Rattle.lathe_top.specs.Done.{usage, unread, commanded}
 use Rattle.lathe_calls.proofs.Ended.{ends_by, ends_just, ends_untold}

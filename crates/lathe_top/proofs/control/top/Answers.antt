@@ -1,3 +1,4 @@
+-- What a call did and told, and that the cause that holds gives its status (src/control.rt).
 use Rattle.std.specs.Prelude.{codes}
 use Rattle.lathe_calls.specs.Statuses as exit
 use Rattle.lathe_top.proofs.Agreed.{ends_or, ends_told}

@@ -1,3 +1,4 @@
+-- The edits of a file are made, or it is said why the file gives none (src/editing.rt).
 use Rattle.lathe_calls.proofs.Ended.{ends_by}
 use Rattle.lathe_looks.specs.Fetched.{answers}
 use Rattle.lathe_top.specs.Edited.{edited}

@@ -1,3 +1,4 @@
+-- Edits are made in the run on the disk, and the turrets rest (src/editing.rt).
 use Rattle.std.proofs.Common.{refl}
 use Rattle.lathe_calls.proofs.Ended.{ends_by}
 use Rattle.lathe_top.proofs.editing.edit_by.Goals as goal

@@ -1,3 +1,4 @@
+-- Edits are made in the run on the disk, or it is said why there is none (src/editing.rt).
 use Rattle.lathe_calls.proofs.Ended.{ends_just}
 use Rattle.lathe_top.specs.Edited.{not_found}
 use Rattle.lathe_top.proofs.editing.edit_run.Goals as goal

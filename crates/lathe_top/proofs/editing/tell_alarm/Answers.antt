@@ -1,3 +1,4 @@
+-- The report of a run that an alarm stopped, with status 3 (src/editing.rt).
 use Rattle.std.proofs.Common.{subst}
 use Rattle.nc_outside.specs.declared.reason.Reason.{Reason}
 use Rattle.lathe_calls.specs.Answers.{Ends, IsJust, tells}

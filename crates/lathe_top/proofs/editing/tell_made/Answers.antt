@@ -1,3 +1,4 @@
+-- How many edits were made, or why they were not (src/editing.rt).
 use Rattle.lathe_top.proofs.editing.tell_made.Goals as goal
 
 pub returns-in-Err : goal.returns-in-Err

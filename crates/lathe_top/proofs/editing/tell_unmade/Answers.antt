@@ -1,3 +1,4 @@
+-- Why edits were not written: a fault of the disk, or no memory (src/editing.rt).
 use Rattle.std.proofs.Common.{refl}
 use Rattle.lathe_calls.proofs.Ended.{ends_untold}
 use Rattle.lathe_top.proofs.editing.tell_unmade.Goals as goal

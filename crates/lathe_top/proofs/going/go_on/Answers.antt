@@ -1,3 +1,4 @@
+-- A run goes on with both turrets, its records stay legal, and its report is told (src/going.rt).
 use Rattle.std.proofs.Common.{List, sym, subst}
 use Rattle.nc_number.specs.Both.{both_of}
 use Rattle.lathe_top.specs.Lathe.{lathe_with}

@@ -1,3 +1,4 @@
+-- The report of how a run ended; nothing if there was no memory to run (src/going.rt).
 use Rattle.std.proofs.Common.{sym, ap}
 use Rattle.lathe_top.specs.Going.{told_of}
 use Rattle.lathe_top.specs.Texts.{text_by}

@@ -1,3 +1,4 @@
+-- What `top` promises of a call is what the laws over calls ask for (src/laws.rt).
 use Rattle.std.proofs.Common.{sym, subst}
 use Rattle.lathe_top.specs.Kept.{Leaves}
 use Rattle.lathe_top.specs.Kinds.{kind_of}

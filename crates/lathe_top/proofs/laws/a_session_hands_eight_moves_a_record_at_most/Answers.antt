@@ -1,3 +1,4 @@
+-- A turret gets its place and at most eight moves a record (src/laws.rt).
 use Rattle.std.proofs.Common.{length, arith}
 use Rattle.std.proofs.lemmas.List.{length-map}
 use Rattle.nc_outside.specs.declared.got.Got.TheVariants.{Moved}

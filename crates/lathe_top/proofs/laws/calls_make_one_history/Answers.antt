@@ -1,3 +1,4 @@
+-- Over calls that are cut off anywhere, all records are one history (src/laws.rt).
 use Rattle.lathe_top.proofs.StopsLeave.{becomes_one, one_history}
 use Rattle.lathe_top.proofs.laws.calls_make_one_history.Goals as goal
 

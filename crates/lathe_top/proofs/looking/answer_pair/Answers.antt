@@ -1,3 +1,4 @@
+-- A question about three files is answered, and the disk and the turrets rest (src/looking.rt).
 use Rattle.lathe_calls.proofs.Ended.{ends_by}
 use Rattle.lathe_top.proofs.Opened.{none_called}
 use Rattle.lathe_top.proofs.looking.answer_pair.Goals as goal

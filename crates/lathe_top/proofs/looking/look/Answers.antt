@@ -1,3 +1,4 @@
+-- What the journal holds is shown, and the turrets rest (src/looking.rt).
 use Rattle.std.proofs.Common.{refl}
 use Rattle.lathe_calls.proofs.Ended.{ends_by}
 use Rattle.lathe_top.proofs.looking.look.Goals as goal

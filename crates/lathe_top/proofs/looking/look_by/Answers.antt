@@ -1,3 +1,4 @@
+-- The zones of the run are shown, and the turrets rest (src/looking.rt).
 use Rattle.std.proofs.Common.{refl}
 use Rattle.lathe_calls.proofs.Ended.{ends_by}
 use Rattle.lathe_top.proofs.looking.look_by.Goals as goal

@@ -1,3 +1,4 @@
+-- The zones of a file are shown, or it is said why the file gives none (src/looking.rt).
 use Rattle.lathe_calls.proofs.Ended.{ends_by}
 use Rattle.lathe_looks.specs.Fetched.{answers}
 use Rattle.lathe_top.specs.Zoned.{zoned}

@@ -1,3 +1,5 @@
+-- A tape is written with its cycles as plain blocks, and the disk and the turrets rest
+-- (src/looking.rt).
 use Rattle.lathe_calls.proofs.Ended.{ends_by}
 use Rattle.lathe_top.proofs.Opened.{none_called}
 use Rattle.lathe_top.proofs.looking.write_out.Goals as goal

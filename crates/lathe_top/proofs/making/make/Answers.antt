@@ -1,3 +1,4 @@
+-- Without memory for the made pair nothing is told, and nothing is run (src/making.rt).
 use Rattle.lathe_top.specs.Ran.{unjudged}
 use Rattle.lathe_calls.proofs.Ended.{ends_untold}
 use Rattle.lathe_top.proofs.Opened.{none_called}

@@ -1,3 +1,4 @@
+-- Each cause for which no journal is begun has its text and its status (src/refusing.rt).
 use Rattle.lathe_calls.proofs.Ended.{ends_untold}
 use Rattle.lathe_top.proofs.RunsBegun.{none_told}
 use Rattle.lathe_top.proofs.refusing.tell_unbegun.Goals as goal

@@ -1,3 +1,4 @@
+-- The run on the disk goes on, or it is said why there is none (src/resuming.rt).
 use Rattle.std.proofs.Common.{refl}
 use Rattle.nc_number.specs.Both.{both_of}
 use Rattle.lathe_top.specs.Held.{lathe_left}

@@ -1,3 +1,4 @@
+-- A run that is over is only reported; another goes on with both turrets (src/resuming.rt).
 use Rattle.std.proofs.Common.{refl, sym, subst, ◌∙◌, ◌≡◌, false}
 use Rattle.run_table.specs.Kept.{TableView}
 use Rattle.run_table.specs.Running.{MayRun}

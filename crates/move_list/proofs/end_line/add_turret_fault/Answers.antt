@@ -1,3 +1,4 @@
+-- The words `turret fault` and the path are added, and no more (src/end_line.rt).
 use Rattle.std.proofs.Common.{List, ℕ, ◌++◌, append_assoc, ap, ◌∙◌}
 use Rattle.std.specs.Prelude.{codes}
 use Rattle.text_pieces.specs.Pieces.{path_name}

@@ -1,3 +1,4 @@
+-- A turret's text is the line of its place and the lines that a report has (src/laws.rt).
 use Rattle.std.proofs.Common.{refl}
 use Rattle.move_list.specs.Report.{path_text}
 use Rattle.move_list.proofs.Streams.{stream_is}

@@ -1,3 +1,4 @@
+-- A variable that the settings share is one that may be asked of the machine (src/listing.rt).
 use Rattle.std.proofs.Common.{sym, ◌∙◌}
 use Rattle.move_list.proofs.SharedNumbers.{shared_where}
 use Rattle.move_list.proofs.listing.shared_line.Goals as goal

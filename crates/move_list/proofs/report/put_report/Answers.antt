@@ -1,3 +1,4 @@
+-- The moves of the history, done again, are put as its report; or memory ran out (src/report.rt).
 use Rattle.two_path.specs.Turns.{tapes_of}
 use Rattle.two_path.specs.Start.{machine_at_start}
 use Rattle.nc_verify.proofs.InPieces.{none_put}

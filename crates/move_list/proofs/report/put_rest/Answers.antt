@@ -1,3 +1,4 @@
+-- The lines of path 2 and the last lines are put, in order (src/report.rt).
 use Rattle.nc_verify.proofs.Put.{put_then, put_stops}
 use Rattle.move_list.proofs.report.put_rest.Goals as goal
 

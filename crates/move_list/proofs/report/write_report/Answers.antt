@@ -1,3 +1,4 @@
+-- The report of a history of the pair is put (src/report.rt).
 use Rattle.move_list.proofs.report.write_report.Goals as goal
 
 pub put_report-requires-clause-legal : goal.put_report-requires-clause-legal

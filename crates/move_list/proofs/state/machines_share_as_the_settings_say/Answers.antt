@@ -1,3 +1,4 @@
+-- Both paths of a machine of the pair share the variables that the settings say (src/state.rt).
 use Rattle.move_list.proofs.Fixed.{first_shares, second_shares}
 use Rattle.move_list.proofs.state.machines_share_as_the_settings_say.Goals as goal
 

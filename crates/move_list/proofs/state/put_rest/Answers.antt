@@ -1,3 +1,4 @@
+-- The lines of path 2 and what both paths share are put, in order (src/state.rt).
 use Rattle.nc_verify.proofs.Put.{put_then, put_stops}
 use Rattle.move_list.proofs.state.put_rest.Goals as goal
 

@@ -1,3 +1,4 @@
+-- The shared variables and the number of records are put, in order (src/state.rt).
 use Rattle.nc_verify.proofs.Put.{put_then, put_stops}
 use Rattle.move_list.specs.State.{shared_lines}
 use Rattle.move_list.proofs.state.put_shared.Goals as goal

@@ -1,3 +1,4 @@
+-- The lines of both paths and what they share are put, in order (src/state.rt).
 use Rattle.nc_verify.proofs.Put.{put_then, put_stops}
 use Rattle.move_list.specs.State.{state_text}
 use Rattle.move_list.proofs.state.put_state.Goals as goal

@@ -1,3 +1,4 @@
+-- The text of a machine of the pair is put (src/state.rt).
 use Rattle.move_list.proofs.state.write_state.Goals as goal
 
 pub returns : goal.returns

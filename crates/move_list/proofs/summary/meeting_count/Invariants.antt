@@ -1,3 +1,4 @@
+-- The count is that of the meetings among the records so far (loop of src/summary.rt).
 use Rattle.std.proofs.Common.{◌≡◌, ◌≤◌, length, take}
 use Rattle.move_list.specs.Summary.{meetings_in}
 use Rattle.move_list.proofs.summary.meeting_count.Given as goal

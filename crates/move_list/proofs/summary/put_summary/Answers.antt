@@ -1,3 +1,4 @@
+-- The summary of the history, done again, is put; or memory ran out (src/summary.rt).
 use Rattle.nc_verify.proofs.InPieces.{none_put}
 use Rattle.move_list.proofs.SummaryOfMoves.{summary_put}
 use Rattle.move_list.proofs.summary.put_summary.Goals as goal

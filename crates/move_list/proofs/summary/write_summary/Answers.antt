@@ -1,3 +1,4 @@
+-- The summary of a history of the made pair is put (src/summary.rt).
 use Rattle.move_list.proofs.summary.write_summary.Goals as goal
 
 pub put_summary-requires-clause-legal : goal.put_summary-requires-clause-legal

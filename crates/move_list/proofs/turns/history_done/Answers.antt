@@ -1,3 +1,5 @@
+-- The records are done again in order, each as a turn; their moves and the machine after them are
+-- those of the history (src/turns.rt).
 use Rattle.std.proofs.Common.{◌≡◌, ◌+◌, ◌≤◌, ◌<◌, ◌++◌, length, take, drop, refl, sym, subst, ◌∙◌, ap, arith}
 use Rattle.std.proofs.lemmas.List.{take_all}
 use Rattle.nc_number.specs.declared.path.Path.TheVariants.{One, Two}

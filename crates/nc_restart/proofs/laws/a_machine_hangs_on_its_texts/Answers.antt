@@ -1,3 +1,4 @@
+-- Texts that are accepted have one machine, whoever judges them (src/laws.rt).
 use Rattle.nc_restart.proofs.SamePair.{same_pair}
 use Rattle.nc_restart.proofs.laws.a_machine_hangs_on_its_texts.Goals as goal
 

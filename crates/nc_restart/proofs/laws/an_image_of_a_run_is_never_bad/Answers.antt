@@ -1,3 +1,4 @@
+-- An image that a run left stands for the first so many records of its history (src/laws.rt).
 use Rattle.nc_number.specs.declared.path.Path.TheVariants.{One, Two}
 use Rattle.path_state.specs.Opening.{opening_path}
 use Rattle.nc_restart.specs.Pair.{tapes_in}

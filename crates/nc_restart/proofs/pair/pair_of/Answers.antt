@@ -1,3 +1,4 @@
+-- The pair that the texts of the header are, which are judged anew (src/pair.rt).
 use Rattle.std.proofs.Common.{◌≡◌, subst}
 use Rattle.nc_verify.specs.Verdict.{Texts, IsRefusalOf}
 use Rattle.nc_restart.specs.Pair.{texts_of}

@@ -1,3 +1,4 @@
+-- Recovers the run of which this disk has the journal (src/recovery.rt).
 use Rattle.std.proofs.Common.{Err, sym, subst}
 use Rattle.run_journal.specs.Opening.{Found}
 use Rattle.nc_restart.specs.Recovered.{Recovers}

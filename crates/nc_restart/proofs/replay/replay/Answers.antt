@@ -1,3 +1,5 @@
+-- Does the records again, over a machine of the pair before its first turn, with room for all of
+-- them (src/replay.rt).
 use Rattle.std.proofs.Common.{arith}
 use Rattle.nc_restart.proofs.Replays.{none_done, room_there, few_done, bad_at}
 use Rattle.nc_restart.proofs.replay.replay.Goals as goal

@@ -1,3 +1,4 @@
+-- The records so far are done again, and there is room for the others (loop of src/replay.rt).
 use Rattle.nc_restart.specs.Reading.{AreDone}
 use Rattle.nc_restart.proofs.replay.replay.Given as goal
 

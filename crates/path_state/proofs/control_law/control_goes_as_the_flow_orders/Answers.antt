@@ -1,3 +1,5 @@
+-- Whatever a path holds, its block leads where the order of blocks allows, and what is fixed for
+-- the path stays (src/control_law.rt).
 use Rattle.path_state.proofs.ControlledFlow.{steady}
 use Rattle.path_state.proofs.control_law.control_goes_as_the_flow_orders.Goals as goal
 

@@ -1,3 +1,5 @@
+-- A block that is done keeps the labels ahead of its path, but for an M99 of the main program with
+-- no call open (src/control_law.rt).
 use Rattle.path_state.proofs.ControlledLabels.{labels_kept}
 use Rattle.path_state.proofs.control_law.each_block_keeps_the_labels.Goals as goal
 

@@ -1,3 +1,5 @@
+-- The offsets set so far and the rest of the settings come to what all settings come to (loop of
+-- src/path.rt).
 use Rattle.std.proofs.Common.{◌≡◌, drop}
 use Rattle.offset_store.specs.Offsets.{no_offsets}
 use Rattle.path_state.specs.Opening.{with_presets}

@@ -1,3 +1,4 @@
+-- Each worked block comes to what it should, by computing (src/worked.rt).
 use Rattle.std.proofs.Common.{refl}
 use Rattle.common_vars.specs.Variables.{variable_of}
 use Rattle.path_state.proofs.worked.worked_blocks_come_to_these.Goals as goal

@@ -1,4 +1,5 @@
--- The turret served all items that were taken, and a fault has halted the run.
+-- The turret served all items that were taken, and a fault has halted the run (loop of
+-- src/drive.rt).
 use Rattle.std.proofs.Common.{◌≡◌, false}
 use Rattle.nc_outside.specs.Calls.{IsCalled}
 use Rattle.drive_line.specs.Driving.{has_failed, Serves}

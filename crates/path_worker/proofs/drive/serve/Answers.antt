@@ -1,3 +1,4 @@
+-- A move is handed to the turret; at a mark and at the end the turret stands still (src/drive.rt).
 use Rattle.std.proofs.Common.{◌++◌, ◌∷◌, [], sym, subst}
 use Rattle.drive_line.specs.declared.item.Item.{Item}
 use Rattle.drive_line.specs.Driving.{Serves}

@@ -1,4 +1,4 @@
--- Those that are passed do not.
+-- Those that are passed do not (loop of src/meeting.rt).
 use Rattle.std.proofs.Common.{◌≡◌, drop}
 use Rattle.race_report.specs.Meeting.{some_block}
 use Rattle.race_report.proofs.meeting.some_block.Given as goal

@@ -1,3 +1,5 @@
+-- Whether the expression names the variable: by its number, or by one that is computed
+-- (src/naming.rt).
 use Rattle.std.proofs.Common.{◌∙◌, ap}
 use Rattle.race_report.specs.Reads.{some_read}
 use Rattle.race_report.proofs.TreeReads.{tree_reads}

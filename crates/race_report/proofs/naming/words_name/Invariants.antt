@@ -1,4 +1,4 @@
--- Those that are passed do not name the variable.
+-- Those that are passed do not name the variable (loop of src/naming.rt).
 use Rattle.std.proofs.Common.{◌≡◌, drop}
 use Rattle.named_vars.specs.Names.{words_name}
 use Rattle.race_report.proofs.naming.words_name.Given as goal

@@ -1,3 +1,4 @@
+-- Adds the first race of a variable, where there is one (src/racing.rt).
 use Rattle.std.proofs.Common.{◌+◌, List, subst, sym}
 use Rattle.race_report.specs.declared.race.Race.{Race}
 use Rattle.race_report.specs.RaceLists.{shared_by}

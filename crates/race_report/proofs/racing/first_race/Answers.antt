@@ -1,3 +1,4 @@
+-- The first race of the variable (src/racing.rt).
 use Rattle.std.proofs.Common.{◌≡◌, ◌<◌, false, is_some, length, rules}
 use Rattle.race_report.specs.Found.{race_at}
 use Rattle.race_report.proofs.FirstRaces.{left_next}

@@ -1,4 +1,4 @@
--- The first race is one of the parts that are left.
+-- The first race is one of the parts that are left (loop of src/racing.rt).
 use Rattle.std.proofs.Common.{length}
 use Rattle.race_report.proofs.FirstRaces.{IsLeft}
 use Rattle.race_report.proofs.racing.first_race.Given as goal

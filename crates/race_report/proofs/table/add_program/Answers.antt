@@ -1,3 +1,4 @@
+-- Keeps the lines of a program, if none of a program of its O number are kept (src/table.rt).
 use Rattle.std.proofs.Common.{◌≡◌, true, false, is_some, rules}
 use Rattle.race_report.specs.Tables.{kept_lines, lines_of}
 use Rattle.race_report.proofs.Told.{told_again, told_more}

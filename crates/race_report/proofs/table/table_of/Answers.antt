@@ -1,3 +1,4 @@
+-- The lines of the blocks of a path that do what is looked for (src/table.rt).
 use Rattle.std.proofs.Common.{◌+◌, drop}
 use Rattle.race_report.proofs.Told.{told_item}
 use Rattle.race_report.proofs.table.table_of.Goals as goal

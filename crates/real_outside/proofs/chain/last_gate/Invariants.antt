@@ -1,3 +1,4 @@
+-- The gate so far stands before the end of a file (src/chain.rt).
 use Rattle.std.proofs.Common.{◌≡◌, ◌<◌, ◌^◌, ◌-◌, ℕ}
 use Rattle.real_outside.specs.declared.chain.Head.TheVariants.{Open}
 use Rattle.real_outside.proofs.chain.last_gate.Given as goal

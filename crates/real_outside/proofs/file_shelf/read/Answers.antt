@@ -1,8 +1,9 @@
+-- What was appended are bytes of the file, no more than were asked for (src/file_shelf.rt).
 use Rattle.std.proofs.Common.{◌≡◌, ℕ, ◌+◌, ◌≤◌, List, ◌++◌, length, take, drop, arith, sym, length-drop}
 use Rattle.std.proofs.lemmas.List.{take-append-drop}
 use Rattle.real_outside.proofs.file_shelf.read.Goals as goal
 
--- what a list that begins with another has behind it
+-- what a list that begins with another has after it
 behind : (old new : List ℕ) (count max : ℕ) → take (length old) new ≡ old → length new ≡ length old + count → count ≤ max
     → (more : List ℕ) × (length more ≤ max) × (new ≡ old ++ more)
 behind old new count max starts long few = (

@@ -1,3 +1,4 @@
+-- No more bytes were read than there is room for (src/pieces.rt).
 use Rattle.std.proofs.Common.{◌≡◌, ◌≤◌, length}
 use Rattle.real_outside.proofs.pieces.read_up_to.Given as goal
 

@@ -1,3 +1,4 @@
+-- The place so far is no further than the end (src/pieces.rt).
 use Rattle.std.proofs.Common.{◌-◌}
 use Rattle.real_outside.proofs.pieces.write_again.Given as goal
 

@@ -1,3 +1,4 @@
+-- Makes all edits in the run of a machine and its journal (src/making.rt).
 use Rattle.std.proofs.Common.{rules, ◌≡◌, ◌==◌, false, length, refl}
 use Rattle.run_edits.specs.Made.{records_of}
 use Rattle.run_edits.proofs.Written.{none_made, when_failed, when_made}

@@ -1,3 +1,4 @@
+-- Makes edits in a run behind which no alarm stands, and gives the disk back (src/making.rt).
 use Rattle.std.proofs.Common.{List, sym, ap, subst, ◌∙◌}
 use Rattle.edit_texts.specs.declared.edit_list.PathEdit.{PathEdit}
 use Rattle.two_path.specs.Machine.{MachineView}

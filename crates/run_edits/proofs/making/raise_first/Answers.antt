@@ -1,3 +1,4 @@
+-- Raises a journal of version 1 (src/making.rt).
 use Rattle.std.proofs.Common.{rules, ◌≡◌, subst}
 use Rattle.run_records.specs.declared.version.Version.{Version}
 use Rattle.run_records.specs.declared.version.Version.TheVariants.{One}

@@ -1,3 +1,5 @@
+-- Raises a journal of version 1, and writes a record for each of the edits, as one batch
+-- (src/making.rt).
 use Rattle.std.proofs.Common.{inl}
 use Rattle.disk_model.proofs.Runs.{widened}
 use Rattle.run_journal.specs.Stands.{Stands, StandsEither}

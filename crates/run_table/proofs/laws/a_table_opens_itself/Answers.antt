@@ -1,3 +1,4 @@
+-- Each table may be held, with itself as its opening (src/laws.rt).
 use Rattle.run_table.proofs.FlushedShown.{opens_itself}
 use Rattle.run_table.proofs.laws.a_table_opens_itself.Goals as goal
 

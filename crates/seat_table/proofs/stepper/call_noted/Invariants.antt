@@ -1,3 +1,4 @@
+-- The note is of the call that was handed in (src/stepper.rt).
 use Rattle.std.proofs.Common.{[], ◌∷◌}
 use Rattle.seat_table.proofs.stepper.call_noted.Given as goal
 

@@ -1,3 +1,4 @@
+-- The note is of the drain (src/stepper.rt).
 use Rattle.std.proofs.Common.{[], ◌∷◌}
 use Rattle.seat_table.proofs.stepper.drained_noted.Given as goal
 

@@ -1,3 +1,4 @@
+-- The note is of the halt (src/stepper.rt).
 use Rattle.std.proofs.Common.{[], ◌∷◌}
 use Rattle.seat_table.proofs.stepper.halt_noted.Given as goal
 

@@ -1,3 +1,4 @@
+-- The note is of the step and its answer (src/stepper.rt).
 use Rattle.std.proofs.Common.{[], ◌∷◌}
 use Rattle.nc_outside.specs.declared.stepper.Call.TheVariants.{Step}
 use Rattle.seat_table.proofs.stepper.step_noted.Given as goal

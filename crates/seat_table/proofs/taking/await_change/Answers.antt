@@ -1,3 +1,4 @@
+-- To count a sleeper, and to count it off, keeps the rule of the table (src/taking.rt).
 use Rattle.std.proofs.Common.{rules, arith, ◌+◌, ◌-◌, ◌%◌, ◌^◌}
 use Rattle.seat_table.proofs.Keeping.{touches}
 use Rattle.seat_table.proofs.taking.await_change.Goals as goal

@@ -1,3 +1,4 @@
+-- The lines of both waits of a meeting stand behind the piece (src/lines.rt).
 use Rattle.std.proofs.Common.{List, ℕ, ◌++◌, append_assoc, ap, ◌∙◌}
 use Rattle.std.specs.Prelude.{codes}
 use Rattle.text_pieces.specs.Pieces.{numbered}

@@ -1,3 +1,4 @@
+-- A legal record can be done again, so there is an answer to unwrap (src/tracing.rt).
 use Rattle.two_path.proofs.DoneAgain.{is_done}
 use Rattle.trace_list.proofs.tracing.done_again.Goals as goal
 

@@ -1,3 +1,5 @@
+-- Does a record again that is legal there, after so many meetings, and puts its lines
+-- (src/tracing.rt).
 use Rattle.std.proofs.Common.{subst}
 use Rattle.nc_verify.specs.Printed.{IsPut}
 use Rattle.two_path.specs.Machine.{MachineView}

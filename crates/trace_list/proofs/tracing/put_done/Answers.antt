@@ -1,3 +1,5 @@
+-- Does a record again for which there is room, after so many meetings, and puts its lines
+-- (src/tracing.rt).
 use Rattle.std.proofs.Common.{◌≡◌, ap, subst, ◌∙◌}
 use Rattle.nc_number.specs.declared.path.Path.{Path}
 use Rattle.nc_verify.specs.Printed.{IsPut}

@@ -1,5 +1,5 @@
 -- The machine is the fold of the records so far, and the events of the others, with the last lines,
--- are the rest of the text.
+-- are the rest of the text (loop of src/tracing.rt).
 use Rattle.std.proofs.Common.{◌≡◌, ◌≤◌, ◌++◌, length, take, drop}
 use Rattle.two_path.specs.Machine.{without_reads}
 use Rattle.two_path.specs.Turns.{tapes_of}

@@ -1,3 +1,4 @@
+-- The whole text of the trace is put, or a prefix of it when the sink fails (src/tracing.rt).
 use Rattle.trace_list.proofs.tracing.write_trace.Goals as goal
 
 pub put_trace-requires-clause-legal : goal.put_trace-requires-clause-legal

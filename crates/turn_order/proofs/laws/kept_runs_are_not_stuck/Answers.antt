@@ -1,3 +1,4 @@
+-- A machine that is kept with its history is lawful, so it is not stuck (src/laws.rt).
 use Rattle.std.proofs.Common.{refl, subst}
 use Rattle.nc_number.specs.declared.path.Path.TheVariants.{One, Two}
 use Rattle.path_state.specs.Opening.{opening_path}

@@ -1,3 +1,4 @@
+-- Two runs whose paths take turns have the same records (src/laws.rt).
 use Rattle.turn_order.proofs.OneRun.{one_run}
 use Rattle.turn_order.proofs.laws.one_run_in_turn.Goals as goal
 

@@ -1,3 +1,4 @@
+-- The records of turns are a legal history (src/laws.rt).
 use Rattle.std.proofs.Common.{subst}
 use Rattle.nc_number.specs.declared.path.Path.TheVariants.{One}
 use Rattle.two_path.specs.Machine.{opening}

@@ -1,3 +1,4 @@
+-- A held table may go to another thread if its disk may (src/crossing.rt).
 use denote.Param.{param}
 use Rattle.turret_run.proofs.TablesCross.{held_sent}
 use Rattle.turret_run.proofs.crossing.held_crosses.Goals as goal

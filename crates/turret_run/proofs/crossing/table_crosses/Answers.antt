@@ -1,3 +1,4 @@
+-- A table may go to another thread if its disk may (src/crossing.rt).
 use Rattle.turret_run.proofs.TablesCross.{table_sent}
 use Rattle.turret_run.proofs.crossing.table_crosses.Goals as goal
 

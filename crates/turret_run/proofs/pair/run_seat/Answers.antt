@@ -1,3 +1,4 @@
+-- The passes that come back are of the same table and path (src/pair.rt).
 use Rattle.std.proofs.Common.{ap, ◌∙◌}
 use Rattle.turret_run.proofs.pair.run_seat.Goals as goal
 

@@ -1,3 +1,4 @@
+-- The turret of path 1 or that of path 2 failed at its place (src/placing.rt).
 use Rattle.std.proofs.Common.{[], ◌∷◌, refl, subst, sym, true≢false}
 use Rattle.nc_number.specs.declared.point.Point.{Point}
 use Rattle.nc_number.specs.declared.path.Path.TheVariants.{One, Two}

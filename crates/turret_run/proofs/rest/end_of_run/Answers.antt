@@ -1,3 +1,4 @@
+-- A cause that is told is the first that holds (src/rest.rt).
 use Rattle.std.proofs.Common.{subst, sym}
 use Rattle.std.specs.Prelude.{IfSome}
 use Rattle.turret_run.specs.Rests.{HasCause}

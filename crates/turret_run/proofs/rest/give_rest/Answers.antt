@@ -1,3 +1,4 @@
+-- At the end each turret has served the records of its path (src/rest.rt).
 use Rattle.std.proofs.Common.{◌≡◌, List, sym, subst}
 use Rattle.nc_number.specs.declared.path.Path.TheVariants.{One, Two}
 use Rattle.nc_outside.specs.declared.lined_move.LinedMove.{LinedMove}

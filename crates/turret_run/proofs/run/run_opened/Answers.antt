@@ -1,3 +1,4 @@
+-- The run ended by the cause that the last turns found (src/run.rt).
 use Rattle.std.proofs.Common.{ap, sym, ◌∙◌, subst, refl}
 use Rattle.nc_number.specs.declared.both.Both.{Both}
 use Rattle.nc_number.specs.declared.path.Path.{Path}

@@ -1,3 +1,4 @@
+-- What came of the run: no memory, no threads, a failed place, or its end (src/run.rt).
 use Rattle.std.proofs.Common.{[], refl, inr}
 use Rattle.nc_number.specs.Both.{both_of, of_path}
 use Rattle.two_path.specs.Machine.{position_of}

@@ -1,4 +1,4 @@
--- The opening is the table with room for its records.
+-- The opening is the table with room for its records (loop of src/run.rt).
 use Rattle.std.proofs.Common.{Some}
 use Rattle.turret_run.proofs.run.run_with_turrets.Given as goal
 

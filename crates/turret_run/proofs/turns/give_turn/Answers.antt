@@ -1,3 +1,4 @@
+-- The turret serves the moves of the turn, whatever the turn answers (src/turns.rt).
 use Rattle.std.proofs.Common.{List, ap, subst}
 use Rattle.nc_outside.specs.declared.lined_move.LinedMove.{LinedMove}
 use Rattle.nc_outside.specs.Calls.{moves_of}

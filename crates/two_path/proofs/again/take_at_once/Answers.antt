@@ -1,3 +1,4 @@
+-- The block is taken if its record is of this kind; else the path stays as it was (src/again.rt).
 use Rattle.std.proofs.Common.{◌≡◌, Some, sym, ap, ◌∙◌}
 use Rattle.std.specs.Prelude.{slice_get}
 use Rattle.two_path.specs.Turns.{blocks_of}

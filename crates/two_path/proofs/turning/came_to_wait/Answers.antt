@@ -1,3 +1,5 @@
+-- A turn at a wait: the path waits, both go on, or the codes differ and both stop
+-- (src/turning.rt).
 use Rattle.std.proofs.Common.{rules, ◌≡◌, ◌==◌, false, Some, None, sym, ap, ◌∙◌}
 use Rattle.nc_moves.specs.declared.alarm.Alarm.{Alarm}
 use Rattle.two_path.specs.Machine.{MachineView}

@@ -1,3 +1,4 @@
+-- A record that is legal where it stands is never refused (src/walk.rt).
 use Rattle.two_path.proofs.DoneAgain.{is_done}
 use Rattle.two_path.proofs.walk.done_again.Goals as goal
 

@@ -1,3 +1,4 @@
+-- A mark that got its answer keeps the worker's end, and does not end the line (src/line_in.rt).
 use Rattle.std.proofs.Common.{◌≡◌, false, ap, ◌∙◌}
 use Rattle.drive_line.specs.Line.{has_end}
 use Rattle.drive_line.proofs.Items.{kept_mark, open_mark}

@@ -1,3 +1,4 @@
+-- The end keeps the worker's end: nothing follows it (src/line_in.rt).
 use Rattle.std.proofs.Common.{◌≡◌, false, ap, ◌∙◌}
 use Rattle.drive_line.specs.Line.{has_end}
 use Rattle.drive_line.proofs.Items.{kept_end}

@@ -1,3 +1,4 @@
+-- The answer given is the one that was owed (src/line_out.rt).
 use Rattle.std.proofs.Common.{◌≡◌, true, ap, ◌∙◌, subst}
 use Rattle.drive_line.specs.Line.{Taking, IsTaking}
 use Rattle.drive_line.proofs.Items.{answered}

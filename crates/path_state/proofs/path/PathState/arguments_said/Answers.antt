@@ -1,3 +1,5 @@
+-- The arguments of a macro call are those of the definition, or the call stops for the same cause
+-- (src/decision.rt).
 use Rattle.std.proofs.Common.{Ok, Err}
 use Rattle.path_state.proofs.Decided.{arguments_said}
 use Rattle.path_state.proofs.path.PathState.arguments_said.Goals as goal

@@ -1,3 +1,5 @@
+-- If the left side names a variable, what is left of an assignment is that the variable takes the
+-- value (src/statements.rt).
 use Rattle.std.proofs.Common.{sym, ap, ◌≡◌, ◌∙◌}
 use Rattle.macro_expr.specs.Tree.{variable_of}
 use Rattle.block_values.specs.Operands.{variable_with}

@@ -1,3 +1,4 @@
+-- Where the path stands on a block, the number of the next one fits (src/decision.rt).
 use Rattle.std.proofs.Common.{subst, sym, ap, ◌∙◌, rules}
 use Rattle.block_order.specs.Frames.{MayPass, callers}
 use Rattle.path_state.proofs.NextBlocks.{may_pass_at}

@@ -1,3 +1,4 @@
+-- Words whose values can't be had decide the need or the alarm of the definition (src/decision.rt).
 use Rattle.std.proofs.Common.{sym, ◌∙◌}
 use Rattle.path_state.proofs.Decided.{unwaiting}
 use Rattle.path_state.proofs.path.PathState.decide_words.Goals as goal

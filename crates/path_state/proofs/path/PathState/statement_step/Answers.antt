@@ -1,3 +1,5 @@
+-- The codes of a loop's head and of an assignment behind IF are those of its text, so the step is
+-- that of the definition (src/statements.rt).
 use Rattle.std.proofs.Common.{sym, ap, ◌∙◌}
 use Rattle.macro_expr.specs.Tree.{evaluated, sentence_of, test_of, tree_of, variable_of}
 use Rattle.path_state.proofs.StatementCodes.{parts_behind_if}

@@ -1,3 +1,5 @@
+-- There is room for the level of a macro, since there are no more levels than calls
+-- (src/standing.rt).
 use Rattle.std.proofs.Common.{rules, arith, reverse, length, ◌≤◌, IsOk}
 use Rattle.path_state.proofs.StandingLevels.{macros_few}
 use Rattle.path_state.proofs.standing.Standing.call_macro.Goals as goal

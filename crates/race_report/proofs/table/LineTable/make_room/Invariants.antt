@@ -1,4 +1,4 @@
--- There are as many places as were made, and what stood stands.
+-- There are as many places as were made, and what stood stands (loop of src/table.rt).
 use Rattle.std.proofs.Common.{◌≡◌, ℕ, ◌≤◌, length}
 use Rattle.race_report.specs.Tables.{kept_lines}
 use Rattle.race_report.proofs.table.LineTable.make_room.Given as goal

@@ -1,3 +1,4 @@
+-- A write was done within the file's greatest length, or its fault is counted (src/file_disk.rt).
 use Rattle.real_outside.proofs.Untold.{failed_write, done_write}
 use Rattle.real_outside.proofs.file_disk.FileDiskDisk.write_at.Goals as goal
 

@@ -1,3 +1,4 @@
+-- What was fetched are some bytes that the shelf does not tell (src/file_shelf.rt).
 use Rattle.std.proofs.lemmas.Result.{on_ok_weaker}
 use Rattle.real_outside.proofs.file_shelf.FileShelfShelf.fetch.Goals as goal
 

@@ -1,3 +1,5 @@
+-- Why the run ended is the first cause that stands, or none stands; else the held table is as it
+-- was (src/held.rt).
 use Rattle.std.proofs.Common.{◌≡◌, subst}
 use Rattle.nc_number.specs.declared.path.Path.{Path}
 use Rattle.run_table.specs.Ending.{KeepsRest}

@@ -1,3 +1,4 @@
+-- A path that was drained is not to be drained; the table is held still (src/held.rt).
 use Rattle.std.proofs.Common.{◌≡◌, false, sym, subst}
 use Rattle.run_table.specs.Kept.{TableView}
 use Rattle.run_table.specs.Draining.{with_owed}

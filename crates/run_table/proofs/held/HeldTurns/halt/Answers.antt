@@ -1,3 +1,4 @@
+-- A turret's reason to stop leaves a held table (src/held.rt).
 use Rattle.std.proofs.Common.{sym, subst}
 use Rattle.run_table.specs.Kept.{TableView}
 use Rattle.seat_table.specs.Turning.{first_reason}

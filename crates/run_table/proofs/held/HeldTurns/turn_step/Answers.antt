@@ -1,3 +1,5 @@
+-- One step of the held table, its answer for the worker, and who waits or is to be drained by it
+-- (src/held.rt).
 use Rattle.std.proofs.Common.{◌≡◌, ◌≢◌, refl, sym, ◌∙◌, subst, true, false, Option, Some}
 use Rattle.std.specs.Prelude.{MatchOption}
 use Rattle.nc_number.specs.declared.path.Path.{Path}

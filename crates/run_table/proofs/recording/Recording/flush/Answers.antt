@@ -1,3 +1,5 @@
+-- A flush puts all records on the disk, or the disk failed and a prefix stands there
+-- (src/recording.rt).
 use Rattle.std.proofs.Common.{rules, ◌≡◌, [], true, false, sym, subst}
 use Rattle.std.specs.Prelude.{IsTrue}
 use Rattle.run_table.specs.Recording.{RecordingView, Records}

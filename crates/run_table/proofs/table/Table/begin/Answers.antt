@@ -1,3 +1,4 @@
+-- A new table has no records, and its journal holds the header (src/table.rt).
 use Rattle.std.proofs.Common.{rules, ◌≡◌, List, sym, subst, Ok}
 use Rattle.run_records.specs.Entries.{Entry}
 use Rattle.run_journal.specs.Beginning.{BeginsRun}

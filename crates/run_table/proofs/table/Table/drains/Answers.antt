@@ -1,3 +1,4 @@
+-- A path is drained if it is owed moves and comes to a wait with its next turn (src/table.rt).
 use Rattle.std.proofs.Common.{◌≡◌, ◌&&◌, Bool, true, sym, ◌∙◌, ap, subst}
 use Rattle.tape_flow.specs.declared.flow.Flow.{Flow}
 use Rattle.tape_flow.specs.Places.{label_at}

@@ -1,3 +1,5 @@
+-- Why the run ended, after a flush, or that it goes on; a table that the disk stopped stays so
+-- (src/table.rt).
 use Rattle.std.proofs.Common.{rules, ◌≡◌, ◌≢◌, false, length, refl, sym, ◌∙◌, ap, subst, append-nil, None, Some}
 use Rattle.std.specs.Prelude.{IsTrue}
 use Rattle.nc_outside.specs.declared.halt.Halt.TheVariants as halt

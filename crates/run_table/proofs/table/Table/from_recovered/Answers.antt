@@ -1,3 +1,4 @@
+-- What a recovery found is a table, whose journal is that of the recovery (src/table.rt).
 use Rattle.std.proofs.Common.{◌≡◌, length, sym, ap, subst, ◌∙◌, Option, Bool}
 use Rattle.nc_number.specs.declared.path.Path.TheVariants.{One, Two}
 use Rattle.nc_outside.specs.declared.halt.Halt.{Halt}

@@ -1,3 +1,4 @@
+-- The machine that is left is the fold of the history that is left (src/table.rt).
 use Rattle.std.proofs.Common.{subst}
 use Rattle.two_path.specs.Histories.{IsKept}
 use Rattle.run_table.specs.Kept.{TableView, tapes_in, opening_of}

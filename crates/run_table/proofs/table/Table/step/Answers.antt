@@ -1,3 +1,5 @@
+-- One step, with its moves in it, who is to be drained behind it, and that the path goes on
+-- (src/table.rt).
 use Rattle.std.proofs.Common.{◌≡◌, subst, sym, ◌∙◌}
 use Rattle.run_table.specs.declared.answer.TableStep.{TableStep}
 use Rattle.run_table.specs.Draining.{owed_behind}

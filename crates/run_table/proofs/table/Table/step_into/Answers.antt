@@ -1,3 +1,5 @@
+-- One step, whose moves stand in a list that is lent: by why the table stopped, a drain, or the
+-- path's turn (src/table.rt).
 use Rattle.std.proofs.Common.{◌≡◌, length, true, false, None, Some, sym, ap, subst, ◌∙◌, Option}
 use Rattle.std.specs.Prelude.{IfSome}
 use Rattle.nc_number.specs.declared.path.Path.TheVariants.{One, Two}

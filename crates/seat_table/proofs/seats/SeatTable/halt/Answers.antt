@@ -1,3 +1,4 @@
+-- The pass of a drive has a right, and does not have the turn (src/seats.rt).
 use Rattle.seat_table.specs.Knowing.{halts}
 use Rattle.seat_table.proofs.Keeping.{has_one}
 use Rattle.seat_table.proofs.seats.SeatTable.halt.Goals as goal

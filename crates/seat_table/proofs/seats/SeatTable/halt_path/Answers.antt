@@ -1,3 +1,4 @@
+-- The pass of a path has a right, and does not have the turn (src/seats.rt).
 use Rattle.seat_table.specs.Knowing.{steps}
 use Rattle.seat_table.proofs.Keeping.{has_one}
 use Rattle.seat_table.proofs.seats.SeatTable.halt_path.Goals as goal

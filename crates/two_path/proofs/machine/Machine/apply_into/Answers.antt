@@ -1,3 +1,4 @@
+-- After a record that is an edit each waiting path still stands on a wait (src/machine.rt).
 use Rattle.two_path.proofs.machine.Machine.apply_into.Goals as goal
 
 pub returns-in-Some-clause-waits : goal.returns-in-Some-clause-waits

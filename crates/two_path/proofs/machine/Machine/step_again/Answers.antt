@@ -1,3 +1,4 @@
+-- A step of either path is done again, or refused with nothing changed (src/machine.rt).
 use Rattle.std.proofs.Common.{IfOk, OnErr, sym, ap, subst, ◌∙◌}
 use Rattle.nc_number.specs.declared.path.Path.TheVariants.{One, Two}
 use Rattle.run_records.specs.Entries.{Entry}

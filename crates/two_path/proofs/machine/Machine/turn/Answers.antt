@@ -1,3 +1,4 @@
+-- The answer with its moves in it is the turn, and no move is too long (src/machine.rt).
 use Rattle.std.proofs.Common.{ap, sym, subst, ◌∙◌}
 use Rattle.motion_track.specs.declared.targets.TheConstants.{LONGEST}
 use Rattle.motion_track.specs.Within.{AreMovesWithin}

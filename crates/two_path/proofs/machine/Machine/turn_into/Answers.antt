@@ -1,3 +1,5 @@
+-- A turn of either path keeps what a machine keeps, and makes the record of that turn
+-- (src/machine.rt).
 use Rattle.std.proofs.Common.{ap, sym, subst, ◌∙◌}
 use Rattle.nc_number.specs.declared.path.Path.{Path}
 use Rattle.nc_number.specs.declared.path.Path.TheVariants.{One, Two}
