@@ -2,7 +2,8 @@
 //!
 //! A word is a letter with a literal or the code of an expression. The M and G codes among the
 //! words are looked up in the tables of the cell's system, and decide what P and L mean, which
-//! words must be written out and which numbers they may have.
+//! words must be written out and which numbers they may have. block_forms, open_forms and
+//! block_values lean on this.
 #![tactic(auto)]
 
 mod codes;

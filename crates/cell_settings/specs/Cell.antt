@@ -30,7 +30,8 @@ pub record Cell : Type 0 where
   pub records : ℕ
   pub presets : List Preset
 
--- the settings of an empty text
+-- The settings of an empty text: waits M100 to M197 in system A, both paths share #500 to #599, and
+-- turrets and offsets are at 0.
 abbrev pub standard : Cell
 standard = record {
   wait_low = 100;

@@ -1,4 +1,4 @@
-//! A line of the settings, read.
+//! What one line of the settings says. How it is read is in named.rt.
 //! For this crate alone.
 use crate::preset::Preset;
 use code_tables::System;

@@ -1,4 +1,4 @@
-//! Which offset of a path a setting speaks of.
+//! Which slot of offset_store the offset of a setting has.
 //! edit_texts and path_state use it.
 ghost use Rattle.std.specs.Prelude.{◌≡◌};
 ghost use Rattle.cell_settings.specs.Preset.{IsPreset};

@@ -1,5 +1,6 @@
-//! Offsets that a path begins with.
-//! edit_texts, motion_vectors and path_state use it.
+//! The offsets that the paths begin with, as a list with one at most for each path, kind and
+//! number.
+//! edit_texts, path_state and tests use it.
 ghost use Rattle.std.specs.Prelude.{◌≡◌, List, [], All, OnOk};
 ghost use Rattle.cell_settings.specs.Preset.{with_preset, without_place, is_same_place, IsPreset};
 

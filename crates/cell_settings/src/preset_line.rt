@@ -1,4 +1,4 @@
-//! The lines of the settings that give offsets.
+//! The lines of the settings that give offsets; a line of edits has the same form.
 //! edit_texts uses it.
 ghost use Rattle.std.specs.Prelude.{◌≡◌, ◌≢◌, ◌≤◌, IfSome};
 ghost use Rattle.field_lines.specs.Field.{texts};

@@ -1,5 +1,5 @@
 //! From a text to the settings of the cell.
-//! machine_vectors, motion_vectors and three more crates use it.
+//! nc_verify and tests use it.
 ghost use Rattle.std.specs.Prelude.{◌≡◌, ◌<◌, ◌^◌, length};
 ghost use Rattle.nc_number.specs.Answers.{GivesBy};
 ghost use Rattle.nc_number.specs.Causes.{cause_number};

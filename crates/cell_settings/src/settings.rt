@@ -1,5 +1,5 @@
-//! The settings of the cell.
-//! block_words, lathe_calls and 15 more crates use it.
+//! The settings of the cell, as a type that keeps their conditions, and a line more of them.
+//! block_words, lathe_calls and twelve more crates, and tests, use it.
 ghost use Rattle.std.specs.Prelude.{◌≡◌, ◌^◌, ◌<◌, ◌≤◌, bit_or, All, OnOk};
 ghost use Rattle.cell_settings.specs.Settings.{IsWaitRange, IsSwitches};
 ghost use Rattle.nc_number.specs.declared.limits.TheConstants.{MOST_RECORDS};

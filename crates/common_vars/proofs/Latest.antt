@@ -48,7 +48,7 @@ found k v (n ∷ ns) (suc i) past early =
     early in
     rw rest refl
 
--- so it gives the value of the variable
+-- the value of the write that is found is that of the variable
 pub value-found : (nodes : List Node) (k v : ℕ) (i : ℕ) → IsPast nodes k v (Some i) → stamp_at nodes i ≤ k
     → (node_at nodes i).write.value ≡ value_after k v (written nodes)
 value-found nodes k v i past early = sym (ap (λ o. unwrap_or o Vacant) (found k v nodes i past early))

@@ -45,7 +45,7 @@ after_all (w ∷ later) own v sized common =
     ∙ ap (unwrap_or (latest_of v later)) (after_one own v w.0 w.1 sized (common_small w.0 common.0))
     ∙ sym (unwrap_or-or (latest_of v later) _ (value_of v own))
 
--- and is vacant if there is none
+-- each common variable holds what the latest write of it wrote, and is vacant if there is none
 pub latest_is_held : (writes : List (ℕ × Var)) (v : ℕ) → IsCommon v → AreCommon writes
     → value_of v (after_writes writes none_written) ≡ unwrap_or (latest_of v writes) Vacant
 latest_is_held writes v common all =

@@ -165,7 +165,7 @@ hundred_found v low high =
     let inside : is_in v (range 100 199 Common) ≡ true = grind (arith, nat_tests) in
     rw (null, below, inside) refl
 
--- and so do 500 to 999
+-- 500 to 999 name common variables
 five_hundred_found : (v : ℕ) → 500 ≤ v → v ≤ 999 → named_in variable_rows v ≡ Some (Common v)
 five_hundred_found v low high =
     let null : is_in v (one 0 Null) ≡ false = grind (arith, nat_tests) in

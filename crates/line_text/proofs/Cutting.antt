@@ -7,7 +7,7 @@ use Rattle.line_text.specs.declared.sign.Sign.{Sign}
 use Rattle.line_text.specs.declared.piece.Piece.{Piece}
 use Rattle.line_text.specs.Pieces.{Cut, begins_word, depth_behind, add_to_cut, cut_at, value_len, piece_of, pieces_of}
 
--- a cut that goes on behind the first n signs
+-- a cut that goes on after the first n signs
 abbrev Behind : ℕ → List Sign → Cut → Type 0
 Behind n signs cut = (cut ≡ record { lead = take n signs; groups = (cut_at (drop n signs) 0).groups }) × (value_len (drop n signs) 0 ≡ 0)
 
@@ -68,7 +68,9 @@ first_piece letter others lead =
 
 -- one word more
 pub record IsNext (before : List Piece) (piece : Piece) (behind : List Sign) (all : List Piece) : Type 0 where
+  -- the words so far with this one, and those after it, are all words
   pub cut : (before ++ piece ∷ []) ++ pieces_of behind ≡ all
+  -- what is left begins with a word
   pub lead : value_len behind 0 ≡ 0
 
 -- one word more is cut off, and the loop goes on after it

@@ -14,8 +14,11 @@ least long bad broken unclosed skipped what =
 
 -- a line that can be read has allowed bytes and whole words, and says this
 pub record IsReadable (skipped allowed broken : Bool) (what says : Said) : Type 0 where
+  -- each byte is allowed where it stands
   pub allowed_is : allowed ≡ true
+  -- each word is whole
   pub whole : broken ≡ false
+  -- it says nothing if it is skipped, and else this
   pub says_is : says ≡ cond skipped said.Nothing what
 
 -- if the least refusal is none, no refusal holds

@@ -1,4 +1,4 @@
--- The order in which the proofs are checked: each file after those it uses.
+-- The files of proofs, each after those that it uses.
 pub mod Cutting
 pub mod Placing
 pub mod Judged

@@ -24,10 +24,10 @@ placed_switch : (signs : List Sign) → ArePlaced signs → ArePlaced (behind_sw
 placed_switch [] placed = placed
 placed_switch (sign ∷ signs) placed = placed_cond _ (behind_digit signs) (sign ∷ signs) (placed_digit signs (All-tail IsPlaced sign signs placed)) placed
 
--- behind the comments that a line begins with
+-- after the comments that a line begins with
 pub placed_comments : (signs : List Sign) → ArePlaced signs → ArePlaced (behind_comments signs)
 placed_comments signs placed = All-drop IsPlaced _ signs placed
 
--- behind its skip sign
+-- after its skip sign
 pub placed_behind : (signs : List Sign) → ArePlaced signs → ArePlaced (behind_comments (behind_switch signs))
 placed_behind signs placed = placed_comments (behind_switch signs) (placed_switch signs placed)

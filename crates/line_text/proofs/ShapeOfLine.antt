@@ -98,17 +98,17 @@ in_range_is low high None = tt
 in_range_is low high (Some (pos n)) = chosen_is low high n (leb low n && leb n high) refl
 in_range_is low high (Some (negsuc n)) = tt
 
--- so is what a literal reads as
+-- what a literal reads as, if it is in a range, is in it
 range_is : (low high : ℕ) (read : Result Literal NumberFault) → IfSome (range_of low high read) (λ k. (low ≤ k) × (k ≤ high))
 range_is low high (Ok literal) = in_range_is low high (whole_of literal.value)
 range_is low high (Err fault) = tt
 
--- so is the number of a text
+-- the number of a text, if it is in a range, is in it
 number_is : (low high : ℕ) (text : List ℕ) → IfSome (number_in low high text) (λ k. (low ≤ k) × (k ≤ high))
 unfolding number_in
 number_is low high text = range_is low high (word_literal text)
 
--- so it is at most the upper end
+-- a number in a range is at most its upper end
 at_most : (n : Option ℕ) (low high : ℕ) → IfSome n (λ k. (low ≤ k) × (k ≤ high)) → IfSome n (λ k. k ≤ high)
 at_most None low high h = tt
 at_most (Some k) low high h = h.1
@@ -117,16 +117,16 @@ at_most (Some k) low high h = h.1
 abbrev IsSequence : Option ℕ → Type 0
 IsSequence n = IfSome n (λ k. k ≤ 99999)
 
--- so is the number of N's literal
+-- the number of N's literal, if it is in range, is at most 99,999
 sequence_text : (text : List ℕ) → IsSequence (number_in 0 99999 text)
 sequence_text text = at_most (number_in 0 99999 text) 0 99999 (number_is 0 99999 text)
 
--- so is either of two such numbers
+-- whichever of two such sequence numbers is taken
 either_number : (t : Bool) (a b : Option ℕ) → IsSequence a → IsSequence b → IsSequence (cond t a b)
 either_number true a b p q = p
 either_number false a b p q = q
 
--- so is the last sequence number of a block
+-- the last sequence number of a block, if there is one, is at most 99,999
 sequence_is : (pieces : List Piece) (before : Option ℕ) → IsSequence before → IsSequence (sequence_from before pieces)
 sequence_is [] before h = h
 sequence_is (piece ∷ pieces) before h =
@@ -136,14 +136,19 @@ sequence_is (piece ∷ pieces) before h =
 
 -- a letter and a text of at most so many bytes
 record IsPiece (most : ℕ) (piece : Piece) : Type 0 where
+  -- it begins with a letter, in upper case
   letter : is_ascii_uppercase piece.letter ≡ true
+  -- its text is no longer than that
   short : length piece.text ≤ most
 
 -- the value is whole, and an O that is not alone, or is alone and a literal, does not stand among
 -- words
 record IsGood (most : ℕ) (piece : Piece) : Type 0 where
+  -- it is such a piece
   piece_is : IsPiece most piece
+  -- it has a whole value
   value : is_value piece.text ≡ true
+  -- an O (79) has no literal
   program : piece.letter ≡ 79 → is_literal piece.text ≡ false
 
 -- at most one sign more stands before the first word
@@ -175,7 +180,7 @@ group_added true most depth sign cut e short all =
     All-cons (IsGroup most) group cut.groups (record { letter = (both (depth == 0) (is_ascii_uppercase sign.byte) e).1; short = omega arith }) all
 group_added false most depth sign cut e short all = all
 
--- all groups of the signs are so
+-- each letter of the signs with what stands after it is such a group
 groups_are : (most : ℕ) (signs : List Sign) (depth : ℕ) → length signs ≤ most → All (IsGroup most) (cut_at signs depth).groups
 groups_are most [] depth short = All-nil (IsGroup most)
 groups_are most (sign ∷ signs) depth short =
@@ -183,7 +188,7 @@ groups_are most (sign ∷ signs) depth short =
     let lead = lead_len signs (depth_behind depth sign.byte) in
     group_added (begins_word depth sign.byte) most depth sign rest refl (omega arith) (groups_are most signs (depth_behind depth sign.byte) (omega arith))
 
--- all words of the signs are so
+-- each word of the signs begins with a letter, and is no longer than the signs
 pieces_are : (most : ℕ) (signs : List Sign) → length signs ≤ most → All (IsPiece most) (pieces_of signs)
 pieces_are most signs short = All-map (IsPiece most) piece_of (cut_at signs 0).groups (groups_are most signs 0 short)
 
@@ -197,12 +202,12 @@ word_is most piece good e = record {
   program = good.program;
 }
 
--- so have the words of a block, whether or not the first one is its sequence number
+-- the words of a block have their shape, whether or not the first one is its sequence number
 words_first : (t : Bool) (most : ℕ) (piece : Piece) (pieces : List Piece) → is_sequence piece ≡ t → IsGood most piece → All (IsWordShape most) (words_of pieces) → All (IsWordShape most) (map word_of (cond (not t) (piece ∷ filter (λ p. not (is_sequence p)) pieces) (filter (λ p. not (is_sequence p)) pieces)))
 words_first true most piece pieces e good all = all
 words_first false most piece pieces e good all = All-cons (IsWordShape most) (word_of piece) (words_of pieces) (word_is most piece good e) all
 
--- so have the words of a block
+-- the words of a block have their shape, without its sequence numbers
 words_are : (most : ℕ) (pieces : List Piece) → All (IsGood most) pieces → All (IsWordShape most) (words_of pieces)
 words_are most [] all = All-nil (IsWordShape most)
 words_are most (piece ∷ pieces) all = words_first (is_sequence piece) most piece pieces refl (All-head (IsGood most) piece pieces all) (words_are most pieces (All-tail (IsGood most) piece pieces all))
@@ -293,13 +298,13 @@ said_first false most slash pieces e are sound alone = record {
 abbrev IsRead : ℕ → Reading → Type 0
 IsRead most reading = reading.broken ≡ false → IsSaid most reading.said
 
--- so does a block of words
+-- a block of words, already cut, says something of the right shape
 pieces_read : (most : ℕ) (slash : Bool) (pieces : List Piece) → All (IsPiece most) pieces → IsRead most (read_pieces slash pieces)
 pieces_read most slash pieces are whole =
     let p = or_parts (ltb (prefix_len is_sound pieces) (length pieces)) (not (stands_alone slash pieces)) whole in
     said_first (is_program slash pieces) most slash pieces refl are (sound_all pieces p.0) (not-false (stands_alone slash pieces) p.1)
 
--- so does a block of words, cut from its signs
+-- a block of words says something of the right shape
 words_read : (most : ℕ) (slash : Bool) (signs : List Sign) → length signs ≤ most → IsRead most (read_words slash signs)
 unfolding read_words
 words_read most slash signs short = go (value_len signs 0 == 0)
@@ -318,7 +323,7 @@ numbered_is (sign ∷ signs) e =
     let rest = drop_len (prefix_len is_number_sign signs) signs in
     ((both (sign.byte == 78 && is_literal (bytes_of (number_part signs))) (is_statement (sentence_of (behind_number signs))) e).1, omega arith)
 
--- so it has the right shape
+-- a statement after N says something of the right shape
 numbered_read : (most : ℕ) (signs : List Sign) → is_numbered signs ≡ true → length signs ≤ most → IsRead most (read_numbered signs)
 unfolding read_numbered
 numbered_read most signs e short whole =
@@ -327,7 +332,7 @@ numbered_read most signs e short whole =
     let fits : length (numbered_sentence signs) ≤ most = omega arith in
     record { sequence_is = sequence_text (numbered_text signs); body_is = (p.0, fits) }
 
--- so has a statement without N
+-- a statement without N says something of the right shape
 statement_read : (most : ℕ) (signs : List Sign) → is_statement (sentence_of signs) ≡ true → length signs ≤ most → IsRead most (read_statement signs)
 unfolding read_statement
 statement_read most signs e short whole =
@@ -335,7 +340,7 @@ statement_read most signs e short whole =
     let fits : length (sentence_of signs) ≤ most = omega arith in
     record { sequence_is = tt; body_is = (e, fits) }
 
--- so has any block after its skip sign
+-- any block after its skip sign says something of the right shape
 block_read : (most : ℕ) (slash : Bool) (signs : List Sign) → length signs ≤ most → IsRead most (read_block slash signs)
 unfolding read_block
 block_read most slash signs short = go (is_numbered signs) refl (is_statement (sentence_of signs)) refl
@@ -357,7 +362,7 @@ behind_len (sign ∷ signs) =
     digit_len [] = omega arith
     digit_len (digit ∷ rest) = cond_len (is_switch digit.byte) rest (digit ∷ rest) (length (digit ∷ rest)) (omega arith) (omega arith)
 
--- so has any line after its first comments
+-- any line after its first comments says something of the right shape
 head_read : (most : ℕ) (signs : List Sign) → length signs ≤ most → IsRead most (read_head signs)
 unfolding read_head
 head_read most [] short = λ whole. tt

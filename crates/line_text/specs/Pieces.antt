@@ -10,7 +10,7 @@ use Rattle.line_text.specs.declared.piece.Piece.{Piece}
 abbrev pub is_comment : Sign → Bool
 is_comment sign = sign.byte == 40
 
--- a letter, and what stands behind it up to the next one
+-- a letter, and what stands after it up to the next one
 pub record Group : Type 0 where
   -- the letter
   pub letter : Sign
@@ -46,7 +46,7 @@ cut_at (sign ∷ signs) depth = add_to_cut (begins_word depth sign.byte) sign (c
 abbrev pub bytes_of : List Sign → List ℕ
 bytes_of signs = map (λ sign. sign.byte) signs
 
--- the place behind the last sign
+-- the place after the last sign
 abbrev pub end_of : ℕ → List Sign → ℕ
 end_of place [] = place
 end_of place (sign ∷ signs) = end_of (sign.place + 1) signs
@@ -55,7 +55,7 @@ end_of place (sign ∷ signs) = end_of (sign.place + 1) signs
 abbrev pub value_part : List Sign → List Sign
 value_part value = before_first is_comment value
 
--- a group as a word; it is whole where nothing but comments stands behind its value
+-- a group as a word; it is whole where nothing but comments stands after its value
 abbrev pub piece_of : Group → Piece
 piece_of group = record {
   letter = group.letter.byte;

@@ -1,4 +1,4 @@
--- The places of signs in a line.
+-- The places of signs in a line, counted from 0. For this crate alone.
 use Rattle.std.specs.Prelude.{◌+◌, ◌^◌, ◌<◌, List, All}
 use Rattle.line_text.specs.declared.sign.Sign.{Sign}
 

@@ -30,7 +30,7 @@ is_sequence piece = piece.letter == 78 && is_literal piece.text
 abbrev pub is_sound : Piece → Bool
 is_sound piece = piece.whole && is_value piece.text
 
--- a sequence number or an O number with more digits than are allowed, whatever stands behind it
+-- a sequence number or an O number with more digits than are allowed, whatever stands after it
 abbrev pub is_long : Piece → Bool
 is_long piece = (piece.letter == 78 || piece.letter == 79) && has_long_front piece.text
 
@@ -117,7 +117,7 @@ read_statement signs = record {
   said = said.Block (record { sequence = None; in_range = true; body = Statement (sentence_of signs) });
 }
 
--- a block behind its skip sign
+-- a block after its skip sign
 unfoldable pub read_block : Bool → List Sign → Reading
 read_block slash signs =
     if is_numbered signs then read_numbered signs

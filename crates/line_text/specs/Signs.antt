@@ -1,4 +1,5 @@
--- The bytes of a line that count: its signs. Of a comment only its opening bracket does.
+-- The bytes of a line that count: its signs. Of a comment only its opening bracket does. nc_text,
+-- open_forms and tape_relation cite it too.
 use Rattle.std.specs.Prelude.{ℕ, ◌+◌, ◌-◌, Bool, true, false, not, ◌&&◌, ◌||◌, ◌==◌, List, [], ◌∷◌, length, take, slice_index, if◌then◌else◌}
 use Rattle.std.specs.Char.{is_ascii_digit, is_ascii_uppercase, to_ascii_uppercase}
 use Rattle.std.specs.List.{list_all, suffix_len}

@@ -14,7 +14,7 @@ abbrev pub closes : List ℕ → ℕ → Bool
 closes [] depth = false
 closes (b ∷ bs) depth = if b == 93 && depth == 1 then length bs == 0 else closes bs (depth_behind depth b)
 
--- behind `#`: digits, or an expression in brackets
+-- after `#`: digits, or an expression in brackets
 abbrev pub is_variable : List ℕ → Bool
 is_variable [] = false
 is_variable (b ∷ bs) = if b == 91 then closes bs 1 else list_all is_ascii_digit (b ∷ bs)
@@ -47,7 +47,7 @@ number_in low high text = range_of low high (word_literal text)
 abbrev pub digits_len : List ℕ → ℕ
 digits_len text = prefix_len is_ascii_digit text
 
--- a point and the digits behind it
+-- a point and the digits after it
 abbrev pub fraction_len : List ℕ → ℕ
 fraction_len [] = 0
 fraction_len (b ∷ bs) = if b == 46 then 1 + digits_len bs else 0

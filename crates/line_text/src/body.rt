@@ -1,4 +1,5 @@
-//! What stands in a block: words or a statement.
+//! What stands in a block: words or a statement. What a word means is left to block_words and
+//! others.
 use nc_number::{ByteList, ListOf};
 
 /// An address letter and its value.
@@ -6,9 +7,9 @@ use nc_number::{ByteList, ListOf};
 pub struct Word {
     /// The letter, in upper case.
     pub letter: u8,
-    /// The place directly behind the letter; places count bytes of the line from 0.
+    /// The place directly after the letter; places count bytes of the line from 0.
     pub start: u32,
-    /// The place behind the value's last byte.
+    /// The place after the value's last byte.
     pub end: u32,
     /// The value: a literal, a variable or a bracketed expression, whole; without ignored bytes and
     /// in upper case.

@@ -10,7 +10,7 @@ use crate::sign::Sign;
 use nc_number::ByteList;
 use std::alloc::{AllocError, Global};
 
-/// How many square brackets are open behind a byte. One that closes nothing counts for nothing.
+/// How many square brackets are open after a byte. One that closes nothing counts for nothing.
 pub(crate) fn depth_behind(depth: usize, byte: u8) -> usize
     requires { depth < 2 ^ 63 }
     ensures value { result ≡ depth_behind depth byte }
@@ -76,7 +76,7 @@ pub(crate) fn bytes(alloc: Global, signs: &[Sign]) -> Result<Vec<u8>, AllocError
     Ok(bytes)
 }
 
-/// The place behind the last sign.
+/// The place after the last sign.
 fn end_of(start: u32, signs: &[Sign]) -> u32
     requires { ArePlaced signs.now }
     ensures { result ≡ end_of start signs.now }
@@ -87,7 +87,7 @@ fn end_of(start: u32, signs: &[Sign]) -> u32
     }
 }
 
-/// A letter and what stands behind it, as a word.
+/// A letter and what stands after it, as a word.
 fn piece(alloc: Global, letter: Sign, value: &[Sign]) -> Result<Piece, AllocError>
     requires letter { letter.place + 1 < 2 ^ 32 }
     requires placed { ArePlaced value.now }

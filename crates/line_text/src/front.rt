@@ -31,7 +31,7 @@ fn is_switch(byte: u8) -> bool
     b'1' <= byte && byte <= b'9'
 }
 
-/// The switch that a skip sign names by what stands behind it, and what stands behind that.
+/// The switch that a skip sign names by what stands after it, and what stands after that.
 fn skip_sign(signs: &[Sign]) -> (u8, &[Sign])
     ensures switch { result.0 ≡ switch_behind signs.now }
     ensures rest { result.1.now ≡ behind_digit signs.now }
@@ -49,7 +49,7 @@ fn skip_sign(signs: &[Sign]) -> (u8, &[Sign])
     }
 }
 
-/// The switch of the skip sign that a block may begin with, and what stands behind it.
+/// The switch of the skip sign that a block may begin with, and what stands after it.
 pub(crate) fn front(signs: &[Sign]) -> (Option<u8>, &[Sign])
     ensures switch { result.0 ≡ switch_of signs.now }
     ensures rest { result.1.now ≡ behind_switch signs.now }

@@ -34,7 +34,7 @@ fn read_words(alloc: Global, slash: bool, signs: &[Sign]) -> Result<Reading, All
     read_pieces(alloc, slash, pieces)
 }
 
-/// The literal behind N and the statement behind that, if the signs are these.
+/// The literal after N and the statement after that, if the signs are these.
 fn numbered(alloc: Global, signs: &[Sign]) -> Result<Option<(Vec<u8>, Vec<u8>)>, AllocError>
     ensures { IfOk result (λ found. IsNumbered signs.now found) }
 {

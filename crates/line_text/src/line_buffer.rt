@@ -1,4 +1,4 @@
-//! The room in which lines are read.
+//! The room in which lines are read. nc_text keeps one for all lines of a tape.
 use crate::sign::Sign;
 use std::alloc::Global;
 

@@ -1,4 +1,4 @@
-//! A letter with what may be its value.
+//! A letter with what may be its value: a word before it is checked. words.rt makes words of them.
 use nc_number::ByteList;
 
 /// A letter and what may be its value.
@@ -12,6 +12,6 @@ pub struct Piece {
     pub end: u32,
     /// The value, without ignored bytes and in upper case; nothing is checked yet.
     pub text: ByteList,
-    /// Nothing but comments stands behind the value.
+    /// Nothing but comments stands after the value.
     pub whole: bool,
 }

@@ -1,4 +1,5 @@
-//! Why a line is refused.
+//! Why a tape can't be read, and the numbers of that. The refusals of more than one line are
+//! nc_text's.
 ghost use Rattle.std.specs.Prelude.{◌≡◌};
 ghost use Rattle.line_text.specs.Refusals.{cause_of, refusal_number};
 

@@ -1,4 +1,4 @@
-//! What a line says.
+//! What a line says: nothing, an O number or a block. nc_text puts blocks into programs.
 use crate::body::Body;
 
 /// A block without its line.
@@ -15,9 +15,11 @@ pub struct SaidBlock {
 /// What a line says.
 #[derive(Debug, Drop)]
 pub enum Said {
+    /// No block: the line is empty, holds comments alone, or is skipped.
     Nothing,
     /// An O number, if it is in its range.
     Program(Option<u32>),
+    /// A block.
     Block(SaidBlock),
 }
 

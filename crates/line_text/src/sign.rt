@@ -1,4 +1,4 @@
-//! The bytes of a line that count.
+//! The bytes of a line that count: its signs. cut.rt cuts words out of them.
 ghost use Rattle.std.specs.Prelude.{◌≡◌, ◌+◌, ◌-◌, ◌^◌, ◌<◌, ◌≤◌, ◌++◌, ◌&&◌, false, not, length, IfOk, OnOk};
 ghost use Rattle.line_text.specs.Signs.{is_blank, is_allowed, inside_behind, counted_sign, scan_of, without_return, without_blanks, without_last, signs_of, are_allowed};
 ghost use Rattle.line_text.specs.Places.{ArePlaced};
@@ -88,7 +88,7 @@ fn without_semicolon(line: &[u8]) -> &[u8]
     }
 }
 
-/// Whether the byte behind this one stands in a comment.
+/// Whether the byte after this one stands in a comment.
 fn inside_behind(inside: bool, byte: u8) -> bool
     ensures { result ≡ inside_behind inside byte }
 {

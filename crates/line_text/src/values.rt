@@ -1,4 +1,5 @@
-//! What may stand behind an address letter.
+//! What may stand after an address letter: a literal, a variable or an expression in brackets.
+//! Expressions themselves are read by macro_expr.
 ghost use Rattle.std.specs.Prelude.{◌≡◌, ◌+◌, ◌^◌, ◌<◌, ◌≤◌, length, IfSome};
 ghost use Rattle.std.specs.Char.{is_ascii_digit};
 ghost use Rattle.std.specs.List.{list_all};
@@ -109,7 +110,7 @@ fn digits_len(text: &[u8]) -> usize
     text.iter().take_while(|b| b.is_ascii_digit()).count()
 }
 
-/// The length of a point and the digits behind it.
+/// The length of a point and the digits after it.
 fn fraction_len(text: &[u8]) -> usize
     ensures count { result ≡ fraction_len text.now }
     ensures within { result ≤ length text.now }
@@ -126,7 +127,7 @@ fn fraction_len(text: &[u8]) -> usize
     }
 }
 
-/// The length of digits, and of a point and the digits behind it.
+/// The length of digits, and of a point and the digits after it.
 fn unsigned_len(text: &[u8]) -> usize
     ensures count { result ≡ unsigned_len text.now }
     ensures within { result ≤ length text.now }

@@ -63,7 +63,7 @@ fn stands_alone(slash: bool, pieces: &[Piece]) -> bool
     !has_program_letter(pieces) || (!slash && pieces.len() == 1)
 }
 
-/// The sequence number behind one more piece: a later one replaces an earlier one.
+/// The sequence number after one more piece: a later one replaces an earlier one.
 fn sequence_number(piece: &Piece, before: Option<u32>) -> Option<u32>
     ensures { result ≡ (if is_sequence piece.now then number_in 0 99999 piece.now.text else before) }
 {

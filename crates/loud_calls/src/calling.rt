@@ -1,4 +1,4 @@
-//! The loud program that a block calls.
+//! The loud program that a block calls, and whether its piece is still to be made.
 //! label_list and part_lines use it.
 ghost use Rattle.std.specs.Prelude.{ℕ, IfSome, IfNone};
 ghost use Rattle.loud_calls.specs.Calls.{IsCallOf, IsReady};

@@ -1,4 +1,5 @@
-//! What is kept of programs.
+//! The pieces that were made of programs so far, one for each O number. What a piece is, the caller
+//! says.
 //! label_list and part_lines use it.
 ghost use Rattle.std.specs.Prelude.{◌≡◌, ◌≢◌, ℕ, Some, None, OnOk};
 ghost use Rattle.std.specs.Option.{option_copied};

@@ -22,7 +22,7 @@ pub enum Instr {
     Variable(u32),
     /// Takes a number, and puts what the variable of that number holds.
     LookUp,
-    /// Takes a value, and puts it behind a sign; `true` is minus.
+    /// Takes a value, and puts it with a sign; `true` is minus.
     Sign(bool),
     /// Takes a value, and puts the function of it.
     Call(Fun),

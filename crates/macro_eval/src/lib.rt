@@ -1,9 +1,10 @@
 //! The values of macro expressions.
 //!
 //! [`compile`] and [`compile_statement`] make code of trees, and [`evaluate`] runs it. A shared
-//! variable takes the next of the values that were read so far, and where none is left the answer
-//! is the variable that is needed next. Contracts see code as its tree, and the answer as the
-//! meaning of the tree. Evaluation takes no memory.
+//! variable takes the next of the values that were read so far, and if none is left, the answer is
+//! the variable that is needed next. Contracts see code as its tree, and the answer as the meaning
+//! of the tree. Evaluation takes no memory. block_forms makes code, block_values and path_state
+//! evaluate it, and race_report reads its instructions.
 
 #![tactic(auto)]
 

@@ -40,6 +40,7 @@ module _ (rank : Rank) (First Operand : List ℕ → Tree → Type 0) (first ope
       (simp (here, leads_it, stands, append_assoc)) (more t word u op left right is is_word is_operand)))
       (found t at left is here)
 
+  -- a chain that is read is one of the grammar, if its operands are
   pub chained_sound : Reads First first → Reads Operand operand → Reads IsOne (chained rank first operand)
   chained_sound first_sound operand_sound text =
       step _ (first_sound text) (λ t rest e is stands.

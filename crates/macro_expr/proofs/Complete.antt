@@ -120,6 +120,7 @@ looked v = Ok (look v.0, v.1)
 module _ (inner : List ℕ → Read Tree) (Inner : List ℕ → Tree → Type 0)
     (inner_reads : (t : List ℕ) (e : Tree) → Inner t e → (rest : List ℕ)
     → inner (t ++ (codes "]" ++ rest)) ≡ Ok (e, codes "]" ++ rest)) where
+  -- what stands in brackets is read,
   pub bracket_read : (t : List ℕ) (e : Tree) → IsBracketed Inner t e → (rest : List ℕ)
       → bracket_at inner (t ++ rest) ≡ Ok (e, rest)
   unfolding bracket_at word_at
@@ -128,6 +129,7 @@ module _ (inner : List ℕ → Read Tree) (Inner : List ℕ → Tree → Type 0)
       ap (λ xs. inner xs >>= f) (let e : (t ++ codes "]") ++ rest ≡ t ++ (codes "]" ++ rest) = simp append_assoc in e)
       ∙ ap (λ r. r >>= f) (inner_reads t e is rest)
 
+  -- so is a variable,
   pub variable_read : IsRead NoNumber (IsVariable Inner) (variable_at inner)
   unfolding variable_at variable_behind word_at
   variable_read _ _ (fixed t n is) rest quiet =
@@ -203,6 +205,7 @@ module _ (inner : List ℕ → Read Tree) (Inner : List ℕ → Tree → Type 0)
       chain_read Product _ _ (signed_at inner) (prim_at inner) NoNumber signed_read prim_read product_quiet
       t e is rest quiet.0 quiet.1
 
+  -- and a sum
   pub sum_read : IsRead NoSum (IsSum Inner) (sum_at inner)
   sum_read t e is rest quiet =
       sum_is inner (t ++ rest)

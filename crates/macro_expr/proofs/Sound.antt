@@ -48,6 +48,7 @@ digits-sound =
     (λ t all is short. record { bytes = all; literal = is; short = short; value = refl })
 
 module _ (inner : List ℕ → Read Tree) (Inner : List ℕ → Tree → Type 0) (inner-sound : Reads Inner inner) where
+  -- what is read in brackets stands there by the grammar,
   pub bracket-sound : Reads (IsBracketed Inner) (bracket_at inner)
   unfolding bracket_at
   bracket-sound text =
@@ -56,6 +57,7 @@ module _ (inner : List ℕ → Read Tree) (Inner : List ℕ → Tree → Type 0)
       word_step _ (codes "]") after (λ rest ends.
       found _ rest e (closed t e is) (simp (here, stands, ends, append_assoc)))))
 
+  -- so does a variable that is read,
   pub variable-sound : Reads (IsVariable Inner) (variable_at inner)
   unfolding variable_at variable_behind
   variable-sound text = word_step _ (codes "#") text (λ after here. go after here (begins is_ascii_digit after))
@@ -72,6 +74,7 @@ module _ (inner : List ℕ → Read Tree) (Inner : List ℕ → Tree → Type 0)
       run-sound is_number_byte Number
       (λ t all is short. number t (literal_micro t) (record { bytes = all; literal = is; short = short; value = refl }))
 
+  -- a function,
   pub function-sound : Reads (IsPrim Inner) (function_at inner)
   unfolding function_at function_of function_word
   function-sound text =
@@ -83,6 +86,7 @@ module _ (inner : List ℕ → Read Tree) (Inner : List ℕ → Tree → Type 0)
       (bracket-sound after))
       (stops stop.Function)
 
+  -- a prim,
   pub prim-sound : Reads (IsPrim Inner) (prim_at inner)
   unfolding prim_at
   prim-sound text = go (begins (λ b. b == 35) text) (begins (λ b. b == 91) text) (begins is_letter text)
@@ -95,6 +99,7 @@ module _ (inner : List ℕ → Read Tree) (Inner : List ℕ → Tree → Type 0)
       go false false true = function-sound text
       go false false false = number-sound text
 
+  -- a prim with its sign,
   pub signed-sound : Reads (IsSigned Inner) (signed_at inner)
   unfolding signed_at sign
   signed-sound text =
@@ -103,13 +108,16 @@ module _ (inner : List ℕ → Read Tree) (Inner : List ℕ → Tree → Type 0)
       joins word (Signed minus) (λ t e is. signed word t minus e is_word is) here (prim-sound rest))
       (turned plain (prim-sound text))
 
+  -- a term,
   pub product-sound : Reads (IsProduct Inner) (product_at inner)
   unfolding product_at
   product-sound = chained_sound Product _ _ _ _ prim-sound prim-sound
 
+  -- the first term of a sum,
   pub first-sound : Reads (IsChain Product (IsSigned Inner) (IsPrim Inner)) (first_at inner)
   first-sound = chained_sound Product _ _ _ _ signed-sound prim-sound
 
+  -- and a sum
   pub sum-sound : Reads (IsSum Inner) (sum_at inner)
   sum-sound text =
       subst (Sound (IsSum Inner) text) (sym (sum_is inner text))

@@ -1,4 +1,5 @@
 -- The limits of a text, and which refusal is answered where several hold.
+-- Bytes: 9 is the tab, 32 the space, 35 `#`, 40 `(`, 41 `)`, 46 the point, 91 `[`, 93 `]`.
 -- block_forms, macro_limits and open_forms take words from here.
 use Rattle.std.specs.Prelude.{ℕ, suc, Bool, true, false, ◌-◌, ◌==◌, ◌&&◌, ◌||◌, not, nat_eq, nat_lt, List, [], ◌∷◌, ◌++◌, length, slice_index, count_by, codes, Result, Ok, Err, if◌then◌else◌}
 use Rattle.std.specs.Char.{is_ascii_digit, to_ascii_uppercase}

@@ -1,5 +1,6 @@
 -- Reading a text from left to right: its tree, or the refusal of the first place where reading
 -- fails. Laws beside this say that the trees are exactly those of the grammar.
+-- Bytes: 35 is `#`, 91 `[`.
 -- macro_limits takes words from here.
 use Rattle.std.specs.Prelude.{ℕ, zero, suc, ◌/◌, ◌==◌, Bool, List, length, Option, Some, None, Result, Ok, Err, ℤ, unsigned_abs, codes, if◌then◌else◌}
 use Rattle.std.specs.Char.{is_ascii_digit}

@@ -1,4 +1,5 @@
 -- Reading a statement from left to right.
+-- Byte 35 is `#`.
 -- block_forms, macro_limits and open_forms take words from here.
 use Rattle.std.specs.Prelude.{ℕ, suc, ◌==◌, nat_lt, List, length, Option, Some, None, Result, Ok, Err, codes, if◌then◌else◌}
 use Rattle.std.specs.Char.{is_ascii_digit}

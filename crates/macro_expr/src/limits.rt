@@ -1,4 +1,5 @@
-//! What an expression may have at most.
+//! The limits of an expression: digits of a number, brackets, variables; and the text as it is
+//! read, without blanks and comments.
 //! For this crate alone.
 ghost use Rattle.std.specs.Prelude.{◌≡◌, ◌==◌, nat_eq, false, IfOk};
 ghost use Rattle.std.specs.Char.{is_ascii_digit};

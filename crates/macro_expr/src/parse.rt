@@ -1,5 +1,5 @@
-//! From a text to its tree, or the least refusal.
-//! block_forms and number_vectors use it.
+//! From a text to its tree, or to the least refusal that holds of it.
+//! block_forms and tests use it.
 ghost use Rattle.std.specs.Prelude.{◌≡◌, ◌≤◌, ◌==◌, ℕ, List, false, length, IfOk, Ok, Err, if◌then◌else◌};
 ghost use Rattle.std.specs.List.{All};
 ghost use Rattle.nc_number.specs.declared.fault.Failing.TheVariants.{Fault};
@@ -98,7 +98,8 @@ fn answer_statement(alloc: Global, text: &[u8]) -> Result<Statement, Failing<Exp
 /// least number is given, 20 only where there is no other: 5, 21 and 25 are conditions of the whole
 /// text, and the others are that of the first place where reading from left to right stops.
 pub fn parse_expr(alloc: Global, text: &[u8]) -> Result<Expr, Failing<ExprFault>>
-    // The tree is the one that the grammar gives the text, which names no more variables than a block may read.
+    // The tree is the one that the grammar gives the text, which names no more variables than a
+    // block may read.
     ensures found { IfOk result (λ tree. HasTree text.now (tree_of tree)) }
 
     // Such a text gets its tree, unless memory runs out.
@@ -121,7 +122,8 @@ pub fn parse_expr(alloc: Global, text: &[u8]) -> Result<Expr, Failing<ExprFault>
 ///
 /// It reads the text, and answers of several refusals, as [`parse_expr`] does.
 pub fn parse_statement(alloc: Global, text: &[u8]) -> Result<Statement, Failing<ExprFault>>
-    // The tree is the one that the grammar gives the text, which names no more variables than a block may read.
+    // The tree is the one that the grammar gives the text, which names no more variables than a
+    // block may read.
     ensures found { IfOk result (λ tree. HasSentence text.now (sentence_of tree)) }
 
     // Such a text gets its tree, unless memory runs out.

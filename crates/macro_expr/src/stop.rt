@@ -1,4 +1,4 @@
-//! Why reading stops.
+//! Why reading stops, and the refusal that this is.
 //! block_forms, macro_limits and open_forms use it.
 ghost use Rattle.std.specs.Prelude.{◌≡◌};
 ghost use Rattle.macro_expr.specs.Limits.{refusal, cause_beside};

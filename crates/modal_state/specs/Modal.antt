@@ -13,11 +13,11 @@ use Rattle.code_tables.specs.declared.group.TheConstants.{MOTION_GROUP, SPINDLE_
 use Rattle.code_tables.specs.Codes.{last_of_group, is_work_code}
 pub use Rattle.modal_state.specs.View.{ModalView}
 
--- the code of the group behind the block: its last one there, else the one in force before
+-- the code of the group after the block: its last one there, else the one in force before
 abbrev pub in_force_after : List Row → ℕ → ℕ → ℕ
 in_force_after rows group before = unwrap_or (option_map (λ row. row.code) (last_of_group rows group)) before
 
--- what a block with an axis word does behind these codes: by the last motion code, else as before
+-- what a block with an axis word does after these codes: by the last motion code, else as before
 abbrev pub motion_after : ModalView → List Row → CodeKind
 motion_after before rows = unwrap_or (option_map (λ row. row.kind) (last_of_group rows MOTION_GROUP)) before.motion
 
@@ -40,7 +40,7 @@ is_incremental other = false
 abbrev pub does_after : (CodeKind → Bool) → List Row → ℕ → Bool → Bool
 does_after does rows group before = option_map_or (λ row. does row.kind) (last_of_group rows group) before
 
--- the code of the work offset behind the block; a row that names none of G54 to G59 sets none
+-- the code of the work offset after the block; a row that names none of G54 to G59 sets none
 abbrev pub work_after : List Row → ℕ → ℕ
 work_after rows before =
     let code = in_force_after rows WORK_GROUP before in

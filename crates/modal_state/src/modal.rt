@@ -145,7 +145,7 @@ impl Modal {
         self.motion
     }
 
-    /// What a block with an axis word does behind G codes of these rows: what the last motion code
+    /// What a block with an axis word does after G codes of these rows: what the last motion code
     /// among them does.
     pub fn motion_after(&self, rows: &[Row]) -> CodeKind
         ensures { result ≡ motion_after self.now rows.now }
@@ -313,21 +313,21 @@ fn last_in(rows: &[Row], group: u8) -> Option<Row>
     }
 }
 
-/// The row, where it is of the group.
+/// The row, if it is of the group.
 fn row_in(row: &Row, group: u8) -> Option<Row>
     ensures { result ≡ last_of_group (row.now ∷ []) group }
 {
     if row.group == group { Some(*row) } else { None }
 }
 
-/// The code of a group behind these rows, where this one was in force before them.
+/// The code of a group after these rows, where this one was in force before them.
 fn in_force_after(rows: &[Row], group: u8, before: u16) -> u16
     ensures { result ≡ in_force_after rows.now group before }
 {
     last_in(rows, group).map_or(before, |row| row.code)
 }
 
-/// Whether S is a constant surface speed behind these rows, where it was so before them or not.
+/// Whether S is a constant surface speed after these rows, where it was so before them or not.
 fn surface_after(rows: &[Row], before: bool) -> bool
     ensures { result ≡ does_after is_surface rows.now SPINDLE_GROUP before }
 {
@@ -341,7 +341,7 @@ fn is_surface(kind: CodeKind) -> bool
     matches!(kind, CodeKind::Surface)
 }
 
-/// Whether F is by the revolution behind these rows, where it was so before them or not.
+/// Whether F is by the revolution after these rows, where it was so before them or not.
 fn per_rev_after(rows: &[Row], before: bool) -> bool
     ensures { result ≡ does_after is_per_rev rows.now FEED_GROUP before }
 {
@@ -355,7 +355,7 @@ fn is_per_rev(kind: CodeKind) -> bool
     matches!(kind, CodeKind::PerRev)
 }
 
-/// Whether X and Z are incremental behind these rows, where they were so before them or not.
+/// Whether X and Z are incremental after these rows, where they were so before them or not.
 fn incremental_after(rows: &[Row], before: bool) -> bool
     ensures { result ≡ does_after is_incremental rows.now ABSOLUTE_GROUP before }
 {
@@ -369,7 +369,7 @@ fn is_incremental(kind: CodeKind) -> bool
     matches!(kind, CodeKind::Incremental)
 }
 
-/// The code of the work offset behind these rows, where this one was in force before them.
+/// The code of the work offset after these rows, where this one was in force before them.
 fn work_after(rows: &[Row], before: u16) -> u16
     requires { IsTrue (is_work_code before) }
     ensures code { result ≡ work_after rows.now before }

@@ -1,4 +1,4 @@
-//! The F, S and T words of a block: what they set.
+//! The F, S and T words of a block: what they set. block_values gives them; modal.rt takes them.
 ghost use Rattle.std.specs.Prelude.{◌≡◌};
 ghost use Rattle.std.specs.Result.{result_err};
 ghost use Rattle.modal_state.specs.Said.{said_or, tool_offset};
@@ -30,7 +30,7 @@ pub enum SpeedWord {
 impl ModalWords {
     ghost use Rattle.modal_state.specs.Words.{tool_fault};
 
-    /// Alarm 40 where the tool has an offset that does not exist.
+    /// Alarm 40, if the tool has an offset that does not exist.
     pub(crate) fn check(&self) -> Result<(), ModalFault>
         ensures { result_err result ≡ tool_fault self.now.tool }
     {
@@ -46,7 +46,7 @@ impl ModalWords {
 impl SpeedWord {
     ghost use Rattle.modal_state.specs.Words.{speed_after, limit_after};
 
-    /// The speed behind the block.
+    /// The speed after the block, of which this was in force before.
     pub(crate) fn speed_or(&self, before: &Var) -> Var
         ensures { result ≡ speed_after self.now before.now }
     {
@@ -56,7 +56,7 @@ impl SpeedWord {
         }
     }
 
-    /// The highest speed behind the block.
+    /// The highest speed after the block, of which this was in force before.
     pub(crate) fn limit_or(&self, before: &Var) -> Var
         ensures { result ≡ limit_after self.now before.now }
     {

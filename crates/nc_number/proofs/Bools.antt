@@ -46,12 +46,12 @@ pub and_false : (a b : Bool) → b ≡ false → (a && b) ≡ false
 and_false true b e = e
 and_false false b e = refl
 
--- what is false once it is negated: the truth value that makes `not` true
+-- if `not` of a truth value is true, it is false
 pub not_true : (a : Bool) → not a ≡ true → a ≡ false
 not_true true e = absurd cc
 not_true false e = refl
 
--- the truth value that makes `not` false is true
+-- if `not` of a truth value is false, it is true
 pub not_false : (a : Bool) → not a ≡ false → a ≡ true
 not_false true e = refl
 not_false false e = absurd cc

@@ -66,7 +66,7 @@ all_digits-drop ds k digits =
 pub all_digits-significant : (ds : List ℕ) → all_digits ds ≡ true → all_digits (significant ds) ≡ true
 all_digits-significant ds digits = all_digits-drop ds (position_or_len (λ d. not (d == 48)) ds) digits
 
--- what 6 digits behind a point write is less than one unit
+-- what 6 digits after a point write is less than one unit
 pub fraction_below : (ds : List ℕ) → all_digits ds ≡ true → length ds ≤ 6 → digits_value 10 ds * 10 ^ (6 - length ds) < 1000000
 fraction_below ds digits short =
     let value = value_below ds digits in

@@ -1,4 +1,5 @@
--- The order in which the proofs are checked: each file after those it uses.
+-- The files of proofs, by name. Those of literals, printing and arithmetic serve the laws of
+-- src/laws.rt.
 pub mod Bools
 pub mod CauseTable
 pub mod Counts

@@ -1,4 +1,4 @@
--- A literal that reads is a value, and one without a point is whole.
+-- A literal that reads is a value, and one without a point is whole: two laws of src/laws.rt.
 use Rattle.std.proofs.Common.{◌≡◌, ◌<◌, ◌≤◌, ◌*◌, ◌+◌, ◌/◌, ◌%◌, ℕ, ℤ, pos, ◌*ℤ◌, Bool, true, false, cond, List, [], Option, Some, None, is_some, Ok, Err, refl, ap, sym, ◌∙◌, arith}
 use Rattle.std.specs.Prelude.{nat_le, unsigned_abs}
 use Rattle.std.specs.Int.{is_negative}

@@ -1,5 +1,5 @@
 -- `nearest_quotient` is the nearest whole number, and goes away from zero where two are equally
--- near.
+-- near: two laws of src/laws.rt. First come counts, then numbers with signs.
 use Rattle.std.proofs.Common.{◌≡◌, ◌≢◌, ◌<◌, ◌≤◌, ◌*◌, ◌+◌, ◌/◌, ◌%◌, ℕ, zero, suc, ℤ, pos, negsuc, neg_ℤ, ◌*ℤ◌, ◌-ℤ◌, Bool, true, false, cond, refl, ap, sym, subst, ◌∙◌, arith, inl, inr}
 use Rattle.std.specs.Prelude.{nat_le, unsigned_abs}
 use Rattle.std.specs.Int.{is_negative, abs_diff}

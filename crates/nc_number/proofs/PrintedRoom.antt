@@ -1,4 +1,4 @@
--- How long the printed parts are.
+-- How long the printed parts are, so that 24 bytes hold them (src/printing.rt).
 use Rattle.std.proofs.Common.{ℕ, ◌≤◌, ◌^◌, ◌/◌, length, arith}
 use Rattle.std.specs.Fmt.{decimal}
 use Rattle.std.proofs.lemmas.Fmt.{length-decimal-le}

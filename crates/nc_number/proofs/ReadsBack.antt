@@ -1,5 +1,5 @@
 -- What is printed reads back as the same number: values with up to six decimals, lengths with
--- three.
+-- three. These are the two laws of src/laws.rt on printing.
 use Rattle.std.proofs.Common.{◌≡◌, ◌==◌, ◌<◌, ◌≤◌, ◌-◌, ◌*◌, ◌/◌, ◌%◌, ◌^◌, ℕ, ℤ, pos, negsuc, ◌*ℤ◌, Bool, true, false, cond, List, [], ◌∷◌, append_assoc, length, Option, Some, None, is_some, Ok, refl, ap, sym, ◌∙◌, arith}
 use Rattle.std.specs.Prelude.{unsigned_abs, decimal}
 use Rattle.std.specs.Int.{is_negative}
@@ -43,7 +43,7 @@ word_of_parts text sign whole fraction parts short_whole short_fraction =
 
 -- ---- values
 
--- the digits that are printed behind the point, if the fraction isn't 0
+-- the digits that are printed after the point, if the fraction isn't 0
 abbrev pub printed_fraction : ℕ → Option (List ℕ)
 printed_fraction millionths = cond (millionths == 0) None (Some (without_trailing_zeros (last_digits 6 millionths)))
 
@@ -55,7 +55,7 @@ printed_fraction_bytes millionths = go (millionths == 0)
     go true = refl
     go false = refl
 
--- the digits behind the point are digits, at most 6, and write the fraction
+-- the digits after the point are digits, at most 6, and write the fraction
 pub record IsFraction (digits : List ℕ) (millionths : ℕ) : Type 0 where
   -- there are digits alone
   pub digits_alone : all_digits digits ≡ true

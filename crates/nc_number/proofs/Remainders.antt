@@ -1,4 +1,5 @@
--- Remainders of divisions: smaller than the divisor, with the sign of what is divided.
+-- Remainders of divisions: smaller than the divisor, with the sign of what is divided. It is a law
+-- of src/laws.rt.
 use Rattle.std.proofs.Common.{◌≡◌, ◌≢◌, ◌<◌, ◌%◌, suc, ℤ, pos, negsuc, ◌+ℤ◌, ◌*ℤ◌, ◌-ℤ◌, Bool, true, false, cond, refl, sym, subst, ◌∙◌}
 use Rattle.std.specs.Prelude.{unsigned_abs, int_rem, int_div, Ok, Err}
 use Rattle.std.specs.Int.{is_negative}

@@ -1,5 +1,5 @@
 -- A literal is what the grammar spells (specs/Spelling.antt), and its parts are those of the
--- spelling. tape_relation takes some facts too.
+-- spelling. A body is what stands after the sign. tape_relation takes some facts too.
 use Rattle.std.proofs.Common.{◌≡◌, ◌==◌, ◌≤◌, ℕ, Bool, true, false, cond, List, [], ◌∷◌, ◌++◌, length, drop, get_or, refl, ap, sym, subst, ◌∙◌, arith, inl, inr, Option, Some, None, is_some, nat_lt}
 use Rattle.std.specs.List.{list_any, position_or_len, before_first, after_first}
 use Rattle.std.specs.Char.{is_ascii_digit}
@@ -29,7 +29,7 @@ digit_no_sign d digit = let range = digit_range d digit in
 pub digit_no_minus : (d : ℕ) → is_ascii_digit d ≡ true → (d == 45) ≡ false
 digit_no_minus d digit = let range = digit_range d digit in ne_eqb d 45 (λ is. absurd (omega arith))
 
--- the first point of a body stands behind its whole digits
+-- the first point of a body stands after its whole digits
 pub point_place : (whole : List ℕ) (fraction : Option (List ℕ)) → all_digits whole ≡ true → position_or_len is_point (whole ++ point_bytes fraction) ≡ length whole
 point_place [] None digits = refl
 point_place [] (Some fraction) digits = refl
@@ -42,7 +42,7 @@ pub before_point : (whole : List ℕ) (fraction : Option (List ℕ)) → all_dig
 before_point whole fraction digits =
     rw (point_place whole fraction digits) (take-append_seam whole (point_bytes fraction))
 
--- behind the first point stand the digits of the fraction
+-- after the first point stand the digits of the fraction
 pub after_point : (whole : List ℕ) (fraction : Option (List ℕ)) → all_digits whole ≡ true → after_first is_point (whole ++ point_bytes fraction) ≡ digits_behind fraction
 after_point whole fraction digits =
     rw (point_place whole fraction digits) (drop-append-add whole (point_bytes fraction) 1 ∙ behind fraction)
@@ -57,7 +57,7 @@ body_unsigned [] None digits = refl
 body_unsigned [] (Some fraction) digits = refl
 body_unsigned (d ∷ ds) fraction digits = rw (digit_no_sign d (and_parts _ _ digits).0) refl
 
--- what stands behind the sign begins with no minus
+-- what stands after the sign begins with no minus
 pub body_no_minus : (whole : List ℕ) (fraction : Option (List ℕ)) → all_digits whole ≡ true → has_minus (whole ++ point_bytes fraction) ≡ false
 body_no_minus [] None digits = refl
 body_no_minus [] (Some fraction) digits = refl
@@ -69,7 +69,7 @@ digits_no_point [] digits = refl
 digits_no_point (d ∷ ds) digits =
     let parts = and_parts _ _ digits in or_from _ _ (digit_no_point d parts.0) (digits_no_point ds parts.1)
 
--- what stands behind the sign has a point exactly if the spelling has one
+-- what stands after the sign has a point exactly if the spelling has one
 pub body_point : (whole : List ℕ) (fraction : Option (List ℕ)) → all_digits whole ≡ true → list_any is_point (whole ++ point_bytes fraction) ≡ is_some fraction
 body_point whole fraction digits =
     list_any-append is_point whole (point_bytes fraction) ∙ rw (digits_no_point whole digits) (behind fraction)
@@ -115,7 +115,7 @@ abbrev pub sign_of : List ℕ → Sign
 sign_of [] = Bare
 sign_of (b ∷ bs) = cond (b == 43) Plus (cond (b == 45) Minus Bare)
 
--- a text is its sign and what stands behind it
+-- a text is its sign and what stands after it
 pub signed_body : (text : List ℕ) → text ≡ sign_bytes (sign_of text) ++ behind_sign text
 signed_body [] = refl
 signed_body (b ∷ bs) =
@@ -128,11 +128,11 @@ signed_body (b ∷ bs) =
       ]
     ]
 
--- what stands behind the whole part of a body
+-- what stands after the whole part of a body
 abbrev pub fraction_of : List ℕ → Option (List ℕ)
 fraction_of body = cond (nat_lt (position_or_len is_point body) (length body)) (Some (after_first is_point body)) None
 
--- what stands behind the sign is the whole part, and a point with a fraction if there is one
+-- what stands after the sign is the whole part, and a point with a fraction if there is one
 pub body_parts : (body : List ℕ) → body ≡ before_first is_point body ++ point_bytes (fraction_of body)
 body_parts body = go (nat_lt (position_or_len is_point body) (length body)) refl
   where
@@ -144,7 +144,7 @@ body_parts body = go (nat_lt (position_or_len is_point body) (length body)) refl
         subst (λ b. body ≡ before_first is_point body ++ b ∷ after_first is_point body) byte (split_at_first is_point body 0 within)
     go false is = sym (append-nil (before_first is_point body) ∙ take_all _ body (ltb-false _ _ is))
 
--- the digits of the fraction are what stands behind the point
+-- the digits of the fraction are what stands after the point
 pub body_fraction : (body : List ℕ) → digits_behind (fraction_of body) ≡ after_first is_point body
 body_fraction body = go (nat_lt (position_or_len is_point body) (length body)) refl
   where

@@ -1,4 +1,4 @@
--- Digits without the zeros that they end with.
+-- Digits without the zeros that they end with: the steps of `trimmed` in src/printing.rt.
 use Rattle.std.proofs.Common.{◌≡◌, ◌≢◌, ◌&&◌, ℕ, true, false, List, [], ◌∷◌, ◌++◌, refl, ◌∙◌, sym}
 use Rattle.std.specs.List.{list_all}
 use Rattle.std.proofs.lemmas.List.Folds.{list_all-append}

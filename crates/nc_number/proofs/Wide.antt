@@ -1,4 +1,5 @@
--- Values and their products as the code counts them, in numbers of 128 bits, which hold them all.
+-- Values and their products as src/arithmetic.rt counts them, in numbers of 128 bits, which hold
+-- them all.
 use Rattle.std.proofs.Common.{◌≡◌, ◌<◌, ◌≤◌, ◌*◌, ℕ, ℤ, pos, negsuc, suc, ◌*ℤ◌, ◌-ℤ◌, ◌+◌, true, false, refl, ◌∙◌, Ok, arith}
 use Rattle.std.specs.Prelude.{unsigned_abs, FitsSigned, int_rem, int_div}
 use Rattle.std.specs.Int.{w128, cast_signed, cast_unsigned, is_negative}

@@ -1,4 +1,4 @@
--- What a literal with few enough digits means.
+-- What a literal with few enough digits means: the answer of `parse_word` (src/literal.rt).
 use Rattle.std.proofs.Common.{◌≡◌, ℕ, ◌≤◌, true, false, List, length, refl, Ok}
 use Rattle.std.proofs.lemmas.Bool.{and_parts, or_from, le-ltb}
 use Rattle.nc_number.specs.Literals.{IsLiteral, all_digits, whole_part, fraction_part, significant, has_minus, has_point, has_too_many_digits, size_of_parts, with_sign, word_literal}
@@ -8,7 +8,7 @@ use Rattle.nc_number.proofs.DecimalDigits.{value-significant}
 pub whole_digits : (text : List ℕ) → IsLiteral text → all_digits (whole_part text) ≡ true
 whole_digits text literal = (and_parts _ _ (and_parts _ _ literal).0).0
 
--- what stands behind the point of a literal are digits
+-- what stands after the point of a literal are digits
 pub fraction_digits : (text : List ℕ) → IsLiteral text → all_digits (fraction_part text) ≡ true
 fraction_digits text literal = (and_parts _ _ (and_parts _ _ literal).0).1
 

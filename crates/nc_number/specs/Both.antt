@@ -1,4 +1,5 @@
--- One thing for each path, such as its tape, its place or its turret.
+-- One thing for each path, such as its tape, its place or its turret. Most crates from two_path on
+-- cite it.
 use Rattle.nc_number.specs.declared.path.Path.{Path}
 use Rattle.nc_number.specs.declared.path.Path.TheVariants.{One, Two}
 use Rattle.nc_number.specs.declared.both.Both.{Both}

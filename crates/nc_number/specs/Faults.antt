@@ -1,7 +1,8 @@
--- Counts of the faults of a device of the outside: they only rise.
+-- Counts of the faults of a device of the outside: they only rise. The contracts of disks, files
+-- and outputs cite them.
 use Rattle.std.specs.Prelude.{ℕ, ◌+◌, ◌-◌, ◌^◌, ◌≤◌, min}
 
--- a count of faults behind one more, which stays at the greatest that it can be
+-- a count of faults after one more, which stays at the greatest that it can be
 abbrev pub next : ℕ → ℕ
 next n = min (n + 1) (2 ^ 64 - 1)
 

@@ -1,5 +1,6 @@
 -- A literal of the tape is an optional sign, digits, and optionally a point and digits, with a
--- digit in all. Here is when a text is one and what it means; Spelling.antt has the grammar.
+-- digit in all. Here is when a text is one and what it means; Spelling.antt has the grammar. The
+-- readers of tapes, settings and edits cite it.
 use Rattle.std.specs.Prelude.{ℕ, ◌+◌, ◌-◌, ◌*◌, ◌^◌, Bool, false, not, ◌==◌, ◌&&◌, ◌||◌, nat_lt, if◌then◌else◌, List, [], ◌∷◌, length, drop, ℤ, IsTrue, Option, Some, None, Result, Ok, Err}
 use Rattle.std.specs.Char.{is_ascii_digit}
 use Rattle.std.specs.List.{list_any, list_all, position_or_len, before_first, after_first}
@@ -35,7 +36,7 @@ has_point text = list_any is_point text
 abbrev pub whole_part : List ℕ → List ℕ
 whole_part text = before_first is_point (behind_sign text)
 
--- the digits behind the point, or none
+-- the digits after the point, or none
 abbrev pub fraction_part : List ℕ → List ℕ
 fraction_part text = after_first is_point (behind_sign text)
 
@@ -62,7 +63,7 @@ significant digits = drop (position_or_len (λ d. not (d == 48)) digits) digits
 abbrev pub has_too_many_digits : List ℕ → Bool
 has_too_many_digits text = nat_lt 8 (length (significant (whole_part text))) || nat_lt 6 (length (fraction_part text))
 
--- the millionths that the digits before and behind a point write, of which at most 6 stand behind
+-- the millionths that the digits before and after a point write, of which at most 6 stand after
 -- it
 abbrev pub size_of_parts : List ℕ → List ℕ → ℕ
 size_of_parts whole fraction =

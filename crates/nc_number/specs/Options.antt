@@ -1,5 +1,5 @@
--- Steps that may have no value, one behind the other: `do` over options. And numbers that may be
--- missing. For steps that may fail see Results.antt.
+-- Steps that may have no value, one after the other: `do` over options. And numbers that may be
+-- missing. For steps that may fail see Results.antt. Crates that read texts cite it.
 use Rattle.std.specs.Prelude.{ℕ, Bool, false, ◌==◌, min, Option, Some, None, option_and_then}
 
 -- the second step goes on with the first one's value, if there is one

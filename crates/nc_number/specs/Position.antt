@@ -1,4 +1,5 @@
--- Points of the X and Z plane in 0.001 mm, and which may be a position or an offset.
+-- Points of the X and Z plane in 0.001 mm, and which may be a position or an offset. The crates of
+-- offsets, motion and settings cite it.
 use Rattle.std.specs.Prelude.{ℕ, pos, ◌≤◌, Bool, ◌&&◌, nat_le, unsigned_abs}
 use Rattle.nc_number.specs.declared.point.Point.{Point}
 

@@ -1,4 +1,4 @@
--- Steps that may fail, one behind the other: `do` over results.
+-- Steps that may fail, one after the other: `do` over results. Crates that read texts cite it.
 use Rattle.std.specs.Prelude.{Result, Ok, Err}
 
 -- the second step goes on with what the first gave; a failure of the first is that of both

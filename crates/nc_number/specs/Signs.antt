@@ -1,4 +1,4 @@
--- Signs of numbers: true is a minus.
+-- Signs of numbers: true is a minus. macro_eval and zone_area cite them too.
 use Rattle.std.specs.Prelude.{ℕ, Bool, true, false, not, if◌then◌else◌, ℤ, pos, neg_ℤ}
 
 -- z, or -z where the sign is a minus

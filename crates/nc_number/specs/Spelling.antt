@@ -5,8 +5,11 @@ use Rattle.nc_number.specs.Literals.{IsLiteral, all_digits, has_minus, has_point
 
 -- what stands before the digits: nothing, a plus or a minus
 pub data Sign : Type 0 where
+  -- no sign
   Bare : Sign
+  -- a plus
   Plus : Sign
+  -- a minus
   Minus : Sign
 
 -- 43 is the plus and 45 the minus
@@ -21,23 +24,23 @@ is_minus Bare = false
 is_minus Plus = false
 is_minus Minus = true
 
--- a point and the digits behind it, where there is a point
+-- a point and the digits after it, where there is a point
 abbrev pub point_bytes : Option (List ℕ) → List ℕ
 point_bytes None = []
 point_bytes (Some fraction) = 46 ∷ fraction
 
--- the digits behind the point
+-- the digits after the point
 abbrev pub digits_behind : Option (List ℕ) → List ℕ
 digits_behind None = []
 digits_behind (Some fraction) = fraction
 
 -- the text is a sign, whole digits, and a point with digits or none, with a digit in all
 pub record IsWritten (text : List ℕ) (sign : Sign) (whole : List ℕ) (fraction : Option (List ℕ)) : Type 0 where
-  -- the text is these parts, one behind the other
+  -- the text is these parts, one after the other
   pub bytes : text ≡ sign_bytes sign ++ (whole ++ point_bytes fraction)
   -- before the point stand digits alone
   pub whole_digits : all_digits whole ≡ true
-  -- behind it too
+  -- after it too
   pub fraction_digits : all_digits (digits_behind fraction) ≡ true
   -- there is a digit in all
   pub some_digit : 0 < length whole + length (digits_behind fraction)

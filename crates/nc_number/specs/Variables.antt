@@ -1,4 +1,4 @@
--- What a variable (#1, #100 ..) counts as in arithmetic.
+-- What a variable (#1, #100 ..) counts as in arithmetic. The crates that evaluate blocks cite it.
 use Rattle.std.specs.Prelude.{ℤ, pos}
 use Rattle.nc_number.specs.declared.value.Var.{Var}
 use Rattle.nc_number.specs.declared.value.Var.TheVariants.{Vacant, Is}

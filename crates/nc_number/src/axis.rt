@@ -1,4 +1,4 @@
-//! What a block says of an axis.
+//! What a block says of an axis. The crates of motion and offsets take it.
 ghost use Rattle.std.specs.Prelude.{◌≡◌, ◌≤◌, ℕ, IfSome, unsigned_abs};
 
 /// What a block says of an axis, in 0.001 mm.

@@ -1,4 +1,4 @@
-//! One thing for each path.
+//! One thing for each path. Most crates from two_path on use it.
 ghost use Rattle.std.specs.Prelude.{◌≡◌};
 ghost use Rattle.nc_number.specs.Both.{of_path};
 

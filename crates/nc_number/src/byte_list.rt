@@ -1,4 +1,4 @@
-//! Bytes of a text.
+//! Bytes of a text. line_text, run_records and others keep texts so.
 use crate::list_of::ListOf;
 
 /// Bytes of a text, owned. A contract sees the list of them.

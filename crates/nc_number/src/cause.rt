@@ -1,4 +1,5 @@
-//! The table of alarms and refusals.
+//! The table of alarms and refusals: the one place of their numbers and names. Each crate that
+//! raises one takes it from here; what raises it is in that crate.
 ghost use Rattle.std.specs.Prelude.{◌≡◌, ◌≢◌, Some, IsNone, IfSome, All};
 ghost use Rattle.nc_number.specs.Causes.{cause_number, cause_name, every_cause};
 
@@ -17,7 +18,7 @@ pub enum Cause {
     TooManyDigits,
     /// A byte that is not allowed where it stands.
     BadCharacter,
-    /// A letter without a value, or a value with nothing of a word behind it.
+    /// A letter without a value, something that begins no word, or a word beside an O number.
     NoNumber,
     /// A line ends inside a comment.
     OpenComment,
@@ -178,6 +179,7 @@ macro_rules! cause_table {
     };
 }
 
+// The number of a cause, by the table.
 macro_rules! number {
     ($of:expr; $($number:literal $cause:ident,)+) => {
         match $of {
@@ -186,6 +188,7 @@ macro_rules! number {
     };
 }
 
+// The name of a cause, by the table.
 macro_rules! name {
     ($of:expr; $($number:literal $cause:ident,)+) => {
         match $of {
@@ -194,15 +197,17 @@ macro_rules! name {
     };
 }
 
+// All causes of the table.
 macro_rules! every {
     ($($number:literal $cause:ident,)+) => {
         [$(Cause::$cause,)+]
     };
 }
 
+/// The rows of the table, by their numbers.
 const EVERY_CAUSE: [Cause; 54] = cause_table!(every);
 
-/// One of the causes that has the number.
+/// One of these causes that has the number, if there is one.
 fn of_number(causes: &[Cause], number: u8) -> Option<Cause>
     ensures found { IfSome result (λ cause. cause_number cause ≡ number) }
     ensures none { IsNone result → All (λ cause. cause_number cause ≢ number) causes.now }
@@ -228,7 +233,7 @@ impl Cause {
         cause_table!(name self)
     }
 
-    /// The cause of that number.
+    /// The cause of that number, if there is one.
     pub fn of_number(number: u8) -> Option<Cause>
         ensures number { IfSome result (λ cause. cause_number cause ≡ number) }
         ensures found { (cause : Cause) → cause_number cause ≡ number → result ≡ Some cause }

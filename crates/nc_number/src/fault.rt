@@ -1,4 +1,5 @@
-//! Errors that every crate shares.
+//! Errors that every crate shares: of numbers, of a device, and of memory. The numbers of alarms
+//! and refusals are in cause.rt.
 ghost use Rattle.std.specs.Prelude.{◌≡◌};
 ghost use Rattle.nc_number.specs.Causes.{cause_number, cause_of_number_fault};
 
@@ -77,8 +78,10 @@ impl<T: Drop> From<AllocFailed<T>> for NoMemory {
 #[derive(Clone, Copy, Debug, PartialEq, Eq, Error)]
 #[error_bound(E: Fault + Copy)]
 pub enum Failing<E> {
+    /// The call's own fault.
     #[error(transparent)]
     Fault(E),
+    /// Memory ran out.
     #[error("out of memory")]
     NoMemory,
 }

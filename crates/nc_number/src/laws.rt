@@ -1,5 +1,5 @@
 //! What the words of the contracts mean, in laws of their own. None of these calls does anything:
-//! the contract of each is a fact that its caller may use.
+//! the contract of each is a fact for readers and for whoever calls it. No crate calls them by now.
 
 ghost use Rattle.std.specs.Prelude.{◌≡◌, ◌≢◌, ◌↔◌, ℕ, ℤ, pos, ◌+◌, ◌*◌, ◌%◌, ◌<◌, ◌≤◌, ◌^◌, ◌+ℤ◌, ◌-ℤ◌, ◌*ℤ◌, List, Option, Some, Ok, true, false, Contains, is_some, unsigned_abs};
 ghost use Rattle.std.specs.Int.{is_negative};

@@ -1,4 +1,4 @@
-//! Lists.
+//! Lists whose contracts see just their things. Crates that give lists to others use it.
 ghost use Rattle.std.specs.Prelude.{◌≡◌};
 
 use std::marker::Model;
@@ -6,6 +6,7 @@ use std::marker::Model;
 /// A list of things in their order, owned. A contract sees the list of them.
 #[derive(Debug, Drop)]
 pub struct ListOf<T> {
+    /// The things, first to last.
     items: Vec<T>,
 }
 

@@ -1,5 +1,5 @@
 //! The literals of a tape: when a text is one, what it writes, and what it counts for a length or a
-//! time.
+//! time. The readers of tapes, settings and edits use it.
 ghost use Rattle.std.specs.Prelude.{◌≡◌, ◌==◌, ◌^◌, ◌<◌, ◌≤◌, not, length, position, IsTrue, IfSome, unsigned_abs};
 ghost use Rattle.std.specs.List.{before_first, after_first};
 ghost use Rattle.std.specs.Str.Parse.{digits_value};
@@ -67,7 +67,7 @@ impl Literal {
 /// Digits before the point, without the zeros at the front.
 const WHOLE_DIGITS: usize = 8;
 
-/// Digits behind the point.
+/// Digits after the point.
 const FRACTION_DIGITS: usize = 6;
 
 /// Millionths in a unit.
@@ -97,7 +97,7 @@ fn point_at(digits: &[u8]) -> Option<usize>
     digits.iter().position(|b| *b == b'.')
 }
 
-/// What stands before the first point, and what stands behind it.
+/// What stands before the first point, and what stands after it.
 fn parts(digits: &[u8]) -> (&[u8], &[u8])
     ensures whole { result.0.now ≡ before_first is_point digits.now }
     ensures fraction { result.1.now ≡ after_first is_point digits.now }
@@ -163,7 +163,7 @@ fn number(digits: &[u8]) -> u64
     sum
 }
 
-/// The millionths that the digits before and behind a point write.
+/// The millionths that the digits before and after a point write.
 #[tactic(auto, using(crate::proofs::DecimalDigits::size_below))]
 fn millionths(whole: &[u8], fraction: &[u8]) -> u64
     requires whole_digits { IsTrue (all_digits whole.now) }
@@ -180,7 +180,7 @@ fn millionths(whole: &[u8], fraction: &[u8]) -> u64
 /// The number that a literal of the tape writes.
 ///
 /// It fails exactly where the literal has more than 8 whole digits, the zeros in front not
-/// counted, or more than 6 digits behind the point.
+/// counted, or more than 6 digits after the point.
 pub fn parse_word(text: &[u8]) -> Result<Literal, NumberFault>
     requires { IsLiteral text.now }
     ensures { result ≡ word_literal text.now }

@@ -1,4 +1,4 @@
-//! Numbers that may be missing.
+//! Numbers that may be missing: the lesser of two, of lines for instance.
 ghost use Rattle.std.specs.Prelude.{◌≡◌};
 ghost use Rattle.nc_number.specs.Options.{lesser};
 

@@ -1,11 +1,14 @@
-//! The two paths.
+//! The two paths, their numbers and places. Every crate names a path so, and never by a bare
+//! number.
 ghost use Rattle.std.specs.Prelude.{◌≡◌, ◌<◌};
 ghost use Rattle.nc_number.specs.Path.{number_of, path_of, index_of, other_of};
 
 /// A path of the machine: one turret with its own tape.
 #[derive(Clone, Copy, Debug, PartialEq, Eq)]
 pub enum Path {
+    /// Path 1, the first turret.
     One,
+    /// Path 2, the second turret.
     Two,
 }
 
@@ -20,7 +23,7 @@ impl Path {
         }
     }
 
-    /// The path of that number.
+    /// The path of that number, if it is 1 or 2.
     pub fn of_number(number: u8) -> Option<Path>
         ensures { result ≡ path_of number }
     {

@@ -1,4 +1,4 @@
-//! Points.
+//! Points in 0.001 mm, how far they may lie, and how many tool offsets there are.
 ghost use Rattle.std.specs.Prelude.{◌≡◌, ◌↔◌, IsTrue};
 
 /// How far from 0 a position or an offset may be, in 0.001 mm.
@@ -12,6 +12,7 @@ pub const TOOL_OFFSETS: u8 = 64;
 pub struct Point {
     /// A diameter.
     pub x: i64,
+    /// A length along the axis.
     pub z: i64,
 }
 

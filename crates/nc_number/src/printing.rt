@@ -1,4 +1,5 @@
-//! How values and lengths are printed.
+//! How values and lengths are printed, into 24 bytes of the caller's. text_pieces, move_text and
+//! tape_expand print with it.
 ghost use Rattle.std.specs.Prelude.{◌≡◌, ◌+◌, ◌++◌, ◌∷◌, ◌%◌, ◌≤◌, length, take, decimal};
 ghost use Rattle.std.specs.Fmt.{sign_text};
 ghost use Rattle.nc_number.specs.Printed.{last_digits, without_trailing_zeros, fraction_text, value_text, length_text};
@@ -15,7 +16,7 @@ const MICRO_IN_UNIT: u64 = 1_000_000;
 /// Increments of 0.001 mm in a millimetre.
 const INCREMENTS_IN_MM: u64 = 1_000;
 
-/// Puts the piece behind the first `at` bytes, and gives the place behind it.
+/// Puts the piece after the first `at` bytes, and gives the place after it.
 fn put(into: &mut [u8; 24], at: usize, piece: &[u8]) -> usize
     requires { at + length piece.now ≤ 24 }
     ensures end { result ≡ at + length piece.now }
@@ -35,7 +36,7 @@ fn put_sign(into: &mut [u8; 24], negative: bool) -> usize
     if negative { put(into, 0, b"-") } else { 0 }
 }
 
-/// Writes the digits of a number behind what is written. It gives their end.
+/// Writes the digits of a number after what is written. It gives their end.
 fn put_whole(into: &mut [u8; 24], at: usize, number: u64) -> usize
     requires { at + length (decimal number) ≤ 24 }
     ensures end { result ≡ at + length (decimal number) }
@@ -45,7 +46,7 @@ fn put_whole(into: &mut [u8; 24], at: usize, number: u64) -> usize
     put(into, at, digits.format(number).as_bytes())
 }
 
-/// The digit of that weight.
+/// The byte of the number's last digit.
 fn digit(number: u64) -> u8
     ensures value { result ≡ 48 + number % 10 }
 {
@@ -85,7 +86,7 @@ fn trimmed(digits: &[u8]) -> &[u8]
     }
 }
 
-/// Writes a point and the fraction behind what is written, or nothing where the fraction is 0. It
+/// Writes a point and the fraction after what is written, or nothing where the fraction is 0. It
 /// gives the end.
 fn put_fraction(into: &mut [u8; 24], at: usize, millionths: u64) -> usize
     requires { at ≤ 17 }

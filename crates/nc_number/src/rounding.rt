@@ -1,4 +1,4 @@
-//! Rounding to whole numbers and to increments.
+//! Rounding of values to whole numbers (ROUND, FIX, FUP) and to increments of 0.001.
 ghost use Rattle.std.specs.Prelude.{◌≡◌, ◌≢◌, ◌^◌, ◌<◌, ◌≤◌, unsigned_abs};
 ghost use Rattle.nc_number.specs.Arithmetic.{nearest, nearest_quotient, rounded, dropped, raised, increments_of};
 
@@ -11,7 +11,7 @@ pub(crate) const MICRO_IN_UNIT: i128 = 1_000_000;
 /// Millionths in an increment of 0.001.
 pub(crate) const MICRO_IN_INCREMENT: i128 = 1_000;
 
-/// The whole number nearest to a quotient, halves upwards.
+/// The whole number nearest to `size / by`, halves upwards.
 fn nearest(size: u128, by: u128) -> u128
     requires divisor { 0 < by }
     requires divisor_room { by < 2 ^ 120 }
@@ -25,7 +25,7 @@ fn nearest(size: u128, by: u128) -> u128
     }
 }
 
-/// The whole number nearest to `a / b`, halves away from zero.
+/// The whole number nearest to `a / b`, halves away from zero; `b` is not 0.
 pub(crate) fn nearest_quotient(a: i128, b: i128) -> i128
     requires divisor { 0 < unsigned_abs b }
     requires room { unsigned_abs a < 2 ^ 120 }
@@ -36,14 +36,14 @@ pub(crate) fn nearest_quotient(a: i128, b: i128) -> i128
     if (a < 0) == (b < 0) { size } else { -size }
 }
 
-/// The nearest whole number, halves away from zero.
+/// The nearest whole number, halves away from zero; Overflow exactly past the range.
 pub fn round(a: Value) -> Result<Value, NumberFault>
     ensures { result ≡ rounded a }
 {
     Value::checked(nearest_quotient(a.wide(), MICRO_IN_UNIT) * MICRO_IN_UNIT)
 }
 
-/// The number with its fraction dropped.
+/// The number with its fraction dropped, so that it goes towards zero.
 pub fn fix(a: Value) -> Value
     ensures { result ≡ dropped a }
 {
@@ -54,7 +54,7 @@ pub fn fix(a: Value) -> Value
     )
 }
 
-/// The number with its magnitude raised to a whole number.
+/// The number with its magnitude raised to a whole number; Overflow exactly past the range.
 pub fn fup(a: Value) -> Result<Value, NumberFault>
     ensures { result ≡ raised a }
 {

@@ -1,4 +1,5 @@
-//! The values of the control, and of its variables.
+//! The values of the control, and of its variables. What is computed with them is in arithmetic.rt,
+//! rounding.rt and bits.rt.
 ghost use Rattle.std.specs.Prelude.{◌≡◌, ◌↔◌, ◌≤◌, ◌*ℤ◌, pos, neg_ℤ, unsigned_abs, IsSome, IfSome, Some};
 ghost use Rattle.nc_number.specs.Arithmetic.{checked, value_of_units, value_of_increments, whole_of};
 ghost use Rattle.nc_number.specs.Range.{InRange};
@@ -11,6 +12,7 @@ use std::marker::Model;
 /// A number of the control: a whole count of millionths, of magnitude at most 99,999,999.999999.
 #[derive(Clone, Copy, Debug, PartialEq, Eq, PartialOrd, Ord, Hash)]
 pub struct Value {
+    /// The count of millionths.
     micro: i64,
 }
 
@@ -30,14 +32,17 @@ impl Model for Value {
 /// What a variable is: vacant, or a value.
 #[derive(Clone, Copy, Debug, PartialEq, Eq)]
 pub enum Var {
+    /// It holds no value.
     Vacant,
+    /// It holds this value.
     Is(Value),
 }
 
+/// The greatest count of millionths that is a value.
 const LARGEST: i64 = 99_999_999_999_999;
 
 impl Value {
-    /// The value of that many millionths.
+    /// The value of that many millionths, if they are in the range.
     pub fn of(micro: i64) -> Option<Self>
         ensures some { IsSome result ↔ InRange micro }
         ensures value { IfSome result (λ v. v ≡ micro) }
@@ -104,7 +109,7 @@ impl Value {
         }
     }
 
-    /// Its count of millionths, where products are made.
+    /// Its count of millionths, as wide as products of two values need.
     pub(crate) fn wide(self) -> i128
         ensures count { result ≡ self }
         ensures range { InRange result }

@@ -12,7 +12,7 @@ use Rattle.offset_store.specs.Slots.{slot_of}
 use Rattle.offset_store.specs.Changes.{position_fault, with_point}
 use Rattle.offset_store.specs.Table.{OffsetTable, offset_at}
 
--- every offset 0
+-- every offset 0: seven work offsets, and geometry and wear for the numbers 0 to 64
 abbrev pub no_offsets : OffsetTable
 no_offsets = record { work = replicate 7 origin; geometry = replicate 65 origin; wear = replicate 65 origin }
 
@@ -29,7 +29,7 @@ abbrev pub shift_of : OffsetTable → ℕ → ℕ → Point
 shift_of o work offset =
     plus (plus (offset_at o.work 0) (work_in_force o work)) (plus (offset_at o.geometry offset) (offset_at o.wear offset))
 
--- how far from 0 a shift may be: four offsets
+-- how far from 0 a shift may be, in 0.001 mm: four offsets
 abbrev pub shift_travel : ℕ
 shift_travel = 399999996
 

@@ -1,4 +1,4 @@
-//! An offset with a block's words read.
+//! An offset with a block's words read: X and Z set, U and W add.
 //! For this crate alone.
 ghost use Rattle.std.specs.Prelude.{◌≡◌, ◌≤◌, if◌then◌else◌, nat_le, unsigned_abs, Some, None, IfOk};
 ghost use Rattle.nc_number.specs.Position.{IsPosition, travel};

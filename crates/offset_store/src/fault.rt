@@ -1,5 +1,5 @@
 //! Why an offset was not set.
-//! block_values, motion_vectors and five more crates use it.
+//! block_values, named_vars and four more crates, and tests, use it.
 ghost use Rattle.std.specs.Prelude.{◌≡◌};
 
 use nc_number::Cause;

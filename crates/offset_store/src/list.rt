@@ -1,4 +1,4 @@
-//! Offsets by their numbers.
+//! Offsets by their numbers, each a position. Which number means what is in number.rt and slot.rt.
 //! For this crate alone.
 ghost use Rattle.std.specs.Prelude.{◌≡◌, ◌<◌, replicate, slice_set};
 ghost use Rattle.nc_number.specs.Position.{IsPosition, origin};

@@ -1,4 +1,4 @@
-//! The numbers of offsets.
+//! The numbers of offsets, as types: 0 to 6 for work offsets, 1 to 64 for a tool's.
 //! cell_settings, path_state and run_records use it.
 ghost use Rattle.std.specs.Prelude.{◌≡◌, ◌≤◌};
 ghost use Rattle.nc_number.specs.declared.point.TheConstants.{TOOL_OFFSETS};

@@ -1,4 +1,4 @@
-//! A point that may be an offset.
+//! A point that may be an offset, as a type: neither axis is past the travel.
 //! edit_texts and run_records use it.
 ghost use Rattle.std.specs.Prelude.{◌≡◌};
 ghost use Rattle.nc_number.specs.Position.{IsPosition};

@@ -1,5 +1,5 @@
-//! The offsets of a path.
-//! block_values, motion_vectors and two more crates use it.
+//! All offsets of a path, their shift, and an offset that is changed or put.
+//! block_values, path_state and tests use it.
 ghost use Rattle.std.specs.Prelude.{◌≡◌, ◌≤◌, ◌+ℤ◌, unsigned_abs, IfOk, OnOk, OnErr};
 ghost use Rattle.std.specs.Result.{result_err};
 ghost use Rattle.nc_number.specs.Position.{IsPosition, IsWithin, origin};

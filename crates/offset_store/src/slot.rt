@@ -1,5 +1,5 @@
-//! Where an offset stands.
-//! block_values, cell_settings and nine more crates use it.
+//! Where an offset stands, and which one G10 names by its number.
+//! block_values, cell_settings and six more crates, and tests, use it.
 ghost use Rattle.std.specs.Prelude.{◌≡◌};
 ghost use Rattle.offset_store.specs.Slots.{work_slot, tool_slot};
 

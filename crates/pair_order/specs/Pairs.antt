@@ -27,8 +27,11 @@ IsAtEnd tape place = standing tape place ≡ Some End
 -- One step of a pair: a block of a path, which is no wait and no end, leads where the order of its
 -- blocks allows; or both paths stand at waits, of whatever codes, and pass them.
 pub data Goes (left right : List ControlProgram) (from to : Paths) : Type 0 where
+  -- a step of path 1,
   one : Step left from.first to.first → to.second ≡ from.second → to.met ≡ from.met → Goes left right from to
+  -- a step of path 2,
   two : to.first ≡ from.first → Step right from.second to.second → to.met ≡ from.met → Goes left right from to
+  -- or a meeting, noted by the code of path 1
   meet : (code there : ℕ) → IsAtWait left from.first code → IsAtWait right from.second there
       → to.first ≡ place_behind from.first → to.second ≡ place_behind from.second → to.met ≡ from.met ++ code ∷ [] → Goes left right from to
 
@@ -40,7 +43,9 @@ pub record IsBeginning (left right : List ControlProgram) (paths : Paths) : Type
 
 -- some steps from a beginning lead there
 pub data IsReached (left right : List ControlProgram) : Paths → Type 0 where
+  -- a beginning is reached,
   begun : (paths : Paths) → IsBeginning left right paths → IsReached left right paths
+  -- and so is where a step leads from there
   gone : (from to : Paths) → IsReached left right from → Goes left right from to → IsReached left right to
 
 -- each tape has one list of labels, whatever its variables hold, and these are equal
@@ -52,16 +57,23 @@ pub record IsPair (left right : List ControlProgram) : Type 0 where
 -- These codes were met one after another as the list of labels has them, which begins anew after
 -- Again; the rest is still ahead.
 pub data AreMet (all : List Label) : List ℕ → List Label → Type 0 where
+  -- at first all labels are ahead
   none : AreMet all [] all
+  -- a wait is met, and the rest stays ahead
   one_more : (met : List ℕ) (code : ℕ) (rest : List Label) → AreMet all met (label.Wait code ∷ rest) → AreMet all (met ++ code ∷ []) rest
+  -- at Again the list begins anew
   anew : (met : List ℕ) → AreMet all met (label.Again ∷ []) → AreMet all met all
 
 -- Two waits at which both paths stand are of one code, no path waits for one that has ended, and
 -- the meetings are those of the list.
 pub record IsFree (left right : List ControlProgram) (paths : Paths) : Type 0 where
+  -- both stand at waits of one code only,
   pub same : (code there : ℕ) → IsAtWait left paths.first code → IsAtWait right paths.second there → code ≡ there
+  -- path 1 doesn't wait for a path 2 that has ended,
   pub first_alone : (code : ℕ) → IsAtWait left paths.first code → IsAtEnd right paths.second → ⊥
+  -- nor path 2 for a path 1 that has,
   pub second_alone : (code : ℕ) → IsAtEnd left paths.first → IsAtWait right paths.second code → ⊥
+  -- and the meetings are those of the list
   pub met : AreMet (list left) paths.met (ahead left paths.first)
 
 -- wherever steps lead from a beginning, neither path waits in vain

@@ -105,7 +105,7 @@ edit_again (Offset (Wear n) to) is =
 edit_again (Common v Vacant) is = rw (is_common_true v is.0) refl
 edit_again (Common v (Is value)) is = rw (is_common_true v is.0, is_in_range_true value is.1) refl
 
--- an edit has one spelling
+-- two edits whose bytes begin one list are the same, and so is what follows them
 pub one_edit : (edit other : Edit) (rest more : List ℕ) → IsEdit edit → IsEdit other → numbers_bytes (numbers_of edit) ++ rest ≡ numbers_bytes (numbers_of other) ++ more → (edit ≡ other) × (rest ≡ more)
 one_edit edit other rest more is also same =
     let numbers : numbers_of edit ≡ numbers_of other =
@@ -188,7 +188,7 @@ var_back a b to true e is =
     subst (VarSpells a b) tested.1 (tt, λ variable i. record { what = 4; number = variable; a = a_is i; b = b_is i })
 var_back a b to false e is = value_back a b to (int_eq a (pos 1)) refl is
 
--- the edit is one, and the numbers are its
+-- the edit is one that may be, and these are its numbers
 abbrev pub Gives : EditNumbers → Edit → Type 0
 Gives numbers edit = (numbers_of edit ≡ numbers) × IsEdit edit
 

@@ -51,7 +51,7 @@ step_number Ended is = (omega arith, omega arith)
 step_number Alarmed is = (omega arith, omega arith)
 step_number (Edited edit) is = absurd (none-some edit (sym is))
 
--- a kind of which this is the edit
+-- a kind of which this is the edit is that edit
 pub edited_kind : (kind : EntryKind) (edit : Edit) → edit_of kind ≡ Some edit → kind ≡ Edited edit
 edited_kind Did edit is = absurd (none-some edit is)
 edited_kind Arrived edit is = absurd (none-some edit is)
@@ -91,7 +91,7 @@ pub path_fits : (path : Path) → (number_of path == 1 || number_of path == 2) �
 path_fits One = refl
 path_fits Two = refl
 
--- none of the causes holds
+-- if none of the causes holds, there is no cause
 pub no_cause_holds : (bytes : List ℕ) → has_bad_path bytes ≡ false → has_bad_kind bytes ≡ false → has_too_many_stamps bytes ≡ false → is_cut_short bytes ≡ false → has_bad_edit bytes ≡ false → cause_of bytes ≡ None
 no_cause_holds bytes path kind some whole good = rw (path, kind, some, whole, good) refl
 

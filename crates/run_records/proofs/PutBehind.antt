@@ -21,7 +21,7 @@ pub set_front : (old : List ℕ) (x : ℕ) → 1 ≤ length old → set old 0 x 
 set_front [] x some = absurd (omega arith)
 set_front (y ∷ old) x some = refl
 
--- the number of stamps behind two bytes
+-- the third byte is written behind two, and all others stay
 pub set_third : (old : List ℕ) (x : ℕ) → 3 ≤ length old → set old 2 x ≡ (take 2 old ++ x ∷ []) ++ drop 3 old
 set_third old x some = set_split old 2 x (omega arith) ∙ sym (append_assoc (take 2 old) (x ∷ []) (drop 3 old))
 

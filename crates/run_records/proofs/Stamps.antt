@@ -1,4 +1,4 @@
--- Stamps, and their bytes.
+-- Stamps, and their bytes. That they are read again, and have one spelling.
 use Rattle.std.proofs.Common.{◌≡◌, ℕ, ◌+◌, ◌*◌, ◌^◌, ◌-◌, ◌≤◌, ◌<◌, List, [], ◌∷◌, ◌++◌, length, take, drop, get_or, refl, inl, inr, take-append-drop, sym, ◌∙◌, ap, subst, arith, append_assoc, length-append, length-drop}
 use Rattle.std.proofs.lemmas.List.{get_or-take, get_or-drop, get_or_past, length-take, take_at, drop_at, drop-drop, drop_all, take_rest, take_more, append-nil, length-take-le}
 use borrow.Rule.Slice.PartMut.{put_mid}

@@ -9,7 +9,7 @@ use Rattle.run_records.specs.declared.version.Version.{Version}
 use Rattle.run_records.specs.declared.version.Version.TheVariants.{One, Two}
 use Rattle.run_records.specs.Headers.{text_bytes, version_number, header_mark, header_bytes, IsShort}
 
--- a text is read in one way
+-- two texts whose bytes begin one list are the same, and so is what follows them
 pub one_text : (text other rest more : List ℕ) → length text < 2 ^ 32 → length other < 2 ^ 32 → text_bytes text ++ rest ≡ text_bytes other ++ more → (text ≡ other) × (rest ≡ more)
 one_text text other rest more short also same =
     let size : length text ≡ length other =

@@ -1,4 +1,4 @@
--- Why bytes begin with no record.
+-- Why bytes begin with no record. How a record is spelled is in Spelling.
 -- run_journal uses these words.
 use Rattle.std.specs.Prelude.{ℕ, ◌+◌, ◌*◌, ◌==◌, ◌||◌, ◌&&◌, not, nat_lt, Bool, List, length, drop, slice_index, Option, Some, None, is_none, if◌then◌else◌}
 use Rattle.std.specs.Int.{w64, cast_signed}
@@ -22,7 +22,7 @@ cause_number TooManyRecords = 8
 cause_number RefusedTapes = 9
 cause_number BadEdit = 10
 
--- the kind byte is that of an edit
+-- the second byte, the kind, is that of an edit: 6
 abbrev pub is_edit : List ℕ → Bool
 is_edit bytes = slice_index bytes 1 == 6
 
@@ -40,19 +40,19 @@ numbers_in bytes = record {
 abbrev pub record_size : List ℕ → ℕ
 record_size bytes = if is_edit bytes then 21 else 3 + 4 * slice_index bytes 2
 
--- the byte is there, and is no path
+-- the first byte is there, and is no path: neither 1 nor 2
 abbrev pub has_bad_path : List ℕ → Bool
 has_bad_path bytes = nat_lt 0 (length bytes) && not (slice_index bytes 0 == 1 || slice_index bytes 0 == 2)
 
--- the byte is there, and is no kind
+-- the second byte is there, and is no kind: not 1 to 6
 abbrev pub has_bad_kind : List ℕ → Bool
 has_bad_kind bytes = nat_lt 1 (length bytes) && not (nat_lt 0 (slice_index bytes 1) && nat_lt (slice_index bytes 1) 7)
 
--- the record is no edit, and the byte is there, and is more than a record's stamps
+-- the record is no edit, and its third byte, the number of stamps, is there and is more than 32
 abbrev pub has_too_many_stamps : List ℕ → Bool
 has_too_many_stamps bytes = not (is_edit bytes) && (nat_lt 2 (length bytes) && nat_lt MOST_READS (slice_index bytes 2))
 
--- the record goes on behind the last byte
+-- the bytes end before the record does, which has three at least
 abbrev pub is_cut_short : List ℕ → Bool
 is_cut_short bytes = nat_lt (length bytes) 3 || nat_lt (length bytes) (record_size bytes)
 

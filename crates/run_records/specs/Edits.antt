@@ -20,13 +20,13 @@ use Rattle.run_records.specs.declared.edit.Edit.{Edit}
 use Rattle.run_records.specs.declared.edit.Edit.TheVariants.{Offset, Common}
 use Rattle.run_records.specs.declared.numbers.EditNumbers.{EditNumbers}
 
--- there is such an offset
+-- there is an offset of this number
 abbrev pub IsSlot : Slot → Type 0
 IsSlot (Work n) = n ≤ LAST_WORK
 IsSlot (Geometry n) = (1 ≤ n) × (n ≤ TOOL_OFFSETS)
 IsSlot (Wear n) = (1 ≤ n) × (n ≤ TOOL_OFFSETS)
 
--- a variable may be this
+-- a variable may be this: vacant, or a value in range
 abbrev pub IsVar : Var → Type 0
 IsVar Vacant = Unit {0}
 IsVar (Is value) = InRange value

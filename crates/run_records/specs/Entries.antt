@@ -1,4 +1,5 @@
--- What clauses see of a record of a run.
+-- What clauses see of a record of a run. How it is spelled is in Spelling. Which records are legal
+-- is in two_path.
 -- lathe_calls, lathe_looks, lathe_top, move_list, nc_restart, run_branch, run_edits, run_journal,
 -- run_table, trace_list, turn_order, turret_run, two_path and zone_check use these words.
 use Rattle.std.specs.Prelude.{◌≡◌, ℕ, Bool, true, false, List, [], Option, Some, None, IsSome}

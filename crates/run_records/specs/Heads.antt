@@ -22,7 +22,7 @@ step_of HeadEnded = Some Ended
 step_of HeadAlarmed = Some Alarmed
 step_of HeadEdited = None
 
--- what is read past the end of a list of edits; nothing hangs on it
+-- what is read past the end of a list of edits (100 is a common variable); nothing hangs on it
 abbrev pub no_edit : Edit
 no_edit = Common 100 Vacant
 
@@ -76,7 +76,7 @@ abbrev pub edits_in : Option Edit → List Edit
 edits_in None = []
 edits_in (Some edit) = edit ∷ []
 
--- behind so many stamps, or, of no step, behind so many edits
+-- where a record's stamps will stand, behind so many stamps; or its edit, behind so many edits
 abbrev pub place_of : Option EntryKind → ℕ → ℕ → ℕ
 place_of (Some kind) stamps edits = stamps
 place_of None stamps edits = edits

@@ -34,21 +34,22 @@ numbers_bytes numbers =
     numbers.what ∷ (big_bytes 2 numbers.number
     ++ (big_bytes 8 (cast_unsigned w64 numbers.a) ++ big_bytes 8 (cast_unsigned w64 numbers.b)))
 
--- what stands behind the kind
+-- what stands behind the kind: of a step the number of its stamps and these, of an edit its
+-- numbers
 abbrev pub bytes_behind : Option Edit → List ℕ → List ℕ
 bytes_behind None stamps = length stamps ∷ stamp_bytes stamps
 bytes_behind (Some edit) stamps = numbers_bytes (numbers_of edit)
 
--- the bytes of a record
+-- the bytes of a record: path, kind, and what stands behind them
 abbrev pub entry_bytes : Entry → List ℕ
 entry_bytes entry = number_of entry.path ∷ kind_number entry.kind ∷ bytes_behind (edit_of entry.kind) entry.stamps
 
--- what is true of a kind
+-- what is true of a kind: an edit sets what is there, to what is in range
 abbrev pub IsKind : Option Edit → Type 0
 IsKind None = Unit {0}
 IsKind (Some edit) = IsEdit edit
 
--- what is true of every record
+-- what is true of every record: 32 stamps at most, each of four bytes, and none of an edit
 pub record IsEntry (entry : Entry) : Type 0 where
   pub few : length entry.stamps ≤ MOST_READS
   pub stamps : AreStamps entry.stamps

@@ -1,4 +1,5 @@
--- What is true of the stamps of every record.
+-- What is true of the stamps of every record. A stamp is the number of records at the moment of a
+-- read.
 -- For this crate alone.
 use Rattle.std.specs.Prelude.{ℕ, ◌^◌, ◌≤◌, ◌<◌, List, [], ◌∷◌, length}
 use Rattle.nc_number.specs.declared.limits.TheConstants.{MOST_READS}

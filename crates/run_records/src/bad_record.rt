@@ -1,4 +1,6 @@
-//! Why the bytes of a run are none.
+//! Why the bytes of a run are none. Which of them holds is found in reading.rt, in run_journal and
+//! in nc_restart.
+//! nc_restart and run_journal use what it exports.
 
 ghost use Rattle.std.specs.Prelude.{◌≡◌};
 ghost use Rattle.run_records.specs.Causes.{cause_number};

@@ -1,4 +1,5 @@
-//! What an operator corrects between two runs of the tapes.
+//! What an operator corrects between two runs of the tapes: an offset or a common variable.
+//! edit_texts, path_state and two_path use what it exports.
 
 ghost use Rattle.std.specs.Prelude.{◌≡◌};
 

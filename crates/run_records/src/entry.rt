@@ -1,4 +1,6 @@
-//! A record, and its bytes.
+//! A record, and its bytes. It is written here, and read in reading.rt.
+//! lathe_calls, nc_restart, run_branch, run_journal, run_table, trace_list, two_path and
+//! zone_check use what it exports.
 
 ghost use Rattle.std.specs.Prelude.{◌≡◌, ◌↔◌, ◌+◌, ◌*◌, ◌≤◌, ◌++◌, ◌∷◌, [], ℕ, List, length, take, drop, Option, Some, None, is_none, IsTrue};
 ghost use Rattle.std.specs.Option.{option_copied};

@@ -1,4 +1,5 @@
 //! What a list of records keeps of each one beside its stamps, or beside its edit.
+//! For this crate alone: lists.rt uses it.
 
 ghost use Rattle.std.specs.Prelude.{◌≡◌, Some, None, IfSome};
 ghost use Rattle.run_records.specs.Entries.{edit_of};

@@ -1,4 +1,6 @@
-//! The header of a run, and its bytes.
+//! The header of a run, and its bytes. It is written and read here. Batches of records are
+//! run_journal's.
+//! lathe_top, nc_restart, run_branch, run_journal and run_table use what it exports.
 
 ghost use Rattle.std.specs.Prelude.{◌≡◌, ◌+◌, ◌*◌, ◌^◌, ◌≤◌, ◌<◌, ◌++◌, [], ◌∷◌, ℕ, List, length, take, drop, IfOk, IfErr, IfSome, IfNone, OnOk};
 ghost use Rattle.run_records.specs.declared.header.Header.{Header};
@@ -44,7 +46,7 @@ impl From<AllocError> for HeaderFault {
     }
 }
 
-/// The bytes of a header.
+/// The bytes of a header. The error is that memory ran out.
 pub fn put_header(alloc: Global, header: &Header) -> Result<Vec<u8>, NoMemory>
     requires { IsShort header.now }
     ensures { IfOk result (λ bytes. bytes.items ≡ header_bytes header.now) }
@@ -68,7 +70,8 @@ fn put_text(into: &mut Vec<u8>, text: &[u8]) -> Result<(), NoMemory>
     Ok(())
 }
 
-/// Reads a header that these bytes spell, all of them.
+/// Reads a header that these bytes spell, all of them. The error is `Bad` only where they spell
+/// none; else that memory ran out.
 pub fn take_header(alloc: Global, bytes: &[u8]) -> Result<Header, HeaderFault>
     ensures header { IfOk result (λ header. bytes.now ≡ header_bytes header) }
     ensures short { IfOk result IsShort }

@@ -1,4 +1,6 @@
 //! The lists that records and headers are made of.
+//! lathe_calls, lathe_top, move_list, nc_restart, run_branch, run_journal, run_table, trace_list,
+//! turn_order, turret_run, two_path and zone_check use what it exports.
 
 ghost use Rattle.std.specs.Prelude.{◌≡◌, ◌+◌, ◌^◌, ◌≤◌, ◌<◌, ◌++◌, [], ◌∷◌, List, ℕ, length, get_or, OnOk, vec_len, vec_capacity};
 ghost use Rattle.nc_number.specs.declared.limits.TheConstants.{MOST_READS};
@@ -77,6 +79,7 @@ impl StampList {
 /// their edits in another, so that a record without stamps is small.
 #[derive(Debug, Drop)]
 pub struct EntryList {
+    /// The head of each record.
     heads: Vec<Head>,
     stamps: Vec<u32>,
     edits: Vec<Edit>,
@@ -137,7 +140,7 @@ impl EntryList {
         }
     }
 
-    /// Makes room for so many records more.
+    /// Makes room for so many records more. The error is that memory ran out.
     pub fn reserve(&mut self, n: usize) -> Result<(), NoMemory>
         ensures items { self.new.items ≡ self.old.items }
         ensures room { OnOk result (length self.new.items + n ≤ self.new.room) }

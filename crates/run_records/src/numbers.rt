@@ -1,4 +1,6 @@
-//! An edit as the four numbers that its record has.
+//! An edit as the four numbers that its record has. An edit becomes numbers, and numbers that are
+//! those of an edit become one.
+//! For this crate alone: entry.rt and reading.rt use it.
 
 ghost use Rattle.std.specs.Prelude.{◌≡◌, IfSome};
 ghost use Rattle.run_records.specs.Edits.{numbers_of, offset_numbers, variable_numbers, slot_of, var_of, edit_with, IsEdit};

@@ -1,4 +1,6 @@
-//! A record, read from its bytes.
+//! A record, read from its bytes. It is written in entry.rt. Whether it is legal is not asked
+//! here.
+//! run_journal uses what it exports.
 
 ghost use Rattle.std.specs.Prelude.{◌≡◌, ◌+◌, ◌*◌, ◌≤◌, ◌++◌, ◌∷◌, ℕ, List, length, take, drop, Some, None, Ok, IfOk, IfErr, IfSome, IsSome, ◌↔◌, ◌⊎◌};
 ghost use Rattle.nc_number.specs.declared.limits.TheConstants.{MOST_READS};

@@ -1,4 +1,5 @@
-//! Versions of the journal.
+//! Versions of the journal. docs/JOURNAL.md has what differs.
+//! lathe_top, run_edits and run_journal use what it exports.
 ghost use Rattle.std.specs.Prelude.{◌≡◌};
 ghost use Rattle.run_records.specs.Headers.{version_number, header_mark};
 

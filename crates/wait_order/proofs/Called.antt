@@ -1,4 +1,5 @@
--- What the flags of the called programs stand for after one block, one program, or one call more.
+-- What the flags of the called programs stand for after one block, one program, or one call more. A
+-- loud program comes to a wait or an end, itself or by its calls; the others are quiet.
 use Rattle.std.proofs.Common.{◌≡◌, ◌↔◌, ℕ, zero, suc, ◌+◌, ◌<◌, ◌⊎◌, inl, inr, Bool, true, false, ◌==◌, List, [], ◌∷◌, ◌++◌, take, drop, length, replicate, Option, Some, None, slice_get, slice_index_or, slice_set, refl, ap, sym, subst, ◌∙◌, arith}
 use Rattle.std.proofs.lemmas.Bool.Decides.{nat_tests}
 use Rattle.block_order.specs.declared.control.Control.{Control}

@@ -1,4 +1,5 @@
--- The first line of a tape that may pass a wait is the least of its programs' first ones.
+-- The first line of a tape that may pass a wait is the least of its programs' first ones. A loud
+-- program comes to a wait or an end, itself or by its calls; the others are quiet.
 use Rattle.std.proofs.Common.{◌≡◌, ℕ, suc, ◌+◌, ◌<◌, ◌⊎◌, inl, inr, Bool, true, false, ◌==◌, List, [], ◌∷◌, length, Option, Some, None, slice_get, refl, ap, sym, subst, ◌∙◌, arith}
 use Rattle.std.proofs.lemmas.Bool.Decides.{nat_tests}
 use Rattle.block_order.specs.declared.program.ControlBlock.{ControlBlock}

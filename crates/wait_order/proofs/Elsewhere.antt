@@ -1,4 +1,6 @@
--- The tests of src/ways.rt on numbers, and what they say of stretches.
+-- The tests of src/ways.rt on numbers, and what they say of stretches. A stretch is the run of
+-- blocks up to a mark: a wait, an end, an M99 without a number, or a loud call. A loud program
+-- comes to a wait or an end, itself or by its calls; the others are quiet.
 use Rattle.std.proofs.Common.{◌≡◌, ◌≢◌, ◌↔◌, ℕ, ◌-◌, ◌<◌, Bool, true, false, not, nat_eq, List, length, Option, Some, None, Result, Ok, Err, slice_index, sym, refl, ap, ◌∙◌, arith, zero-add}
 use Rattle.std.specs.Prelude.{IsTrue}
 use Rattle.std.proofs.lemmas.Bool.Decides.{nat_tests}

@@ -1,5 +1,7 @@
 -- The blocks from which a search for a number leads to a target lie in at most two rows of places:
--- one before the target, and one after from which the search begins anew at the program's start.
+-- one before the target, and one after from which the search begins anew at the program's start. A
+-- stretch is the run of blocks up to a mark: a wait, an end, an M99 without a number, or a loud
+-- call. A loud program comes to a wait or an end, itself or by its calls; the others are quiet.
 use Rattle.std.proofs.Common.{◌≡◌, ◌↔◌, ℕ, zero, suc, ◌+◌, ◌<◌, ◌≤◌, ◌⊎◌, inl, inr, Bool, true, false, List, [], ◌∷◌, length, slice_get, slice_index_or, Option, Some, None, refl, ap, sym, subst, ◌∙◌, arith}
 use Rattle.block_order.specs.declared.control.Control.{Control}
 use Rattle.block_order.specs.declared.loops.Reach.{Reach}

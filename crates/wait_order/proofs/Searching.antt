@@ -1,5 +1,7 @@
 -- Which blocks search alike, the numbers of a program's returns, and the searches of a tape, each
--- with one block, program or search more.
+-- with one block, program or search more. A stretch is the run of blocks up to a mark: a wait, an
+-- end, an M99 without a number, or a loud call. A loud program comes to a wait or an end, itself or
+-- by its calls; the others are quiet.
 use Rattle.std.proofs.Common.{◌≡◌, ℕ, zero, suc, ◌+◌, ◌<◌, ◌⊎◌, inl, inr, Bool, true, false, ◌||◌, ◌==◌, List, [], ◌∷◌, ◌++◌, length, drop, Option, Some, None, slice_get, slice_index_or, refl, ap, sym, subst, ◌∙◌, arith}
 use Rattle.std.specs.List.{list_any}
 use Rattle.std.proofs.lemmas.Bool.Decides.{nat_tests}

@@ -1,5 +1,7 @@
 -- A block that may lead to another stretch does so by one of the tape's searches, or by its one
--- number or few returns. So the first of both kinds is the first of all.
+-- number or few returns. So the first of both kinds is the first of all. A stretch is the run of
+-- blocks up to a mark: a wait, an end, an M99 without a number, or a loud call. A loud program
+-- comes to a wait or an end, itself or by its calls; the others are quiet.
 use Rattle.std.proofs.Common.{◌≡◌, ◌≢◌, IsTrue, ℕ, ◌+◌, ◌<◌, ◌≤◌, ◌⊎◌, inl, inr, false, List, length, Option, Some, None, slice_get, slice_index_or, refl, ap, sym, subst, ◌∙◌, arith}
 use Rattle.std.proofs.lemmas.Option.{slice_get_within}
 use Rattle.nc_number.proofs.Counts.{last_or_before}

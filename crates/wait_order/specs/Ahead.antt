@@ -1,5 +1,7 @@
 -- What is kept of the blocks that search, ahead of each place, and which of them is the first in
--- another stretch. For this crate alone.
+-- another stretch. For this crate alone. A stretch is the run of blocks up to a mark: a wait, an
+-- end, an M99 without a number, or a loud call. A loud program comes to a wait or an end, itself or
+-- by its calls; the others are quiet.
 use Rattle.std.specs.Prelude.{◌≢◌, ℕ, ◌<◌, ◌≤◌, Bool, List, length}
 use Rattle.block_order.specs.declared.control.Control.{Control}
 use Rattle.wait_order.specs.declared.searchers.SearchersAhead.{SearchersAhead}

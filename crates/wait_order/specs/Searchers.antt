@@ -1,5 +1,7 @@
 -- The blocks of a program that search alike, and the next of them ahead of each place. A place is
--- the index of a block in its program. For this crate alone.
+-- the index of a block in its program. For this crate alone. A stretch is the run of blocks up to a
+-- mark: a wait, an end, an M99 without a number, or a loud call. A loud program comes to a wait or
+-- an end, itself or by its calls; the others are quiet.
 use Rattle.std.specs.Prelude.{◌≡◌, ℕ, zero, suc, ◌+◌, ◌≤◌, ◌==◌, nat_eq, Bool, true, false, ◌||◌, List, [], ◌∷◌, length, drop, None, Some, slice_index, if◌then◌else◌}
 use Rattle.std.specs.HashSet.{contains}
 use Rattle.block_order.specs.declared.control.Control.{Control}

@@ -1,5 +1,7 @@
 -- The searches of a tape for any of several sequence numbers: those of the computed GOTOs, and
--- those of the calls of each long quiet program. For this crate alone.
+-- those of the calls of each long quiet program. For this crate alone. A stretch is the run of
+-- blocks up to a mark: a wait, an end, an M99 without a number, or a loud call. A loud program
+-- comes to a wait or an end, itself or by its calls; the others are quiet.
 use Rattle.std.specs.Prelude.{◌≡◌, ℕ, ◌<◌, ◌⊎◌, Bool, false, List, length, Some, slice_get}
 use Rattle.block_order.specs.declared.control.Control.{Control}
 use Rattle.block_order.specs.declared.program.ControlBlock.{ControlBlock}

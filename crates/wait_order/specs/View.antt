@@ -1,4 +1,5 @@
--- That a view of a program says what the program is. For this crate alone.
+-- That a view of a program says what the program is. For this crate alone. A loud program comes to
+-- a wait or an end, itself or by its calls; the others are quiet.
 use Rattle.std.specs.Prelude.{◌≡◌}
 use Rattle.wait_order.specs.declared.view.ProgramView.{ProgramView}
 use Rattle.block_order.specs.Order.{blocks, main_number}

@@ -1,5 +1,6 @@
 -- Which blocks may pass a wait: those that may lead to another stretch of their program. A stretch
--- is the run of blocks up to a mark. Deep chains of calls: Deep. For this crate alone.
+-- is the run of blocks up to a mark. Deep chains of calls: Deep. For this crate alone. A loud
+-- program comes to a wait or an end, itself or by its calls; the others are quiet.
 use Rattle.std.specs.Prelude.{◌≡◌, ◌≢◌, ◌⊎◌, ◌<◌, ◌≤◌, ℕ, Bool, true, false, List, length, Option, Some, None, slice_get}
 use Rattle.block_order.specs.declared.control.Control.{Control}
 use Rattle.block_order.specs.declared.control.Control.TheVariants.{Goto, Call, EndLoop, BackTo}

@@ -1,4 +1,6 @@
--- That the tables of a program say what its blocks are. For this crate alone.
+-- That the tables of a program say what its blocks are. For this crate alone. A stretch is the run
+-- of blocks up to a mark: a wait, an end, an M99 without a number, or a loud call. A loud program
+-- comes to a wait or an end, itself or by its calls; the others are quiet.
 use Rattle.std.specs.Prelude.{◌≡◌, ◌≤◌, ℕ, Bool, length}
 use Rattle.wait_order.specs.declared.ways.ProgramWays.{ProgramWays}
 use Rattle.wait_order.specs.Stretches.{stretches_from}

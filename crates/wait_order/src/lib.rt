@@ -3,7 +3,7 @@
 //! [`check_order`] answers the order of a tape in which nothing is wrong, or the tape's first
 //! fault. Computed GOTOs, and the returns of long programs, may lead to any of several numbers:
 //! where such a search may pass a wait is found in one walk over the numbers, not for each block
-//! anew.
+//! anew. open_order and tape_flow lean on this.
 #![tactic(auto)]
 
 mod checking;

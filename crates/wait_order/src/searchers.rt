@@ -1,5 +1,7 @@
 //! The next block that searches, and the next one after its stretch, ahead of each place of a
-//! program.
+//! program. A stretch is the run of blocks up to a mark: a wait, an end, an M99 without a number,
+//! or a loud call. A loud program comes to a wait or an end, itself or by its calls; the others are
+//! quiet.
 ghost use Rattle.std.specs.Prelude.{◌≡◌, ◌+◌, ◌<◌, ◌≤◌, ℕ, Bool, List, IfOk, length, slice_index};
 ghost use Rattle.block_order.specs.declared.control.Control.{Control};
 ghost use Rattle.wait_order.specs.Searchers.{is_searcher, behind_marks, AreNext, AreLater};
@@ -113,7 +115,7 @@ impl SearchersAhead {
     }
 
     /// The first block from a place on that searches and lies in another stretch than the target;
-    /// the place behind the last block where there is none.
+    /// the place after the last block if there is none.
     pub(crate) fn first_other(&self, stretches: &[usize], from: usize, target: usize) -> usize
         ensures { (loud : ℕ → Bool) (searches : Control → Bool) (bs : List ControlBlock)
             → AreAhead loud searches bs self.now → stretches.now ≡ stretches_from loud 0 bs

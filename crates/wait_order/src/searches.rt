@@ -1,5 +1,6 @@
 //! Which blocks of a tape search for any of several numbers: the computed GOTOs, and the calls of
-//! each long quiet program.
+//! each long quiet program. A loud program comes to a wait or an end, itself or by its calls; the
+//! others are quiet.
 ghost use Rattle.std.specs.Prelude.{◌≡◌, ◌↔◌, ◌+◌, ℕ, List, Some, IsTrue, IfOk, OnOk, slice_get};
 ghost use Rattle.wait_order.specs.Waiting.{IsShort};
 ghost use Rattle.wait_order.specs.Searches.{IsLongQuiet, AreSearches, AreSearchesBelow};

@@ -1,5 +1,6 @@
 //! The faults of waits: a jump that may pass a wait (65), and a chain of calls that is too deep for
-//! one (66). The other faults of the order are found in block_order.
+//! one (66). The other faults of the order are found in block_order. A loud program comes to a wait
+//! or an end, itself or by its calls; the others are quiet.
 ghost use Rattle.std.specs.Prelude.{◌≡◌, ◌<◌, IfOk, List};
 ghost use Rattle.block_order.specs.Labels.{Counts};
 ghost use Rattle.block_order.specs.Loud.{loud};

@@ -7,7 +7,7 @@ use Rattle.line_text.specs.declared.sign.Sign.{Sign}
 use Rattle.line_text.specs.Front.{is_number_sign, is_numbered, is_statement, sentence_of}
 use Rattle.line_text.proofs.line.numbered.Goals as goal
 
--- what stands behind the first sign
+-- what stands after the first sign
 behind_first : (sign : Sign) (signs others : List Sign) → others ≡ take (length (sign ∷ signs) - 1) signs → others ≡ signs
 behind_first sign signs others e =
     let n : length (sign ∷ signs) - 1 ≡ length signs = omega arith in

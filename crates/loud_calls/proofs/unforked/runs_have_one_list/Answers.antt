@@ -1,4 +1,4 @@
--- All runs of an order come to one list of labels: who calls the function has that of this order
+-- All runs of an order come to one list of labels: a caller of the function has that of this order
 -- (src/unforked.rt).
 use Rattle.loud_calls.proofs.unforked.runs_have_one_list.Goals as goal
 
