@@ -1,24 +1,24 @@
--- What a turret got in several calls, one after another.
--- turret_run takes these.
+-- What a turret got in several calls, one after another: the calls and what came in them add up.
+-- Serving.antt and turret_run take these.
 use Rattle.std.proofs.Common.{arith, ◌≡◌, ◌+◌, ℕ, zero, suc, List, [], ◌++◌, refl, ap, sym, ◌∙◌, append_assoc, Option, Some, None}
 use Rattle.std.proofs.lemmas.List.{append-nil}
 use Rattle.nc_outside.specs.declared.got.Got.{Got}
 use Rattle.nc_outside.specs.Faults.{next}
 use Rattle.nc_outside.specs.Received.{Received, Adds, counted_on}
 
--- so many calls, and then so many more
+-- n calls, and then m more, are n + m calls
 counted_both : (calls n m : ℕ) → counted_on (counted_on calls n) m ≡ counted_on calls (n + m)
 unfolding counted_on
 counted_both calls n zero = let e : n ≡ n + 0 = omega arith in ap (counted_on calls) e
 counted_both calls n (suc m) = let e : suc (n + m) ≡ n + suc m = omega arith in ap next (counted_both calls n m) ∙ ap (counted_on calls) e
 
--- nothing in no call
+-- in no call a turret got nothing
 pub adds_none : (a : Option Received) → Adds a a [] 0 0
 unfolding counted_on
 adds_none None = refl
 adds_none (Some was) = ap (λ l. Some (record { got = l; calls = was.calls; settles = was.settles })) (sym (append-nil was.got))
 
--- what came in the first calls, and then what came in the others
+-- what a turret got in some calls and then in others it got in all of them
 pub adds_both : (a b c : Option Received) (xs ys : List Got) (n m s t : ℕ) → Adds a b xs n s → Adds b c ys m t → Adds a c (xs ++ ys) (n + m) (s + t)
 adds_both None None c xs ys n m s t p q = q
 adds_both None (Some was) c xs ys n m s t p q = absurd (cc p)

@@ -1,5 +1,6 @@
--- The items of a line, one after the other: what the lists of them mean.
--- path_worker takes the lemmas on two lists of items.
+-- The items of a line, one after the other: their moves, marks and end, and what both ends of the
+-- line keep with one item more. The functions of line.rt, line_in.rt and line_out.rt (src) rest on
+-- it; path_worker takes the lemmas on two lists of items.
 use Rattle.std.proofs.Common.{arith, ◌≡◌, ◌≤◌, ◌+◌, ℕ, suc, Bool, List, true, false, true≢false, [], ◌∷◌, ◌++◌, length, take, refl, append_assoc, ap, sym, ◌∙◌, subst, All, Contains}
 use Rattle.std.proofs.lemmas.List.{append-nil, take-append-le, length-append}
 use Rattle.std.proofs.lemmas.List.Elements.{All-nil, All-cons, All-append, All-weaker, All-contains, Contains-append_left, Contains-append_right, Contains-push}
@@ -12,14 +13,14 @@ use Rattle.drive_line.specs.Line.{moves_among, has_end, EndIsLast, mark_counts, 
 pub push_behind : {X : Type 0} (first seen was now : List X) (x : X) → was ≡ first ++ seen → now ≡ was ++ x ∷ [] → now ≡ first ++ (seen ++ x ∷ [])
 push_behind first seen was now x e f = f ∙ ap (λ l. l ++ x ∷ []) e ∙ append_assoc first seen (x ∷ [])
 
--- the moves of two lists
+-- the moves of two lists, put together, are those of the first and then those of the second
 pub moves_of_both : (a b : List Item) → moves_among (a ++ b) ≡ moves_among a ++ moves_among b
 moves_of_both [] b = refl
 moves_of_both (Move what ∷ a) b = ap (λ l. what ∷ l) (moves_of_both a b)
 moves_of_both (Mark ∷ a) b = moves_of_both a b
 moves_of_both (End ∷ a) b = moves_of_both a b
 
--- the end is in the second list, if it is not in the first
+-- two lists have the end, put together, exactly if the second has it, where the first has not
 pub end_of_both : (a b : List Item) → has_end a ≡ false → has_end (a ++ b) ≡ has_end b
 end_of_both [] b open_ = refl
 end_of_both (Move what ∷ a) b open_ = end_of_both a b open_
@@ -46,7 +47,7 @@ one_is_last (Move what) = tt
 one_is_last Mark = tt
 one_is_last End = refl
 
--- one item more, where the end was not sent
+-- with one item more, where the end was not sent, the end is last still
 last_push : (a : List Item) (x : Item) → has_end a ≡ false → EndIsLast a → EndIsLast (a ++ x ∷ [])
 last_push [] x open_ is = one_is_last x
 last_push (Move what ∷ a) x open_ is = last_push a x open_ is
@@ -66,7 +67,7 @@ pub whole_of : (sent taken rest : List Item) → sent ≡ taken ++ rest → EndI
 whole_of sent taken rest e is ended =
     let none : rest ≡ [] = rest_is_none taken rest ended (subst EndIsLast e is) in sym (e ∙ ap (λ l. taken ++ l) none ∙ append-nil taken)
 
--- a move does not end the line,
+-- a move does not end the line
 pub open_move : (a b : List Item) (what : LinedMove) → b ≡ a ++ Move what ∷ [] → has_end a ≡ false → has_end b ≡ false
 open_move a b what e open_ = ap has_end e ∙ end_of_both a (Move what ∷ []) open_
 

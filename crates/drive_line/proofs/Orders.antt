@@ -1,5 +1,5 @@
--- Invariant of a wire: each step on its channel keeps the order.
--- For the proofs of src/wire.rt.
+-- Each step on the channel of a wire keeps its rule (`IsInOrder`): what was sent is what was taken,
+-- and then what the channel holds. For the proofs of src/wire.rt.
 use Rattle.std.proofs.Common.{◌≡◌, ◌≢◌, ℕ, zero, suc, true, false, true≢false, List, [], ◌∷◌, ◌++◌, length, set, sym, refl, ap, ◌∙◌, subst, ⊎_elim, append_assoc}
 use mathlib.Core.Option.{some, some-ne-none}
 use lib.ListN.{get_elem?}
@@ -28,7 +28,7 @@ module _ {T : Type 0} where
   at_end (x ∷ xs) a b zero n e = absurd (n e)
   at_end (x ∷ xs) a b (suc j) n e = ap suc (at_end xs a b j n e)
 
-  -- one log changes
+  -- what holds of each pass holds still after one log was changed to one of which it holds
   each_set : (F : ℕ → Log T → Type 0) (logs : List (Log T)) (pass : ℕ) (w : Log T) → F pass w
       → ((j : ℕ) (u : Log T) → j ≢ pass → get_elem? logs j ≡ some u → F j u) → Each F (set logs pass w)
   each_set F logs pass w mine others j u e =
@@ -50,7 +50,7 @@ module _ {T : Type 0} where
         takes = each_set (IsTaker 0 []) first 0 (log true true [] []) (λ _. (refl, refl)) (λ j u other e. absurd (none j u other e));
       }
 
-  -- an item is sent
+  -- sending an item keeps the rule
   pub sends : (n pass : ℕ) (v : Log T) (x : T) → v.sends ≡ true → Pushes IsInOrder n pass v x (λ w. w ≡ log v.sends v.takes (v.sent ++ x ∷ []) v.taken)
   sends n pass v x may held logs _ h at =
       let w : Log T = log v.sends v.takes (v.sent ++ x ∷ []) v.taken in
@@ -69,7 +69,7 @@ module _ {T : Type 0} where
         refl,
       )
 
-  -- an item is taken
+  -- taking an item keeps the rule
   pub takes : (pass : ℕ) (v : Log T) → v.takes ≡ true → Pops IsInOrder pass v (λ x w. w ≡ log v.sends v.takes v.sent (v.taken ++ x ∷ []))
   takes pass v may x held logs h at =
       let w : Log T = log v.sends v.takes v.sent (v.taken ++ x ∷ []) in
@@ -88,7 +88,7 @@ module _ {T : Type 0} where
         refl,
       )
 
-  -- a pass that sends and takes is cut into one that sends and one that takes
+  -- cutting a pass that sends and takes into one that sends and one that takes keeps the rule
   pub cuts : (pass : ℕ) (v : Log T) → v.sends ≡ true → v.takes ≡ true → Forks IsInOrder pass v (log true false v.sent []) (log false true [] v.taken)
   cuts pass v a b held logs h at =
       let left : Log T = log true false v.sent [] in
@@ -108,7 +108,7 @@ module _ {T : Type 0} where
             (λ (is : right ≡ u) p. (at_end now right u j (λ x. idle j u x p) e, ap (λ (y : Log T). y.taken) (sym is) ∙ (h.takes pass v at b).1)) (at_snoc now right u j e);
       }
 
-  -- the two are put together again
+  -- putting a pass that sends and one that takes together again keeps the rule
   pub joins : (pass : ℕ) (v : Log T) (other : ℕ) (u : Log T) → v.sends ≡ true → u.takes ≡ true
       → Merges IsInOrder pass v other u (log true true v.sent u.taken) (log false false [] [])
   joins pass v other u a b held logs h at apart at' =
@@ -131,6 +131,6 @@ module _ {T : Type 0} where
         takes = each_set (IsTaker pass h.taken) now other spent (λ p. absurd (true≢false (sym p))) (λ j y two e. taking j y e two);
       }
 
-  -- who sends and takes knows the whole
+  -- of a pass that sends and takes, what it sent is what it took, and then what the channel holds
   pub totals : (pass : ℕ) (v : Log T) → v.sends ≡ true → v.takes ≡ true → Learns IsInOrder pass v (λ held. v.sent ≡ v.taken ++ held)
   totals pass v a b held logs h at = (h.sends pass v at a).1 ∙ h.order ∙ ap (λ l. l ++ held) (sym (h.takes pass v at b).1)

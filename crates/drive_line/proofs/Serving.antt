@@ -1,5 +1,5 @@
--- A turret that served the moves so far serves those that come behind them.
--- An invariant of each call of a turret; path_worker takes the start.
+-- A turret that served the moves so far serves those that come behind them: what each call of a
+-- turret keeps. `hand` and `settle` (src/driven.rt) rest on it; path_worker takes `serves_none`.
 use Rattle.std.proofs.Common.{arith, ◌≡◌, ◌+◌, ◌≤◌, ℕ, true, false, true≢false, IsTrue, List, [], ◌∷◌, ◌++◌, length, map, take, refl, ap, sym, ◌∙◌, subst}
 use Rattle.std.proofs.lemmas.List.{append-nil, length-append, map-append, take_all, take-append-le}
 use Rattle.nc_outside.specs.declared.got.Got.{Got}
@@ -16,11 +16,11 @@ use Rattle.drive_line.proofs.Adding.{adds_none, adds_both}
 on_its_way : {n : ℕ} → Moving ≡ Still → 1 ≤ n
 on_its_way is = absurd (cc is)
 
--- one that failed does not stand still
+-- a turret that failed does not stand still
 broken : {n : ℕ} (phase : Phase) → has_failed phase ≡ true → phase ≡ Still → 1 ≤ n
 broken phase failed is = absurd (true≢false (sym failed ∙ ap has_failed is))
 
--- a call that did not fail behind others that did not
+-- after a call that did not fail, behind others that did not, the count of faults has not risen
 calm : (a b c : ℕ) → CountsFault a b (IsTrue false) → c ≡ b → CountsFault a c (IsTrue false)
 calm a b c before same =
     let later = before.later in
@@ -30,7 +30,7 @@ calm a b c before same =
       kept = λ none. same ∙ before.kept none;
     }
 
--- a call that failed behind others that did not
+-- after a call that failed, behind others that did not, the count of faults has risen
 failing : (a b c : ℕ) → CountsFault a b (IsTrue false) → b ≤ c → Rose b c → CountsFault a c (IsTrue true)
 failing a b c before more rose =
     let same = before.kept (λ p. true≢false (sym p)) in
@@ -40,7 +40,7 @@ failing a b c before more rose =
       kept = λ none. absurd (none refl);
     }
 
--- one that was handed nothing has served no moves
+-- a turret that was handed nothing has served no moves
 pub serves_none : (start : TurretState) → Serves [] start (fresh start)
 serves_none start = record {
   all = refl;
@@ -54,8 +54,9 @@ serves_none start = record {
   counted = record { later = omega arith; rose = λ p. absurd (true≢false (sym p)); kept = λ _. refl };
 }
 
+-- a turret that served these moves
 module _ (moves : List LinedMove) (start : TurretState) (d : DrivenState) (s : Serves moves start d) where
-  -- one that missed none took all
+  -- if it did not fail, it took all moves, and no call for a move failed
   took_all : has_failed d.phase ≡ false → (d.taken ≡ length moves) × (s.at_call ≡ 0)
   took_all calm =
       let all = s.all in
@@ -63,23 +64,27 @@ module _ (moves : List LinedMove) (start : TurretState) (d : DrivenState) (s : S
       let few = subst (λ b. s.at_call ≤ most b) calm s.few in
       (omega (arith, all, none), omega (arith, few))
 
+  -- what it got from the start to this state, in so many calls for moves and to settle
   abbrev Called : TurretState → List Got → ℕ → ℕ → Type 0
   Called now got calls settles = Adds start.received now.received got calls settles
 
-  -- a move more, of which it took so many
+  -- the moves with one more
   abbrev more : LinedMove → List LinedMove
   more what = moves ++ what ∷ []
 
+  -- with a move more, the moves that it took are the same first ones
   shorter : (what : LinedMove) → d.taken ≤ length moves → take d.taken (more what) ≡ take d.taken moves
   shorter what within = take-append-le d.taken moves (what ∷ []) within
 
+  -- it took no more moves than there are
   fits : d.taken ≤ length moves
   fits = let all = s.all in omega (arith, all)
 
+  -- with one more there is one move more
   longer : (what : LinedMove) → length (more what) ≡ length moves + 1
   longer what = length-append moves (what ∷ [])
 
-  -- it took one move more
+  -- if it takes one move more, it has served the moves with that one
   pub serves_taken : (what : LinedMove) (now : TurretState) (taken : ℕ) → has_failed d.phase ≡ false → taken ≡ d.taken + 1 → Receives d.state now (Moved what ∷ []) 1
       → now.faults ≡ d.state.faults → Serves (more what) start (record { state = now; taken = taken; missed = d.missed; phase = Moving })
   serves_taken what now taken calm_ one got same =
@@ -105,7 +110,7 @@ module _ (moves : List LinedMove) (start : TurretState) (d : DrivenState) (s : S
         counted = calm start.faults d.state.faults now.faults (subst (λ b. CountsFault start.faults d.state.faults (IsTrue b)) calm_ s.counted) same;
       }
 
-  -- it failed at a move
+  -- if it fails at a move, it has served the moves with that one, which it missed
   pub serves_failed : (what : LinedMove) (now : TurretState) (missed : ℕ) → has_failed d.phase ≡ false → missed ≡ d.missed + 1 → Receives d.state now [] 1
       → d.state.faults ≤ now.faults → Rose d.state.faults now.faults → Serves (more what) start (record { state = now; taken = d.taken; missed = missed; phase = Failed })
   serves_failed what now missed calm_ one got later rose =
@@ -127,7 +132,7 @@ module _ (moves : List LinedMove) (start : TurretState) (d : DrivenState) (s : S
         counted = failing start.faults d.state.faults now.faults (subst (λ b. CountsFault start.faults d.state.faults (IsTrue b)) calm_ s.counted) later rose;
       }
 
-  -- it had failed, and missed a move more
+  -- if it had failed, it misses a move more, and has served the moves with that one
   pub serves_missed : (what : LinedMove) (missed : ℕ) → has_failed d.phase ≡ true → missed ≡ d.missed + 1
       → Serves (more what) start (record { state = d.state; taken = d.taken; missed = missed; phase = d.phase })
   serves_missed what missed failed one =
@@ -146,7 +151,7 @@ module _ (moves : List LinedMove) (start : TurretState) (d : DrivenState) (s : S
         counted = s.counted;
       }
 
-  -- it stands still
+  -- if it settles, it stands still, and has served the same moves
   pub serves_still : (now : TurretState) → has_failed d.phase ≡ false → Settles d.state now → now.faults ≡ d.state.faults
       → Serves moves start (record { state = now; taken = d.taken; missed = d.missed; phase = Still })
   serves_still now calm_ got same =
@@ -168,7 +173,7 @@ module _ (moves : List LinedMove) (start : TurretState) (d : DrivenState) (s : S
         counted = calm start.faults d.state.faults now.faults (subst (λ b. CountsFault start.faults d.state.faults (IsTrue b)) calm_ s.counted) same;
       }
 
-  -- it failed at a settle
+  -- if it fails at a settle, it has served the same moves
   pub serves_unsettled : (now : TurretState) → has_failed d.phase ≡ false → Settles d.state now → d.state.faults ≤ now.faults → Rose d.state.faults now.faults
       → Serves moves start (record { state = now; taken = d.taken; missed = d.missed; phase = Failed })
   serves_unsettled now calm_ got later rose =
@@ -189,7 +194,7 @@ module _ (moves : List LinedMove) (start : TurretState) (d : DrivenState) (s : S
         counted = failing start.faults d.state.faults now.faults (subst (λ b. CountsFault start.faults d.state.faults (IsTrue b)) calm_ s.counted) later rose;
       }
 
--- the run was halted for it
+-- after the run was halted for a turret that failed, it has served the same moves
 pub serves_halted : (moves : List LinedMove) (start : TurretState) (d : DrivenState) → d.phase ≡ Failed → Serves moves start d → Serves moves start (record d { phase = Halted })
 serves_halted moves start d failed s = record {
   all = s.all;

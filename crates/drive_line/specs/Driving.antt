@@ -1,5 +1,5 @@
--- What the drive of a turret knows of it.
--- path_worker and turret_run cite this.
+-- What the drive of a turret knows of it: what it took and missed, and how it stands (`Driven`,
+-- src/driven.rt). path_worker and turret_run cite it.
 use Rattle.std.specs.Prelude.{◌≡◌, ◌⊎◌, ◌≤◌, ℕ, ◌+◌, Bool, true, false, IsTrue, List, length, map, take}
 use Rattle.nc_outside.specs.declared.got.Got.TheVariants.{Moved}
 use Rattle.nc_outside.specs.declared.lined_move.LinedMove.{LinedMove}
@@ -24,7 +24,7 @@ pub record DrivenState : Type 0 where
 abbrev pub fresh : TurretState → DrivenState
 fresh state = record { state = state; taken = 0; missed = 0; phase = Moving }
 
--- it failed, whether the run was halted for that or not
+-- the turret failed, whether the run was halted for that or not
 abbrev pub has_failed : Phase → Bool
 has_failed Moving = false
 has_failed Still = false
@@ -48,7 +48,7 @@ SettlesFrom Still old new = new ≡ old
 SettlesFrom Failed old new = new ≡ old
 SettlesFrom Halted old new = new ≡ old
 
--- at most one call more, where it failed
+-- how many calls for a move may have failed: one if the turret has failed, and else none
 abbrev pub most : Bool → ℕ
 most true = 1
 most false = 0
@@ -61,12 +61,13 @@ pub record Serves (moves : List LinedMove) (old : TurretState) (driven : DrivenS
   pub all : driven.taken + driven.missed ≡ length moves
   -- one that did not fail missed none
   pub none : has_failed driven.phase ≡ false → driven.missed ≡ 0
-  pub at_call : ℕ  -- how many calls failed
+  -- how many calls for a move failed
+  pub at_call : ℕ
   -- how many calls to settle there were
   pub settles : ℕ
-  -- one at most, and only if it failed
+  -- at most one such call failed, and only if the turret has failed
   pub few : at_call ≤ most (has_failed driven.phase)
-  -- the move of such a call was missed
+  -- the move of such a call was missed, so that it is among those
   pub within : at_call ≤ driven.missed
   -- one that stands still was told to settle
   pub settled : driven.phase ≡ Still → 1 ≤ settles

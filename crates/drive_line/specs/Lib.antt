@@ -1,5 +1,5 @@
--- What callers read.
+-- The words in which contracts speak of a drive line. Callers read Driving and Line.
 pub mod Driving
 pub mod Line
--- Words of the inside.
+-- Words for this crate alone.
 pub mod Wire

@@ -1,5 +1,5 @@
--- What the two ends of a drive line mean.
--- path_worker and turret_run cite this.
+-- What the two ends of a drive line mean: what was sent, taken and answered (src/line_in.rt,
+-- src/line_out.rt). path_worker and turret_run cite it.
 use Rattle.std.specs.Prelude.{◌≡◌, ◌≤◌, ℕ, ◌+◌, suc, Bool, true, false, MatchBool, List, [], ◌∷◌, ◌++◌, length, take, All, Contains, if◌then◌else◌}
 use Rattle.nc_outside.specs.declared.lined_move.LinedMove.{LinedMove}
 use Rattle.drive_line.specs.declared.item.Item.{Item}
@@ -15,14 +15,19 @@ pub record LineId : Type 0 where
 
 -- The end of the worker: the items that it sent, and the answers that it received.
 pub record Sending : Type 0 where
+  -- which line it is an end of
   pub line : LineId
+  -- the items that it sent
   pub items : List Item
+  -- the answers that it received: each is a number of moves
   pub received : List ℕ
 
 -- The end of the drive: the items that it took, and whether the last of them is a mark that was not
 -- answered yet. It answered each other mark among them, as `mark_counts` says.
 pub record Taking : Type 0 where
+  -- which line it is an end of
   pub line : LineId
+  -- the items that it took
   pub items : List Item
   -- the last item is a mark that is not answered yet
   pub asked : Bool
@@ -41,7 +46,7 @@ mark_counts n (Move what ∷ items) = mark_counts (suc n) items
 mark_counts n (Mark ∷ items) = n ∷ mark_counts n items
 mark_counts n (End ∷ items) = mark_counts n items
 
--- the end is among them
+-- the end of the line is among these items
 abbrev pub has_end : List Item → Bool
 has_end [] = false
 has_end (Move what ∷ items) = has_end items
@@ -71,13 +76,14 @@ pub record IsSending (n : ℕ) (items : List Item) (received : List ℕ) : Type 
   -- each mark has its answer
   pub answered : All (Contains received) (mark_counts 0 items)
 
--- the answer that is still to be given
+-- the answer that is still to be given: the number of moves, if one is owed
 abbrev pub owed : Bool → ℕ → List ℕ
 owed asked n = if asked then n ∷ [] else []
 
 -- What the end of the drive keeps, which counts n moves and knows whether it took the end and
 -- whether it owes an answer: it gave the others.
 pub record IsTaking (n : ℕ) (is_ended asked : Bool) (items : List Item) (given : List ℕ) : Type 0 where
+  -- n is the number of moves
   pub counted : n ≡ length (moves_among items)
   -- it knows whether it took the end
   pub ended : is_ended ≡ has_end items
@@ -86,9 +92,13 @@ pub record IsTaking (n : ℕ) (is_ended asked : Bool) (items : List Item) (given
 
 -- A drain behind so many moves: it sent a mark, and received answers up to one with that number.
 pub record IsDrained (old new : Sending) (n : ℕ) : Type 0 where
+  -- it is an end of the same line
   pub line : new.line ≡ old.line
+  -- it sent a mark
   pub items : new.items ≡ old.items ++ Mark ∷ []
+  -- n is the number of moves that were sent before
   pub count : n ≡ length (moves_among old.items)
+  -- the last answer that it received is that number
   pub received : (others : List ℕ) × (new.received ≡ old.received ++ (others ++ n ∷ []))
 
 -- one `take` gives the next item; behind the end it gives the end once more

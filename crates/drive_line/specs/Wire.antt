@@ -1,5 +1,5 @@
 -- What goes through a wire: first in, first out, from one end to one other.
--- For this crate alone: the rule of its channel.
+-- For this crate alone: the rule of the channel of src/wire.rt.
 use Rattle.std.specs.Prelude.{◌≡◌, ℕ, Bool, true, List, ◌++◌}
 use mathlib.Core.Option.{some}
 use lib.ListN.{get_elem?}
@@ -17,8 +17,10 @@ log sends takes sent taken = record { sends = sends; takes = takes; sent = sent;
 -- alone may send, and has the list of what was sent; one alone may take, and has the list of what
 -- was taken.
 pub record IsInOrder {T : Type 0} (held : List T) (logs : List (Log T)) : Type 0 where
-  pub sender : ℕ  -- the pass that may send
-  pub taker : ℕ  -- the pass that may take
+  -- the pass that may send
+  pub sender : ℕ
+  -- the pass that may take
+  pub taker : ℕ
   -- all that was sent
   pub sent : List T
   -- all that was taken
@@ -34,8 +36,9 @@ pub record IsInOrder {T : Type 0} (held : List T) (logs : List (Log T)) : Type 0
 pub record WireId (T : Type 0) : Type 0 where
   -- how many items it holds at most
   pub bound : ℕ
-  -- these two name the channel
+  -- the table of the channel's passes; with the key it names the channel
   pub table : TableId
+  -- the key of the channel in that table
   pub key : Badge (Key T)
 
 -- What an end of a wire means: which wire it is, and what went through this end.

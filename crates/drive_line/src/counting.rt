@@ -1,5 +1,5 @@
-//! Counts that never wrap.
-//! For the counts of both ends and of a turret.
+//! Counts of moves that never wrap: past 2^64 - 1 a call does not return.
+//! For line_in.rt, line_out.rt and driven.rt of this crate.
 ghost use Rattle.std.specs.Prelude.{◌≡◌, ◌+◌};
 
 use std::sync::Wait;

@@ -1,5 +1,5 @@
-//! A turret as its drive has it.
-//! path_worker has one of each turret.
+//! A turret as its drive has it: it is handed moves, told to settle, and called no more once it has
+//! failed. path_worker drives one for each path; turret_run makes them and asks how they stand.
 ghost use Rattle.std.specs.Prelude.{◌≡◌, ◌⊎◌, ◌+◌, ◌++◌, ◌∷◌, [], true, false, List};
 ghost use Rattle.nc_outside.specs.Calls.{IsCalled};
 ghost use Rattle.nc_outside.specs.declared.halt.Halt.TheVariants.{Turret as OfTurret};
@@ -16,17 +16,17 @@ use nc_outside::{Halt, LinedMove, Stepper, Turret};
 use std::marker::Model;
 use std::sync::Wait;
 
-/// A turret, how many moves it took and how many it missed since it failed, and how it stands. It
-/// means these, with the turret's state. A turret that failed is called no more.
+/// A turret, how many moves it took and how many it missed since it failed, and how it stands.
+/// Clauses see these, with the turret's state. A turret that failed is called no more.
 #[derive(Drop)]
 pub struct Driven<T: Turret> {
     /// The turret itself.
     turret: T,
-    /// How many moves it took.
+    /// How many moves the turret took.
     taken: u64,
-    /// How many it missed since it failed.
+    /// How many moves the turret missed since it failed.
     missed: u64,
-    /// How it stands.
+    /// How the turret stands.
     phase: Phase,
 }
 
@@ -44,7 +44,7 @@ impl<T: Turret> Model for Driven<T> {
 }
 
 impl<T: Turret> Driven<T> {
-    /// A turret that was handed nothing. Where it was placed it may be on its way.
+    /// A turret that was handed nothing yet. It may be on its way still to where it was placed.
     pub fn new(turret: T) -> Driven<T>
         ensures { result ≡ fresh (T.state turret) }
     {
@@ -56,28 +56,28 @@ impl<T: Turret> Driven<T> {
         }
     }
 
-    /// The turret.
+    /// Gives the turret itself back.
     pub fn into_turret(self) -> T
         ensures { T.state result ≡ self.state }
     {
         self.turret
     }
 
-    /// How many moves it missed since it failed.
+    /// How many moves the turret missed since it failed.
     pub fn missed(&self) -> u64
         ensures { result ≡ self.now.missed }
     {
         self.missed
     }
 
-    /// How it stands.
+    /// How the turret stands.
     pub fn phase(&self) -> Phase
         ensures { result ≡ self.now.phase }
     {
         self.phase
     }
 
-    /// Whether it failed.
+    /// Whether the turret failed.
     pub fn has_failed(&self) -> bool
         ensures { result ≡ has_failed self.now.phase }
     {
@@ -89,8 +89,9 @@ impl<T: Turret> Driven<T> {
         }
     }
 
-    /// Hands it a move in one call. Where it failed before, the move is missed, and so is the one
-    /// at which it fails. Past 2^64 - 1 moves it does not return.
+    /// Hands a move to the turret in one call. If it failed before, it is not called, and misses
+    /// the move; a move at which it fails is missed too. Past 2^64 - 1 moves the call does not
+    /// return.
     pub fn hand<R: Wait>(&mut self, rt: &R, what: &LinedMove)
         ensures serves { (moves : List Lined) (start : TurretState)
             → Serves moves start self.old → Serves (moves ++ what.now ∷ []) start self.new }
@@ -114,7 +115,7 @@ impl<T: Turret> Driven<T> {
         }
     }
 
-    /// Waits until it stands still. Where it does already, or failed before, nothing is done.
+    /// Waits until the turret stands still. If it does already, or failed before, nothing is done.
     pub fn settle(&mut self)
         ensures serves { (moves : List Lined) (start : TurretState)
             → Serves moves start self.old → Serves moves start self.new }

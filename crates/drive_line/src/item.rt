@@ -1,5 +1,5 @@
-//! What goes along a line, from the worker to the drive.
-//! path_worker looks at what it takes.
+//! What goes along a drive line, from the worker of a path to the drive of its turret.
+//! The drive of path_worker does one thing for each kind of item.
 use nc_outside::LinedMove;
 
 /// What the worker of a path sends to the drive of its turret.
@@ -10,6 +10,6 @@ pub enum Item {
     /// The drive is to answer how many moves it has taken, once its turret stands still behind
     /// them.
     Mark,
-    /// Nothing comes behind it.
+    /// The end of what is sent: nothing comes behind it.
     End,
 }

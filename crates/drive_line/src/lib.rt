@@ -6,8 +6,9 @@
 //! (`Driven`): that stands still behind every move that was taken, or it failed and the run was
 //! halted. Each end means what went through it. `close_line` puts both ends together: what was
 //! taken is a beginning of what was sent, in order, each once, all of it where the end was taken,
-//! and every move that was sent before a drain that returned was taken. A call that waits sleeps;
-//! each promises what it says if it returns.
+//! and every move that was sent before a drain that returned was taken. path_worker leans on that,
+//! and turret_run makes a line for each path. A call that waits sleeps; each promises what it says
+//! if it returns.
 #![tactic(auto)]
 
 mod counting;

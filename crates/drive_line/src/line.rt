@@ -1,5 +1,5 @@
-//! A line, made and put together again.
-//! turret_run makes one for each path, and closes it behind the run.
+//! A drive line, made and put together again: `Line::new` gives its two ends, `close_line` tells
+//! what came through. turret_run makes one for each path; path_worker closes it behind the run.
 ghost use Rattle.std.specs.Prelude.{◌≡◌, ◌<◌, ℕ, List, false, [], ◌++◌, All, IfOk, IsTrue};
 ghost use Rattle.nc_outside.specs.declared.lined_move.LinedMove.{LinedMove};
 ghost use Rattle.drive_line.specs.declared.item.Item.{Item as Sent};

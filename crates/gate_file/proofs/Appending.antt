@@ -1,5 +1,5 @@
--- An append, call by call.
--- `add_staged` (src/gate.rt) rests on it.
+-- The four calls of the disk in an append to a file of gates (write, sync, open the gate, sync),
+-- and what the disk may have after each. `add_staged` (src/gate.rt) rests on it.
 use Rattle.std.proofs.Common.{inl, ℕ, ◌+◌, List, [], ◌∷◌, ◌++◌, length, Some, ◌∙◌, ap, subst}
 use Rattle.disk_model.specs.Device.{DiskState, Torn, Tears, Looks, Reads, Only, written_over}
 use Rattle.disk_model.specs.Moments.{LeavesOnly}
@@ -20,12 +20,12 @@ module _ (bodies more : List (List ℕ)) (staged : List ℕ) (end : ℕ) (first 
       begun (IsBeforeOrAfter bodies more) (Torn (end + 1) (length staged)) first wrote tears.time
       (λ b c image torn. inl (torn_behind bodies end staged keeps.bytes keeps.behind keeps.opens keeps.place (length staged) c (subst (λ (f : List ℕ). Torn (end + 1) (length staged) f c) (keeps.only b image) torn)))
 
-  -- and so it is on the disk after the sync
+  -- after the first write and its sync the file has the staged entries after a shut gate
   pub reads_2 : (wrote synced : DiskState) → ((old : List ℕ) → Reads first old → Reads wrote (written_over old (end + 1) staged)) → Looks wrote synced → Reads synced (gated 0)
   reads_2 wrote synced written looks =
       looks.same ∙ written keeps.bytes keeps.reads ∙ ap (λ (l : List ℕ). Some l) (written_behind bodies end staged keeps.bytes keeps.behind keeps.opens keeps.place)
 
-  -- the second leaves them with the staged ones or without
+  -- the second write, that of the open gate, leaves the bodies with the staged ones or without
   pub moment_3 : (synced wrote : DiskState) → Reads synced (gated 0) → ((b : List ℕ) → Reads synced b → Only b synced.image) → LeavesOnly (IsBeforeOrAfter bodies more) first synced → Tears end 1 synced wrote → LeavesOnly (IsBeforeOrAfter bodies more) first wrote
   moment_3 synced wrote reads durable so_far tears =
       goes_on (IsBeforeOrAfter bodies more) (Torn end 1) first synced wrote so_far tears.time

@@ -1,5 +1,6 @@
--- How a file is begun.
--- The functions of src/body_list.rt and src/create.rt rest on it.
+-- How a file of gates is begun on a disk: its first gate, what a crash may leave meanwhile, and how
+-- many calls that takes. The functions of src/create.rt and `BodyList::staged` (src/body_list.rt)
+-- rest on it.
 use Rattle.std.proofs.Common.{◌≡◌, inl, inr, ℕ, ◌+◌, ◌-◌, ◌≤◌, ◌<◌, min, List, [], ◌∷◌, ◌++◌, length, take, drop, get_or, ◌∙◌, ap, subst, arith}
 use Rattle.std.proofs.lemmas.List.{drop_all}
 use Rattle.disk_model.specs.Device.{DiskState, Reads, Only, written_over}
@@ -32,24 +33,25 @@ pub not_there : (first : FirstGate) (bytes : List ℕ) → StandsFirst first byt
 not_there Missing bytes short there = absurd (omega (arith, there.0))
 not_there Shut bytes shut there = there.1 shut
 
--- the images of a beginning: those of its first part, and those of its append
+-- while a file is begun, an image may be one from before
 from_old : (image : List ℕ → Type 0) (bodies : List (List ℕ)) (c : List ℕ) → image c → IsBeginning image bodies c
 from_old image bodies c old = inl old
 
--- while a file is begun, it may have no run
+-- while a file is begun, an image may stand for no run
 from_none : (image : List ℕ → Type 0) (bodies : List (List ℕ)) (c : List ℕ) → IsNoRun c → IsBeginning image bodies c
 from_none image bodies c none = inr (inl none)
 
--- while a file is begun, it may have none of the first bodies, or all
+-- while a file is begun, an image may spell none of the first bodies, or all of them
 from_append : (image : List ℕ → Type 0) (bodies : List (List ℕ)) (c : List ℕ) → IsBeforeOrAfter [] bodies c → IsBeginning image bodies c
 from_append image bodies c (inl (rest, same, (behind, shut))) = inr (inl (inr (behind, same ∙ shut)))
 from_append image bodies c (inr spelled) = inr (inr spelled)
 
--- a beginning, as far as its gate is shut, and with its append
+-- a crash before the first gate is shut and synced leaves an image from before, or no run
 pub moments_shut : (bodies : List (List ℕ)) (a b c : DiskState) → Unwritten a b → LeavesOnly IsNoRun b c → LeavesOnly (IsBeginning a.image bodies) a c
 moments_shut bodies a b c first second = joined a.image IsNoRun (IsBeginning a.image bodies) a b c first.moments second (from_old a.image bodies) (from_none a.image bodies)
 
--- of two calls in a row, each of which leaves only that, so do both together
+-- if what is left while the first bodies are appended is none or all of them, then a crash in the
+-- whole beginning leaves an image from before, no run, or all the bodies
 pub moments_added : (bodies : List (List ℕ)) (a b c : DiskState) → LeavesOnly (IsBeginning a.image bodies) a b → LeavesOnly (IsBeforeOrAfter [] bodies) b c → LeavesOnly (IsBeginning a.image bodies) a c
 moments_added bodies a b c so_far added = joined (IsBeginning a.image bodies) (IsBeforeOrAfter [] bodies) (IsBeginning a.image bodies) a b c so_far added (λ x begun. begun) (from_append a.image bodies)
 
@@ -70,7 +72,7 @@ begun_used bodies staged a b c d is looked shut added =
     let all = uses_add 5 4 1 (0 + 1 + length staged) a c d (uses_add 3 2 0 1 a b c looked shut) added in
     uses_widened 9 12 _ (ends_at bodies + 1) a d all (omega arith) (omega (arith, staged_length bodies staged is))
 
--- what is written before the first gate opens is few calls, and not far
+-- looking at the first gate and shutting it takes no more than a beginning may use
 pub shut_used : (bodies : List (List ℕ)) (a b c : DiskState) → Uses 3 0 a b → Uses 2 1 b c → Uses 12 (ends_at bodies + 1) a c
 shut_used bodies a b c looked shut = uses_widened 5 12 1 (ends_at bodies + 1) a c (uses_add 3 2 0 1 a b c looked shut) (omega arith) (omega arith)
 

@@ -1,5 +1,5 @@
--- Bodies in one list of bytes: how many there are, each of them, and one more.
--- The functions of src/body_list.rt rest on it.
+-- Bodies in one list of bytes, each after a gate and its length: how many there are, where each of
+-- them lies, and what one more makes of the list. The functions of src/body_list.rt rest on it.
 use Rattle.std.proofs.Common.{◌≡◌, ℕ, ◌+◌, ◌-◌, ◌^◌, ◌≤◌, ◌<◌, List, [], ◌∷◌, ◌++◌, length, get_or, take, drop, refl, sym, ◌∙◌, ap, subst, arith, zero, suc, append_assoc, length-append, length-drop, length-take, length-take-le, take-append-drop}
 use Rattle.std.proofs.lemmas.List.{append-nil, take-append-le, drop-append-le, take_all, drop_at}
 use Rattle.std.specs.Int.{w32, to_be_bytes}
@@ -49,7 +49,7 @@ body_ends start (end ∷ ends) bytes zero are below =
     omega (arith, length_between start end bytes are.0 within, within)
 body_ends start (end ∷ ends) bytes (suc i) are below = body_ends end ends bytes i are.1 (omega (arith, below))
 
--- one more end, five bytes after the last or later, is in order too
+-- ends in order stay in order if one more is put after them, five bytes after the last or later
 pub ends_more : (start : ℕ) (ends : List ℕ) (len more : ℕ) → AreEnds start ends len → len + 5 ≤ more → AreEnds start (ends ++ more ∷ []) more
 ends_more start [] len more are later = (omega (arith, are, later), refl)
 ends_more start (end ∷ ends) len more are later = (are.0, ends_more end ends len more are.1 later)

@@ -1,5 +1,6 @@
--- Files of gates, cut at the end of their entries.
--- `push` (src/body_list.rt) and `read_on` (src/open.rt) rest on it.
+-- Files of gates, cut at the end of their entries: what stands before and after. Bodies, Staged,
+-- Unique and Windows of this folder, `push` (src/body_list.rt) and `read_on` (src/open.rt) rest on
+-- it.
 use Rattle.std.proofs.Common.{◌≡◌, ◌≢◌, inl, inr, ℕ, ◌+◌, ◌<◌, List, [], ◌∷◌, ◌++◌, length, take, drop, get_or, refl, sym, ◌∙◌, ap, subst, arith, append_assoc, length-append}
 use Rattle.std.proofs.lemmas.Bool.{cases_eq}
 use Rattle.std.proofs.lemmas.List.{append-nil, take_at}
@@ -12,8 +13,11 @@ length-entry body = omega (arith, length-append (to_be_bytes w32 (length body)) 
 
 -- The entries are the front of the file, whatever stands after them.
 pub record Front (bodies : List (List ℕ)) (file rest : List ℕ) : Type 0 where
+  -- the bytes of the entries
   pub front : List ℕ
+  -- the file is these bytes, and then the rest
   pub split : file ≡ front ++ rest
+  -- whatever stands after these bytes, the bodies are opened
   pub anew : (other : List ℕ) → Opens bodies (front ++ other) other
 
 -- the bytes before the rest are known: they are the entries of the bodies
@@ -29,12 +33,12 @@ front_of (body ∷ bodies) file rest (after, is, opens) =
       anew = λ other. (more.front ++ other, record { gate = is.gate; is_open = is.is_open; short = is.short; bytes = append_assoc begin more.front other }, more.anew other);
     }
 
--- one entry more
+-- a file that opens bodies and goes on with an entry opens the bodies with one more
 pub opens_push : (bodies : List (List ℕ)) (file rest after body : List ℕ) → Opens bodies file rest → IsEntry body rest after → Opens (bodies ++ body ∷ []) file after
 opens_push [] file rest after body same is = (after, record { gate = is.gate; is_open = is.is_open; short = is.short; bytes = same ∙ is.bytes }, refl)
 opens_push (first ∷ bodies) file rest after body (next, here, opens) is = (next, here, opens_push bodies next rest after body opens is)
 
--- more entries
+-- a file that opens bodies and goes on with others opens all of them
 pub opens_append : (bodies more : List (List ℕ)) (file rest after : List ℕ) → Opens bodies file rest → Opens more rest after → Opens (bodies ++ more) file after
 opens_append [] more file rest after same opens = subst (λ (l : List ℕ). Opens more l after) (sym same) opens
 opens_append (body ∷ bodies) more file rest after (next, is, here) opens = (next, is, opens_append bodies more next rest after here opens)
@@ -53,7 +57,7 @@ pub opens_before : (bodies : List (List ℕ)) (file rest behind : List ℕ) → 
 opens_before [] file rest behind same = ap (λ (l : List ℕ). l ++ behind) same
 opens_before (body ∷ bodies) file rest behind (next, is, opens) = (next ++ behind, entry_before body file next behind is, opens_before bodies next rest behind opens)
 
--- what is left if nothing stands after the entries
+-- bytes that open bodies up to a rest open them up to nothing if that rest is taken away
 pub opens_alone : (bodies : List (List ℕ)) (file rest : List ℕ) → Opens bodies (file ++ rest) rest → Opens bodies file []
 opens_alone bodies file rest opens =
     let cut = front_of bodies (file ++ rest) rest opens in
@@ -61,13 +65,13 @@ opens_alone bodies file rest opens =
     let same : cut.front ≡ file = sym (take_at cut.front rest (length file) size) ∙ ap (take (length file)) (sym cut.split) ∙ take_at file rest (length file) refl in
     subst (λ (l : List ℕ). Opens bodies l []) (append-nil cut.front ∙ same) (cut.anew [])
 
--- the first gate may be any that is open
+-- a file opens its bodies whatever byte its first gate has, if that is open
 pub opens_anew : (bodies : List (List ℕ)) (gate other : ℕ) (file rest : List ℕ) → 0 < length bodies → other ≢ 0 → Opens bodies (gate ∷ file) rest → Opens bodies (other ∷ file) rest
 opens_anew [] gate other file rest some is_open opens = absurd (omega (arith, some))
 opens_anew (body ∷ bodies) gate other file rest some is_open (next, is, opens) =
     (next, record { gate = other; is_open = is_open; short = is.short; bytes = ap (λ (l : List ℕ). other ∷ drop 1 l) is.bytes }, opens)
 
--- some bodies are staged
+-- staged bytes stand for at least one body
 pub staged_some : (bodies : List (List ℕ)) (staged : List ℕ) → IsStaged bodies staged → 0 < length bodies
 staged_some [] staged is = absurd (omega (arith, ap (λ (l : List ℕ). get_or l 0 0) is))
 staged_some (body ∷ bodies) staged is = omega arith

@@ -1,4 +1,4 @@
--- What the first five bytes at a gate say of what stands there.
+-- What the first five bytes at a gate (the gate and the length) say of the entry that stands there.
 -- `read_entry` (src/open.rt) rests on it.
 use Rattle.std.proofs.Common.{◌≡◌, ◌≢◌, inl, inr, ℕ, ◌+◌, ◌^◌, ◌≤◌, ◌<◌, List, [], ◌∷◌, ◌++◌, length, take, drop, refl, sym, ◌∙◌, ap, arith, append_assoc, take-append-drop}
 use Rattle.std.proofs.lemmas.List.{take_at, drop-drop, length-take}

@@ -1,5 +1,5 @@
--- Many appends, one after another.
--- `appends_leave_prefixes` (src/laws.rt) rests on it.
+-- Many appends to a file of gates, one after another: a crash leaves the bodies of the first of
+-- them, all acknowledged ones among these. `appends_leave_prefixes` (src/laws.rt) rests on it.
 use Rattle.std.proofs.Common.{◌≡◌, inl, inr, ⊎_elim, ℕ, zero, suc, ◌+◌, ◌≤◌, ◌<◌, List, [], ◌∷◌, ◌++◌, sym, subst, arith}
 use Rattle.std.proofs.lemmas.Bool.{cases_eq}
 use Rattle.disk_model.specs.Device.{DiskState}
@@ -13,7 +13,7 @@ module _ {D : Type 0} (state : D → DiskState) (disk : ℕ → D) (end : ℕ �
     (start : Keeps first (state (disk 0)) (end 0))
     (acknowledged : (k : ℕ) → k < count → (bodies : List (List ℕ)) → Keeps bodies (state (disk k)) (end k) → Keeps (bodies ++ body k ∷ []) (state (disk (k + 1))) (end (k + 1)))
     (moments : (k : ℕ) → k ≤ count → (bodies : List (List ℕ)) → Keeps bodies (state (disk k)) (end k) → LeavesOnly (IsBeforeOrAfter bodies (body k ∷ [])) (state (disk k)) (state (disk (k + 1)))) where
-  -- after k appends the disk keeps their bodies
+  -- after k appends the disk keeps the first bodies and those of the appends
   keeps_at : (k : ℕ) → k ≤ count → Keeps (after first body k) (state (disk k)) (end k)
   keeps_at zero le = start
   keeps_at (suc k) le =
@@ -30,12 +30,12 @@ module _ {D : Type 0} (state : D → DiskState) (disk : ℕ → D) (end : ℕ �
   clock_at : ℕ → ℕ
   clock_at k = (state (disk k)).clock
 
-  -- time goes on
+  -- an append does not begin before the one before it
   later : (k : ℕ) → k ≤ count → clock_at k ≤ clock_at (suc k)
   unfolding clock_at
   later k le = (step k le).later
 
-  -- over any number of appends
+  -- an append does not begin before any earlier one
   clock_le : (j n : ℕ) → j ≤ n → n ≤ count → clock_at j ≤ clock_at n
   clock_le j zero jn le = let e : j ≡ 0 = omega arith in subst (λ (i : ℕ). clock_at i ≤ clock_at 0) (sym e) (omega arith)
   clock_le j (suc n) jn le = elim (cases_eq j (suc n)) [
@@ -43,7 +43,7 @@ module _ {D : Type 0} (state : D → DiskState) (disk : ℕ → D) (end : ℕ �
     | inr less ↦ let before = clock_le j n (omega arith) (omega arith) in omega (arith, before, later n (omega arith))
   ]
 
-  -- the file spells the bodies of m appends, with m at least j
+  -- the file spells the first bodies and those of m appends, with m at least j and at most n + 1
   Prefix : ℕ → ℕ → List ℕ → Type 0
   Prefix j n c = (m : ℕ) × (j ≤ m) × (m ≤ suc n) × Spells (after first body m) c
 
@@ -53,12 +53,12 @@ module _ {D : Type 0} (state : D → DiskState) (disk : ℕ → D) (end : ℕ �
   spelled j n c jn (inl same) = (n, jn, omega arith, same)
   spelled j n c jn (inr more) = (suc n, omega arith, omega arith, more)
 
-  -- a prefix of fewer appends is one of more
+  -- what spells the bodies of at most n + 1 appends spells those of at most n + 2
   longer : (j n : ℕ) (c : List ℕ) → Prefix j n c → Prefix j (suc n) c
   unfolding Prefix
   longer j n c (m, least, most, spells) = (m, least, omega (arith, most), spells)
 
-  -- so is what a crash since the j-th append leaves
+  -- what a crash leaves since the j-th append began is such a prefix
   since_then : (n : ℕ) → n ≤ count → (j : ℕ) → j ≤ n → (c : List ℕ) → (state (disk (suc n))).image_since (clock_at j) c → Prefix j n c
   unfolding clock_at
   since_then zero le j jn c since =
@@ -70,7 +70,7 @@ module _ {D : Type 0} (state : D → DiskState) (disk : ℕ → D) (end : ℕ �
         ((step (suc n) le).before (clock_at j) c (clock_le j (suc n) jn le) since)
   ]
 
-  -- a stop at any moment since then leaves the bodies of the first m appends
+  -- a crash at any moment since the j-th append began leaves the bodies of the first m appends
   pub prefixes : (j : ℕ) → j ≤ count → (c : List ℕ) → (state (disk (count + 1))).image_since (state (disk j)).clock c → (m : ℕ) × (j ≤ m) × (m ≤ count + 1) × Spells (after first body m) c
   unfolding Prefix clock_at
   prefixes j jn c since =

@@ -1,5 +1,5 @@
--- What a crash leaves in each of the two steps of an append.
--- Appending rests on it.
+-- What a crash leaves of a file of gates in each of the two writes of an append: that of the staged
+-- entries, and that of the open gate. Appending.antt rests on it.
 use Rattle.std.proofs.Common.{◌≡◌, inl, inr, ℕ, ◌+◌, ◌-◌, ◌≤◌, ◌<◌, List, [], ◌∷◌, ◌++◌, length, take, drop, replicate, get_or, refl, sym, ◌∙◌, ap, subst, arith, append_assoc, length-append, length-drop, take-append-drop}
 use Rattle.std.proofs.lemmas.List.{take_at, drop_at, drop-drop, take-append-le, drop_more, length-take, get_or-take, get_or-drop}
 use Rattle.std.proofs.lemmas.Grind.{same_number_lists}
@@ -16,7 +16,7 @@ module _ (at n : ℕ) (old new : List ℕ) (torn : Torn at n old new) where
       same_number_lists (take at new) (take at old) size
       (λ i below. let ahead : i < at = omega (arith, length-take at new) in get_or-take at new i 0 ahead ∙ torn.outside i (omega arith) (inl ahead) ∙ sym (get_or-take at old i 0 ahead))
 
-  -- nor what lies after it
+  -- a write that was cut off does not change what lies after it
   pub torn_back : at + n ≤ length old → drop (at + n) new ≡ drop (at + n) old
   torn_back within =
       let size : length (drop (at + n) new) ≡ length (drop (at + n) old) = omega (arith, length-drop (at + n) new, length-drop (at + n) old, torn.no_shorter, torn.no_longer) in
@@ -33,21 +33,21 @@ module _ (bodies : List (List ℕ)) (end : ℕ) (staged bytes behind : List ℕ)
   cut : Front bodies bytes (0 ∷ behind)
   cut = front_of bodies bytes (0 ∷ behind) opens
 
-  -- these bytes
+  -- the bytes before the shut gate
   front : List ℕ
   front = cut.front
 
-  -- the shut gate stands at their length
+  -- as many bytes stand before the shut gate as its offset says
   size : length front ≡ end
   unfolding front
   size = omega (arith, place, ap length cut.split, length-append cut.front (0 ∷ behind))
 
-  -- the file is these bytes, the shut gate, and what follows
+  -- the file is the bytes before the shut gate, that gate, and what follows
   split : bytes ≡ front ++ 0 ∷ behind
   unfolding front
   split = cut.split
 
-  -- whatever follows these bytes, the bodies are opened
+  -- whatever follows the bytes before the shut gate, the bodies are opened
   anew : (other : List ℕ) → Opens bodies (front ++ other) other
   unfolding front
   anew = cut.anew
@@ -80,7 +80,7 @@ module _ (bodies : List (List ℕ)) (end : ℕ) (staged bytes behind : List ℕ)
   pub with_gate : ℕ → List ℕ
   with_gate gate = front ++ gate ∷ (staged ++ beyond)
 
-  -- how long it is
+  -- how long the file with the staged bytes is
   length-with_gate : (gate : ℕ) → length (with_gate gate) ≡ end + 1 + length staged + length beyond
   unfolding with_gate
   length-with_gate gate = omega (arith, size, length-append front (gate ∷ (staged ++ beyond)), length-append staged beyond)
@@ -120,7 +120,7 @@ module _ (bodies : List (List ℕ)) (end : ℕ) (staged bytes behind : List ℕ)
       let whole : c ≡ front ++ gate ∷ (staged ++ beyond) = sym (take-append-drop end c) ∙ ap (λ (l : List ℕ). l ++ drop end c) begins ∙ ap (λ (l : List ℕ). front ++ l) rest in
       either_gate bodies more c front staged beyond gate anew is whole
 
-  -- its parts with an open gate
+  -- the bytes before, an open gate, the staged bytes and what follows are the file with that gate
   joined : front ++ (1 ∷ []) ++ (staged ++ beyond) ≡ with_gate 1
   unfolding with_gate
   joined = append_assoc front (1 ∷ []) (staged ++ beyond)
@@ -133,7 +133,7 @@ module _ (bodies : List (List ℕ)) (end : ℕ) (staged bytes behind : List ℕ)
       ∙ ap (λ (l : List ℕ). front ++ (1 ∷ []) ++ l) (gate_back 0)
       ∙ joined
 
-  -- and then the file has their bodies, with a shut gate after
+  -- once the gate is open, the file opens the staged bodies too, and a shut gate stands after them
   pub opened : (more : List (List ℕ)) → IsStaged more staged → Opens (bodies ++ more) (with_gate 1) (0 ∷ beyond)
   unfolding with_gate
   opened more is =

@@ -1,4 +1,4 @@
--- How entries are taken from a window of a file.
+-- How whole entries are taken from a window of a file of gates, the bytes of one read.
 -- `mark_entries` (src/body_list.rt) and `head_of` and `read_on` (src/open.rt) rest on it.
 use Rattle.std.proofs.Common.{◌≡◌, ℕ, ◌+◌, ◌-◌, ◌≤◌, ◌<◌, min, List, [], ◌∷◌, ◌++◌, length, take, drop, inl, inr, sym, ◌∙◌, ap, subst, arith, append_assoc, length-append, length-drop, take-append-drop}
 use Rattle.std.proofs.Math.Seq.{take-add}
@@ -44,7 +44,7 @@ module _ (seen rest behind body ends : List ℕ) (start : ℕ) (is : IsEntry bod
   abbrev pub frame : List ℕ
   frame = is.gate ∷ to_be_bytes w32 (length body)
 
-  -- so many they are
+  -- the gate and the length take five bytes
   five : length frame ≡ 5
   five = omega (arith, length-entry body, length-append (to_be_bytes w32 (length body)) body)
 
@@ -52,7 +52,7 @@ module _ (seen rest behind body ends : List ℕ) (start : ℕ) (is : IsEntry bod
   abbrev pub done : ℕ
   done = length seen - length rest
 
-  -- the entry stands after those
+  -- the entry stands after the bytes that were taken before
   here : take (5 + length body) (drop done seen) ≡ frame ++ body
   here = ap (take (5 + length body)) (sym place ∙ is.bytes) ∙ take_at (frame ++ body) behind (5 + length body) (omega (arith, five, length-append frame body))
 
@@ -78,18 +78,21 @@ module _ (seen rest behind body ends : List ℕ) (start : ℕ) (is : IsEntry bod
 
 -- A file from an offset on begins with what was seen of it.
 pub record Seen (bytes seen : List ℕ) (at : ℕ) : Type 0 where
+  -- what follows in the file
   pub behind : List ℕ
+  -- from the offset on the file is what was seen, and then what follows
   pub split : drop at bytes ≡ seen ++ behind
+  -- the first five bytes that were seen are those of the file from there on
   pub front : take 5 seen ≡ take 5 (drop at bytes)
 
 -- a window that was filled from an offset on
 module _ (bytes old window seen : List ℕ) (at len count : ℕ) (size : len ≡ length bytes) (within : at < len) (counted : count ≡ min (length old) (length bytes - at))
     (got : window ≡ take count (drop at bytes) ++ drop count old) (is : seen ≡ take (min count (len - at)) window) where
-  -- the window is full
+  -- all bytes that were read lie within the file, so that none is cut off
   most : min count (len - at) ≡ count
   most = omega (arith, size, counted)
 
-  -- so many bytes it has
+  -- as many bytes of the file stand from the offset on as were read
   filled : length (take count (drop at bytes)) ≡ count
   filled = omega (arith, length-take count (drop at bytes), length-drop at bytes, counted)
 

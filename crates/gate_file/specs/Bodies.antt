@@ -8,13 +8,14 @@ use Rattle.gate_file.specs.Chain.{Opens}
 abbrev pub between : ℕ → ℕ → List ℕ → List ℕ
 between start end bytes = take (end - start) (drop start bytes)
 
--- the bodies of which the first stands after the five bytes at an offset, and each next one after
--- the five at its end
+-- the bodies in a list of bytes, by the offsets of their ends: the first stands after the five
+-- bytes at `start`, and each next one after the five at the end before it
 abbrev pub bodies_from : ℕ → List ℕ → List ℕ → List (List ℕ)
 bodies_from start [] bytes = []
 bodies_from start (end ∷ ends) bytes = between (start + 5) end bytes ∷ bodies_from end ends bytes
 
--- between the offsets there is room for the five bytes, and the last one is the length
+-- the offsets are ends of bodies from `start` on: before each body there is room for five bytes,
+-- and the last offset is the length
 abbrev pub AreEnds : ℕ → List ℕ → ℕ → Type 0
 AreEnds start [] len = start ≡ len
 AreEnds start (end ∷ ends) len = (start + 5 ≤ end) × AreEnds end ends len
@@ -22,5 +23,7 @@ AreEnds start (end ∷ ends) len = (start + 5 ≤ end) × AreEnds end ends len
 -- the offsets are those of the bodies' ends, and the bytes are the bodies' entries, each after an
 -- open gate
 pub record AreBodies (ends bytes : List ℕ) : Type 0 where
+  -- the offsets are in order, with room for a gate and a length before each body
   pub are_ends : AreEnds 0 ends (length bytes)
+  -- the bytes are the entries of the bodies, and nothing more
   pub opens : Opens (bodies_from 0 ends bytes) bytes []

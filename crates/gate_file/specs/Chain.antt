@@ -11,9 +11,13 @@ entry body = to_be_bytes w32 (length body) ++ body
 
 -- the file is an open gate and this body's entry, and then stands the rest
 pub record IsEntry (body file rest : List ℕ) : Type 0 where
+  -- the byte of the gate
   pub gate : ℕ
+  -- the gate is open
   pub is_open : gate ≢ 0
+  -- the length of the body fits four bytes
   pub short : length body < 2 ^ 32
+  -- the file is the gate, the entry and the rest
   pub bytes : file ≡ gate ∷ (entry body ++ rest)
 
 -- the file begins with the entries of these bodies, each after an open gate, and then stands the
@@ -40,8 +44,11 @@ IsRunThere file = (1 < length file) × (IsShut file → ⊥)
 
 -- an open gate, whose entry with the gate after it does not end inside the file
 pub record IsCutShort (file : List ℕ) : Type 0 where
+  -- the byte of the gate
   pub gate : ℕ
+  -- the bytes after it
   pub rest : List ℕ
+  -- the gate is open
   pub is_open : gate ≢ 0
   pub bytes : file ≡ gate ∷ rest
   -- the file ends inside the four bytes of the length, or inside the body with the next gate (the
@@ -50,11 +57,17 @@ pub record IsCutShort (file : List ℕ) : Type 0 where
 
 -- the entry of the open gate at this offset is cut short, and those before it are whole
 pub record IsCutAt (at : ℕ) (file : List ℕ) : Type 0 where
+  -- the bodies of the whole entries before it
   pub bodies : List (List ℕ)
+  -- the bytes of the file from its gate on
   pub rest : List ℕ
+  -- a file of one byte at most is no run instead
   pub begins : 1 < length file
+  -- the entries before it are whole
   pub opens : Opens bodies file rest
+  -- its gate stands at the offset
   pub place : at + length rest ≡ length file
+  -- it is cut short itself
   pub cut : IsCutShort rest
 
 -- the file spells these bodies, or these and more, all of them

@@ -22,15 +22,21 @@ RefusesBeginning (Cut at) old new = ⊥
 -- What a call that begins a file with these bodies promises.
 pub record Begins {A : Type 0} (bodies : List (List ℕ)) (old new : DiskState) (result : Result A GateFault)
     : Type 0 where
+  -- after an Ok the disk keeps these bodies
   pub kept : OnOk result ((bytes : List ℕ) → Reads old bytes → Keeps bodies new (ends_at bodies))
+  -- after an Ok there was no run before
   pub vacant : OnOk result ((bytes : List ℕ) → Reads old bytes → IsRunThere bytes → ⊥)
   -- a run that is there stays as it is, whatever the answer
   pub spares : (bytes : List ℕ) → Reads old bytes → IsRunThere bytes → Unwritten old new
+  -- an error says why
   pub refused : IfErr result (λ fault. RefusesBeginning fault old new)
+  -- the count of faults of the disk does not fall
   pub later : old.faults ≤ new.faults
+  -- it rises only if the answer is a fault of the disk
   pub calm : IsCalm old new result
   -- a crash at any moment of the call leaves an image from before it, or no run, or all the bodies
   pub any_moment : (bytes : List ℕ) → Reads old bytes → LeavesOnly (IsBeginning old.image bodies) old new
+  -- at most twelve calls of the disk, and no write ends past the shut gate after the bodies
   pub uses : Uses 12 (ends_at bodies + 1) old new
 
 -- an answer whose error gives the disk back, without it

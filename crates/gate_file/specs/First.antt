@@ -1,5 +1,6 @@
--- What stands at the gates of a file, one by one.
--- run_journal and run_branch take `IsBeginning`.
+-- What may stand at the front of a file of gates and at each gate (`FirstGate` of src/create.rt,
+-- `Head` of src/open.rt), and what a crash may leave of a file that is being begun. The latter,
+-- `IsBeginning`, is cited by Creation and by the proofs of run_journal and run_branch.
 use Rattle.std.specs.Prelude.{◌≡◌, ◌≢◌, ◌⊎◌, ℕ, ◌^◌, ◌≤◌, ◌<◌, List, ◌∷◌, length}
 use Rattle.std.specs.Int.{w32, to_be_bytes}
 use Rattle.gate_file.specs.declared.create.FirstGate.{FirstGate}

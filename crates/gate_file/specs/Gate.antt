@@ -10,27 +10,41 @@ use Rattle.gate_file.specs.Chain.{Opens}
 -- shut gate
 pub record Gate (D : Type 0) : Type 0 where
   pub disk : D
+  -- whether it may be written: no append has failed
   pub live : Bool
+  -- the offset of the shut gate
   pub end : ℕ
 
 -- The disk spells these bodies, all of them are on the disk, and the shut gate stands at this
 -- offset.
 pub record Keeps (bodies : List (List ℕ)) (disk : DiskState) (end : ℕ) : Type 0 where
+  -- the bytes of the file
   pub bytes : List ℕ
+  -- what stands after the shut gate, which counts for nothing
   pub behind : List ℕ
+  -- a read of the disk gives the bytes
   pub reads : Reads disk bytes
+  -- the entries of the bodies, and then the shut gate
   pub opens : Opens bodies bytes (0 ∷ behind)
+  -- the shut gate stands at the offset `end`
   pub place : end + 1 + length behind ≡ length bytes
+  -- a crash now leaves these bytes and no others
   pub only : Only bytes disk.image
 
 -- An opening makes four calls at most for each gate that it reads, and four besides: it reads the
 -- gates of some entries that the file begins with, and the one after them. It asks for no write.
 pub record OpeningUses (bytes : List ℕ) (old new : DiskState) : Type 0 where
+  -- the bodies of the entries whose gates it read
   pub bodies : List (List ℕ)
+  -- the bytes after these entries
   pub rest : List ℕ
+  -- the file begins with these entries
   pub opens : Opens bodies bytes rest
+  -- four calls at most for each of them and for the gate after them, and four besides
   pub calls : new.calls ≤ old.calls + 4 * (length bodies + 1) + 4
+  -- no write was asked for past what was asked for before
   pub reach : new.reach ≤ old.reach
+  -- what the disk allowed it still allows
   pub allows : (calls end : ℕ) → old.allows calls end → new.allows calls end
 
 -- the disk in an answer that gives it back either way

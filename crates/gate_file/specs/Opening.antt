@@ -1,6 +1,5 @@
--- How a file of gates is opened: what a call promises, found or refused. The words about offsets at
--- the end are for this crate alone.
--- run_journal takes it.
+-- How a file of gates is opened: what a call promises, found or refused. The proofs of run_journal
+-- cite `Finds` and `RefusesOpening`; the words about offsets at the end are for this crate alone.
 use Rattle.std.specs.Prelude.{◌≡◌, ℕ, ◌+◌, ◌*◌, ◌≤◌, List, [], length, take, drop, Option, Some, None, Result, Ok, Err, IfOk, IfErr}
 use Rattle.disk_model.specs.Device.{DiskState, Reads, IsSettled}
 use Rattle.nc_number.specs.Faults.{Rose}
@@ -21,20 +20,25 @@ RefusesOpening RunThere old new = ⊥
 
 -- What a call that opens a file promises; it answers the bodies, and where the shut gate stands.
 pub record Finds (old new : DiskState) (result : Result (List (List ℕ) × ℕ) GateFault) : Type 0 where
+  -- after an Ok the file spells the bodies, and the disk keeps them
   pub found : IfOk result (λ found. (bytes : List ℕ) → Reads old bytes
       → Spells found.0 bytes × Keeps found.0 new found.1)
   -- a file that is opened has at least one body
   pub some : IfOk result (λ found. found.0 ≡ [] → ⊥)
+  -- an error says why
   pub refused : IfErr result (λ fault. RefusesOpening fault old new)
+  -- the count of faults of the disk does not fall
   pub later : old.faults ≤ new.faults
+  -- it rises only if the answer is a fault of the disk
   pub calm : IsCalm old new result
   -- a crash at any moment of the call leaves an image from before it
   pub unwritten : Unwritten old new
+  -- how many calls of the disk there are, whatever the answer
   pub uses : (bytes : List ℕ) → Reads old bytes → OpeningUses bytes old new
-  -- four calls at most for each gate, and four besides
+  -- after an Ok there were at most four calls for each gate, and four besides
   pub uses_ok : IfOk result (λ found. Uses (4 * (length found.0 + 1) + 4) 0 old new)
 
--- what an opening found
+-- the bodies and the place of the shut gate in what `read_all` (src/open.rt) answers, or its fault
 abbrev pub found_in : Result Contents GateFault → Result (List (List ℕ) × ℕ) GateFault
 found_in (Ok contents) = Ok (contents.bodies, contents.end)
 found_in (Err fault) = Err fault
@@ -47,8 +51,11 @@ found_with (Err fault) = Err fault.1
 
 -- the file reads as these bytes, so many of them, and these bodies stand before an offset
 pub record IsBefore (at len : ℕ) (bodies : List (List ℕ)) (disk : DiskState) (bytes : List ℕ) : Type 0 where
+  -- a read of the disk gives these bytes
   pub reads : Reads disk bytes
+  -- there are `len` of them
   pub size : len ≡ length bytes
+  -- the entries of the bodies end at the offset `at`
   pub opens : Opens bodies bytes (drop at bytes)
 
 -- why reading on from an offset ends early
@@ -68,8 +75,11 @@ ReadsOn at (Some next) bodies bytes = Opens bodies bytes (drop next bytes)
 -- the file reads as these bytes, so many of them, and those at an offset begin as what was seen of
 -- them
 pub record IsSeen (seen : List ℕ) (at len : ℕ) (disk : DiskState) (bytes : List ℕ) : Type 0 where
+  -- a read of the disk gives these bytes
   pub reads : Reads disk bytes
+  -- there are `len` of them
   pub size : len ≡ length bytes
+  -- the first five bytes from the offset `at` on are those that were seen
   pub front : take 5 seen ≡ take 5 (drop at bytes)
 
 -- why the entry at an offset, of which this was seen, is not read

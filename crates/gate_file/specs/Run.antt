@@ -1,5 +1,5 @@
--- Many appends, one after another. The law `appends_leave_prefixes` is said by it.
--- For this crate alone: src/laws.rt.
+-- Many appends to a file of gates, one after another. For this crate alone: the law
+-- `appends_leave_prefixes` (src/laws.rt) speaks of them.
 use Rattle.std.specs.Prelude.{ℕ, zero, suc, List, [], ◌∷◌, ◌++◌}
 
 -- the bodies that a file has at first, and the first k of those that are appended

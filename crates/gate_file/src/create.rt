@@ -1,5 +1,5 @@
-//! How a file of gates is begun on a disk. What is written while it runs is in specs/Creation.antt.
-//! For gate.rt of this crate.
+//! How a file of gates is begun on a disk. What a crash may leave meanwhile is in
+//! specs/Creation.antt. For gate.rt of this crate.
 
 ghost use Rattle.std.specs.Prelude.{◌≡◌, ◌+◌, ◌^◌, ◌≤◌, ◌<◌, [], List, ℕ, length, OnOk, IfOk, IfErr};
 ghost use Rattle.disk_model.specs.Device.{Reads, HasCause, IsSettled, Only};

@@ -1,5 +1,6 @@
-//! A file of bodies, each after a gate. The bytes are in specs/Chain.antt. What a body says is not
-//! known here; `run_journal` gives it records.
+//! A file of bodies, each after a gate: it is begun, opened and appended to. The bytes are in
+//! specs/Chain.antt. What a body says is not known here: run_journal gives it a header and batches
+//! of records, and run_branch begins one with all bodies at once.
 
 ghost use Rattle.std.specs.Prelude.{◌≡◌, ◌*◌, ◌+◌, ◌^◌, ◌≤◌, ◌<◌, ◌++◌, [], ◌∷◌, List, ℕ, length, true, IsTrue, OnOk, IfOk, is_ok, vec_capacity, Bool};
 ghost use Rattle.disk_model.specs.Device.{HasCause};
@@ -21,7 +22,8 @@ use std::marker::Model;
 /// The most bytes of a body that `append` takes: a count, and 64 records of 131 bytes.
 pub const LONGEST_BODY: usize = 8_385;
 
-/// The room of such a body's entry, with the gate after it.
+/// The room of the longest body that `append` takes: its four bytes of length, the body, and the
+/// gate after it.
 pub(crate) const BATCH_ROOM: usize = LONGEST_BODY + 5;
 
 /// A file of bodies behind gates, which may be written as long as it is live.
@@ -130,7 +132,7 @@ impl<D: Disk> GateFile<D> {
         // After an Ok the file has the body after those that it had, whichever those were.
         ensures acknowledged { OnOk result ((bodies : List (List ℕ)) → Keeps bodies (D.state self.old.disk) self.old.end
             → Keeps (bodies ++ body.now ∷ []) (D.state self.new.disk) self.new.end) }
-        // A crash at any moment of the call leaves those, or those and the body.
+        // A crash at any moment of the call leaves the bodies that it had, or those and the body.
         ensures any_moment { (bodies : List (List ℕ)) → Keeps bodies (D.state self.old.disk) self.old.end
             → LeavesOnly (IsBeforeOrAfter bodies (body.now ∷ [])) (D.state self.old.disk) (D.state self.new.disk) }
         ensures moved { OnOk result (self.new.end ≡ self.old.end + 5 + length body.now) }

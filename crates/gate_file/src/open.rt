@@ -238,8 +238,8 @@ fn read_entry<D: Disk>(
     }
 }
 
-/// The body of so many bytes after the gate at an offset. `Cut` with that offset if the file ends
-/// before the body does.
+/// The body of this size after the gate at this offset. `Cut` with the offset of the gate if the
+/// file ends before the body does.
 fn read_body<D: Disk>(
     alloc: Global,
     disk: &mut D,

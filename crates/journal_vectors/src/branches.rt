@@ -1,4 +1,5 @@
-//! Branches: what is written of a run up to one of its meetings, and what a stop leaves.
+//! Tests of branches (run_branch): what is written of a run up to one of its meetings, and what a
+//! stop leaves. rows.rt makes the calls of a row of these by `branched`.
 ghost use Rattle.run_records.specs.Headers.{IsShort};
 
 use crate::bytes::bytes_of;

@@ -1,11 +1,11 @@
 //! Bytes as text: hexadecimal digits in words, where `3x01` is 01 three times, and names for what
-//! stands in many rows.
+//! stands in many rows. The tables of tests of this crate write their files so.
 use std::alloc::{AllocError, Global};
 
-/// The first three entries of a file of gates, and the whole of four: of each its open gate, its
-/// length and its body.
+/// The first three entries of a file of gates: of each its open gate, its length and its body.
 const THREE: &str = "010000000141010000000401010100010000000401020100";
 
+/// Those three entries of a file of gates, and a fourth of eight bytes.
 const FOUR: &str = "01000000014101000000040101010001000000040102010001000000080101010100000001";
 
 /// The tape `%`, `O1`, `#500=#500+1`, `M30`, `%` of 23 bytes.
@@ -15,11 +15,11 @@ const TAPE: &str = "250a4f310a233530303d233530302b310a4d33300a250a";
 const TEXTS: &str =
     "0000000000000017250a4f310a233530303d233530302b310a4d33300a250a00000017250a4f310a233530303d233530302b310a4d33300a250a";
 
-/// The entry of that header, of 64 bytes.
+/// The entry of a header of version 1 with `TEXTS`, which has 64 bytes itself.
 const HEADER: &str =
     "01000000405457494e00010000000000000017250a4f310a233530303d233530302b310a4d33300a250a00000017250a4f310a233530303d233530302b310a4d33300a250a";
 
-/// The same entry in version 2.
+/// The entry of a header of version 2 with `TEXTS`.
 const HEADER2: &str =
     "01000000405457494e00020000000000000017250a4f310a233530303d233530302b310a4d33300a250a00000017250a4f310a233530303d233530302b310a4d33300a250a";
 
@@ -27,12 +27,13 @@ const HEADER2: &str =
 /// `r22`.
 const SHORT: &str = "0000000173000000026c3100000003723232";
 
-/// The entry of that header in version 2, of 24 bytes.
+/// The entry of a header of version 2 with `SHORT`, which has 24 bytes itself.
 const BRANCHED: &str = "01000000185457494e00020000000173000000026c3100000003723232";
 
-/// Two edits of path 1: its work offset 1, that of G54, gets X-1. Z5., and #500 gets 7.
+/// The record of an edit of path 1: its work offset 1, that of G54, gets X-1. Z5.
 const G54: &str = "0106010001fffffffffffffc180000000000001388";
 
+/// The record of an edit of path 1: #500 gets 7.
 const SEVEN: &str = "01060401f4000000000000000100000000006acfc0";
 
 /// The value of a hexadecimal digit.

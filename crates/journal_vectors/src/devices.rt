@@ -1,4 +1,4 @@
-//! Disks as a row tells of them, and what a crash leaves of one.
+//! Disks as a row tells of them, and what a crash leaves of one. For rows.rt of these tests.
 use crate::bytes::{bytes_of, number};
 use disk_model::{Crash, FuseDisk, MemoryDisk};
 use std::alloc::Global;

@@ -1,4 +1,5 @@
-//! Disks in memory: what each call answers and a crash leaves.
+//! Tests of disks in memory (disk_model): what each call answers, and what a crash leaves. rows.rt
+//! makes the calls of a row of these by `put_answers`.
 use crate::bytes::{bytes_of, number, put_digits};
 use crate::rows::holds;
 use disk_model::{Disk, Failed, FuseDisk, MemoryDisk};
@@ -19,7 +20,7 @@ const ROWS: &str = "\
 |room 4 calls 10 passes 2|sync, sync, sync, sync, sync, faults, write 0 31|done done failed failed failed 3 failed|faults still 0
 |room 4 calls 10 passes 2|sync, sync, sync, sync, sync, faults, write 0 31|done done failed failed failed 3 failed|bytes still";
 
-/// Whether a call of a disk was done.
+/// The word for whether a call of a disk was done.
 fn word_of(done: Result<(), Failed>) -> &'static str {
     if done.is_ok() { "done" } else { "failed" }
 }

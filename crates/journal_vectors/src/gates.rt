@@ -1,4 +1,5 @@
-//! Files of gates: what is written, what an opening finds, and what a stop leaves.
+//! Tests of files of gates (gate_file): what is written, what an opening finds, and what a stop
+//! leaves. rows.rt makes the calls of a row of these, and looks for bodies by `put_bodies`.
 use crate::bytes::{bytes_of, put_digits};
 use crate::rows::holds;
 use disk_model::{Disk, FuseDisk, MemoryDisk};

@@ -1,5 +1,5 @@
-//! Rows of disks that keep every image: what the calls answer, and which images a crash since some
-//! time may have left.
+//! Tests of disks that keep every image (disk_images): what the calls answer, and which images a
+//! crash since some time may have left.
 use crate::rows::columns;
 use disk_images::{Image, ImagesDisk};
 use disk_model::{Disk, Failed};
@@ -57,7 +57,7 @@ fn numbers(alloc: Global, text: &str) -> Result<Vec<u64>, AllocError> {
     Ok(out)
 }
 
-/// Whether a call was done.
+/// The word for whether a call was done.
 fn word_of(done: Result<(), Failed>) -> &'static str {
     if done.is_ok() { "done" } else { "failed" }
 }
@@ -168,7 +168,7 @@ fn leaves(alloc: Global, disk: &ImagesDisk, part: &str) -> Result<bool, Fail> {
     Ok(has_each(alloc, images.as_slice(), words)? && are_wanted(alloc, images.as_slice(), words)?)
 }
 
-/// Whether that holds of each part.
+/// Whether a crash since the time of each part may have left just the images that it names.
 fn leaves_each(alloc: Global, disk: &ImagesDisk, parts: &str) -> Result<bool, Fail> {
     let mut are_right = true;
     for part in parts.split(", ") {

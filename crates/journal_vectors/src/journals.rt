@@ -1,4 +1,5 @@
-//! Journals: where each record stands, why a journal is refused, and what a stop leaves.
+//! Tests of journals (run_journal): where each record stands, why a journal is refused, and what a
+//! stop leaves. rows.rt makes the calls of a row of these, and looks for records by `put_records`.
 ghost use Rattle.run_records.specs.Headers.{IsShort};
 
 use crate::bytes::bytes_of;

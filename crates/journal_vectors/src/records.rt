@@ -1,5 +1,5 @@
-//! Records and headers: each is put as its bytes, taken from them, and refused with its least
-//! cause.
+//! Tests of records and headers (run_records): each is put as its bytes, taken from them, and
+//! refused with its least cause.
 ghost use Rattle.run_records.specs.Headers.{IsShort};
 
 use crate::bytes::{bytes_of, put_digits};

@@ -1,4 +1,5 @@
-//! A row of a disk, and whether what it says holds.
+//! A row of a table of tests that speaks of one disk, and whether what it says holds. The tables of
+//! disks.rt, gates.rt, journals.rt and branches.rt are tried by `holds`.
 use crate::branches::branched;
 use crate::bytes::bytes_of;
 use crate::devices::{disk_of, left_of};

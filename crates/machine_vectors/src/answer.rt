@@ -1,9 +1,11 @@
 //! Answers of a machine as text, so that a table of tests has them written out by hand.
+//! held.rt, record.rt and walk.rt of these tests use it.
 use nc_moves::{Alarm, Move, MoveList};
 use nc_number::{Path, Point, Value, Var, length_text, text};
 use std::alloc::AllocError;
 use two_path::Turn;
 
+/// Puts bytes, a character each.
 fn put_bytes(out: &mut String, bytes: &[u8]) -> Result<(), AllocError> {
     for byte in bytes {
         out.push(char::from(*byte))?;
@@ -11,18 +13,21 @@ fn put_bytes(out: &mut String, bytes: &[u8]) -> Result<(), AllocError> {
     Ok(())
 }
 
+/// Puts a length in 0.001 mm as mm: `10.000`.
 fn put_length(out: &mut String, length: i64) -> Result<(), AllocError> {
     let mut room = [0; 24];
     let length = length_text(length, &mut room);
     put_bytes(out, &room[..length])
 }
 
+/// Puts a value of a variable.
 fn put_value(out: &mut String, value: Value) -> Result<(), AllocError> {
     let mut room = [0; 24];
     let length = text(value, &mut room);
     put_bytes(out, &room[..length])
 }
 
+/// Puts what a variable holds: its value, or `vacant`.
 pub(crate) fn put_var(out: &mut String, value: &Var) -> Result<(), AllocError> {
     match value {
         Var::Vacant => out.push_str("vacant"),
@@ -30,6 +35,7 @@ pub(crate) fn put_var(out: &mut String, value: &Var) -> Result<(), AllocError> {
     }
 }
 
+/// Puts a point: ` X10.000 Z5.000`.
 pub(crate) fn put_point(out: &mut String, at: Point) -> Result<(), AllocError> {
     out.push_str(" X")?;
     put_length(out, at.x)?;

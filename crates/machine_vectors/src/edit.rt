@@ -1,4 +1,4 @@
-//! Edits, from their lines.
+//! An operator's edits, from the lines of a row. For edit_walk.rt of these tests.
 use edit_texts::{EditList, read_edits};
 use nc_number::NoMemory;
 use std::alloc::Global;

@@ -1,4 +1,5 @@
-//! Edits of a machine, and what its turns and records come to behind them.
+//! Tests of an operator's edits of a machine (two_path), and of its turns and records behind them.
+//! walk.rt tries the rows.
 use crate::pair::default_settings;
 use crate::walk::failure_of;
 use std::test::Fail;

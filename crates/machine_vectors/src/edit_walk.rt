@@ -1,4 +1,5 @@
-//! An operator's edit of a machine, whose record a second one does again.
+//! An operator's edit of a machine, whose record a second machine does again. walk.rt calls it for
+//! the words of a row that are edits.
 ghost use Rattle.std.specs.Prelude.{◌≡◌};
 ghost use Rattle.two_path.specs.Machine.{without_reads};
 ghost use Rattle.two_path.specs.Joined.{AreAtTheirWaits};

@@ -1,4 +1,5 @@
-//! What a machine holds, as text.
+//! What a machine holds, as text: its records, shared variables #500 and #501, and each path.
+//! walk.rt and edit_walk.rt of these tests compare two machines by it.
 use crate::answer::{put_point, put_var};
 use nc_number::{Path, Var};
 use path_state::PathState;
@@ -6,6 +7,7 @@ use std::alloc::{AllocError, Global};
 use tape_flow::Flow;
 use two_path::Machine;
 
+/// Puts a variable by this name, with what it holds.
 fn put_named(out: &mut String, name: &str, value: &Var) -> Result<(), AllocError> {
     out.push_str(name)?;
     put_var(out, value)
@@ -20,6 +22,7 @@ fn put_state(out: &mut String, state: &PathState, flow: &Flow) -> Result<(), All
     put_named(out, " #2 ", &state.local(2))
 }
 
+/// Puts the code of the wait at which a path waits, if it does.
 fn put_waiting(out: &mut String, waiting: Option<u16>) -> Result<(), AllocError> {
     match waiting {
         Some(code) => write!(out, " waits {code}"),
@@ -54,6 +57,7 @@ fn put_shared(out: &mut String, machine: &Machine, v: u32) -> Result<(), AllocEr
     put_var(out, &machine.shared(v))
 }
 
+/// Puts how many records the machine has, and #500 and #501 where they are shared.
 fn put_records(out: &mut String, machine: &Machine) -> Result<(), AllocError> {
     write!(out, "{} records", machine.count())?;
     put_shared(out, machine, 500)?;

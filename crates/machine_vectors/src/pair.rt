@@ -1,4 +1,5 @@
-//! The settings and the flow of a tape, from their texts.
+//! The default settings, and the flow of a tape from the text of its blocks. The tables of these
+//! tests and walk.rt use it.
 use cell_settings::{Settings, read_settings};
 use nc_number::Failing;
 use nc_text::{Reader, Tape, TextFault};
@@ -25,6 +26,7 @@ pub(crate) fn default_settings(alloc: Global) -> Result<Settings, Fail> {
     Ok(read_settings(alloc, b"")?)
 }
 
+/// The tape of this text.
 fn tape_of(alloc: Global, text: &[u8]) -> Result<Tape, Failing<TextFault>> {
     let mut reader = Reader::new(alloc, 0)?;
     reader.feed(text)?;

@@ -1,4 +1,4 @@
-//! Records of steps, from their texts.
+//! Records of steps, from the words of a row: `1 did 0`. For walk.rt of these tests.
 ghost use Rattle.std.specs.Prelude.{◌≡◌, None};
 ghost use Rattle.run_records.specs.Entries.{edit_of};
 

@@ -1,4 +1,5 @@
-//! Records that a machine is given, and which of them it refuses.
+//! Tests of the records that a machine (two_path) is given, and of which ones it refuses. walk.rt
+//! tries the rows.
 use crate::pair::default_settings;
 use crate::walk::failure_of;
 use std::test::Fail;

@@ -1,4 +1,4 @@
-//! Turns of a machine, and what they answer.
+//! Tests of the turns of a machine (two_path), and of what they answer. walk.rt tries the rows.
 use crate::pair::default_settings;
 use crate::walk::failure_of;
 use std::test::Fail;

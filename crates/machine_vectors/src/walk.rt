@@ -1,4 +1,5 @@
-//! A machine of a pair takes turns, and a second one does their records again.
+//! A row of these tests: a machine of a pair takes turns, and a second one does their records
+//! again. turn_rows.rt, record_rows.rt and edit_rows.rt try their rows by `failure_of`.
 ghost use Rattle.std.specs.Prelude.{◌≡◌, ◌<◌, OnOk, IfOk};
 ghost use Rattle.two_path.specs.Machine.{without_reads};
 ghost use Rattle.two_path.specs.Joined.{AreAtTheirWaits};
@@ -103,6 +104,7 @@ fn put_unless(out: &mut String, again: &str, answer: &str) -> Result<(), AllocEr
     write!(out, " and again {again}")
 }
 
+/// The text of what a turn was.
 fn answer_of(alloc: Global, turn: &Turn) -> Result<String, AllocError> {
     let mut answer = String::new(alloc);
     put_turn(&mut answer, turn)?;

@@ -1,5 +1,6 @@
 -- Where the moves of a block end and how far they reach: an axis without a word stays, all ends are
--- positions, and I, K and R are no larger than the block has them.
+-- positions, and I, K and R are no larger than the block has them. `track` (src/block.rt) rests on
+-- it.
 use Rattle.std.proofs.Common.{◌≡◌, ◌≤◌, ℕ, Bool, true, false, List, [], ◌∷◌, All, ℤ, pos, unsigned_abs, Option, Some, None, IfSome, Result, Ok, Err, IfOk, if◌then◌else◌, refl, arith}
 use Rattle.std.proofs.lemmas.List.Elements.{All-nil, All-cons, All-weaker}
 use Rattle.code_tables.specs.declared.kind.CodeKind.{CodeKind}
@@ -31,18 +32,17 @@ after : {A B : Type 0} (step : Result A MotionFault) (next : A → Result B Moti
 after (Ok a) next P Q here there = there a here
 after (Err alarm) next P Q here there = tt
 
--- an answer that is given where a test holds, and one that is given where it does not
+-- what holds of an answer under a test holds of the answer that is given where the test holds
 given_where : {A : Type 0} (b : Bool) (a : A) (alarm : MotionFault) (P : A → Type 0) → (b ≡ true → P a) → IfOk (if b then Ok a else Err alarm) P
 given_where true a alarm P holds = holds refl
 given_where false a alarm P holds = tt
 
--- and one that is given where it does not
+-- what holds of a step's answer holds of it where a test that would refuse it fails
 given_unless : {A : Type 0} (b : Bool) (alarm : MotionFault) (step : Result A MotionFault) (P : A → Type 0) → IfOk step P → IfOk (if b then Err alarm else step) P
 given_unless true alarm step P holds = tt
 given_unless false alarm step P holds = holds
 
--- a target is a position, and a point of which P holds where it holds of every point that the words
--- lead to
+-- a target is a position
 targeted : (to : Point) → IfOk (in_travel to) IsPosition
 targeted to = given_where (is_position to) to _ IsPosition (tested_position to)
 
@@ -58,18 +58,18 @@ Leads P C move = IfSome (end_of move) P × C (centre_in move)
 cut_leads : (P : Point → Type 0) (C : Option Centre → Type 0) (feed : ℤ) (move : Move) → Leads P C move → IfOk (at_feed feed move) (Leads P C)
 cut_leads P C feed move holds = given_unless (is_zero feed) _ (Ok move) (Leads P C) holds
 
--- an arc that ends on its circle leads so,
+-- an arc that is not refused leads to its end, round its centre
 arc_leads : (P : Point → Type 0) (C : Option Centre → Type 0) (at to : Point) (clockwise : Bool) (centre : Option Centre) (feed : ℤ) (per_rev : Bool) → P to → C centre → IfOk (arc_of at to clockwise centre feed per_rev) (Leads P C)
 arc_leads P C at to clockwise None feed per_rev holds given = tt
 arc_leads P C at to clockwise (Some centre) feed per_rev holds given =
     given_unless (misses at to centre) _ (at_feed feed (Arc clockwise to centre feed per_rev)) (Leads P C)
     (cut_leads P C feed (Arc clockwise to centre feed per_rev) (holds, given))
 
--- one move does,
+-- what holds of one move holds of the list of it alone
 one_leads : (P : Point → Type 0) (C : Option Centre → Type 0) (move : Move) → Leads P C move → All (Leads P C) (move ∷ [])
 one_leads P C move holds = All-cons (Leads P C) move [] holds (All-nil (Leads P C))
 
--- and both moves of the way home do
+-- both moves of the way home lead where P holds, and have no centre
 home_leads : (P : Point → Type 0) (C : Option Centre → Type 0) (between home : Point) → C None → P between → P home → All (Leads P C) (RapidMove between ∷ RapidMove home ∷ [])
 home_leads P C between home none there here = All-cons (Leads P C) (RapidMove between) (RapidMove home ∷ []) (there, none) (one_leads P C (RapidMove home) (here, none))
 
@@ -102,7 +102,7 @@ all_lead P C Machine block none given target machine between home =
     after (target_of block.start origin block.x block.z) (λ to. Ok (RapidMove to ∷ [])) P (All (Leads P C)) machine (λ to holds. one_leads P C (RapidMove to) (holds, none))
 all_lead P C _ block none given target machine between home = All-nil (Leads P C)
 
--- moves that lead so end so
+-- moves that lead where P holds end where P holds
 ends_alone : (P : Point → Type 0) (C : Option Centre → Type 0) (made : Result (List Move) MotionFault) → IfOk made (All (Leads P C)) → IfOk made (AllEnd P)
 ends_alone P C (Ok moves) lead = All-weaker (Leads P C) (λ move. IfSome (end_of move) P) (λ move leads. leads.0) moves lead
 ends_alone P C (Err alarm) lead = tt
@@ -113,11 +113,11 @@ part_kept at shift Keep unnamed = refl
 part_kept at shift (To programmed) unnamed = absurd (cc)
 part_kept at shift (By way) unnamed = absurd (cc)
 
--- so the point that the axis words reach keeps what isn't named,
+-- the point that the axis words reach keeps the axis that is not named
 reached_kept : (block : BlockMotion) (shift : Point) → KeepsUnnamed block (reached block.start shift block.x block.z)
 reached_kept block shift = (part_kept block.start.x shift.x block.x, part_kept block.start.z shift.z block.z)
 
--- and so does the named part of a point
+-- the named parts of a point with the others of the start keep the axis that is not named
 named_kept : (block : BlockMotion) (to : Point) → KeepsUnnamed block (named block.start to (is_named block.x) (is_named block.z))
 named_kept block to = (λ x. rw x refl, λ z. rw z refl)
 

@@ -1,4 +1,5 @@
--- Distances of places in 0.0005 mm fit the machine's numbers.
+-- Lengths, and squares of distances in 0.0005 mm, fit numbers of 64 and 128 bits. `reached`
+-- (src/targets.rt), `centre_from` and `squared` (src/circle.rt) rest on it.
 -- The longest length of a block is 100,000,000,000,000 (in 0.001 mm), so a target is twice that at
 -- most. Two places are 800,000,000,000,000 apart at most along each axis.
 use Rattle.std.proofs.Common.{◌≡◌, ℕ, ◌*◌, ◌≤◌, ◌∙◌, ap, arith, ℤ, unsigned_abs, to_z, of_z, w64}

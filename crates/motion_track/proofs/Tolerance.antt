@@ -1,5 +1,5 @@
 -- The test of the tolerance, in squares, says what the law of arcs says of lengths: the end is
--- 0.010 mm from the circle at most.
+-- 0.010 mm from the circle at most. The law `arcs_end_on_their_circle` (src/circle.rt) rests on it.
 -- The tolerance is 20, so 400 below is its square and 1,600 four times that.
 use Rattle.std.proofs.Common.{◌≡◌, ℕ, zero, suc, ◌+◌, ◌-◌, ◌*◌, ◌<◌, ◌≤◌, max, min, Bool, true, false, nat_lt, nat_le, subst, refl, ap, arith, ℤ}
 use Rattle.std.proofs.Math.Nat.{mul-le-mul_left}
@@ -43,8 +43,9 @@ farther_reached near far e le square p q reaches =
     let roots : q * q * e ≤ 40 * p * q = root_le (q * q * e) (40 * p * q) (omega (arith, squares, reached)) in
     omega (arith, scaled, roots, reaches)
 
--- where it is farther by much, the length (s² + near) / 2 s reaches the nearer place, s being the
--- first whole number past its root, and does not reach the farther when 20 is added
+-- where the farther place is farther by much, the length (s² + near) / 2 s reaches the nearer
+-- place, s being the first whole number past its root, and does not reach the farther when 20 is
+-- added
 missed_by_much : (near e s g : ℕ) → s * s ≡ near + g → 1 ≤ g → g + 1 ≤ 2 * s → 40 * s + 1 ≤ e → IsAtMostFarther (near + 400 + e) near → ⊥
 missed_by_much near e s g square some small much reaches =
     let by_near : s * s * near ≡ (near + g) * near = ap (λ t. t * near) square in
@@ -56,7 +57,8 @@ missed_by_much near e s g square some small much reaches =
     let g_s : g * (g + 1) ≤ g * (2 * s) = mul-le-mul_left g small in
     omega (arith, bad, by_near, by_e, square, near_e, g_e, g_s)
 
--- where it is farther by little, the length (e² + 1600 near) / 80 e does so
+-- where the farther place is farther by little, the length (e² + 1600 near) / 80 e reaches the
+-- nearer place, and does not reach the farther when 20 is added
 missed_by_little : (near e r E : ℕ) → e * e ≡ 1600 * near + E → 1 ≤ E → r * r ≤ near → 40 * r ≤ e → e ≤ 40 * (r + 1) → IsAtMostFarther (near + 400 + e) near → ⊥
 missed_by_little near e r E square some root low high reaches =
     let by_near : e * e * near ≡ (1600 * near + E) * near = ap (λ t. t * near) square in
@@ -70,7 +72,8 @@ missed_by_little near e r E square some root low high reaches =
     let e_E : e * 1 ≤ e * E = mul-le-mul_left e some in
     omega (arith, bad, by_near, by_e, square, E_e, e_E, little)
 
--- so a place that is farther than the tolerance is not reached
+-- not every length that reaches the nearer place reaches, with 20 added, one that is farther by
+-- more than the tolerance
 farther_missed : (near e : ℕ) → 1600 * near < e * e → IsAtMostFarther (near + 400 + e) near → ⊥
 farther_missed near e past reaches = by (root_of near)
   where
@@ -86,7 +89,7 @@ farther_missed near e past reaches = by (root_of near)
             let root : 40 * r ≤ e = root_le (40 * r) e (omega (arith, low, past)) in
             missed_by_little near e r (e * e - 1600 * near) (omega (arith, past)) (omega (arith, past)) low root little reaches
 
--- a test that passes says that the farther place is reached,
+-- a test that passes says that the farther place is reached
 not_past : (near far : ℕ) → is_past_tolerance far near ≡ false → IsAtMostFarther far near
 not_past near far taken = go (nat_lt (near + 400) far) (nat_lt (1600 * near) ((far - (near + 400)) * (far - (near + 400)))) refl refl
   where
@@ -95,7 +98,7 @@ not_past near far taken = go (nat_lt (near + 400) far) (nat_lt (1600 * near) ((f
     go true false eb ec = farther_reached near far (far - (near + 400)) (omega arith) (grind (arith, nat_tests))
     go true true eb ec = absurd (let wrong = rw (eb, ec) at taken in cc)
 
--- and one that does not says that it isn't
+-- a test that does not pass says that the farther place is not reached
 past : (near far : ℕ) → is_past_tolerance far near ≡ true → IsAtMostFarther far near → ⊥
 past near far refused reaches = go (nat_lt (near + 400) far) (nat_lt (1600 * near) ((far - (near + 400)) * (far - (near + 400)))) refl refl
   where
@@ -125,7 +128,7 @@ pair_within a b taken = go (nat_le a b) refl
         let smaller : min a b ≡ b = omega arith in
         (nearer_reached b a le, not_past b a (rw (larger, smaller) at taken))
 
--- the same of a test that does not pass
+-- if the test does not pass of two places, it can't be that each reaches the other
 pair_beyond : (a b : ℕ) → is_past_tolerance (max a b) (min a b) ≡ true → IsAtMostFarther b a × IsAtMostFarther a b → ⊥
 pair_beyond a b refused ends = go (nat_le a b) refl
   where
@@ -141,10 +144,10 @@ pair_beyond a b refused ends = go (nat_le a b) refl
         let smaller : min a b ≡ b = omega arith in
         past b a (rw (larger, smaller) at refused) ends.1
 
--- an arc that is allowed ends on its circle,
+-- an arc that is allowed ends on its circle
 pub within : (at to : Point) (i k : ℤ) → misses at to (Offset i k) ≡ false → EndsOnCircle at to i k
 within at to i k taken = pair_within _ _ taken
 
--- and one that is refused does not
+-- an arc that is refused does not end on its circle
 pub beyond : (at to : Point) (i k : ℤ) → misses at to (Offset i k) ≡ true → ¬ EndsOnCircle at to i k
 beyond at to i k refused ends = pair_beyond _ _ refused ends

@@ -21,13 +21,15 @@ use Rattle.motion_track.specs.Home.{home_moves}
 
 -- no length of a block is longer than that, in 0.001 mm
 pub record IsBlockWithin (far : ℕ) (block : BlockMotion) : Type 0 where
-  -- where the block starts, and the shift of its work coordinates,
+  -- where the turret stands before the block
   pub start : IsWithin far block.start
+  -- the sum of the offsets in force
   pub shift : IsWithin far block.shift
-  -- its words of X, U and Z, W,
+  -- the word X or U
   pub x : IsAxisWithin far block.x
+  -- the word Z or W
   pub z : IsAxisWithin far block.z
-  -- and I, K and R, all in 0.001 mm
+  -- the words I, K and R, if they are given
   pub i : IsLengthWithin far block.i
   pub k : IsLengthWithin far block.k
   pub r : IsLengthWithin far block.r
@@ -47,13 +49,13 @@ is_move_due _ block = names_axis block
 abbrev pub target_in : BlockMotion → Result Point MotionFault
 target_in block = target_of block.start block.shift block.x block.z
 
--- an arc to where they lead, round the centre that I, K and R give
+-- an arc to where the axis words lead, round the centre that I, K and R give, or its alarm
 abbrev pub arc_in : Bool → BlockMotion → Result Move MotionFault
 arc_in clockwise block = do
   to ← target_in block
   arc_of block.start to clockwise (centre_of block.i block.k block.r) block.feed block.per_rev
 
--- the moves of each code that leads the turret along a line, an arc or home
+-- the moves of a block that moves, by the kind of its code; or the alarm that comes first
 abbrev pub moves_due : CodeKind → BlockMotion → Result (List Move) MotionFault
 -- G00, a rapid to the target
 moves_due Rapid block = do
@@ -92,7 +94,7 @@ moves_due _ block = Ok []
 abbrev pub moves_of : CodeKind → BlockMotion → Result (List Move) MotionFault
 moves_of kind block = if is_move_due kind block then moves_due kind block else Ok []
 
--- every move that goes somewhere ends at such a point
+-- every move that goes somewhere ends at a point of which P holds
 abbrev pub AllEnd : (Point → Type 0) → List Move → Type 0
 AllEnd P moves = All (λ move. IfSome (end_of move) P) moves
 

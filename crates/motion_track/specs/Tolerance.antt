@@ -1,5 +1,5 @@
--- What the law of arcs says of them, in lengths and without a square root.
--- For this crate alone.
+-- What it means that an arc ends on its circle, in lengths and without a square root: the law
+-- `arcs_end_on_their_circle` (src/circle.rt) says it. For this crate alone.
 use Rattle.std.specs.Prelude.{ℕ, ◌+◌, ◌*◌, ◌≤◌, ℤ}
 use Rattle.nc_number.specs.declared.point.Point.{Point}
 use Rattle.motion_track.specs.Circle.{tolerance, place_of, centre_from, square_between}

@@ -1,4 +1,4 @@
-//! The centre of an arc, from I, K and R. R goes before I and K.
+//! The centre of an arc, from I, K and R. For block.rt of this crate; tests call it too.
 ghost use Rattle.std.specs.Prelude.{◌≡◌, ◌↔◌, ℕ, IsNone};
 ghost use Rattle.motion_track.specs.Centre.{centre_of, IsLengthWithin, IsGivenWithin};
 

@@ -1,5 +1,5 @@
 //! Arcs, and whether they end on their circle. Where an arc ends is in targets.rt, and its centre
-//! in centre.rt.
+//! in centre.rt. block.rt of this crate calls `arc`; the law at the end is for readers.
 ghost use Rattle.std.specs.Prelude.{◌≡◌, ◌≤◌, true, false, ℤ, ◌*◌, unsigned_abs};
 ghost use Rattle.nc_number.specs.declared.point.Point.{Point};
 ghost use Rattle.nc_moves.specs.declared.motion.Centre.TheVariants.{Offset};

@@ -1,5 +1,5 @@
-//! Why there is no move. An alarm by its number; the causes are in nc_number.
-//! block_values and turn_cycles use what it exports.
+//! Why a block has no move: an alarm, by its number. The causes are in nc_number.
+//! turn_cycles and block_values answer it too.
 ghost use Rattle.std.specs.Prelude.{◌≡◌};
 
 use nc_number::Cause;

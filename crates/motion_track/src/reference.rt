@@ -1,4 +1,5 @@
-//! The way home (G28): to the intermediate point, then home.
+//! The way home (G28): to the intermediate point, then to the reference position. For block.rt of
+//! this crate; tests call it too.
 ghost use Rattle.std.specs.Prelude.{◌≡◌};
 ghost use Rattle.motion_track.specs.Home.{named, home_moves};
 

@@ -1,4 +1,5 @@
-//! A line that answers as its list says.
+//! A test of the stepper in memory (nc_outside) that answers as its list says: its answers, and the
+//! calls that it keeps.
 use nc_moves::{MoveList, Moves};
 use nc_number::Path;
 use nc_outside::{Call, Drain, Drainable, Halt, ListStepper, Next, Stepper};
@@ -28,6 +29,7 @@ fn told(call: &Call) -> (&'static str, Path) {
     }
 }
 
+/// The word for what a step answered.
 fn word(answer: &Next) -> &'static str {
     match answer {
         Next::Silent => "silent",
@@ -38,6 +40,7 @@ fn word(answer: &Next) -> &'static str {
     }
 }
 
+/// Makes a step of the path, and gives the word for its answer.
 fn step<S: Stepper>(stepper: &mut S, path: Path) -> &'static str {
     word(&stepper.step(path))
 }

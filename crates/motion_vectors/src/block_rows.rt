@@ -1,5 +1,5 @@
-//! Where the words of a block lead, its moves and its cycles: rows worked by hand from the rules of
-//! the control.
+//! Tests of motion_track and turn_cycles: where the words of a block lead, its moves and its
+//! cycles. The rows are worked by hand from the rules of the control.
 ghost use Rattle.motion_track.specs.Block.{IsBlockWithin};
 
 use crate::cycles::cycle_holds;
@@ -129,6 +129,7 @@ fn block_of(start: &str, shift: &str, words: &str) -> BlockMotion
     }
 }
 
+/// The kind of the code that a row names; a name that is none stands for a code that does nothing.
 fn code_of(name: &str) -> CodeKind {
     match name {
         "G00" => CodeKind::Rapid,
@@ -143,6 +144,7 @@ fn code_of(name: &str) -> CodeKind {
     }
 }
 
+/// Whether the moves of a block, or its alarm, are as wanted.
 fn are_answered(answer: Result<MoveList, MotionFault>, wanted: &str) -> bool {
     match answer {
         Ok(moves) => are_moves(moves.as_slice(), wanted),
@@ -150,6 +152,7 @@ fn are_answered(answer: Result<MoveList, MotionFault>, wanted: &str) -> bool {
     }
 }
 
+/// Whether one move, or its alarm, is as wanted.
 fn is_answered(answer: Result<Move, MotionFault>, wanted: &str) -> bool {
     match answer {
         Ok(what) => is_move(&what, wanted),
@@ -166,6 +169,7 @@ fn is_led(what: &str, wanted: &str) -> bool {
     }
 }
 
+/// Whether the call of a row with this block answers what is wanted.
 fn holds(call: &str, block: &BlockMotion, words: &str, wanted: &str) -> bool
     requires { IsBlockWithin LONGEST block.now }
 {
@@ -186,6 +190,7 @@ fn holds(call: &str, block: &BlockMotion, words: &str, wanted: &str) -> bool
     }
 }
 
+/// Whether a row holds.
 fn row_holds(row: &str) -> bool {
     let mut parts = row.split('|');
     let call = parts.next().unwrap_or("");

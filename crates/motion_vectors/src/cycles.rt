@@ -1,4 +1,5 @@
-//! Canned cycles: where they end, their moves, and the end that they keep.
+//! Canned cycles in the rows of block_rows.rt: where they end, their moves, and the end that they
+//! keep.
 ghost use Rattle.std.specs.Prelude.{IfSome};
 ghost use Rattle.nc_number.specs.Position.{IsPosition};
 ghost use Rattle.motion_track.specs.Block.{IsBlockWithin};

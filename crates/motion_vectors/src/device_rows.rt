@@ -1,5 +1,5 @@
-//! What the forms in memory of a shelf, a sink and a turret answer where some of their calls are to
-//! fail.
+//! Tests of the forms in memory of a shelf, a sink and a turret (nc_outside): what they answer
+//! where some of their calls are to fail.
 use crate::move_text::move_of;
 use crate::words::{count, lines_of, point, small};
 use nc_moves::Move;
@@ -45,6 +45,7 @@ settle|5|taken";
 /// The line of the block whose moves are handed.
 const LINE: u32 = 7;
 
+/// The word of a row for what a shelf answered.
 fn fetch_name(answer: Result<(), FetchFault>) -> &'static str {
     match answer {
         Ok(()) => "fetched",
@@ -55,6 +56,7 @@ fn fetch_name(answer: Result<(), FetchFault>) -> &'static str {
     }
 }
 
+/// The word of a row for what a sink answered.
 fn put_name(answer: Result<(), PutFault>) -> &'static str {
     match answer {
         Ok(()) => "put",
@@ -63,12 +65,13 @@ fn put_name(answer: Result<(), PutFault>) -> &'static str {
     }
 }
 
-/// Whether the rest of a row writes these.
+/// Whether the rest of a row is this count of faults and this answer.
 fn is_told(rest: &str, faults: u64, answer: &str) -> bool {
     let (number, wanted) = rest.split_once('|').unwrap_or((rest, ""));
     faults == count(number) && answer == wanted
 }
 
+/// Whether the shelf answers a row of `SHELF` so.
 fn fetch_holds(alloc: Global, shelf: &mut MemoryShelf, row: &str) -> Result<bool, Fail> {
     let (call, rest) = row.split_once('|').unwrap_or((row, ""));
     let (name, most) = call.split_once(' ').unwrap_or((call, ""));
@@ -78,6 +81,7 @@ fn fetch_holds(alloc: Global, shelf: &mut MemoryShelf, row: &str) -> Result<bool
     Ok(into.as_slice() == text.as_bytes() && is_told(rest, shelf.faults(), answer))
 }
 
+/// Whether the sink answers a row of `SINK` so.
 fn put_holds(alloc: Global, sink: &mut VecSink, row: &str) -> Result<bool, Fail> {
     let (piece, rest) = row.split_once('|').unwrap_or((row, ""));
     let (text, rest) = rest.split_once('|').unwrap_or((rest, ""));
@@ -86,6 +90,7 @@ fn put_holds(alloc: Global, sink: &mut VecSink, row: &str) -> Result<bool, Fail>
     Ok(sink.bytes() == text.as_slice() && is_told(rest, sink.faults(), answer))
 }
 
+/// Whether the turret answers a row of `TURRET` so.
 fn hand_holds(turret: &mut MemoryTurret, row: &str) -> bool {
     let (call, rest) = row.split_once('|').unwrap_or((row, ""));
     let answer = match move_of(call) {

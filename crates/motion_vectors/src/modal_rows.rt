@@ -1,4 +1,5 @@
-//! What the blocks of a tape leave in force: rows worked by hand from the rules of the control.
+//! Tests of modal_state and code_tables: what the blocks of a tape leave in force. The rows are
+//! worked by hand from the rules of the control.
 use crate::move_text::is_alarm;
 use crate::words::{behind, count, position, small, value};
 use code_tables::{CodeKind, Row, System, WORK_GROUP, row_of_code};
@@ -72,6 +73,7 @@ fn is_code(modal: &Modal, group: &str, code: &str) -> bool {
     in_force == behind(code, 'G').map(|number| small(number))
 }
 
+/// Whether what the text says is in force.
 fn is_in_force(modal: &Modal, what: &str) -> bool {
     let (name, words) = what.split_once(' ').unwrap_or((what, ""));
     match name {
@@ -111,6 +113,7 @@ fn takes(modal: &mut Modal, words: &str, wanted: &str) -> bool {
     }
 }
 
+/// The system of codes of this letter.
 fn system_named(letter: &str) -> System {
     if letter == "B" { System::B } else { System::A }
 }
@@ -146,6 +149,7 @@ fn step(alloc: Global, modal: &mut Modal, block: &str, wanted: &str) -> Result<b
     Ok(true)
 }
 
+/// Lets the block of a row be, and says whether its alarm and what is then in force are as wanted.
 fn row_holds(alloc: Global, modal: &mut Modal, row: &str) -> Result<bool, Fail> {
     let mut parts = row.split('|');
     let block = parts.next().unwrap_or("");

@@ -1,5 +1,5 @@
-//! Moves as a row writes them: `rapid X50. Z2.`, `feed X50. Z2. F0.2`, `cw X0 Z-10. I-10. K0 F0.1
-//! min`, `speed G96 S200`, `aux M3`.
+//! Moves as a row of these tests writes them: `rapid X50. Z2.`, `feed X50. Z2. F0.2`, `cw X0 Z-10.
+//! I-10. K0 F0.1 min`, `speed G96 S200`, `aux M3`. The tables of this crate compare by it.
 use crate::words::{behind, centre, count, feed, point, small};
 use motion_track::MotionFault;
 use nc_moves::Move;

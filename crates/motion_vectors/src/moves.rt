@@ -1,4 +1,4 @@
-//! Lists of moves.
+//! Tests of lists of moves (nc_moves): their order, and their room.
 use crate::move_text::are_moves;
 use nc_moves::{MOVES_PER_BLOCK, Move, MoveList, Moves};
 

@@ -1,5 +1,5 @@
-//! The offsets of a path, and which of them G10 names: rows worked by hand from the rules of the
-//! control.
+//! Tests of offset_store: the offsets of a path, and which of them G10 names. The rows are worked
+//! by hand from the rules of the control.
 ghost use Rattle.std.specs.Prelude.{◌≤◌};
 
 use crate::move_text::is_alarm;
@@ -68,6 +68,7 @@ fn named(words: &str) -> Result<Slot, OffsetFault> {
     Slot::named(form, increments(words, 'P'))
 }
 
+/// Whether the text writes the offset: its list, and its number.
 fn is_slot(slot: &Slot, text: &str) -> bool {
     let (list, number) = text.split_once(' ').unwrap_or((text, ""));
     match slot {
@@ -77,6 +78,7 @@ fn is_slot(slot: &Slot, text: &str) -> bool {
     }
 }
 
+/// Whether an offset was set, or refused by the alarm that is wanted.
 fn is_set(answer: Result<(), OffsetFault>, wanted: &str) -> bool {
     match answer {
         Ok(()) => wanted.is_empty(),
@@ -84,6 +86,7 @@ fn is_set(answer: Result<(), OffsetFault>, wanted: &str) -> bool {
     }
 }
 
+/// Whether the text writes the point, `to X50. Z2.`
 fn is_point(at: Point, wanted: &str) -> bool {
     wanted.starts_with("to ") && at == point(wanted)
 }
@@ -127,6 +130,7 @@ fn slot_holds(offsets: &mut Offsets, call: &str, words: &str, wanted: &str) -> b
     }
 }
 
+/// Whether the call of a row answers what is wanted.
 fn holds(offsets: &mut Offsets, call: &str, words: &str, wanted: &str) -> bool {
     let p = increments(words, 'P').unwrap_or(0);
     let (work, tool) = (number(words, 'P', 6), number(words, 'T', 64));

@@ -1,4 +1,5 @@
-//! Texts of the settings of the cell, and what they say.
+//! Tests of cell_settings: texts of the settings of the cell, and what they say or at which line
+//! they are refused.
 use crate::words::{count, lines_of, point};
 use cell_settings::{Preset, PresetKind, Settings, read_settings};
 use code_tables::System;
@@ -88,6 +89,7 @@ fn number(settings: &Settings, name: &str) -> u64 {
     }
 }
 
+/// The point of the second of two opening offsets, if the first is of wear.
 fn behind_wear(presets: &[Preset]) -> Option<Point> {
     match presets {
         [first, second] if first.kind == PresetKind::Wear => Some(second.to),
@@ -108,10 +110,12 @@ fn place(settings: &Settings, name: &str) -> Option<Point> {
     }
 }
 
+/// The system of codes of this letter.
 fn system_named(letter: &str) -> System {
     if letter == "B" { System::B } else { System::A }
 }
 
+/// Whether the settings have the value that the text says, under its name.
 fn says(settings: &Settings, what: &str) -> bool {
     let (name, words) = what.split_once(' ').unwrap_or((what, ""));
     if name == "codes" {
@@ -123,6 +127,7 @@ fn says(settings: &Settings, what: &str) -> bool {
     }
 }
 
+/// Whether the settings have all values that a row says.
 fn says_all(settings: &Settings, wanted: &str) -> bool {
     for what in wanted.split(", ") {
         if what != "taken" && !says(settings, what) {
@@ -132,6 +137,7 @@ fn says_all(settings: &Settings, wanted: &str) -> bool {
     true
 }
 
+/// Whether this is the refused line that a row wants.
 fn is_line(line: u32, wanted: &str) -> bool {
     match wanted.strip_prefix("line ") {
         Some(number) => u64::from(line) == count(number),
@@ -139,6 +145,7 @@ fn is_line(line: u32, wanted: &str) -> bool {
     }
 }
 
+/// Whether the text of a row reads as the row says.
 fn row_holds(alloc: Global, row: &str) -> Result<bool, Fail> {
     let (text, wanted) = row.split_once('|').unwrap_or((row, ""));
     let text = lines_of(alloc, text)?;

@@ -1,4 +1,5 @@
-//! The words of a row, written as on a tape: `X50. Z2. F0.2`.
+//! The words of a row, written as on a tape (`X50. Z2. F0.2`), as the lengths, points and values
+//! that they say. The tables of this crate read their rows by it.
 ghost use Rattle.std.specs.Prelude.{IfSome};
 ghost use Rattle.nc_number.specs.Position.{IsPosition, IsWithin};
 ghost use Rattle.nc_number.specs.Axes.{IsAxisWithin};
@@ -20,6 +21,7 @@ pub(crate) fn behind<'a>(words: &'a str, letter: char) -> Option<&'a str> {
     None
 }
 
+/// The number that the digits write, if they are one of a tape.
 fn literal(digits: &str) -> Option<Literal> {
     let digits = digits.as_bytes();
     if is_literal(digits) {
@@ -41,7 +43,7 @@ pub(crate) fn increments(words: &str, letter: char) -> Option<i64> {
     Some(told.unwrap_or(i64::MAX))
 }
 
-/// The same, no longer than the longest length.
+/// What a word says in 0.001 mm, if it is there; past the longest length that is that length.
 pub(crate) fn length(words: &str, letter: char) -> Option<i64>
     ensures { IsLengthWithin LONGEST result }
 {
@@ -108,7 +110,7 @@ pub(crate) fn centre(words: &str) -> Option<Centre>
     }
 }
 
-/// The same of a number below 65,535.
+/// The number below 65,535 that the digits write; anything else counts as 65,535.
 pub(crate) fn small(digits: &str) -> u16 {
     digits.parse::<u16>().unwrap_or(u16::MAX)
 }

@@ -1,4 +1,5 @@
--- What a block comes to depends on what it says, and on nothing else of its flow.
+-- What a block does depends on what it says (its form), and on nothing else of its flow. Two flows
+-- with the same forms have the same blocks for the machine: SamePair.antt takes it.
 use Rattle.std.proofs.Common.{◌≡◌, ℕ, ◌==◌, Bool, true, false, cond, List, [], ◌∷◌, map, Option, Some, None, refl, sym, ap, ◌∙◌}
 use Rattle.std.specs.List.{find, slice_get}
 use Rattle.std.specs.Option.{option_map}
@@ -24,26 +25,30 @@ use Rattle.path_state.specs.Effect.{Effect, block_of_words, block_of_statement, 
 use Rattle.two_path.specs.Turns.{Blocks, blocks_of}
 
 module _ (tape : List ControlProgram) (path : PathView) (reads : List Var) where
+  -- what a block of this form and control does
   abbrev effect_of_form : Form → Control → Effect
   effect_of_form (OfWords dialect words) control =
       block_of_words tape path.fixed path (purpose_of dialect words) dialect.system words control reads
   effect_of_form (OfSentence sentence) control = block_of_statement tape path.fixed path sentence reads
 
+  -- a body does what its form does
   body_same : (body : FlowBody) (control : Control)
       → effect_of_body tape path.fixed path body control reads ≡ effect_of_form (form_of body) control
   body_same (Words words) control =
       ap (λ p. block_of_words tape path.fixed path p words.dialect.system words.words control reads) words.purpose_is
   body_same (Statement statement) control = refl
 
+  -- what the block at a place does, by its form; without a block the path is past the last one
   abbrev effect_by : Option BlockForm → Effect
   effect_by None = past_the_last
   effect_by (Some block) = effect_of_form block.form block.control
 
+  -- a block does what its form does
   block_same : (block : Option FlowBlock) → effect_of_block tape path block reads ≡ effect_by (option_map block_form block)
   block_same None = refl
   block_same (Some block) = body_same block.body block.control
 
--- the block at a place of programs, by what they say
+-- the forms of the blocks of a program, if there is one
 abbrev form_blocks : Option ProgramForm → List BlockForm
 form_blocks None = []
 form_blocks (Some program) = program.blocks
@@ -57,7 +62,7 @@ abbrev form_at : List ProgramForm → List Frame → Option BlockForm
 form_at programs [] = None
 form_at programs (f ∷ stack) = slice_get (form_blocks (form_program programs f.program)) f.block
 
--- the blocks of a program have the forms of the form's blocks,
+-- the blocks of a program have the forms of the form's blocks
 program_same : (programs : List FlowProgram) (number : ℕ)
     → map block_form (flow_blocks (flow_program programs number)) ≡ form_blocks (form_program (map program_form programs) number)
 program_same [] number = refl
@@ -69,7 +74,7 @@ program_same (p ∷ programs) number = go (p.number == number) (program_same pro
     go true rest = refl
     go false rest = rest
 
--- and so has the block at a place
+-- the block at a place has the form at that place
 at_same : (programs : List FlowProgram) (place : List Frame) → option_map block_form (block_at programs place) ≡ form_at (map program_form programs) place
 at_same programs [] = refl
 at_same programs (f ∷ stack) =
@@ -83,13 +88,13 @@ blocks_by programs = record {
   line = line_at (controls programs);
 }
 
--- a block comes to what its form comes to
+-- what a flow's block does at a place is what its form does there
 effect_same : (flow : Flow) (path : PathView) (reads : List Var)
     → effect_of flow path reads ≡ (blocks_by (map program_form flow.programs)).effect path reads
 effect_same flow path reads =
     block_same flow.order path reads (block_at flow.programs path.place)
     ∙ (λ i. effect_by (flow.agrees i) path reads (at_same flow.programs path.place i))
 
--- flows of the same forms come to the same
+-- the blocks of a flow are those of the forms of its programs
 pub blocks_same : (flow : Flow) → blocks_of flow ≡ blocks_by (map program_form flow.programs)
 blocks_same flow = λ i. record { effect = λ path reads. effect_same flow path reads i; line = line_at (flow.agrees i) }

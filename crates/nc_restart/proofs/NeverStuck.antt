@@ -1,4 +1,5 @@
 -- No order of turns over an accepted pair, and no history of it, leads to paths that can't go on.
+-- The laws `no_accepted_pair_is_stuck` and `no_history_is_stuck` (src/laws.rt) rest on it.
 use Rattle.std.proofs.Common.{List, refl, sym, ap, subst, ◌∙◌}
 use Rattle.nc_number.specs.declared.path.Path.TheVariants.{One, Two}
 use Rattle.block_order.specs.Labels.{IsUnforked, list}
@@ -33,12 +34,12 @@ never_stuck controlled free texts pair entries is history =
     free pair.left pair.right (accepted_pair texts pair controlled is) (opening_path pair.left pair.settings One) (opening_path pair.right pair.settings Two)
     (record { one = refl; two = refl }) entries history.legal
 
--- no order of turns of an accepted pair does
+-- no order of turns of an accepted pair leads to paths that can't go on, from any starts of them
 pub no_order_stuck : ((flow : Flow) → IsControlled flow) → ((left right : Flow) → IsPair left right → IsNeverStuck left right)
     → (texts : Texts) (pair : Verified) → IsPairOf texts pair → IsNeverStuck pair.left pair.right
 no_order_stuck controlled free texts pair is = free pair.left pair.right (accepted_pair texts pair controlled is)
 
--- and so from the first turn of its own machine
+-- no order of turns leads there from the machine with which a run of the pair begins
 pub no_run_stuck : ((flow : Flow) → IsControlled flow) → ((left right : Flow) → IsPair left right → IsNeverStuck left right)
     → (texts : Texts) (pair : Verified) (events : List Event) → IsPairOf texts pair
     → IsFree (tapes_in pair) (run (tapes_in pair) (opening_of pair) events)

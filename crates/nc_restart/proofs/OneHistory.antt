@@ -1,4 +1,5 @@
--- Over any stops and restarts the records are one history.
+-- Over any stops and restarts the records are one history. The law `restarts_make_one_history`
+-- (src/laws.rt) rests on it.
 use Rattle.std.proofs.Common.{◌≡◌, ℕ, zero, suc, ◌≤◌, List, [], ◌∷◌, ◌++◌, length, take, refl, sym, ap, subst, ◌∙◌, arith, append_assoc, append-nil}
 use Rattle.run_records.specs.Entries.{Entry}
 use Rattle.run_records.specs.declared.header.Header.{Header}
@@ -15,8 +16,9 @@ use Rattle.nc_restart.specs.Lives.{IsLife, LeaveEach, AreOneHistory}
 use Rattle.nc_restart.proofs.SamePair.{same_pair}
 use Rattle.nc_restart.proofs.OneRun.{Below, history_same, one_run, header_of, entries_of}
 
--- what is kept stays so over records that are done again, and over events
+-- a machine that keeps its history over each record that is done again and over each event
 module _ (tapes : Tapes) (m : MachineView) (keeps : Keeps tapes m) where
+  -- after further legal records the history is that of the records before and these
   kept_on : (done entries : List Entry) (now : MachineView) → IsKept tapes m done now → without_reads now ≡ now → IsLegal tapes now entries
       → IsKept tapes m (done ++ entries) (fold tapes now entries)
   kept_on done [] now kept bare legal = subst (λ (l : List Entry). IsKept tapes m l now) (sym (append-nil done)) kept
@@ -27,26 +29,30 @@ module _ (tapes : Tapes) (m : MachineView) (keeps : Keeps tapes m) where
       subst (λ (l : List Entry). IsKept tapes m l (fold tapes (behind_entry tapes e now) entries)) (append_assoc done (e ∷ []) entries)
       (kept_on (done ++ e ∷ []) entries (behind_entry tapes e now) here (entry_bare tapes e now) legal.1)
 
+  -- the records before and those of further events are legal together
   legal_on : (entries : List Entry) (now : MachineView) (events : List Event) → IsKept tapes m entries now → IsLegal tapes m (entries ++ history tapes now events)
   legal_on entries now [] kept = subst (IsLegal tapes m) (sym (append-nil entries)) kept.legal
   legal_on entries now (e ∷ events) kept =
       subst (IsLegal tapes m) (append_assoc entries (records_of tapes e now) (history tapes (behind_event tapes e now) events))
       (legal_on (entries ++ records_of tapes e now) (behind_event tapes e now) events (keeps.event entries now e kept))
 
--- the first ones of the first ones
+-- if at least all found records are kept of a longer list, those it begins with are the found ones
 front_again : (found more : List Entry) (kept : ℕ) → length found ≤ kept → take (length found) (take kept (found ++ more)) ≡ found
 front_again [] more kept holds = refl
 front_again (e ∷ found) more zero holds = absurd (omega (arith, holds))
 front_again (e ∷ found) more (suc kept) holds = ap (λ l. e ∷ l) (front_again found more kept (omega (arith, holds)))
 
+-- a run over restarts, by the laws of the layers below
 module _ (below : Below) (keeps : (pair : Verified) → Keeps (tapes_in pair) (opening_of pair))
     (runs : (pair : Verified) → HistoriesAreRuns (tapes_in pair) (opening_of pair)) where
+  -- a history and the records of events after it are legal together
   life_legal : (pair : Verified) (found : List Entry) (events : List Event) → IsHistory pair found
       → IsLegal (tapes_in pair) (opening_of pair) (found ++ history (tapes_in pair) (machine_behind pair found) events)
   life_legal pair found events is =
       let kept = kept_on (tapes_in pair) (opening_of pair) (keeps pair) [] found (opening_of pair) (keeps pair).opening refl is.legal in
       legal_on (tapes_in pair) (opening_of pair) (keeps pair) found (machine_behind pair found) events kept
 
+  -- what a stop leaves of a history and of what came after it is a history of the header
   life_has : (header : Header) (found left : List Entry) → HasHistory header found → IsLife header found left → HasHistory header left
   life_has header found left has life =
       let same = same_pair (texts_of header) has.pair life.pair has.accepted life.accepted in
@@ -61,6 +67,7 @@ module _ (below : Below) (keeps : (pair : Verified) → Keeps (tapes_in pair) (o
         };
       }
 
+  -- what a stop leaves begins with the records that the restart found
   life_front : (header : Header) (found left : List Entry) → IsLife header found left → take (length found) left ≡ found
   life_front header found left life =
       ap (take (length found)) life.are

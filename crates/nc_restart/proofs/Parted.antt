@@ -1,4 +1,5 @@
--- Lists that are parted at a place: at an earlier one, at the same, in pieces.
+-- Lists that are parted at a place, of records and of pieces. For OneRun.antt of this crate, which
+-- compares two places of one journal.
 use Rattle.std.proofs.Common.{◌≡◌, ◌<◌, List, [], ◌∷◌, ◌++◌, length, map, drop, get_or, refl, sym, ap, arith}
 use Rattle.run_records.specs.declared.version.Version.{Version}
 use Rattle.run_records.specs.declared.version.Version.TheVariants.{Two}
@@ -8,7 +9,8 @@ use Rattle.run_journal.specs.Batches.{Piece, a_batch, the_mark, batch_bytes, rai
 pub first_alike : {X : Type 0} (x y : X) (xs ys : List X) → x ∷ xs ≡ y ∷ ys → x ≡ y
 first_alike x y xs ys same = ap (λ l. get_or l 0 x) same
 
--- what is parted at an earlier place has the rest in between
+-- of a list that is parted at two places, the later front is the earlier front, its element, and
+-- what lies between
 pub parted_before : {X : Type 0} (before other after rest : List X) (x y : X) → before ++ x ∷ after ≡ other ++ y ∷ rest
     → length before < length other → (between : List X) × (other ≡ before ++ x ∷ between)
 parted_before before [] after rest x y same less = absurd (omega (arith, less))
@@ -18,7 +20,7 @@ parted_before (w ∷ before) (z ∷ other) after rest x y same less =
     let later = parted_before before other after rest x y (ap (drop 1) same) (omega (arith, less)) in
     (later.0, λ i. sym (first_alike w z (before ++ x ∷ after) (other ++ y ∷ rest) same) i ∷ later.1 i)
 
--- what is parted at the same place has the same parts
+-- a list that is parted twice at the same place has the same parts
 pub parted_alike : {X : Type 0} (before other after rest : List X) → before ++ after ≡ other ++ rest → length before ≡ length other
     → (before ≡ other) × (after ≡ rest)
 parted_alike [] [] after rest same size = (refl, same)
@@ -28,7 +30,7 @@ parted_alike (w ∷ before) (z ∷ other) after rest same size =
     let later = parted_alike before other after rest (ap (drop 1) same) (omega (arith, size)) in
     ((λ i. first_alike w z (before ++ after) (other ++ rest) same i ∷ later.0 i), later.1)
 
--- pieces with the same bytes and the same records: the count of a batch is no mark
+-- pieces with the same bytes and the same records are the same: the count of a batch is no mark
 pub pieces_alike : (version other : Version) (pieces others : List Piece) → ArePieces version pieces → ArePieces other others
     → map piece_bytes pieces ≡ map piece_bytes others → records_of pieces ≡ records_of others → pieces ≡ others
 pieces_alike version other [] [] are also bytes records = refl

@@ -1,4 +1,5 @@
--- The first so many records of a history are one.
+-- The first so many records of a history are a history. The law `an_image_of_a_run_is_never_bad`
+-- (src/laws.rt) rests on it.
 use Rattle.std.proofs.Common.{ℕ, List, take, arith}
 use Rattle.std.proofs.lemmas.List.{length-take}
 use Rattle.run_records.specs.Entries.{Entry}
@@ -17,7 +18,7 @@ history_front pair n entries runs is = record {
   few = omega (arith, is.few, length-take n entries);
 }
 
--- and so are those of the history of a header
+-- the first so many records of a header's history are a history of the header
 pub front_has : (header : Header) (n : ℕ) (entries : List Entry) (has : HasHistory header entries)
     → HistoriesAreRuns (tapes_in has.pair) (opening_of has.pair) → HasHistory header (take n entries)
 front_has header n entries has runs = record {

@@ -1,4 +1,5 @@
--- A run is recovered as its journal is opened, and its records are done again.
+-- A run is recovered or refused as its journal is opened and its records are done again. `recover`
+-- (src/recovery.rt) rests on it.
 use Rattle.std.proofs.Common.{◌≡◌, ℕ, ◌+◌, ◌*◌, ◌≤◌, List, [], ◌∷◌, length, sym, ap, subst, ◌∙◌, arith, Some, Ok, Err, length-append}
 use Rattle.disk_model.specs.Device.{DiskState, Reads, Only, IsSettled}
 use Rattle.disk_model.specs.Moments.{Uses}
@@ -63,13 +64,16 @@ not_opened old new fault finds = record {
   uses = finds.uses;
 }
 
+-- a journal that was opened, and what was found in it
 module _ (old new : DiskState) (found : Found) (finds : FindsRun old new (Ok found)) where
+  -- all that a read of the disk gives is on the disk
   settled : IsSettled new
   settled bytes reads =
       let is = finds.found in
       let keeps = (is.1.file bytes (sym finds.unwritten.same ∙ reads)).1 in
       kept_settled (bodies_of found.header is.0) new found.end bytes keeps reads
 
+  -- if the header and the records that were found are no run, the recovery is refused for that
   refused_reading : (fault : RestartFault) → RefusesReading found.header found.entries found.offsets fault → RefusesRecovery fault old new
   refused_reading (BadRecord offset cause) bad =
       let is = finds.found in (
@@ -93,13 +97,13 @@ module _ (old new : DiskState) (found : Found) (finds : FindsRun old new (Ok fou
     uses = finds.uses;
   }
 
-  -- where the disk tells its content now it did so before
+  -- where the disk tells its content, it holds the header and the records that were found
   pub held : (bytes : List ℕ) → Reads new bytes → Holds found.header found.version found.entries new found.end
   held bytes reads =
       let is = finds.found in
       (is.0, is.1.run, is.1.version, (is.1.file bytes (sym finds.unwritten.same ∙ reads)).1)
 
-  -- and one whose machine is made anew recovers that run
+  -- if the texts of the header are accepted and the records are a history, that run is recovered
   pub rebuilt : (pair : Verified) → IsPairOf (texts_of found.header) pair → IsHistory pair found.entries
       → Recovers old new (Ok (record { header = found.header; entries = found.entries }))
   rebuilt pair accepted history =

@@ -1,4 +1,5 @@
--- Records that are done again one by one: the machine is the fold of those that are done.
+-- Records that are done again one by one: the machine is the fold of those that are done. `redo`
+-- and `replay` (src/replay.rt) rest on it.
 use Rattle.std.proofs.Common.{◌≡◌, ℕ, suc, ◌+◌, ◌≤◌, ◌<◌, List, [], ◌∷◌, ◌++◌, length, take, drop, get_or, refl, sym, ap, subst, ◌∙◌, arith, length-append}
 use Rattle.std.proofs.lemmas.List.{take_more, take_all, length-take-le, take-append-drop}
 use Rattle.std.proofs.Math.Seq.{drop-cons}
@@ -19,19 +20,21 @@ use Rattle.nc_restart.specs.Pair.{tapes_in, opening_of, machine_behind}
 use Rattle.nc_restart.specs.History.{IsBehind, IsOutOfPlace, illegal, beyond, IsOutOfPlaceAt}
 use Rattle.nc_restart.specs.Reading.{AreDone}
 
+-- a record that is to be done behind those before it
 module _ (pair : Verified) (before : List Entry) (e : Entry) (m n : MachineView) (is : IsBehind pair before m) where
-  -- a record that is not the machine's step is out of place,
+  -- a record that is no step of the machine is out of place
   pub next_illegal : IsRefused (tapes_in pair) e m n → IsOutOfPlace pair before e NotLegal
   next_illegal refused = illegal (λ next. refused.illegal (subst (λ (x : MachineView). IsNext (tapes_in pair) x e) (sym is.folds) next))
 
+  -- a record that the machine does again is a step of it
   next_may : (turn : Turn) → IsDoneAgain (tapes_in pair) e m n turn → IsNext (tapes_in pair) (machine_behind pair before) e
   next_may turn done = subst (λ (x : MachineView). IsNext (tapes_in pair) x e) (is.folds) done.legal
 
-  -- and so is one past as many as the settings allow
+  -- a step of the machine is out of place if there are as many records as the settings allow
   pub next_beyond : (turn : Turn) → IsDoneAgain (tapes_in pair) e m n turn → pair.settings.records ≤ m.count → IsOutOfPlace pair before e TooManyRecords
   next_beyond turn done full = beyond (next_may turn done) (omega (arith, full, is.counts, is.history.few))
 
-  -- any other is done again: the records so far are a history with it
+  -- any other step is done again, and the machine stands behind the records with it
   pub next_done : (turn : Turn) → ((entries : List Entry) → IsLegal (tapes_in pair) (opening_of pair) entries → Counts (tapes_in pair) (opening_of pair) entries)
       → IsDoneAgain (tapes_in pair) e m n turn → m.count < pair.settings.records
       → AreAtTheirWaits pair.left.order pair.right.order n → IsBehind pair (before ++ e ∷ []) n
@@ -47,7 +50,7 @@ module _ (pair : Verified) (before : List Entry) (e : Entry) (m n : MachineView)
         waits = waits;
       }
 
--- before the first record
+-- before the first record none is done, and there is room for all
 pub none_done : (pair : Verified) (entries : List Entry) (now : RoomyMachine) → now.machine ≡ opening_of pair → length entries ≤ now.room → AreDone pair entries 0 now
 none_done pair entries now opens room = record {
   behind = record {
@@ -69,15 +72,18 @@ room_there pair entries done now are within = omega (arith, are.room, within)
 pub few_done : (pair : Verified) (entries : List Entry) (done : ℕ) (now : RoomyMachine) → AreDone pair entries done now → now.machine.count ≤ MOST_RECORDS
 few_done pair entries done now are = omega (arith, are.behind.counts, are.behind.history.few, pair.settings.most_records)
 
+-- so many records are done, and this one is next
 module _ (pair : Verified) (entries : List Entry) (done : ℕ) (e : Entry) (now : RoomyMachine) (are : AreDone pair entries done now)
     (within : done < length entries) (is : e ≡ get_or entries done e) where
+  -- the records up to the next index are those that are done and this one
   taken : take (done + 1) entries ≡ take done entries ++ e ∷ []
   taken = take_more entries done e within ∙ ap (λ x. take done entries ++ x ∷ []) (sym is)
 
+  -- those that are done are so many
   size : length (take done entries) ≡ done
   size = length-take-le done entries (omega (arith, within))
 
-  -- then one record more is done, and there is room for the others
+  -- if the machine does this record, one more is done, and there is room for the others
   pub more_done : (next : RoomyMachine) → ((before : List Entry) → IsBehind pair before now.machine → IsBehind pair (before ++ e ∷ []) next.machine)
       → now.machine.count + now.room ≤ next.machine.count + next.room → AreDone pair entries (done + 1) next
   more_done next redone room =
@@ -88,7 +94,7 @@ module _ (pair : Verified) (entries : List Entry) (done : ℕ) (e : Entry) (now 
         room = omega (arith, room, counted, are.behind.counts, size, are.room);
       }
 
-  -- a record that is out of place behind those so far is the first such
+  -- if this record is out of place, it is the first such of all
   pub bad_at : (cause : BadRecord) → ((before : List Entry) → IsBehind pair before now.machine → IsOutOfPlace pair before e cause)
       → IsOutOfPlaceAt pair entries done cause
   bad_at cause bad = record {
@@ -101,7 +107,7 @@ module _ (pair : Verified) (entries : List Entry) (done : ℕ) (e : Entry) (now 
     bad = bad (take done entries) are.behind;
   }
 
--- once none is left, the machine is the fold of all
+-- once no record is left, the machine stands behind all of them
 pub all_done : (pair : Verified) (entries : List Entry) (done : ℕ) (now : RoomyMachine) → AreDone pair entries done now → length entries ≤ done
     → IsBehind pair entries now.machine
 all_done pair entries done now are all = subst (λ (l : List Entry). IsBehind pair l now.machine) (take_all done entries all) are.behind

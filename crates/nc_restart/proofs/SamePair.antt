@@ -1,4 +1,5 @@
--- Three texts have one pair, as far as its machine goes.
+-- Three texts have one pair, as far as its machine goes. The law `a_machine_hangs_on_its_texts`
+-- (src/laws.rt), OneRun.antt and OneHistory.antt rest on it.
 use Rattle.std.proofs.Common.{◌≡◌, ℕ, List, [], ◌∷◌, map, Ok, sym, ap, subst, ◌∙◌}
 use Rattle.nc_number.specs.declared.path.Path.{Path}
 use Rattle.nc_number.specs.declared.path.Path.TheVariants.{One, Two}

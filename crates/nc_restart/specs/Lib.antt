@@ -1,5 +1,5 @@
--- The words of the contracts of nc_restart. Pair, History, Meaning, Recovered and Lives are what
--- callers read.
+-- The words in which contracts speak of the recovery of a run. lathe_calls, lathe_looks, lathe_top
+-- and run_edits cite Pair, History, Meaning, Recovered and Lives; Reading is for this crate alone.
 pub mod Pair
 pub mod History
 pub mod Meaning

@@ -1,5 +1,5 @@
--- The pair of tapes that a run is made with, and its machine.
--- lathe_calls, lathe_looks and two more crates take words from here.
+-- The pair of tapes that a run is made with, and its machine: before the first turn, and behind
+-- records. lathe_calls, lathe_looks, lathe_top and run_edits cite it.
 use Rattle.std.specs.Prelude.{◌≡◌, List, map}
 use Rattle.run_records.specs.Entries.{Entry}
 use Rattle.run_records.specs.declared.header.Header.{Header}
@@ -25,18 +25,23 @@ IsPairOf texts pair =
 abbrev pub tapes_in : Verified → Tapes
 tapes_in pair = tapes_of pair.left pair.right
 
--- its machine before the first turn
+-- the machine of the pair before its first turn
 abbrev pub opening_of : Verified → MachineView
 opening_of pair = machine_at_start pair.left pair.right pair.settings
 
--- its machine behind these records
+-- the machine of the pair behind these records: they are done one after another
 abbrev pub machine_behind : Verified → List Entry → MachineView
 machine_behind pair entries = fold (tapes_in pair) (opening_of pair) entries
 
 -- the pairs have one machine, their settings allow as many records, and their tapes say the same
 pub record IsSamePair (pair other : Verified) : Type 0 where
+  -- their tapes have the same blocks
   pub tapes : tapes_in pair ≡ tapes_in other
+  -- their machines are the same before the first turn
   pub opening : opening_of pair ≡ opening_of other
+  -- their settings allow as many records
   pub records : pair.settings.records ≡ other.settings.records
+  -- their tapes of path 1 say the same
   pub left : map program_form pair.left.programs ≡ map program_form other.left.programs
+  -- their tapes of path 2 say the same
   pub right : map program_form pair.right.programs ≡ map program_form other.right.programs

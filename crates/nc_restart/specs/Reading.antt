@@ -1,5 +1,5 @@
--- How the records that were read are done again.
--- For this crate alone.
+-- How the records that were read from a journal are done again, and why they are no run.
+-- For this crate alone: pair.rt, rebuilding.rt and replay.rt.
 use Rattle.std.specs.Prelude.{ℕ, ◌+◌, ◌≤◌, List, length, take}
 use Rattle.run_records.specs.Entries.{Entry}
 use Rattle.run_records.specs.declared.header.Header.{Header}
@@ -12,7 +12,9 @@ use Rattle.nc_restart.specs.Meaning.{IsBadReading}
 
 -- the first so many records are done again, and there is room for the others
 pub record AreDone (pair : Verified) (entries : List Entry) (done : ℕ) (now : RoomyMachine) : Type 0 where
+  -- the machine stands behind those that are done
   pub behind : IsBehind pair (take done entries) now.machine
+  -- it has room for those that are left
   pub room : length entries ≤ done + now.room
 
 -- why the records of a header, which begin at these places, are no run

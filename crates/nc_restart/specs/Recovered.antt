@@ -1,5 +1,5 @@
--- What a recovery promises.
--- lathe_looks, lathe_top and two more crates take words from here.
+-- What the recovery of a run from its journal promises, of the run that it answers and of the disk.
+-- lathe_looks, lathe_top, run_edits and tests cite it.
 use Rattle.std.specs.Prelude.{◌≡◌, ℕ, ◌+◌, ◌*◌, ◌≤◌, List, length, Result, Ok, Err, IfOk, IfErr}
 use Rattle.disk_model.specs.Device.{DiskState, Reads, Rose, IsSettled}
 use Rattle.disk_model.specs.Moments.{Unwritten, Uses}
@@ -25,9 +25,13 @@ use Rattle.nc_restart.specs.Meaning.{StandsForRun}
 -- many records, and none of them is to be written; and where the disk tells its content, it holds
 -- them all, in a journal of the version that it has by now.
 pub record IsRecovered {D : Type 0} (state : D → DiskState) (header : Header) (pair : Verified) (machine : MachineView) (entries : List Entry) (log : Log D) : Type 0 where
+  -- the texts of the header are accepted, and this is their pair
   pub accepted : IsPairOf (texts_of header) pair
+  -- the machine stands behind the records, which are a history of the pair
   pub behind : IsBehind pair entries machine
+  -- the journal may be written, and has as many records, none of them to be written
   pub fresh : IsFresh (length entries) log
+  -- where the disk tells its content, it holds the header and the records
   pub holds : (bytes : List ℕ) → Reads (state log.file.disk) bytes
       → Holds header log.version entries (state log.file.disk) log.file.end
 
@@ -53,13 +57,17 @@ RefusesRecovery NoMemory old new = Unit {0}
 
 -- the header and the records that were found
 pub record FoundRun : Type 0 where
+  -- the header of the run
   pub header : Header
+  -- the records, in order
   pub entries : List Entry
 
 -- The file stands for what was found. It is read body by body: the header, the records, and the
 -- mark where the journal was raised.
 pub record IsFoundRun (old new : DiskState) (found : FoundRun) : Type 0 where
+  -- what a read gives stands for the header and the records
   pub means : (bytes : List ℕ) → Reads old bytes → StandsForRun (a_run found.header found.entries) bytes
+  -- at most so many calls of the disk were made, and nothing was written
   pub uses : Uses (4 * length found.entries + 16) 0 old new
 
 -- the answer is a fault of the disk
@@ -69,13 +77,17 @@ IsDiskFault (Err fault) = fault ≡ DiskFault
 
 -- What a call that recovers a run promises of the disk.
 pub record Recovers (old new : DiskState) (result : Result FoundRun RestartFault) : Type 0 where
+  -- after an Ok the file stands for what was found
   pub found : IfOk result (IsFoundRun old new)
+  -- an error says why
   pub refused : IfErr result (λ fault. RefusesRecovery fault old new)
+  -- the count of faults of the disk does not fall
   pub later : old.faults ≤ new.faults
   -- no call of the disk failed, but where that is the answer
   pub calm : (IsDiskFault result → ⊥) → new.faults ≡ old.faults
   -- a crash at any moment of the call leaves an image from before it
   pub unwritten : Unwritten old new
+  -- how many calls of the disk there are, whatever the answer
   pub uses : (bytes : List ℕ) → Reads old bytes → OpeningUses bytes old new
 
 -- the disk in an answer that gives it back either way

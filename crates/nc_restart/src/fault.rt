@@ -1,5 +1,5 @@
 //! Why a run can't be recovered: the disk, the journal, its texts or a record out of place.
-//! lathe_looks, lathe_top and tests use it.
+//! lathe_looks makes a text and a status of each cause; tests read them too.
 ghost use Rattle.std.specs.Prelude.{◌≡◌};
 ghost use Rattle.nc_restart.specs.Recovered.{fault_of};
 
@@ -29,7 +29,7 @@ pub enum RestartFault {
     NoMemory,
 }
 
-/// Why no run is recovered whose journal is not opened.
+/// Why no run is recovered if its journal is not opened: for the cause of the journal.
 pub(crate) fn fault_of(fault: JournalFault) -> RestartFault
     ensures { result ≡ fault_of fault }
 {

@@ -1,5 +1,6 @@
-//! What holds of every run, for the crates above: a caller of the function has the law.
-//! lathe_top uses it.
+//! What holds of every run and of its restarts: a caller of the function has the law. lathe_top
+//! takes them, but for `restarts_make_one_history` and `no_accepted_pair_is_stuck`, which are for
+//! readers.
 ghost use Rattle.std.specs.Prelude.{◌≡◌, List, ℕ, take};
 ghost use Rattle.run_records.specs.Entries.{Entry};
 ghost use Rattle.run_records.specs.declared.header.Header.{Header};

@@ -1,5 +1,5 @@
 //! The pair of a run, from the texts in its header, which are judged anew by nc_verify.
-//! For this crate alone.
+//! For rebuilding.rt of this crate.
 ghost use Rattle.std.specs.Prelude.{List, ℕ, IfOk, IfErr};
 ghost use Rattle.run_records.specs.Entries.{Entry};
 ghost use Rattle.run_records.specs.Headers.{IsShort};
@@ -15,7 +15,8 @@ use std::alloc::Global;
 /// Where the body of the header begins in a journal.
 const HEADER_OFFSET: u64 = 5;
 
-/// The pair that the texts of the header are, which are judged anew.
+/// The pair that the texts of the header are, which are judged anew. Texts that are refused are
+/// `RefusedTapes` at the offset of the header.
 pub(crate) fn pair_of(alloc: Global, header: &Header) -> Result<Verified, RestartFault>
     requires { IsShort header.now }
     ensures accepted { IfOk result (IsPairOf (texts_of header.now)) }

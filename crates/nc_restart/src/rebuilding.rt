@@ -1,5 +1,5 @@
-//! The pair of a run, and the machine behind its records.
-//! For this crate alone.
+//! The pair of a run, from its header, and the machine behind its records, which are done again.
+//! For recovery.rt of this crate.
 ghost use Rattle.std.specs.Prelude.{◌≡◌, ◌≤◌, length, IfOk, IfErr};
 ghost use Rattle.run_records.specs.Headers.{IsShort};
 ghost use Rattle.nc_restart.specs.Pair.{texts_of, IsPairOf, opening_of};
@@ -33,7 +33,8 @@ fn opening_machine(alloc: Global, pair: &Verified, n: usize) -> Result<Machine, 
     Ok(machine)
 }
 
-/// The pair of the header, and its machine behind these records, which begin at these offsets.
+/// The pair of the header, and its machine behind these records, which begin at these offsets of
+/// the journal's file. A record out of place is told by its offset.
 pub(crate) fn rebuild(
     alloc: Global,
     header: &Header,

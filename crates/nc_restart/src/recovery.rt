@@ -1,5 +1,5 @@
 //! The recovery of a run: its journal opened, its pair judged anew, its records done again.
-//! lathe_looks, lathe_top and run_edits, and tests, use it.
+//! lathe_looks, lathe_top and tests call `recover`; run_edits writes edits into what it answers.
 ghost use Rattle.std.specs.Prelude.{IfOk};
 ghost use Rattle.run_records.specs.Headers.{IsShort};
 ghost use Rattle.nc_restart.specs.Recovered.{IsRecovered, Recovers, disk_recovered, run_found};
@@ -17,7 +17,7 @@ use two_path::Machine;
 /// A run, as its journal has it.
 #[derive(Drop)]
 pub struct Recovered<D: Disk> {
-    /// What it was made with.
+    /// The version of the journal's beginning, and the texts that the run was made with.
     pub header: Header,
     /// The pair that the texts of the header are.
     pub verified: Verified,

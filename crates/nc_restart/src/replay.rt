@@ -1,5 +1,5 @@
 //! How the records of a run are done again, each checked at its place.
-//! For this crate alone.
+//! For rebuilding.rt of this crate.
 ghost use Rattle.std.specs.Prelude.{◌≡◌, ◌≤◌, ◌<◌, ◌+◌, ◌++◌, [], ◌∷◌, List, length, OnOk, IfErr};
 ghost use Rattle.nc_number.specs.declared.limits.TheConstants.{MOST_RECORDS};
 ghost use Rattle.run_records.specs.Entries.{Entry};

@@ -1,5 +1,5 @@
--- Invariant of a drive: its turret served the items that were taken, and a fault has halted the
--- run.
+-- What a drive keeps: its turret served the moves of the items that were taken, and if it failed,
+-- that has halted the run. `serve` and `run_drive` (src/drive.rt) rest on it.
 use Rattle.std.proofs.Common.{arith, ◌≡◌, ◌⊎◌, ◌+◌, true, false, List, [], ◌∷◌, ◌++◌, length, refl, ap, sym, ◌∙◌, subst, append-nil, inl, inr, ⊎_elim, Option, Some, None, MatchBool}
 use Rattle.nc_number.specs.declared.path.Path.{Path}
 use Rattle.nc_outside.specs.Calls.{IsCalled}
@@ -23,19 +23,19 @@ pub called_none : (a : Option (List Call)) → IsCalled a a []
 called_none None = refl
 called_none (Some was) = ap Some (sym (append-nil was))
 
--- a move that is taken stands behind the moves so far,
+-- a move that is taken stands behind the moves so far
 pub move_behind : (items : List Item) (what : LinedMove) → moves_among (items ++ Move what ∷ []) ≡ moves_among items ++ what ∷ []
 move_behind items what = moves_of_both items (Move what ∷ [])
 
--- a mark adds none,
+-- a mark adds no move
 pub mark_behind : (items : List Item) → moves_among (items ++ Mark ∷ []) ≡ moves_among items
 mark_behind items = moves_of_both items (Mark ∷ []) ∙ append-nil (moves_among items)
 
--- nor does the end
+-- the end adds no move
 pub end_behind : (items : List Item) → moves_among (items ++ End ∷ []) ≡ moves_among items
 end_behind items = moves_of_both items (End ∷ []) ∙ append-nil (moves_among items)
 
--- what was taken before the end
+-- what is taken before the end stands behind the items so far
 pub taken_open : (old new : List Item) (item : Item) → has_end old ≡ false → Takes old new item → new ≡ old ++ item ∷ []
 taken_open old new item open_ taken = subst (λ b. MatchBool b ((new ≡ old) × (item ≡ End)) (new ≡ old ++ item ∷ [])) open_ taken
 
@@ -50,10 +50,11 @@ halted_once Halted is e = ap once_halted e ∙ sym e
 -- and how behind the halt.
 module _ (first then last : Phase) (steady : once_halted first ≡ first) (halted : last ≡ once_halted then)
     (failed : has_failed first ≡ true → then ≡ first) where
+  -- a turret that stood still or failed has settled behind the halt
   settled : (then ≡ Still) ⊎ (then ≡ Failed) → HasSettled last
   settled stands = ⊎_elim (λ (e : then ≡ Still). inl (halted ∙ ap once_halted e)) (λ (e : then ≡ Failed). inr (halted ∙ ap once_halted e)) stands
 
-  -- at a mark and at the end
+  -- at a mark and at the end the turret has settled behind the halt, also if it had failed before
   pub at_rest : (has_failed first ≡ false → (then ≡ Still) ⊎ (then ≡ Failed)) → HasSettled last
   at_rest stands = go first refl steady
     where

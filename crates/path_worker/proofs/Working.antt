@@ -1,4 +1,5 @@
--- The answers of a worker, one after another: its calls, and the items that it sends.
+-- The answers of a worker, one after another: its calls, and the items that it sends. `run_path`
+-- (src/worker.rt), `run_lane` (src/lane.rt) and Driving.antt rest on it.
 use Rattle.std.proofs.Common.{arith, ◌≡◌, ◌+◌, ℕ, List, [], ◌∷◌, ◌++◌, length, map, flat_map, refl, ap, sym, ◌∙◌, subst, append_assoc, Option, Some, None}
 use Rattle.std.proofs.lemmas.List.{length-append}
 use Rattle.std.proofs.lemmas.Grind.{flat_map-append}
@@ -16,7 +17,7 @@ use Rattle.drive_line.specs.Line.{moves_among}
 use Rattle.drive_line.proofs.Items.{moves_of_both}
 use Rattle.path_worker.specs.Work.{items_at, drained_at, calls_made, Works}
 
--- calls and then more calls
+-- what got some calls and then others got all of them
 pub called_more : (a b c : Option (List Call)) (xs ys : List Call) → IsCalled a b xs → IsCalled b c ys → IsCalled a c (xs ++ ys)
 called_more None None c xs ys p q = q
 called_more None (Some was) c xs ys p q = absurd (cc p)
@@ -37,7 +38,7 @@ sent_at Drain items = refl
 sent_at Finished items = refl
 sent_at (Halted why) items = refl
 
--- the calls of answers and then more answers
+-- the calls of two lists of answers are those of the first and then those of the second
 calls_of_both : (path : Path) (n : ℕ) (xs ys : List Next)
     → calls_made path n (xs ++ ys) ≡ calls_made path n xs ++ calls_made path (n + length (moves_among (flat_map items_at xs))) ys
 calls_of_both path n [] ys = let e : n ≡ n + 0 = omega arith in ap (λ k. calls_made path k ys) e
@@ -51,7 +52,7 @@ calls_of_both path n (x ∷ xs) ys =
     ∙ ap (λ l. Step path x ∷ l)
     (sym (append_assoc drained first (calls_made path (n + length (moves_among (items_at x ++ flat_map items_at xs))) ys)))
 
--- what a worker did first, and what it did then
+-- what a worker did at some answers and then at others it did at all of them
 pub works_more : (path : Path) (a b c : Option (List Call)) (old mid new : List Item) (xs ys : List Next)
     → Works path a b old mid xs → Works path b c mid new ys → Works path a c old new (xs ++ ys)
 works_more path a b c old mid new xs ys p q =

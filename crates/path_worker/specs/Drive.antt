@@ -1,5 +1,5 @@
--- What a drive does with its turret at the items of its line.
--- turret_run takes `HasSettled`.
+-- What the drive of a turret does at the items of its line, and how it halts the run at a fault
+-- (src/drive.rt). turret_run cites `HasSettled`.
 use Rattle.std.specs.Prelude.{◌≡◌, ◌⊎◌, Bool, List, [], ◌∷◌, if◌then◌else◌}
 use Rattle.nc_number.specs.declared.path.Path.{Path}
 use Rattle.nc_outside.specs.declared.halt.Halt.TheVariants.{Turret}
@@ -10,11 +10,11 @@ use Rattle.drive_line.specs.declared.item.Item.TheVariants.{Move, Mark, End}
 use Rattle.drive_line.specs.declared.phase.Phase.{Phase}
 use Rattle.drive_line.specs.declared.phase.Phase.TheVariants.{Moving, Still, Failed, Halted}
 
--- the call at a fault: the run is halted by the path's turret
+-- the call of a drive at a fault of its turret: the run is halted by the path's turret
 abbrev pub halts_at : Path → Bool → List Call
 halts_at path fault = if fault then Halt (Turret path) ∷ [] else []
 
--- the same, where the turret stands so
+-- the call of a drive whose turret stands so: if it has just failed, the run is halted by it
 abbrev pub halts_for : Path → Phase → List Call
 halts_for path Moving = []
 halts_for path Still = []
@@ -34,6 +34,6 @@ StandsAt (Move what) phase = (phase ≡ Moving) ⊎ (phase ≡ Failed)
 StandsAt Mark phase = (phase ≡ Still) ⊎ (phase ≡ Failed)
 StandsAt End phase = (phase ≡ Still) ⊎ (phase ≡ Failed)
 
--- it stands still, or its fault has halted the run
+-- the turret stands still, or its fault has halted the run
 abbrev pub HasSettled : Phase → Type 0
 HasSettled phase = (phase ≡ Still) ⊎ (phase ≡ Halted)

@@ -1,4 +1,4 @@
--- What the worker of a path does (Work), and what its drive does (Drive). turret_run takes
--- `HasSettled` of Drive.
+-- What the worker of a path does (Work), and what the drive of its turret does (Drive). turret_run
+-- cites `HasSettled` of Drive; the rest is for this crate alone.
 pub mod Drive
 pub mod Work

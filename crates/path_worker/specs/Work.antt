@@ -1,5 +1,5 @@
--- What the worker of a path does at the answers of its stepper.
--- For this crate alone.
+-- What the worker of a path does at the answers of its stepper: its calls, and what it sends along
+-- the line (src/worker.rt, src/lane.rt). For this crate alone.
 use Rattle.std.specs.Prelude.{◌≡◌, ℕ, ◌+◌, List, [], ◌∷◌, ◌++◌, length, map, flat_map, Option, All}
 use Rattle.nc_number.specs.declared.path.Path.{Path}
 use Rattle.nc_outside.specs.declared.halt.Next.{Next}
@@ -36,7 +36,9 @@ calls_made path n (answer ∷ answers) =
 -- A worker of the path got these answers: its calls, one list before and one after, and the items
 -- of its line.
 pub record Works (path : Path) (before after : Option (List Call)) (old new : List Item) (answers : List Next) : Type 0 where
+  -- the stepper got the calls of these answers
   pub calls : IsCalled before after (calls_made path (length (moves_among old)) answers)
+  -- the line got the items of these answers
   pub items : new ≡ old ++ flat_map items_at answers
 
 -- the path goes on behind the answer
@@ -45,7 +47,7 @@ GoesOn Finished = ⊥
 GoesOn (Halted why) = ⊥
 GoesOn _ = Unit {0}
 
--- it was the last answer of a worker that ended so
+-- the answer is the last one of a worker that ended for this
 abbrev pub IsAnswerOf : Next → Why → Type 0
 IsAnswerOf answer Why.Finished = answer ≡ Finished
 IsAnswerOf answer (Why.Halted why) = answer ≡ Halted why

@@ -29,7 +29,7 @@ fn serve<R: Wait, T: Turret>(rt: &R, item: &Item, driven: &mut Driven<T>)
     }
 }
 
-/// Halts the run, where the turret has failed.
+/// Halts the run for the path's turret, if it has failed and that has not been done yet.
 fn halt_at_fault<H: Stepper, T: Turret>(path: Path, halter: &mut H, driven: &mut Driven<T>)
     ensures serves { (moves : List LinedMove) (start : TurretState)
         → Serves moves start driven.old → Serves moves start driven.new }
@@ -47,7 +47,7 @@ fn halt_at_fault<H: Stepper, T: Turret>(path: Path, halter: &mut H, driven: &mut
 
 /// Takes the items of the line until the end, and hands each move to the turret. A mark is answered
 /// once the turret stands still behind every move before it, and at the end it stands still too.
-/// Where the turret fails the run of the path is halted, and it is handed no more; marks are
+/// If the turret fails, the run is halted for that, and the turret is handed no more; marks are
 /// answered then all the same.
 pub fn run_drive<R: Wait, H: Stepper, T: Turret>(
     rt: &R,

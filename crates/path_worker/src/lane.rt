@@ -33,8 +33,11 @@ pub struct Lane<S: Drop, H: Drop, T: Turret> {
 pub struct LaneEnd<S: Drop, H: Drop, T: Turret> {
     /// Why the worker ended.
     pub why: Why,
+    /// What made the steps of the path.
     pub stepper: S,
+    /// What halted the run if the turret failed.
     pub halter: H,
+    /// The turret, and what it was told.
     pub driven: Driven<T>,
 }
 
@@ -54,7 +57,7 @@ struct Drove<'r, H: Drop, T: Turret, R> {
     line: LineOut<'r, R, T>,
 }
 
-/// The worker's thread.
+/// What the worker's thread does: it works the path to its end, and gives back what it used.
 fn work<'r, R: Wait, S: Stepper + Drainable<Drained> + Drop>(
     rt: &R,
     path: Path,
@@ -74,7 +77,7 @@ fn work<'r, R: Wait, S: Stepper + Drainable<Drained> + Drop>(
     Worked { why, stepper, line }
 }
 
-/// The drive's thread.
+/// What the drive's thread does: it serves the line to its end, and gives back what it used.
 fn drive<'r, R: Wait, H: Stepper + Drop, T: Turret>(
     rt: &R,
     path: Path,

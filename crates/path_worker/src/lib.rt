@@ -5,9 +5,9 @@
 //! A worker (`run_path`) sends each step's moves once the step has answered, and where a step asks
 //! for that it drains the line and tells the stepper of it. A drive (`run_drive`) answers the mark
 //! of a drain once its turret stands still behind every move before it, so that a wait is recorded
-//! only then; where the turret failed it halts the run first. `run_lane` runs both: the turret got
-//! the moves that the stepper answered, all of them, or a prefix of them if it failed, and it is
-//! told how many it missed.
+//! only then; where the turret failed it halts the run first. `run_lane` runs both, and turret_run
+//! leans on what it promises: the turret got the moves that the stepper answered, all of them, or a
+//! prefix of them if it failed, and it is told how many it missed.
 #![tactic(auto)]
 
 mod drive;

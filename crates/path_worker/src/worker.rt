@@ -37,7 +37,8 @@ fn send_all<R: Wait>(line: &mut LineIn<'_, R>, moves: &Moves)
     }
 }
 
-/// One step of the path, and what follows its answer. It says why the worker ends, where it does.
+/// One step of the path, and what follows its answer: its moves are sent, or the line is drained,
+/// or the end is sent. It says why the worker ends, if it does.
 fn work_once<R: Wait, S: Stepper + Drainable<Drained>>(
     path: Path,
     stepper: &mut S,

@@ -1,4 +1,5 @@
--- What making a branch does to its disk, from what filling a file of gates did.
+-- What making a branch does to its disk, from what filling a file of gates did. `branch`
+-- (src/branching.rt) rests on it.
 use Rattle.std.proofs.Common.{◌≡◌, inl, inr, ℕ, ◌+◌, ◌*◌, ◌≤◌, ◌<◌, List, ◌∷◌, ◌++◌, length, take, drop, Some, Ok, Err, refl, sym, ap, subst, arith, length-append, take-append-drop}
 use Rattle.std.proofs.lemmas.List.Concat.{flat_map-append}
 use Rattle.disk_model.specs.Device.{DiskState, IsCoherent}
@@ -48,7 +49,7 @@ filled_end header entries k bodies filled =
 
 -- a branch of these records at their n-th meeting
 module _ {E : Type 0} (state : E → DiskState) (header : Header) (entries : List Entry) (n : ℕ) where
-  -- the disk is not called
+  -- a run of fewer meetings is refused, and the disk is not called
   pub no_meeting : (disk : E) → IsCoherent (state disk) → meetings entries < n → Branches state header entries n disk disk (Err NoMeeting)
   no_meeting disk coherent less = record {
     no_meeting = (λ is. less, λ fewer. refl);
@@ -64,7 +65,7 @@ module _ {E : Type 0} (state : E → DiskState) (header : Header) (entries : Lis
     uses = uses_none 12 (branch_end header entries) (state disk);
   }
 
-  -- without memory the disk is not called either
+  -- without memory for the bodies the branch is refused, and the disk is not called
   pub no_memory : (disk : E) → IsCoherent (state disk) → n ≤ meetings entries → Branches state header entries n disk disk (Err NoMemory)
   no_memory disk coherent some = record {
     no_meeting = (λ (is : NoMemory ≡ NoMeeting). absurd cc, λ fewer. absurd (omega (arith, some, fewer)));
@@ -160,7 +161,7 @@ module _ {E : Type 0} (state : E → DiskState) (header : Header) (entries : Lis
     not_made before after NoRun answer is begins = absurd is
     not_made before after (Cut at) answer is begins = absurd is
 
-    -- the fault is one of a file that is begun
+    -- the fault of a refused file of gates is one that its beginning may answer
     pub of_beginning : (before after : DiskState) (fault : GateFault) → Begins {A = Gate E} bodies before after (Err fault) → IsOfBeginning fault
     of_beginning before after DiskFault begins = tt
     of_beginning before after GateThere begins = tt

@@ -1,5 +1,6 @@
--- The shortest prefix with so many meetings: where a branch ends. First that it is the least, then
--- the loop that looks for it.
+-- The shortest prefix with so many meetings: where a branch ends. First that it is the least, for
+-- the law `a_branch_point_is_the_least` (src/laws.rt) and for Made.antt; then the loop that looks
+-- for it, for `branch_point` (src/branching.rt).
 use Rattle.std.proofs.Common.{◌≡◌, inl, inr, ℕ, zero, suc, ◌+◌, ◌-◌, ◌≤◌, ◌<◌, Bool, true, false, List, [], ◌∷◌, length, take, drop, get_or, Option, Some, None, refl, sym, ap, subst, arith, ◌∙◌, if◌then◌else◌}
 use Rattle.std.proofs.lemmas.Bool.{cases_lt}
 use Rattle.std.proofs.lemmas.List.{drop_more, drop_all}
@@ -22,7 +23,7 @@ reached : (b : Bool) (n rest : ℕ) → rest ≡ (if b then n else suc n) → (i
 reached true n rest is = omega (arith, is)
 reached false n rest is = omega (arith, is)
 
--- it leaves them below the number, if they were
+-- one record more leaves the meetings below the number, if those of the others were below it
 fewer : (b : Bool) (n rest : ℕ) → rest < (if b then n else suc n) → (if b then 1 else 0) + rest < suc n
 fewer true n rest less = omega (arith, less)
 fewer false n rest less = omega (arith, less)
@@ -49,7 +50,7 @@ one_on entry entries n k is = record {
   least zero less = omega arith
   least (suc j) less = fewer (is_meeting entry.kind) n (meetings (take j entries)) (is.least j (omega (arith, less)))
 
--- what is found is the shortest such prefix
+-- what `branch_point` finds is the length of the shortest prefix with so many meetings
 pub point_is : (entries : List Entry) (n k : ℕ) → branch_point n entries ≡ Some k → IsBranchPoint n entries k
 point_is entries zero k is = let same : 0 ≡ k = cc in subst (λ (j : ℕ). IsBranchPoint 0 entries j) same (at_start entries)
 point_is [] (suc n) k is = absurd cc
@@ -85,7 +86,7 @@ one_point entries n j k first second = elim (cases_lt k j) [
   | inr within ↦ within
 ]
 
--- the shortest such prefix is found
+-- the shortest prefix with so many meetings is found
 pub is_point : (entries : List Entry) (n k : ℕ) → IsBranchPoint n entries k → branch_point n entries ≡ Some k
 is_point entries n k is = go (branch_point n entries) refl where
   go : (r : Option ℕ) → branch_point n entries ≡ r → branch_point n entries ≡ Some k
@@ -95,7 +96,7 @@ is_point entries n k is = go (branch_point n entries) refl where
       let same : j ≡ k = omega (arith, one_point entries n j k found is, one_point entries n k j is found) in
       some ∙ ap Some same
 
--- the search for it: so many records were looked at, and so many meetings are left
+-- before the first record is looked at, the search is that of all records
 pub unmoved : (r : Option ℕ) → r ≡ option_map (λ (k : ℕ). 0 + k) r
 unmoved None = refl
 unmoved (Some k) = let same : k ≡ 0 + k = omega arith in ap Some same

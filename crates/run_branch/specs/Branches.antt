@@ -1,5 +1,5 @@
--- What it does to a disk to make a branch there: a second journal, which stands for a run up to its
--- n-th meeting. lathe_top cites it.
+-- What making a branch does to its disk: it puts a second journal there, which stands for a run up
+-- to its n-th meeting. lathe_top cites it.
 use Rattle.std.specs.Prelude.{◌≡◌, ◌⊎◌, ◌↔◌, ℕ, ◌+◌, ◌*◌, ◌≤◌, ◌<◌, List, length, take, Some, Result, Ok, Err, IfOk, OnOk, IfErr}
 use Rattle.disk_model.specs.Device.{DiskState, Reads, Rose, IsSettled}
 use Rattle.disk_model.specs.Moments.{LeavesOnly, Unwritten, Uses}
@@ -54,7 +54,7 @@ pub record Branches {E : Type 0} (state : E → DiskState) (header : Header) (en
   -- `NoMeeting` is answered exactly where the records have fewer meetings, and then the disk was
   -- not called
   pub no_meeting : IsNoMeeting result ↔ (meetings entries < n)
-  -- then the disk is as it was
+  -- with `NoMeeting` the disk is as it was
   pub uncalled : IsNoMeeting result → after ≡ before
   -- an Ok says how many records the branch has
   pub count : IfOk result (λ k. branch_point n entries ≡ Some k)

@@ -6,7 +6,7 @@ use Rattle.gate_file.specs.declared.fault.GateFault.TheVariants.{DiskFault, NoRu
 use Rattle.run_branch.specs.declared.fault.BranchFault.{BranchFault}
 use Rattle.run_branch.specs.declared.fault.BranchFault.TheVariants.{RunThere, NewDisk, NoMemory}
 
--- the fault is one of a file that is begun
+-- the fault is one that the beginning of a file of gates may answer
 abbrev pub IsOfBeginning : GateFault → Type 0
 IsOfBeginning DiskFault = Unit {0}
 IsOfBeginning NoRun = ⊥
@@ -14,7 +14,7 @@ IsOfBeginning GateThere = Unit {0}
 IsOfBeginning (Cut at) = ⊥
 IsOfBeginning GateMemory = Unit {0}
 
--- the answer for a fault of the file
+-- what a branch answers for a fault of the beginning of its file
 abbrev pub IsFaultOf : GateFault → BranchFault → Type 0
 IsFaultOf DiskFault fault = fault ≡ NewDisk
 IsFaultOf NoRun fault = ⊥

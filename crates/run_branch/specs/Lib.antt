@@ -1,6 +1,7 @@
--- What callers read.
+-- The words in which contracts speak of branches of a run. Callers read Meetings, Branches and
+-- Openings.
 pub mod Meetings
 pub mod Branches
 pub mod Openings
--- Words of the inside.
+-- Words for this crate alone.
 pub mod Faults

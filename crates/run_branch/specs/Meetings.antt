@@ -3,7 +3,7 @@ use Rattle.std.specs.Prelude.{◌≡◌, ℕ, zero, suc, ◌+◌, ◌≤◌, ◌
 use Rattle.std.specs.Option.{option_map}
 use Rattle.run_records.specs.Entries.{Entry, is_meeting}
 
--- how many meetings the records have
+-- how many meetings the records have: how many of them say that a path has met the other at a wait
 abbrev pub meetings : List Entry → ℕ
 meetings [] = 0
 meetings (entry ∷ entries) = (if is_meeting entry.kind then 1 else 0) + meetings entries

@@ -1,4 +1,5 @@
-//! How a branch is made: the shortest prefix with n meetings, written at once onto another disk.
+//! How a branch of a run is made: the shortest prefix of its records with n meetings, written at
+//! once onto another disk. lathe_top calls `branch`.
 ghost use Rattle.std.specs.Prelude.{◌≡◌, ◌-◌, ◌^◌, ◌<◌, length, if◌then◌else◌};
 ghost use Rattle.run_records.specs.Entries.{is_meeting};
 ghost use Rattle.run_records.specs.Headers.{IsShort};
@@ -43,7 +44,7 @@ pub fn branch<E: Disk>(
     }
 }
 
-/// How long the shortest prefix is that has n meetings, if there are so many.
+/// How long the shortest prefix of the records is that has n meetings, if they have so many.
 fn branch_point(entries: &EntryList, n: u32) -> Option<usize>
     ensures { result ≡ branch_point n entries.now.items }
 {

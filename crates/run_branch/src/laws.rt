@@ -1,4 +1,5 @@
-//! What holds of branches, whatever made them; none of these calls does anything.
+//! What holds of branches, whatever made them: two laws for readers, which no crate calls; neither
+//! call does anything.
 ghost use Rattle.std.specs.Prelude.{◌≡◌, ◌↔◌, ◌<◌, ℕ, List, Some, None, Result};
 ghost use Rattle.disk_model.specs.Device.{Reads};
 ghost use Rattle.run_records.specs.Entries.{Entry};

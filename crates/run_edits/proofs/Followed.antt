@@ -1,4 +1,5 @@
--- Edits may follow any history without an alarm.
+-- The records of edits may follow any history behind which no alarm stands. `make_edits`
+-- (src/making.rt) rests on it.
 use Rattle.std.proofs.Common.{◌≡◌, inr, ℕ, ◌+◌, ◌≤◌, None, List, [], ◌∷◌, ◌++◌, length, refl, sym, ap, subst, arith, ◌∙◌, length-append}
 use Rattle.std.proofs.lemmas.List.{length-map}
 use Rattle.nc_number.specs.declared.path.Path.{Path}
@@ -29,7 +30,7 @@ all_follow tapes m (what ∷ edits) calm = (
   all_follow tapes (behind_entry tapes (record_of what) m) edits (alarm_stays what.path what.edit m ∙ calm),
 )
 
--- so they may follow a history without an alarm, if there is room for their records
+-- the records of edits may follow a history without an alarm, if the settings allow so many more
 pub followed : (pair : Verified) (found : List Entry) (edits : List PathEdit) → IsHistory pair found → (machine_behind pair found).alarm ≡ None
     → length found + length edits ≤ pair.settings.records → IsHistory pair (found ++ records_of edits)
 followed pair found edits history calm few = record {

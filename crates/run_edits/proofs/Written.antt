@@ -1,4 +1,5 @@
--- What writing edits leaves, from the raising and the batch.
+-- What writing edits leaves on the disk, from the raising of the journal and the flush of the
+-- batch. `write_edits` and `make_all` (src/making.rt) rest on it.
 use Rattle.std.proofs.Common.{◌≡◌, inl, ℕ, ◌+◌, ◌*◌, ◌≤◌, ◌==◌, false, List, [], ◌∷◌, ◌++◌, length, Ok, Err, sym, ap, subst, arith, ◌∙◌, length-append}
 use Rattle.std.proofs.lemmas.List.Concat.{flat_map-append}
 use Rattle.disk_model.specs.Device.{DiskState, Reads, Rose}
@@ -19,16 +20,19 @@ use Rattle.run_journal.specs.Stands.{Holds, Pends, Stands, StandsEither}
 use Rattle.run_records.specs.Spelling.{entry_bytes}
 use Rattle.run_edits.specs.Made.{MakesEdits, edits_end, records_of}
 
+-- a journal before, once raised, with the records of the edits noted, and after the flush
 module _ {D : Type 0} (state : D → DiskState) (old mid noted : Log D) (new : Log D) (made : List Entry)
     (file : noted.file ≡ mid.file) (version : noted.version ≡ Two) (pends : Pends Two made noted.batch)
     (raised : (header : Header) (entries : List Entry) → Holds header old.version entries (state old.file.disk) old.file.end
     → Holds header Two entries (state mid.file.disk) mid.file.end) where
+  -- the journal with the noted records still holds the run that was found
   held : (header : Header) (entries : List Entry) → Holds header old.version entries (state old.file.disk) old.file.end
       → Holds header noted.version entries (state noted.file.disk) noted.file.end
   held header entries holds =
       subst (λ (v : Version). Holds header v entries (state noted.file.disk) noted.file.end) (sym version)
       (subst (λ (f : Gate D). Holds header Two entries (state f.disk) f.end) (sym file) (raised header entries holds))
 
+  -- the records of the edits are those that are to be written
   pending : Pends noted.version made noted.batch
   pending = subst (λ (v : Version). Pends v made noted.batch) (sym version) pends
 
@@ -46,7 +50,7 @@ module _ {D : Type 0} (state : D → DiskState) (old mid noted : Log D) (new : L
       (second header entries made pending (held header entries holds)))
       (λ x here. inl here) (λ x here. here)
 
-  -- after an Ok it holds the latter
+  -- after an Ok the disk holds the run that was found and all edits
   pub written_whole : ((disk : D) (header : Header) (version : Version) (entries : List Entry) (end : ℕ)
       → Holds header version entries (state disk) end → (c : List ℕ) → (state disk).image c → Stands header entries c)
       → ((header : Header) (entries pending : List Entry) → Pends noted.version pending noted.batch
@@ -70,6 +74,7 @@ module _ {D : Type 0} (state : D → DiskState) (old new : Log D) (header : Head
     (moment : (header : Header) (entries : List Entry) → Holds header old.version entries (state old.file.disk) old.file.end
     → LeavesOnly (StandsEither header entries made) (state old.file.disk) (state new.file.disk))
     (uses : Uses 8 (old.file.end + 14 + length (batch_bytes made)) (state old.file.disk) (state new.file.disk)) where
+  -- no write ended past the bound for the run and its edits
   uses_all : Uses 8 (edits_end header (found ++ made)) (state old.file.disk) (state new.file.disk)
   uses_all =
       let bytes_are : length (records_bytes (found ++ made)) ≡ length (records_bytes found) + length (records_bytes made) =
@@ -85,7 +90,7 @@ module _ {D : Type 0} (state : D → DiskState) (old new : Log D) (header : Head
         allows = uses.allows;
       }
 
-  -- so it is if all edits were made,
+  -- if all edits were written, they are made as promised
   pub when_made : ((header : Header) (entries : List Entry) → Holds header old.version entries (state old.file.disk) old.file.end
       → (c : List ℕ) → (state new.file.disk).image c → Stands header (entries ++ made) c)
       → (state old.file.disk).faults ≤ (state new.file.disk).faults → (state new.file.disk).faults ≡ (state old.file.disk).faults
@@ -100,7 +105,7 @@ module _ {D : Type 0} (state : D → DiskState) (old new : Log D) (header : Head
     uses = uses_all;
   }
 
-  -- and if the disk failed before
+  -- if the disk failed before all edits were written, the fault is told as promised
   pub when_failed : (fault : DiskFault) → (state old.file.disk).faults ≤ (state new.file.disk).faults
       → Rose (state old.file.disk).faults (state new.file.disk).faults
       → MakesEdits state header found made old.file.disk new.file.disk (Err (Fault fault))

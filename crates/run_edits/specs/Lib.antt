@@ -1,5 +1,5 @@
--- What making edits does to the disk (Made). The first group is what callers read, the second is
--- for this crate.
+-- What making an operator's edits does to the disk of a journal (Made), which lathe_top cites.
+-- Writing is for this crate alone.
 pub mod Made
--- Words of the inside.
+-- Words for this crate alone.
 pub mod Writing

@@ -1,5 +1,5 @@
--- The records of edits, and what it does to the disk of a journal to make them.
--- lathe_top takes words from here.
+-- The records of an operator's edits, and what making them does to the disk of a journal.
+-- lathe_top cites it.
 use Rattle.std.specs.Prelude.{◌≡◌, ℕ, ◌+◌, ◌*◌, ◌≤◌, List, [], ◌++◌, length, map, Result, IfErr, IsOk, OnOk}
 use Rattle.disk_model.specs.Device.{DiskState, Reads, Rose}
 use Rattle.disk_model.specs.Moments.{LeavesOnly, Uses}
@@ -45,8 +45,11 @@ pub record MakesEdits {D : Type 0} (state : D → DiskState) (header : Header) (
   -- a crash at any moment of the call leaves what was found, or that and all of them
   pub any_moment : (bytes : List ℕ) → Reads (state before) bytes
       → LeavesOnly (StandsEither header found made) (state before) (state after)
+  -- an error says why
   pub refused : IfErr result (FailsFor state before after)
+  -- after an Ok no call of the disk failed
   pub calm : OnOk result ((state after).faults ≡ (state before).faults)
+  -- the count of faults of the disk does not fall
   pub later : (state before).faults ≤ (state after).faults
   -- it makes eight calls of the disk at most
   pub uses : Uses 8 (edits_end header (found ++ made)) (state before) (state after)

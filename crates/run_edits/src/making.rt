@@ -1,6 +1,6 @@
 //! How edits are made in a run that was recovered: room first, then the journal raised, the
 //! records, and one batch.
-//! lathe_top uses it.
+//! lathe_top asks `has_room` and calls `make_edits`.
 ghost use Rattle.std.specs.Prelude.{◌≡◌, ℕ, ◌+◌, ◌≤◌, ◌++◌, List, length, nat_le, is_ok, None, OnOk};
 ghost use Rattle.disk_model.specs.Device.{HasCause, Reads};
 ghost use Rattle.disk_model.specs.Moments.{LeavesOnly, Uses};
@@ -124,7 +124,7 @@ fn write_edits<D: Disk>(
     Ok(())
 }
 
-/// Raises a journal of version 1.
+/// Raises a journal of version 1 to version 2, in which edits may stand; one of version 2 stays.
 fn raise_first<D: Disk>(journal: &mut Journal<D>) -> Result<(), DiskFault>
     requires { MayTake 0 journal.old }
     ensures raised { OnOk result ((header : Header) (entries : List Entry)

@@ -1,5 +1,6 @@
--- One piece more after those of a journal: what the records, the bodies and the disk are then. The
--- last two groups of facts are those of `flush` and `raise`.
+-- One record more in a batch, and one piece more in a journal: what the records, the bodies and the
+-- disk are then. `put` (src/batch.rt), `flush` and `raise` (src/journal.rt) rest on it, and so do
+-- the proofs of reading and filling.
 use Rattle.std.proofs.Common.{◌≡◌, inl, inr, ℕ, ◌+◌, ◌≤◌, List, [], ◌∷◌, ◌++◌, length, drop, slice_index, refl, sym, ◌∙◌, ap, subst, arith, length-append}
 use Rattle.std.proofs.lemmas.List.{append-nil, map-append}
 use Rattle.std.proofs.lemmas.List.Concat.{flat_map-append}

@@ -1,4 +1,5 @@
 -- A journal is begun as its file of gates is, with the header as the first body.
+-- `Journal::begin` (src/journal.rt) rests on it.
 use Rattle.std.proofs.Common.{◌≡◌, inl, inr, ℕ, ◌+◌, List, [], ◌∷◌, length, refl, subst, arith, Ok, Err}
 use Rattle.disk_model.specs.Device.{DiskState}
 use Rattle.disk_model.specs.Moments.{Uses}
@@ -23,11 +24,11 @@ begins image header short c (inl before) = inl before
 begins image header short c (inr (inl none)) = inr (inl none)
 begins image header short c (inr (inr spells)) = inr (inr ([], no_record header short, spells))
 
--- the header alone ends after it
+-- a file of gates with one body has its shut gate at the length of the body and five
 header_end : (body : List ℕ) → ends_at (body ∷ []) ≡ 5 + length body
 header_end body = omega arith
 
--- the calls of the disk and the bytes that the first body takes
+-- what the file of gates uses with the header as its first body is what beginning a journal may use
 header_used : (body : List ℕ) (old new : DiskState) → Uses 12 (ends_at (body ∷ []) + 1) old new → Uses 12 (length body + 6) old new
 header_used body old new uses = uses_widened 12 12 _ (length body + 6) old new uses (omega arith) (omega (arith, header_end body))
 

@@ -1,5 +1,6 @@
 -- Where a journal ends: five bytes and the header, six bytes beside its own for each record, and
--- eight for a mark. run_branch takes `pieces_end`.
+-- eight for a mark. The law `a_held_journal_is_small` (src/laws.rt) rests on it, and run_branch
+-- takes `pieces_end`.
 use Rattle.std.proofs.Common.{◌≡◌, ℕ, ◌+◌, ◌*◌, ◌≤◌, List, [], ◌∷◌, length, map, ap, arith, length-append}
 use Rattle.std.proofs.lemmas.List.Concat.{flat_map-append}
 use Rattle.disk_model.specs.Device.{DiskState}
@@ -34,7 +35,8 @@ pieces_end version (the_mark ∷ pieces) are =
     let eight : mark_size version ≡ 8 = ap mark_size are.0 in
     omega (arith, pieces_end Two pieces are.1, eight)
 
--- a journal that the disk holds takes no more than that and its header
+-- a journal that the disk holds takes at most five bytes and its header, eight for a mark, and six
+-- bytes beside its own for each record
 pub held_end : (header : Header) (version : Version) (entries : List Entry) (disk : DiskState) (end : ℕ) → Holds header version entries disk end → end ≤ 13 + length (header_bytes header) + length (records_bytes entries) + 6 * length entries
 held_end header version entries disk end holds =
     let records : length (records_bytes entries) ≡ length (records_bytes (records_of holds.0)) = ap (λ (l : List Entry). length (records_bytes l)) holds.1.joins in

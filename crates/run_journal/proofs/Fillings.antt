@@ -1,5 +1,5 @@
--- Records in batches of 64, one batch more after those that are there: the loop of
--- `journal_bodies`.
+-- Records in batches of 64, one batch more after those that are there. The loops of
+-- `journal_bodies` and `gather` (src/filling.rt) rest on it.
 use Rattle.std.proofs.Common.{◌≡◌, ℕ, ◌+◌, ◌-◌, ◌≤◌, ◌<◌, List, [], ◌∷◌, ◌++◌, length, take, drop, get_or, refl, sym, ap, subst, arith, ◌∙◌, length-drop}
 use Rattle.std.proofs.Math.Seq.{take-add}
 use Rattle.std.proofs.lemmas.List.{get_or-drop, take_more, length-take-le}

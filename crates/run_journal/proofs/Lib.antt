@@ -1,4 +1,5 @@
--- The files of proofs, each after those that it uses.
+-- The lemmas of this crate, each file after those that it uses. nc_restart takes Openings,
+-- run_branch takes Ends.
 pub mod Batches
 pub mod Beginnings
 pub mod Places

@@ -1,4 +1,5 @@
--- An image stands for one thing: it can't be read as two runs, as bad for two causes, or as both.
+-- An image of a journal stands for one thing: it can't be read as two runs, as bad for two causes,
+-- or as both. The law `a_journal_stands_for_one_thing` (src/laws.rt) rests on it.
 use Rattle.std.proofs.Common.{◌≡◌, ◌⊎◌, inl, inr, ℕ, ◌+◌, ◌<◌, List, [], ◌∷◌, ◌++◌, length, drop, map, get_or, refl, sym, ◌∙◌, ap, subst, arith, append_assoc, Option, Some, None, false, not}
 use Rattle.std.specs.Prelude.{if◌then◌else◌}
 use Rattle.std.proofs.lemmas.Bool.{ne_eqb}
@@ -77,9 +78,11 @@ module _ (version : Version) where
 
   -- bodies that begin with a count
   module _ (count other : ℕ) (whole others : List Entry) (rest more body : List ℕ) (is : Begins version count whole rest body) (also : Begins version other others more body) where
+    -- they begin with one count
     same_count : count ≡ other
     same_count = ap (λ (l : List ℕ). get_or l 0 0) (sym is.bytes ∙ also.bytes)
 
+    -- the same bytes follow the count
     same_records : records_bytes whole ++ rest ≡ records_bytes others ++ more
     same_records = ap (drop 1) (sym is.bytes ∙ also.bytes)
 

@@ -1,4 +1,5 @@
--- A journal is opened as its file of gates is, and its bodies are read. nc_restart takes
+-- A journal is opened as its file of gates is, and its bodies are read. `open_journal`
+-- (src/opening.rt) and `read_contents` (src/reading.rt) rest on it; nc_restart takes
 -- `kept_settled`.
 use Rattle.std.proofs.Common.{◌≡◌, ℕ, ◌+◌, ◌*◌, List, [], ◌∷◌, length, take, get_or, refl, sym, ◌∙◌, ap, subst, arith, Some, Ok, Err}
 use Rattle.std.proofs.lemmas.List.{length-map}

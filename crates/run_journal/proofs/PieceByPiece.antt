@@ -1,4 +1,4 @@
--- The pieces of a journal, read one by one: the loop of `read_pieces`.
+-- The pieces of a journal, read one by one. The loop of `read_pieces` (src/reading.rt) rests on it.
 use Rattle.std.proofs.Common.{◌≡◌, ℕ, ◌+◌, ◌<◌, List, [], ◌∷◌, ◌++◌, length, take, drop, map, get_or, refl, sym, ◌∙◌, ap, subst, arith, append_assoc, take-append-drop}
 use Rattle.std.proofs.lemmas.List.{append-nil, take_more, map-append}
 use Rattle.gate_file.specs.Chain.{ends_at}

@@ -1,4 +1,5 @@
--- There are as many offsets as records.
+-- There are as many offsets as records in what an opening of a journal finds. `open_journal`
+-- (src/opening.rt) rests on it.
 use Rattle.std.proofs.Common.{◌≡◌, ℕ, ◌+◌, List, [], ◌∷◌, length, refl, ap, arith, length-append}
 use Rattle.run_records.specs.Entries.{Entry}
 use Rattle.run_records.specs.Spelling.{entry_bytes}

@@ -1,5 +1,5 @@
--- The records of a batch, read one by one (the loop of `read_records`), and the pieces that bodies
--- are.
+-- The records of a batch, read one by one, and which bodies are pieces of a journal. The loop of
+-- `read_records`, `read_batch` and `read_piece` (src/reading.rt) rest on it.
 use Rattle.std.proofs.Common.{◌≡◌, ◌⊎◌, ℕ, ◌+◌, ◌-◌, ◌≤◌, ◌<◌, List, [], ◌∷◌, ◌++◌, length, take, drop, get_or, refl, sym, ◌∙◌, ap, subst, arith, append_assoc, length-append, length-drop, Some}
 use Rattle.std.proofs.lemmas.List.{append-nil, take_all, drop_at, drop_all}
 use Rattle.run_records.specs.declared.bad_record.BadRecord.{BadRecord}
@@ -87,7 +87,7 @@ module _ (version : Version) (at : ℕ) (bytes : List ℕ) (old : List Entry) (p
       none = none;
     }
 
--- the body of which the records are
+-- a body that begins with a count from 1 to 64, and the bytes after it
 module _ (version : Version) (count at : ℕ) (records body : List ℕ) (is : body ≡ count ∷ records) (some : 1 ≤ count) (few : count ≤ 64) where
   -- if fewer records are whole than the body counts, it is no batch, for that cause
   pub bad_unread : (place : ℕ) (cause : BadRecord) → IsUnread version count records place cause → IsBadBatch version body (1 + place) cause

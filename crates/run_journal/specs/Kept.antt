@@ -1,5 +1,5 @@
 -- What callers see of a journal: the view of the type Journal (src/journal.rt), and what its calls
--- make of it.
+-- make of it. nc_restart, run_edits, run_table and lathe_top cite it.
 use Rattle.std.specs.Prelude.{◌≡◌, ℕ, ◌+◌, ◌*◌, ◌≤◌, List, [], ◌∷◌, length, slice_index, IsTrue, Result, OnOk, OnErr, is_ok}
 use Rattle.nc_number.specs.declared.limits.TheConstants.{MOST_PENDING}
 use Rattle.gate_file.specs.Gate.{Gate}
@@ -53,7 +53,7 @@ pub record IsFlushed {D T E : Type 0} (old new : Log D) (result : Result T E) : 
   pub live : new.file.live ≡ is_ok result
   -- the number of records, those to be written counted, stays
   pub count : new.count ≡ old.count
-  -- so does the version
+  -- the version stays
   pub version : new.version ≡ old.version
 
 -- What raising makes of the journal itself.

@@ -1,4 +1,5 @@
--- What a journal of a run is and what its calls promise. Reading is for this crate alone.
+-- The words in which contracts speak of the journal of a run: what it is, and what its calls
+-- promise. Other crates cite all of them but Reading, which is for this crate alone.
 pub mod Bad
 pub mod Batches
 pub mod Beginning

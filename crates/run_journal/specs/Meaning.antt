@@ -12,8 +12,10 @@ use Rattle.run_journal.specs.Bad.{IsBadAt}
 pub data Meaning : Type 0 where
   -- no run
   no_run : Meaning
-  cut_at : ℕ → Meaning  -- an open gate at this offset has no whole body
-  bad_at : ℕ → BadRecord → Meaning  -- its bodies are no run, for this cause at this offset
+  -- the open gate at this offset has no whole body
+  cut_at : ℕ → Meaning
+  -- its bodies are no run, for this cause at this offset
+  bad_at : ℕ → BadRecord → Meaning
   -- a run: its header and its records
   a_run : Header → List Entry → Meaning
 

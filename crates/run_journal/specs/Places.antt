@@ -9,8 +9,8 @@ abbrev pub record_places : ℕ → List Entry → List ℕ
 record_places at [] = []
 record_places at (entry ∷ entries) = at ∷ record_places (at + length (entry_bytes entry)) entries
 
--- the same of the records in pieces, where the gate of the first piece stands at this offset:
--- after the gate come four bytes of length, and, of a batch, the count
+-- the offset of the first byte of each record in pieces, if the gate of the first piece stands at
+-- this offset: after the gate come four bytes of length, and, of a batch, one byte of its count
 abbrev pub places : ℕ → List Piece → List ℕ
 places gate [] = []
 places gate (piece ∷ pieces) =

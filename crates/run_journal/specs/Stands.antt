@@ -1,5 +1,5 @@
--- Which records a journal holds: of an image, and of a disk that keeps it. The crates of the run
--- cite it.
+-- Which records a journal holds: of an image, and of a disk that keeps it. nc_restart, run_branch,
+-- run_edits, run_table and lathe_top cite it.
 use Rattle.std.specs.Prelude.{◌≡◌, ◌⊎◌, ℕ, List, ◌++◌}
 use Rattle.disk_model.specs.Device.{DiskState}
 use Rattle.gate_file.specs.Chain.{Spells}
@@ -15,8 +15,8 @@ abbrev pub Stands : Header → List Entry → List ℕ → Type 0
 Stands header entries image =
     (pieces : List Piece) × IsRun header pieces entries × Spells (bodies_of header pieces) image
 
--- The disk holds them in a journal that has this version by now, all of it is on the disk, and the
--- shut gate stands at this offset.
+-- The disk holds this header and these records in a journal that has this version by now; all of it
+-- is on the disk, and the shut gate stands at this offset.
 abbrev pub Holds : Header → Version → List Entry → DiskState → ℕ → Type 0
 Holds header version entries disk end =
     (pieces : List Piece) × IsRun header pieces entries × (version_behind header.version pieces ≡ version)

@@ -1,4 +1,5 @@
-//! What can go wrong with a journal: it is full, or can't be opened. nc_restart tells the latter
+//! What can go wrong with a journal: it is full, or can't be opened. `Journal::add` answers the
+//! first, which run_table and run_edits rule out before they call it; nc_restart tells the second
 //! on.
 
 ghost use Rattle.std.specs.Prelude.{◌≡◌};
@@ -37,7 +38,8 @@ pub enum JournalFault {
     NoMemory,
 }
 
-/// Why a journal is not opened, by why its file of gates is not. It never asks of `RunThere`.
+/// Why a journal is not opened, by why its file of gates is not. `RunThere` is no fault of an
+/// opening, and callers may not ask of it.
 pub(crate) fn fault_of(fault: GateFault) -> JournalFault
     requires { fault ≡ RunThere → ⊥ }
     ensures { IsFaultOf fault result }

@@ -1,4 +1,5 @@
 //! A journal: records that are gathered in batches, and written as bodies of a file of gates.
+//! run_table writes the records of a run so, and run_edits those of an operator's edits.
 
 ghost use Rattle.std.specs.Prelude.{◌≡◌, ◌↔◌, ◌+◌, ◌≤◌, ◌<◌, ◌++◌, [], ◌∷◌, List, ℕ, length, IsSome, IsTrue, IsErr, OnOk, OnErr, IfOk};
 ghost use Rattle.disk_model.specs.Device.{HasCause};
@@ -153,8 +154,8 @@ impl<D: Disk> Journal<D> {
             → Pends self.old.version pending self.old.batch
             → Holds header self.old.version entries (D.state self.old.file.disk) self.old.file.end
             → Holds header self.new.version (entries ++ pending) (D.state self.new.file.disk) self.new.file.end) }
-        // A crash at any moment of the call leaves those that it held, or those and all that were
-        // to be written.
+        // A crash at any moment of the call leaves the records that it held, or those and all that
+        // were to be written.
         ensures any_moment { (header : Header) (entries pending : List Entry) → Pends self.old.version pending self.old.batch
             → Holds header self.old.version entries (D.state self.old.file.disk) self.old.file.end
             → LeavesOnly (StandsEither header entries pending) (D.state self.old.file.disk) (D.state self.new.file.disk) }

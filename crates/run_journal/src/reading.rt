@@ -1,4 +1,5 @@
 //! How the bodies of a journal are read: the header, the pieces, and of each batch the records.
+//! For opening.rt of this crate.
 
 ghost use Rattle.std.specs.Prelude.{◌≡◌, ◌↔◌, ◌+◌, ◌*◌, ◌^◌, ◌≤◌, ◌<◌, ◌++◌, [], ◌∷◌, List, ℕ, length, drop, take, None, Some, IsTrue, IfOk, IfErr, OnOk, vec_capacity};
 ghost use Rattle.run_records.specs.declared.header.Header.{Header};

@@ -1,6 +1,6 @@
 -- Each step on the words of a table keeps its rule: to take the turn and to give it back, to count,
 -- to ask for a wake, to note, to cut a seat off and to join seats. At the end the table has the
--- records that its seats list.
+-- records that its seats list. The proofs of taking.rt and seats.rt (src) rest on it.
 use Rattle.std.proofs.Common.{◌≡◌, ◌≢◌, ◌⊎◌, ℕ, zero, suc, ◌<◌, eqb, Bool, true, false, ◌||◌, ◌&&◌, not, if◌then◌else◌, List, [], ◌∷◌, ◌++◌, length, get_or, set, sym, refl, ap, ◌∙◌, subst, ⊎_elim, inl, inr, arith, Option, Some, None, length-set, get_or-set_same, get_or-set_other, true≢false}
 use mathlib.Core.Option.{some, some-ne-none, some-injective}
 use mathlib.Core.Option as maybe
@@ -60,7 +60,7 @@ stops_both : (stop : Option Stop) (first second : List Stop) → AreStops stop f
 stops_both stop [] second are others = others
 stops_both stop (s ∷ first) second are others = (are.0, stops_both stop first second are.1 others)
 
--- And such a list is one in each part.
+-- A list of the same stop is one in each of two parts.
 stops_first : (stop : Option Stop) (first second : List Stop) → AreStops stop (first ++ second) → AreStops stop first × AreStops stop second
 stops_first stop [] second are = (tt, are)
 stops_first stop (s ∷ first) second are = let t = stops_first stop first second are.1 in ((are.0, t.0), t.1)
@@ -70,6 +70,7 @@ stops_listed : (stop : Option Stop) → AreStops stop (listed stop)
 stops_listed None = tt
 stops_listed (Some s) = (refl, tt)
 
+-- The steps on the words of a table with these records and reasons, and its rule.
 module _ {C : Type 0} (records : C → Path → Records) (reason : C → Option Halt) where
   -- A state of the words, the slot, and what all seats know.
   abbrev St : Type 0
@@ -418,6 +419,7 @@ of_either : (a b : Bool) (x y : Records) → (a || b) ≡ true → ((a ≡ true)
 of_either true b x y e = inl (refl, refl)
 of_either false b x y e = inr (e, refl)
 
+-- The cuts and joins of seats as the code makes them, and the end.
 module _ {C : Type 0} (records : C → Path → Records) (reason : C → Option Halt) where
   -- To join two seats keeps the rule, as the code joins them.
   pub glues : (id : ℕ) (v : Knows) (other : ℕ) (w : Knows) → v.busy ≡ false → w.busy ≡ false → Joins (Kept records reason) id v other w (joined v w) spent

@@ -1,4 +1,5 @@
--- A table on the heap does what the table does.
+-- A table on the heap does what the table does. `turn_step` of a boxed table (src/turning.rt) rests
+-- on it.
 use Rattle.std.proofs.Common.{◌≡◌, ap, ◌∙◌, subst, Option, Some, None, MatchOption, Box}
 use Rattle.std.specs.Box.{with_value}
 

@@ -1,5 +1,5 @@
 -- The moves that a stepper's calls answered are those of the records that its seat lists: each call
--- keeps that. turret_run takes lemmas of this file.
+-- keeps that. The functions of src/stepper.rt rest on it, and turret_run takes lemmas of it.
 use Rattle.std.proofs.Common.{◌≡◌, ◌⊎◌, inl, inr, ℕ, List, [], ◌∷◌, ◌++◌, refl, ap, sym, ◌∙◌, ⊎_elim, append_assoc, append-nil, subst, Option}
 use Rattle.std.specs.Prelude.{IsTrue, is_some}
 use Rattle.nc_number.specs.declared.path.Path.{Path}
@@ -41,17 +41,17 @@ answered before Drain after a = same_moves before after a
 answered before Finished after a = same_moves before after a
 answered before (Halted why) after a = none_more before after a
 
--- The moves told and listed still agree after a step.
+-- The moves that calls answered and those of the listed records agree still after a step.
 pub step_told : (path : Path) (before : Records) (next : Next) (after : Records) (calls : List Call) → moves_answered calls ≡ moves_in before → Answers before next after
     → moves_answered (calls ++ Step path next ∷ []) ≡ moves_in after
 step_told path before next after calls told a = moves_of_both calls (Step path next ∷ [])
     ∙ (ap (λ l. moves_answered calls ++ l) (append-nil (moves_of next)) ∙ (ap (λ l. l ++ moves_of next) told ∙ sym (answered before next after a)))
 
--- They still agree after a drain.
+-- The moves that calls answered and those of the listed records agree still after a drain.
 pub drain_told : (path : Path) (count : ℕ) (records : Records) (calls : List Call) → moves_answered calls ≡ moves_in records → moves_answered (calls ++ Drained path count ∷ []) ≡ moves_in records
 drain_told path count records calls told = moves_of_both calls (Drained path count ∷ []) ∙ (append-nil (moves_answered calls) ∙ told)
 
--- They still agree after a halt.
+-- The moves that calls answered and those of the listed records agree still after a halt.
 pub halt_told : (why : Reason) (records : Records) (calls : List Call) → moves_answered calls ≡ moves_in records → moves_answered (calls ++ Halt why ∷ []) ≡ moves_in records
 halt_told why records calls told = moves_of_both calls (Halt why ∷ []) ∙ (append-nil (moves_answered calls) ∙ told)
 

@@ -20,7 +20,9 @@ use Rattle.seat_table.specs.declared.knowing.Knows.{Knows}
 
 -- What a seat may do: step a path, or halt the run for the turret of a path.
 pub data Right : Type 0 where
+  -- to step this path
   steps : Path → Right
+  -- to halt the run for the turret of this path
   halts : Path → Right
 
 -- The right is one of these.
@@ -41,7 +43,7 @@ abbrev pub stop_by : Option Halt → Lists → Option Stop
 stop_by None l = None
 stop_by (Some why) l = Some (record { why = why; records = l })
 
--- The same of this table.
+-- That this table has halted, if it has: why, and its records.
 abbrev pub stop_of : {C : Type 0} → (C → Path → Records) → (C → Option Halt) → C → Option Stop
 stop_of records reason c = stop_by (reason c) (lists_of records c)
 
@@ -60,6 +62,7 @@ abbrev pub first_stop : List Stop → Option Stop
 first_stop [] = None
 first_stop (stop ∷ stops) = Some stop
 
+-- A table with these records, halted or not, whose rights these seats own, and one of its seats.
 module _ (now : Lists) (stop : Option Stop) (owner : Right → ℕ) (holder word : ℕ) (id : ℕ) where
   -- What a seat knows is so of the table. A right is that of one seat. Who may step a path has its
   -- records, and who has the turn has found all of them. Who knows that the table has halted knows
@@ -73,7 +76,7 @@ module _ (now : Lists) (stop : Option Stop) (owner : Right → ℕ) (holder word
     pub stops : AreStops stop v.stops
     -- If it has the turn, it has found the table's records, and it has some right.
     pub busy : v.busy ≡ true → (id ≡ holder) × (v.found ≡ now) × (0 < word) × (r : Right) × (has r v.rights ≡ true)
-    -- And it has found whether the table has halted.
+    -- If it has the turn, it has found whether the table has halted.
     pub busy_stop : v.busy ≡ true → v.found_stop ≡ stop
 
 -- The rule. While nobody has the turn, the table is in its slot, with these records, and has halted
@@ -87,7 +90,9 @@ pub record Kept {C : Type 0} (records : C → Path → Records) (reason : C → 
   pub owner : Right → ℕ
   -- Which seat has the turn, if one has.
   pub holder : ℕ
+  -- There is a word of the turn.
   pub wide : 0 < length s.words
+  -- There is a slot for the table.
   pub deep : 0 < length s.homes
   -- Each seat knows what is so.
   pub each : (id : ℕ) (v : Knows) → get_elem? s.views id ≡ some v
@@ -199,6 +204,7 @@ holding v l stop = record {
   calls = v.calls;
 }
 
+-- The steps on the word of the turn, for tables with these records and reasons.
 module _ {C : Type 0} (records : C → Path → Records) (reason : C → Option Halt) where
   -- What a seat knows, with what it took from the slot.
   abbrev Sat : Type 0
@@ -206,13 +212,18 @@ module _ {C : Type 0} (records : C → Path → Records) (reason : C → Option 
 
   -- The seat got the turn, as it found 0 there. Then it has the table, with these records.
   pub record Got (m : Sat) (m' : Sat) : Type 0 where
+    -- The table.
     pub table : C
+    -- The seat has the turn, and found the table's records.
     pub view : m'.0 ≡ holding m.0 (lists_of records table) (stop_of records reason table)
+    -- The table is in its hand.
     pub slot : m'.1 ≡ (0, Some table) ∷ m.1
+    -- What it listed of the paths that it may step are the table's records.
     pub lists : (p : Path) → has (steps p) m.0.rights ≡ true → of_path m.0.lists p ≡ records table p
+    -- What it knew of a halt is so of the table.
     pub stops : AreStops (stop_of records reason table) m.0.stops
 
-  -- It got the turn if it found 0; else nothing changed.
+  -- The seat got the turn if it found 0 in the word of the turn; else nothing changed.
   abbrev pub took : Step (Option C) → Sat → ℕ → Sat → Type 0
   took st m n m' = (n ≡ 0 → Got m m') × (n ≢ 0 → m' ≡ m)
 
@@ -240,12 +251,16 @@ IsAt seat table = (seat ≡ table) × (table.words ≡ 3) × (table.slots ≡ 1)
 abbrev pub Idle : {C : Type 0} → Me (Option C) Knows → Type 0
 Idle m = (m.0.busy ≡ false) × (m.1 ≡ [])
 
--- It has the turn, took the table out, and found all records.
+-- The seat has the turn, took the table out of its slot, and found all records.
 pub record Took {C : Type 0} (records : C → Path → Records) (reason : C → Option Halt) (m : Me (Option C) Knows) (table : C)
     (m' : Me (Option C) Knows) : Type 0 where
+  -- The seat has the turn, and found the table's records.
   pub view : m'.0 ≡ holding m.0 (lists_of records table) (stop_of records reason table)
+  -- It left nothing in the slot.
   pub slot : m'.1 ≡ (0, None) ∷ []
+  -- What it listed of the paths that it may step are the table's records.
   pub lists : (p : Path) → has (steps p) m.0.rights ≡ true → of_path m.0.lists p ≡ records table p
+  -- What it knew of a halt is so of the table.
   pub stops : AreStops (stop_of records reason table) m.0.stops
 
 -- The records of a path that a seat lists.

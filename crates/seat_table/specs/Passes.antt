@@ -1,4 +1,5 @@
--- What the passes of a table mean: what clauses see of them. turret_run and lane_vectors read this.
+-- What the passes of a table mean: what clauses see of them (src/seats.rt, src/stepper.rt).
+-- turret_run and lane_vectors cite it.
 use Rattle.std.specs.Prelude.{◌≡◌, Bool, true, false, List, [], ◌∷◌, Option, Some, None, IfSome}
 use Rattle.atomic_table.specs.Seated.{TableId}
 use Rattle.atomic_table.specs.declared.badge.Badge.{Badge}
@@ -13,17 +14,26 @@ use Rattle.seat_table.specs.declared.knowing.Stop.{Stop}
 -- halted, if it had when the pass last gave the turn back; and the calls that a stepper over it
 -- had.
 pub record Pass : Type 0 where
+  -- The table at which it has a seat.
   pub table : TableId
+  -- The path that it may step.
   pub path : Path
+  -- The records of the path that its steps made.
   pub records : Records
+  -- What the table was when the pass found or made it halted.
   pub stop : Option Stop
+  -- The calls that a stepper over the pass had.
   pub calls : List Call
 
 -- The pass of the drive of a path's turret, which lists no records.
 pub record Halter : Type 0 where
+  -- The table at which it has a seat.
   pub table : TableId
+  -- The path for whose turret it may halt the run.
   pub path : Path
+  -- What the table was when the pass found or made it halted.
   pub stop : Option Stop
+  -- The calls that a stepper over the pass had.
   pub calls : List Call
 
 -- A pass that has made no step.
@@ -36,7 +46,9 @@ fresh_halter table path = record { table = table; path = path; stop = None; call
 
 -- The table has halted for this reason, with these records.
 pub record HasStopped {C : Type 0} (records : C → Path → Records) (reason : C → Option Halt) (c : C) (stop : Stop) : Type 0 where
+  -- The reason is that of the stop.
   pub why : reason c ≡ Some stop.why
+  -- The records are those of the stop.
   pub records_are : (p : Path) → records c p ≡ of_path stop.records p
 
 -- If a pass knows that the table has halted, the table is what it was then.

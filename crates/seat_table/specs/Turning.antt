@@ -17,7 +17,7 @@ abbrev pub moves_in : Records → List LinedMove
 moves_in [] = []
 moves_in (moves ∷ records) = moves ++ moves_in records
 
--- There is one record more at most, of which no move was answered.
+-- There are the records from before, or these and one more, of which no move was answered.
 abbrev pub MayRecord : Records → Records → Type 0
 MayRecord before after = (after ≡ before) ⊎ (after ≡ before ++ [] ∷ [])
 

@@ -1,5 +1,5 @@
 //! The table with its four seats, and the passes by which threads use them. One turn at the table
-//! is in `taking`; what a table does in it, in `turning`. turret_run is built on this.
+//! is in `taking`; what a table does in it, in `turning`. turret_run gives the passes to threads.
 ghost use Rattle.std.specs.Prelude.{◌≡◌, ◌++◌, [], ◌∷◌, IfOk, IfErr, IfSome, IsTrue, is_some};
 ghost use Rattle.nc_number.specs.declared.path.Path.TheVariants.{One, Two};
 ghost use Rattle.nc_outside.specs.Calls.{IsOfTurret};
@@ -43,6 +43,7 @@ impl<C: Turns> Model for SeatTable<C> {
 pub struct SeatPass<C> {
     /// The seat at the table.
     place: Place<Box<C>>,
+    /// The path that it may step.
     path: Path,
 }
 
@@ -68,6 +69,7 @@ impl<C> Model for SeatPass<C> {
 pub struct HaltPass<C> {
     /// The seat at the table.
     place: Place<Box<C>>,
+    /// The path for whose turret it may halt the run.
     path: Path,
 }
 
@@ -126,7 +128,8 @@ impl<C: Turns> SeatTable<C> {
         }
     }
 
-    /// The same of a table on the heap.
+    /// A table on the heap that has made no record since it was opened, with its four passes. If
+    /// memory ran out, the table comes back as the error.
     fn over(alloc: Global, table: Box<C>) -> Result<Seated<C>, Box<C>>
         requires { (p : Path) → C.records table.value p ≡ [] }
         ensures passes { IfOk result (λ s. (s.first ≡ fresh s.table One) × (s.second ≡ fresh s.table Two)) }

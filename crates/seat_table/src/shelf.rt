@@ -1,4 +1,5 @@
-//! The one slot of a table, and the table on the heap. (This is no shelf of files: see nc_outside
+//! The one slot of a table, and the table on the heap: it is put in when the seats are made, and
+//! taken out if that fails. For seats.rt of this crate. (This is no shelf of files: see nc_outside
 //! for that.)
 ghost use Rattle.std.specs.Prelude.{◌≡◌, [], ◌∷◌, IfOk, IfErr, Some};
 

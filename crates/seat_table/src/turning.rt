@@ -1,5 +1,5 @@
-//! What a table does in one turn of a path: the trait that run_table's table has. How a turn is
-//! taken is in `taking`.
+//! What a table does in one turn of a path: the trait `Turns`, which the table of run_table has,
+//! and the tables of tests. How a turn is taken is in `taking`.
 ghost use Rattle.std.specs.Prelude.{◌≡◌, ◌≢◌, true, false, List, Some, MatchOption};
 ghost use Rattle.nc_outside.specs.Calls.{IsOfTurret};
 ghost use Rattle.nc_outside.specs.declared.halt.Halt.{Halt as Reason};

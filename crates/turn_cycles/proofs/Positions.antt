@@ -1,6 +1,5 @@
--- Each move of a cycle ends at a position, where the start and the end are positions, and none has
--- a centre.
--- For the contract of `cycle` in src/rectangle.rt.
+-- Each move of a canned cycle ends at a position, if the start and the end are positions, and none
+-- has a centre. `cycle` (src/rectangle.rt) rests on it.
 use Rattle.std.proofs.Common.{ℕ, Bool, true, false, [], ◌∷◌, ℤ, Ok, Err, IfOk, if◌then◌else◌}
 use Rattle.std.proofs.lemmas.List.Elements.{All-nil, All-cons}
 use Rattle.nc_number.specs.declared.point.Point.{Point}

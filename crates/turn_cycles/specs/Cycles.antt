@@ -1,4 +1,5 @@
--- The four moves of a canned cycle. Where its cut ends is in End, a whole block in Pass.
+-- The four moves of a canned cycle. Where its cut ends is in End, a whole block in Pass. `cycle`
+-- (src/rectangle.rt) answers them, and the proofs of two_path and run_table cite them.
 use Rattle.std.specs.Prelude.{Bool, List, [], ◌∷◌, ℤ, Result}
 use Rattle.nc_number.specs.declared.point.Point.{Point}
 use Rattle.nc_moves.specs.declared.motion.Move.{Move}
@@ -21,6 +22,6 @@ cycle_moves G92 start end feed per_rev =
 cycle_moves G94 start end feed per_rev =
     Rapid (corner start end) ∷ Feed end feed per_rev ∷ Feed (corner end start) feed per_rev ∷ Rapid start ∷ []
 
--- these moves, or alarm 44 where the feed is 0
+-- the four moves of a cycle, or alarm 44 where the feed is 0
 abbrev pub cycle_of : CycleKind → Point → Point → ℤ → Bool → Result (List Move) MotionFault
 cycle_of kind start end feed per_rev = at_feed feed (cycle_moves kind start end feed per_rev)

@@ -1,5 +1,5 @@
--- The whole of a block with a cycle.
--- block_values cites this.
+-- What a block with a canned cycle does: `cycle_pass` (src/pass.rt) answers it. block_values cites
+-- it, and so do the proofs of two_path and run_table.
 use Rattle.std.specs.Prelude.{if◌then◌else◌, [], Option, Some, None, Result, Ok}
 use Rattle.code_tables.specs.declared.kind.CodeKind.{CodeKind}
 use Rattle.code_tables.specs.declared.kind.CodeKind.TheVariants.{CycleTurn, CycleThread, CycleFace}
@@ -28,7 +28,7 @@ pass_to_end kind kept block = do
   moves ← cycle_of kind block.start end block.feed block.per_rev
   Ok (record { moves = moves; kept = Some end })
 
--- a block with a cycle moves where it names an axis; elsewhere the kept end stays
+-- a block with a cycle moves if it names an axis; else it has no move, and the kept end stays
 abbrev pub pass_of : CycleKind → Option Point → BlockMotion → Result CyclePass MotionFault
 pass_of kind kept block =
     if names_axis block then pass_to_end kind kept block else Ok (record { moves = []; kept = kept })

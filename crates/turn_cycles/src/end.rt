@@ -1,6 +1,5 @@
-//! Where a cycle ends its cut.
-//! In 0.001 mm, as all points.
-//! pass.rt calls it.
+//! Where a canned cycle (G90, G92, G94) ends its cut, in 0.001 mm, X a diameter.
+//! pass.rt of this crate calls it.
 ghost use Rattle.std.specs.Prelude.{◌≡◌, IfOk, IfSome};
 ghost use Rattle.nc_number.specs.Position.{IsWithin, IsPosition};
 ghost use Rattle.nc_number.specs.Axes.{IsAxisWithin};

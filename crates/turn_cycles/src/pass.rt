@@ -1,4 +1,4 @@
-//! A block with a cycle.
+//! A whole block with a canned cycle: its moves, and the end that it keeps for the next block.
 //! block_values calls it for G90, G92 and G94. Lengths are in 0.001 mm.
 ghost use Rattle.std.specs.Prelude.{◌≡◌, ◌≤◌, length, IfOk, IfSome};
 ghost use Rattle.nc_number.specs.Position.{IsPosition};

@@ -1,5 +1,5 @@
 -- A run whose paths take turns makes no record once it has ended, so it is one run.
--- For the law `one_run_in_turn`.
+-- For the law `one_run_in_turn` (src/laws.rt).
 use Rattle.std.proofs.Common.{◌≡◌, ℕ, zero, suc, ◌+◌, ◌-◌, ◌≤◌, ◌&&◌, Bool, true, false, List, [], ◌∷◌, ◌++◌, length, refl, sym, ◌∙◌, ap, subst, arith, append_assoc, append-nil, length-append, Option, Some, None}
 use Rattle.std.specs.Prelude.{nat_le}
 use Rattle.nc_number.specs.declared.path.Path.{Path}
@@ -21,11 +21,11 @@ use Rattle.turn_order.specs.InTurn.{IsInTurn, in_turn}
 abbrev IsOver : MachineView → Type 0
 IsOver m = end_of m ≡ None → ⊥
 
--- the turn of such a machine leaves it as it is, and makes no record
+-- a turn of a path leaves the machine as it is, and makes no record
 record IsStill (m : MachineView) (r : TurnResult) : Type 0 where
   -- the machine is as before
   same : r.machine ≡ m
-  -- and there is no record
+  -- there is no record
   none : kind_of r.turn ≡ None
 
 -- an own turn of a machine that has ended, by its alarm and its ends
@@ -42,16 +42,18 @@ swap None true false over is = over refl
 swap None false true over is = over refl
 swap None false false over is = over refl
 
--- so each own turn of such a machine
+-- each own turn of a path leaves a machine that has ended as it is, and makes no record
 own_still : (blocks : Blocks) (path : Path) (m : MachineView) → IsOver m → IsStill m (own_turn blocks path m)
 own_still blocks path m over = still_by m m.alarm m.paths.one.finished m.paths.two.finished m.paths.one.waiting (block_turn blocks path m) over
 
 -- a turn of this path leaves the machine, and makes no record
 record IsPassed (tapes : Tapes) (path : Path) (m : MachineView) : Type 0 where
+  -- the machine is as before
   same : (turn_of tapes path m).machine ≡ m
+  -- there is no record
   none : list_of (entry_of tapes path m) ≡ []
 
--- so each turn of a machine that has ended
+-- each turn of either path leaves a machine that has ended, and makes no record
 passed : (tapes : Tapes) (path : Path) (m : MachineView) → IsOver m → IsPassed tapes path m
 passed tapes One m over =
     let still = own_still tapes.one One m over in
@@ -92,7 +94,7 @@ in_two_parts tapes m path (suc n) more =
     ∙ ap (λ (es : List Entry). made ++ es) (in_two_parts tapes next (other_of path) n more)
     ∙ sym (append_assoc made (history tapes next (in_turn (other_of path) n)) (further tapes next (other_of path) n more))
 
--- nothing comes behind as many records as there may be
+-- behind as many elements as there may be there are no others
 none_left : (xs ys : List Entry) (n : ℕ) → length xs ≡ n → length (xs ++ ys) ≤ n → ys ≡ []
 none_left xs [] n all within = refl
 none_left xs (y ∷ ys) n all within = absurd (let both = length-append xs (y ∷ ys) in omega (arith, both, all, within))
@@ -102,8 +104,9 @@ over_further : (tapes : Tapes) (m : MachineView) (path : Path) (n more : ℕ) �
 unfolding further
 over_further tapes m path n more over = none_more tapes (path_after path n) (run tapes m (in_turn path n)) more over
 
--- of two such runs the one with more turns has the same records
+-- two runs of the pair whose paths take turns, up to the same limit
 module _ (tapes : Tapes) (first second : PathView) (limit : ℕ) (law : HistoriesAreRuns tapes (opening first second)) where
+  -- of two such runs the one with more turns has the same records
   same_records : (one two : List Entry) (n more : ℕ) → history tapes (opening first second) (in_turn One n) ≡ one
       → history tapes (opening first second) (in_turn One (n + more)) ≡ two
       → length two ≤ limit → (end_of (fold tapes (opening first second) one) ≡ None → length one ≡ limit) → one ≡ two

@@ -1,5 +1,5 @@
--- A run whose paths take turns, as far as it has come.
--- Invariant of the loop of src/turns.rt.
+-- A run whose paths take turns, as far as it has come, and how it ends. The loop of
+-- `records_in_turn` (src/turns.rt) keeps it.
 use Rattle.std.proofs.Common.{◌≡◌, ℕ, suc, ◌+◌, ◌≤◌, ◌<◌, ◌==◌, Bool, true, false, List, [], ◌++◌, length, refl, sym, ◌∙◌, ap, arith, append_assoc, append-nil, Option, Some, None}
 use Rattle.std.specs.Prelude.{if◌then◌else◌, unwrap_or}
 use Rattle.nc_number.specs.declared.path.Path.{Path}
@@ -17,8 +17,8 @@ use Rattle.two_path.specs.Ending.{end_of}
 use Rattle.turn_order.specs.Ending.{halt_at, bound_by, end_at, end_told}
 use Rattle.turn_order.specs.InTurn.{IsInTurn, in_turn}
 
--- After some turns the run has these records, stands at this machine, and this path is next: so it
--- is with all its further turns.
+-- After some turns the run has these records, stands at this machine, and this path is next:
+-- whatever turns follow, their records come after these.
 pub record IsSoFar (tapes : Tapes) (start : MachineView) (path : Path) (m : MachineView) (entries : List Entry) : Type 0 where
   -- how many turns there were
   pub turns : ℕ
@@ -36,7 +36,7 @@ begins tapes start m entries at none = record {
       ∙ ap (λ (es : List Entry). es ++ history tapes m (in_turn One more)) (sym none);
 }
 
--- with one turn more its record is added
+-- with one turn more the record that it makes, if it makes one, is added
 goes_on : (tapes : Tapes) (start : MachineView) (path : Path) (m : MachineView) (entries : List Entry) → IsSoFar tapes start path m entries
     → IsSoFar tapes start (other_of path) (turn_of tapes path m).machine (entries ++ list_of (entry_of tapes path m))
 goes_on tapes start path m entries so_far = record {
@@ -59,7 +59,7 @@ pub kept_on : (tapes : Tapes) (start : MachineView) (path : Path) (m after : Mac
     → after ≡ (turn_of tapes path m).machine → more ≡ entries ++ list_of (entry_of tapes path m) → IsKept tapes start more after
 kept_on tapes start path m after entries more kept is_after is_more = rw (is_after, is_more) kept
 
--- how many records there are
+-- the machine counts as many records as there are
 pub counted : (tapes : Tapes) (start m : MachineView) (entries : List Entry) → HistoriesAreRuns tapes start → IsKept tapes start entries m → m.count ≡ length entries
 counted tapes start m entries law kept =
     sym (ap (λ (x : MachineView). x.count) kept.folds) ∙ (law.counts entries kept.legal).count
@@ -68,7 +68,7 @@ counted tapes start m entries law kept =
 pub same_end : (tapes : Tapes) (start m : MachineView) (entries : List Entry) → IsKept tapes start entries m → end_of (fold tapes start entries) ≡ end_of m
 same_end tapes start m entries kept = ap end_of kept.folds
 
--- what it says that the run has not ended
+-- if nothing ends the run, there is no alarm, and not both paths have ended
 pub not_ended : (alarm : Option Alarm) (both : Bool) → end_by alarm both ≡ None → (alarm ≡ None) × (both ≡ false)
 not_ended (Some alarm) both is = absurd cc
 not_ended None true is = absurd cc
@@ -106,7 +106,7 @@ pub record HasEnded (m : MachineView) (most limit : ℕ) (end : Reason) : Type 0
   -- if not by the machine, it has as many as the limit
   pub at_limit : end_of m ≡ None → m.count ≡ limit
 
--- a run that is told as ended has ended so
+-- if a run is told to have ended, it ended by its machine or has as many records as the limit
 pub ended_by : (m : MachineView) (limit most : ℕ) (end : Reason) (o : Option Reason) → end_of m ≡ o → end_or_bound o (bound_by m.count limit most) ≡ Some end
     → HasEnded m most limit end
 ended_by m limit most end (Some e) is told = record {

@@ -1,6 +1,6 @@
 -- A turn of a path makes a record, or reads, or is passed over; and a path is passed over only
--- while the other goes on. So there are only so many turns.
--- The measure of the loop of src/turns.rt, and its steps.
+-- while the other goes on. So there are only so many turns: the measure by which the loop of
+-- `records_in_turn` (src/turns.rt) ends.
 use Rattle.std.proofs.Common.{◌≡◌, ◌⊎◌, inl, inr, ℕ, ◌+◌, ◌-◌, ◌*◌, ◌≤◌, ◌<◌, ◌==◌, ◌||◌, ◌&&◌, Bool, true, false, List, [], ◌∷◌, ◌++◌, length, refl, ◌∙◌, ap, subst, arith, length-append, Option, Some, None, is_some}
 use Rattle.std.specs.Prelude.{if◌then◌else◌}
 use Rattle.nc_number.specs.declared.path.Path.{Path}
@@ -48,7 +48,7 @@ asks_few blocks most path writes values (stamp ∷ stamps) asks few =
     let rest = asks_few blocks most path writes (and_next blocks path writes stamp values) stamps asks.1 (omega (arith, less, one)) in
     omega (arith, one, rest)
 
--- so a path of a lawful machine has made few reads
+-- path 1 of a lawful machine has made at most 32 reads
 lawful_few : (blocks : Blocks) (m : MachineView) → AsksFew blocks → IsLawful blocks m → length m.paths.one.stamps ≤ MOST_READS
 lawful_few blocks m most lawful = omega (arith, asks_few blocks most m.paths.one.path m.writes [] m.paths.one.stamps lawful.may.asks (omega arith))
 
@@ -62,7 +62,7 @@ pub few_reads : ((flow : Flow) (path : PathView) (reads : List Var) → AsksForS
 few_reads law left right m lawful =
     omega (arith, lawful_few (blocks_of left) m (flow_asks_few law left) lawful.first, lawful_few (blocks_of right) (own_first Two m) (flow_asks_few law right) lawful.second)
 
--- what a turn of the first path comes to
+-- what a turn of the first path does to the machine and the records
 data Went (m : MachineView) (r : TurnResult) : Type 0 where
   -- passed over: nothing changes
   over : is_idle m.paths.one ≡ true → r.machine ≡ m → kind_of r.turn ≡ None → Went m r
@@ -99,13 +99,13 @@ went_by m None false (Some code) rest calm ends waits goes =
     over (ap (λ b. b || is_some m.paths.one.waiting) ends ∙ ap (λ (o : Option ℕ). is_some o) waits) refl refl
 went_by m None false None rest calm ends waits goes = goes
 
--- so each turn of the first path comes to one of these
+-- each turn of the first path, without an alarm, is passed over, or reads, or makes a record
 own_went : (blocks : Blocks) (path : Path) (m : MachineView) → m.alarm ≡ None → Went m (own_turn blocks path m)
 own_went blocks path m calm =
     went_by m m.alarm m.paths.one.finished m.paths.one.waiting (block_turn blocks path m) calm refl refl
     (by_went path (blocks.line m.paths.one.path.place) m (blocks.effect m.paths.one.path m.paths.one.values))
 
--- what a turn of either path comes to
+-- what a turn of either path does to the machine and the records
 pub data Gave (path : Path) (before after : MachineView) (made : List Entry) : Type 0 where
   -- passed over: nothing changes
   passed : is_idle (of_path before.paths path) ≡ true → after ≡ before → length made ≡ 0 → Gave path before after made
@@ -114,25 +114,25 @@ pub data Gave (path : Path) (before after : MachineView) (made : List Entry) : T
   -- one record more
   recorded : length made ≡ 1 → after.count ≡ before.count + 1 → Gave path before after made
 
--- the same kind of record makes as many
+-- equal kinds of record, or none, make as many records
 made_by : (path : Path) (stamps : List ℕ) (k k' : Option EntryKind) → k ≡ k' → length (list_of (entry_with path stamps k)) ≡ length (list_of (entry_with path stamps k'))
 made_by path stamps k k' is = ap (λ (o : Option EntryKind). length (list_of (entry_with path stamps o))) is
 
--- a turn of path 1 comes to one of these
+-- a turn of path 1 is passed over, or reads, or makes a record
 one_gave : (tapes : Tapes) (m : MachineView) → Went m (own_turn tapes.one One m)
     → Gave One m (turn_of tapes One m).machine (list_of (entry_of tapes One m))
 one_gave tapes m (over idle same none) = passed idle same (made_by One m.paths.one.stamps _ None none)
 one_gave tapes m (read none more still) = has_read (made_by One m.paths.one.stamps _ None none) more still
 one_gave tapes m (made kind is more) = recorded (made_by One m.paths.one.stamps _ (Some kind) is) more
 
--- a turn of path 2, seen with both paths exchanged, comes to one of these
+-- a turn of path 2, seen with both paths exchanged, is passed over, or reads, or makes a record
 two_gave : (tapes : Tapes) (m : MachineView) → Went (own_first Two m) (own_turn tapes.two Two (own_first Two m))
     → Gave Two m (turn_of tapes Two m).machine (list_of (entry_of tapes Two m))
 two_gave tapes m (over idle same none) = passed idle (ap (own_first Two) same) (made_by Two m.paths.two.stamps _ None none)
 two_gave tapes m (read none more still) = has_read (made_by Two m.paths.two.stamps _ None none) (omega (arith, more)) still
 two_gave tapes m (made kind is more) = recorded (made_by Two m.paths.two.stamps _ (Some kind) is) more
 
--- so each turn of either path comes to one of these
+-- each turn of either path, without an alarm, is passed over, or reads, or makes a record
 pub gave : (tapes : Tapes) (path : Path) (m : MachineView) → m.alarm ≡ None
     → Gave path m (turn_of tapes path m).machine (list_of (entry_of tapes path m))
 gave tapes One m calm = one_gave tapes m (own_went tapes.one One m calm)
@@ -143,7 +143,7 @@ unfinished : (first second : Bool) → (first && second) ≡ false → (first �
 unfinished true second is = inr is
 unfinished false second is = inl refl
 
--- if one path is idle, the other is not: it goes on
+-- if one path is idle in a machine that is not stuck and has not ended, the other is not
 other_awake : (path : Path) (m : MachineView) → (IsStuck (without_reads m) → ⊥) → m.alarm ≡ None → (m.paths.one.finished && m.paths.two.finished) ≡ false
     → is_idle (of_path m.paths path) ≡ true → is_idle (of_path m.paths (other_of path)) ≡ false
 other_awake One m free calm some idle =
@@ -174,12 +174,12 @@ left_made budget budget' reads reads' flag flag' b few most = omega (arith, b, f
 abbrev flag : Bool → ℕ
 flag idle = if idle then 1 else 0
 
--- at most 1
+-- the flag is at most 1
 flag_most : (b : Bool) → flag b ≤ 1
 flag_most true = omega arith
 flag_most false = omega arith
 
--- behind a turn fewer are left
+-- a turn of a machine that is not stuck, has no alarm and has not ended
 module _ (limit : ℕ) (path : Path) (m after : MachineView) (unstuck : IsStuck (without_reads m) → ⊥) (calm : m.alarm ≡ None)
     (some : (m.paths.one.finished && m.paths.two.finished) ≡ false) (few : reads_of m ≤ 64) (below : m.count < limit) where
   -- fewer turns are left after any turn

@@ -1,5 +1,5 @@
--- The run of a pair whose paths take turns.
--- How it ended is in Ending.
+-- The run of a pair whose paths take turns: its turns, and its records.
+-- How it ended is in Ending. lathe_calls and lathe_top cite it.
 use Rattle.std.specs.Prelude.{◌≡◌, ℕ, zero, suc, ◌≤◌, List, [], ◌∷◌, length, None}
 use Rattle.nc_number.specs.declared.path.Path.{Path}
 use Rattle.nc_number.specs.declared.path.Path.TheVariants.{One}
@@ -12,7 +12,7 @@ use Rattle.two_path.specs.Ending.{end_of}
 use Rattle.two_path.specs.Turns.{Tapes, tapes_of}
 use Rattle.two_path.specs.Histories.{Event, TurnOf, history, fold}
 
--- the tapes of an accepted pair, and its machine before the first turn
+-- the blocks of both tapes of an accepted pair, as the machine takes them
 abbrev pub tapes_in : Verified → Tapes
 tapes_in verified = tapes_of verified.left verified.right
 

@@ -1,5 +1,5 @@
-//! Why a run whose paths take turns ends.
-//! What an end is told as is in specs/Ending.antt.
+//! Why a run whose paths take turns ends: by its machine, or by the number of its records.
+//! For turns.rt of this crate.
 ghost use Rattle.std.specs.Prelude.{◌≡◌};
 ghost use Rattle.turn_order.specs.Ending.{bound_by, end_before};
 

@@ -1,6 +1,6 @@
 //! What holds of every run whose paths take turns. Each law is the contract of a function that does
-//! nothing: who calls it has the law.
-//! lathe_top calls `one_run_in_turn`.
+//! nothing: who calls it has the law. turns.rt takes the first, lathe_top the last; the second is
+//! for readers.
 ghost use Rattle.std.specs.Prelude.{◌≡◌, ℕ, List};
 ghost use Rattle.nc_verify.specs.declared.verified.Verified.{Verified};
 ghost use Rattle.path_state.specs.View.{PathView};

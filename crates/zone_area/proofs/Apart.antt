@@ -1,4 +1,5 @@
--- What lies in clear areas lies apart.
+-- What lies in clear areas lies apart. The laws `clear_areas_keep_apart` and
+-- `an_area_in_the_cell_holds_what_may_be_passed` (src/laws.rt) rest on it.
 use Rattle.std.proofs.Common.{◌≡◌, ℕ, ◌≤◌, Bool, true, false, List, ℤ, pos, neg_ℤ, ◌+ℤ◌, ◌-ℤ◌, ◌*ℤ◌, ◌≤ℤ◌, ◌<ℤ◌, arith, inl, inr, if◌then◌else◌}
 use Rattle.std.proofs.lemmas.Int.{ints}
 use Rattle.nc_number.proofs.Bools.{either}
@@ -17,7 +18,7 @@ use Rattle.zone_area.proofs.Least.{area_holds}
 
 -- the frame of a path moves a point and an area alike
 
--- along one axis, what lies between two lengths lies between them after a shift,
+-- along one axis, what lies between two lengths lies between them after a shift
 shifted : (d : ℕ) (low high shift q : ℤ) → (pos d *ℤ low) ≤ℤ q → q ≤ℤ (pos d *ℤ high)
     → ((pos d *ℤ (low +ℤ shift)) ≤ℤ (q +ℤ pos d *ℤ shift)) × ((q +ℤ pos d *ℤ shift) ≤ℤ (pos d *ℤ (high +ℤ shift)))
 shifted d low high shift q l h =
@@ -25,7 +26,7 @@ shifted d low high shift q l h =
     let high_is = scaled_add d high shift in
     (omega (arith, ints, low_is, l), omega (arith, ints, high_is, h))
 
--- also if the axis is mirrored
+-- along an axis that may be mirrored, what lies between two lengths lies between them after a shift
 across : (d : ℕ) (mirror : Bool) (low high shift q : ℤ) → (pos d *ℤ low) ≤ℤ q → q ≤ℤ (pos d *ℤ high)
     → ((pos d *ℤ (signed mirror (if mirror then high else low) +ℤ shift)) ≤ℤ (signed mirror q +ℤ pos d *ℤ shift))
     × ((signed mirror q +ℤ pos d *ℤ shift) ≤ℤ (pos d *ℤ (signed mirror (if mirror then low else high) +ℤ shift)))
@@ -51,11 +52,11 @@ beyond d gap high low p q some is ph lq =
     let less' : (pos d *ℤ high +ℤ pos d *ℤ gap) <ℤ (pos d *ℤ low) = rw sum at less in
     omega (arith, ints, less', ph, lq)
 
--- a difference of more than the gap is a distance of more than it,
+-- if the second length is greater by more than the gap, their distance is more than the gap
 second_beyond : (g p q : ℤ) → g <ℤ (q -ℤ p) → g <ℤ pos (distance p q)
 second_beyond g p q less = omega (arith, ints, less)
 
--- whichever length is the greater one
+-- if the first length is greater by more than the gap, their distance is more than the gap
 first_beyond : (g p q : ℤ) → g <ℤ (p -ℤ q) → g <ℤ pos (distance p q)
 first_beyond g p q less = omega (arith, ints, less)
 
@@ -77,7 +78,8 @@ pub cell_holds : (d : ℕ) (f : Frame) (at : Point) (moves : List Move) (q : Poi
     → IsInside d (area_in_cell f (area_of at moves)) (point_in_cell d f q)
 cell_holds d f at moves q passed = in_cell d f (area_of at moves) q (all_inside d (area_of at moves) at moves q (area_holds at moves) passed)
 
--- so points that two segments may pass differ by more than the gap if their areas are clear
+-- points that the moves of two paths may pass differ by more than the gap if the areas of these
+-- moves are clear in the cell
 pub segments_apart : (d : ℕ) (gap : Point) (f g : Frame) (at to : Point) (left right : List Move) (p q : Point) → 1 ≤ d
     → is_clear gap (area_in_cell f (area_of at left)) (area_in_cell g (area_of to right)) ≡ true
     → MayPassSome d at left p → MayPassSome d to right q

@@ -1,4 +1,5 @@
 -- An area that holds the ends of moves and the reach of their arcs holds what the moves may pass.
+-- The law `an_area_holds_what_may_be_passed` (src/laws.rt) and Apart.antt rest on it.
 use Rattle.std.proofs.Common.{◌≡◌, ℕ, ◌+◌, ◌*◌, ◌≤◌, List, [], ◌∷◌, Option, Some, None, unwrap_or, ℤ, pos, ◌+ℤ◌, ◌-ℤ◌, ◌*ℤ◌, ◌≤ℤ◌, arith, ◌⊎◌, inl, inr}
 use Rattle.std.proofs.lemmas.Int.{ints}
 use Rattle.std.proofs.Math.Nat.{mul-le-mul_left}
@@ -17,7 +18,7 @@ use Rattle.zone_area.proofs.Scaled.{scaled_le, scaled_add, scaled_sub}
 use Rattle.nc_number.proofs.Roots.{root_le}
 use Rattle.zone_area.proofs.LeastRoot.{root_reaches}
 
--- a whole point that is held
+-- a whole point that an area holds lies in it in parts too
 held : (d : ℕ) (area : Area) (p q : Point) → Holds area p → q ≡ in_parts d p → IsInside d area q
 held d area p q h is = rw is (record {
   left = scaled_le d area.low.x p.x h.left;
@@ -26,7 +27,7 @@ held d area p q h is = rw is (record {
   above = scaled_le d p.z area.high.z h.above;
 })
 
--- a length between two that are held
+-- what lies in parts between two lengths lies between the bounds of both
 between : (d : ℕ) (low high a b q : ℤ) → low ≤ℤ a → a ≤ℤ high → low ≤ℤ b → b ≤ℤ high
     → IsBetween (pos d *ℤ a) q (pos d *ℤ b) → ((pos d *ℤ low) ≤ℤ q) × (q ≤ℤ (pos d *ℤ high))
 between d low high a b q la ah lb bh is =
@@ -39,13 +40,14 @@ between d low high a b q la ah lb bh is =
       | inr down ↦ (omega (arith, ints, down, la', ah', lb', bh'), omega (arith, ints, down, la', ah', lb', bh'))
     ]
 
--- what the middle and the reach give
+-- a length whose square is at most d * d times a square within that of the reach is at most d times
+-- the reach
 reached : (d square reach n : ℕ) → square ≤ reach * reach → n * n ≤ d * d * square → n ≤ d * reach
 reached d square reach n reaches within =
     let scaled : d * d * square ≤ d * d * (reach * reach) = mul-le-mul_left (d * d) reaches in
     root_le n (d * reach) (omega (arith, scaled, within))
 
--- a length that lies no farther from the middle than the reach
+-- a length in parts that lies no farther from the middle than the reach lies between the bounds
 near : (d reach : ℕ) (low high middle q : ℤ) → low ≤ℤ (middle -ℤ pos reach) → (middle +ℤ pos reach) ≤ℤ high
     → distance (pos d *ℤ middle) q ≤ d * reach → ((pos d *ℤ low) ≤ℤ q) × (q ≤ℤ (pos d *ℤ high))
 near d reach low high middle q l h within =
@@ -64,7 +66,8 @@ twice d z =
     let sum = scaled_add d z z in
     rw (e, sum) (omega (arith, ints))
 
--- the same of doubled lengths
+-- a length in parts whose double lies no farther from the doubled middle than the reach lies
+-- between the bounds
 near_twice : (d reach : ℕ) (low high middle q : ℤ) → (pos 2 *ℤ low) ≤ℤ (pos 2 *ℤ middle -ℤ pos reach) → (pos 2 *ℤ middle +ℤ pos reach) ≤ℤ (pos 2 *ℤ high)
     → distance (pos 2 *ℤ (pos d *ℤ middle)) (pos 2 *ℤ q) ≤ d * reach → ((pos d *ℤ low) ≤ℤ q) × (q ≤ℤ (pos d *ℤ high))
 near_twice d reach low high middle q l h within =
@@ -77,11 +80,11 @@ near_twice d reach low high middle q l h within =
     let high_is = twice d high in
     (omega (arith, ints, left, low_is), omega (arith, ints, right, high_is))
 
--- one of two squares is at most their sum,
+-- the first of two squares is at most their sum
 first_part : (a b n : ℕ) → a * a + b * b ≤ n → a * a ≤ n
 first_part a b n within = omega (arith, within)
 
--- and so is the other
+-- the second of two squares is at most their sum
 second_part : (a b n : ℕ) → a * a + b * b ≤ n → b * b ≤ n
 second_part a b n within = omega (arith, within)
 
@@ -114,13 +117,13 @@ end_inside d area at (Some to) (Some centre) q h m p = elim p [
   | inr (inr near) ↦ around d (square_of at to centre) (reach_of at to centre) area (middle_of at centre) q (square_reached at to centre) m.1 near
 ]
 
--- and the area holds the place behind the move
+-- an area that holds the place before a move and the end of the move holds the place after it
 end_held : (area : Area) (at : Point) (end : Option Point) (centre : Option Centre) → Holds area at → HoldsEnd area at end centre → Holds area (unwrap_or end at)
 end_held area at None centre h m = h
 end_held area at (Some to) None h m = m
 end_held area at (Some to) (Some centre) h m = m.0
 
--- so what several moves may pass lies in an area that holds all of that
+-- what several moves may pass lies in an area that holds their ends and the reach of their arcs
 pub all_inside : (d : ℕ) (area : Area) (at : Point) (moves : List Move) (q : Point) → HoldsAll area at moves → MayPassSome d at moves q → IsInside d area q
 all_inside d area at [] q h p = held d area at q h.0 p
 all_inside d area at (move ∷ moves) q h p = go p (λ rest. all_inside d area (place_after at move) moves q (end_held area at (end_of move) (centre_in move) h.0 h.1.0, h.1.1) rest)

@@ -1,4 +1,5 @@
--- The area of moves holds them, and is the least that does.
+-- The area of moves holds their ends and the reach of their arcs, and is the least that does. The
+-- law `an_area_is_the_least` (src/laws.rt) and Apart.antt rest on it.
 use Rattle.std.proofs.Common.{ℕ, ◌+◌, ◌*◌, ◌/◌, ◌≤◌, List, [], ◌∷◌, Option, Some, None, ◌≤ℤ◌, arith}
 use Rattle.std.proofs.lemmas.Int.{ints, clamps}
 use Rattle.nc_number.specs.declared.point.Point.{Point}
@@ -32,11 +33,11 @@ around_more big small middle reach w h = record {
 abbrev IsArea : Area → Type 0
 IsArea a = (a.low.x ≤ℤ a.high.x) × (a.low.z ≤ℤ a.high.z)
 
--- the hull of two areas is an area,
+-- the hull of two areas is an area
 hull_is : (a b : Area) → IsArea a → IsArea b → IsArea (hull_of a b)
 hull_is a b ia ib = (omega (arith, ints, clamps, ia.0, ib.0), omega (arith, ints, clamps, ia.1, ib.1))
 
--- holds the first of them
+-- the hull of two areas holds the first of them
 hull_first : (a b : Area) → IsArea a → IsArea b → HoldsArea (hull_of a b) a
 hull_first a b ia ib =
     let x = ia.0 in let z = ia.1 in (
@@ -44,7 +45,7 @@ hull_first a b ia ib =
       record { left = omega (arith, ints, clamps, x); right = omega (arith, ints, clamps); below = omega (arith, ints, clamps, z); above = omega (arith, ints, clamps) },
     )
 
--- and the second
+-- the hull of two areas holds the second of them
 hull_second : (a b : Area) → IsArea a → IsArea b → HoldsArea (hull_of a b) b
 hull_second a b ia ib =
     let x = ib.0 in let z = ib.1 in (
@@ -73,17 +74,17 @@ hull_least big a b wa wb =
 half_up : (s : ℕ) → (s ≤ 2 * ((s + 1) / 2)) × (2 * ((s + 1) / 2) ≤ s + 1)
 half_up s = (omega arith, omega arith)
 
--- the area around a middle is an area,
+-- the area around a middle is an area
 around_is : (middle : Point) (reach : ℕ) → IsArea (area_around middle reach)
 around_is middle reach = (omega (arith, ints), omega (arith, ints))
 
--- holds the middle and its reach,
+-- the area around a middle holds the middle and its reach
 around_holds : (middle : Point) (reach : ℕ) → HoldsAround (area_around middle reach) middle reach
 around_holds middle reach =
     let half = (half_up reach).0 in
     record { left = omega (arith, ints); right = omega (arith, ints); below = omega (arith, ints, half); above = omega (arith, ints, half) }
 
--- and lies in each that does
+-- the area around a middle lies in each area that holds the middle and its reach
 around_least : (big : Area) (middle : Point) (reach : ℕ) → HoldsAround big middle reach → HoldsArea big (area_around middle reach)
 around_least big middle reach h =
     let half = (half_up reach).1 in
@@ -99,7 +100,7 @@ around_least big middle reach h =
 at_is : (p : Point) → IsArea (area_at p)
 at_is p = (omega (arith, ints), omega (arith, ints))
 
--- and holds it
+-- the area of one point holds it
 at_holds : (p : Point) → Holds (area_at p) p
 at_holds p = record { left = omega (arith, ints); right = omega (arith, ints); below = omega (arith, ints); above = omega (arith, ints) }
 
@@ -116,9 +117,9 @@ within_self a is =
       record { left = omega (arith, ints, x); right = omega (arith, ints); below = omega (arith, ints, z); above = omega (arith, ints) },
     )
 
--- one move
+-- (what one move makes of an area)
 
--- with a move more it is an area still,
+-- with a move more an area is an area still
 to_is : (a : Area) (at : Point) (end : Option Point) (centre : Option Centre) → IsArea a → IsArea (area_to a at end centre)
 to_is a at None centre is = is
 to_is a at (Some to) None is = hull_is a (area_at to) is (at_is to)
@@ -126,7 +127,7 @@ to_is a at (Some to) (Some centre) is =
     hull_is (hull_of a (area_at to)) (area_around (middle_of at centre) (reach_of at to centre))
     (hull_is a (area_at to) is (at_is to)) (around_is (middle_of at centre) (reach_of at to centre))
 
--- holds what it held,
+-- with a move more an area holds what it held
 to_within : (a : Area) (at : Point) (end : Option Point) (centre : Option Centre) → IsArea a → HoldsArea (area_to a at end centre) a
 to_within a at None centre is = within_self a is
 to_within a at (Some to) None is = hull_first a (area_at to) is (at_is to)
@@ -136,7 +137,7 @@ to_within a at (Some to) (Some centre) is =
     (hull_first (hull_of a (area_at to)) (area_around (middle_of at centre) (reach_of at to centre)) ended (around_is (middle_of at centre) (reach_of at to centre)))
     (hull_first a (area_at to) is (at_is to))
 
--- holds the move,
+-- with a move more an area holds the end of the move and what it may reach
 to_holds : (a : Area) (at : Point) (end : Option Point) (centre : Option Centre) → IsArea a → HoldsEnd (area_to a at end centre) at end centre
 to_holds a at None centre is = tt
 to_holds a at (Some to) None is = holds_more (hull_of a (area_at to)) (area_at to) to (hull_second a (area_at to) is (at_is to)) (at_holds to)
@@ -150,7 +151,7 @@ to_holds a at (Some to) (Some centre) is =
       around_more whole (area_around middle reach) middle reach (hull_second (hull_of a (area_at to)) (area_around middle reach) ended (around_is middle reach)) (around_holds middle reach),
     )
 
--- and lies in each area that does both
+-- with a move more an area lies in each area that holds it and the end and reach of the move
 to_least : (big a : Area) (at : Point) (end : Option Point) (centre : Option Centre) → HoldsArea big a → HoldsEnd big at end centre → HoldsArea big (area_to a at end centre)
 to_least big a at None centre w h = w
 to_least big a at (Some to) None w h = hull_least big a (area_at to) w (h, h)
@@ -165,9 +166,9 @@ end_more big small at None centre w h = tt
 end_more big small at (Some to) None w h = holds_more big small to w h
 end_more big small at (Some to) (Some centre) w h = (holds_more big small to w h.0, around_more big small (middle_of at centre) (reach_of at to centre) w h.1)
 
--- all moves
+-- (what all moves make of an area)
 
--- with moves more an area holds what it held,
+-- with moves more an area holds what it held
 along_within : (s : SweptView) (moves : List Move) → IsArea s.area → HoldsArea (swept_along s moves).area s.area
 along_within s [] is = within_self s.area is
 along_within s (move ∷ moves) is =
@@ -175,7 +176,7 @@ along_within s (move ∷ moves) is =
     (along_within (swept_with s move) moves (to_is s.area s.at (end_of move) (centre_in move) is))
     (to_within s.area s.at (end_of move) (centre_in move) is)
 
--- holds the moves,
+-- with moves more an area holds their ends and the reach of their arcs
 along_holds : (s : SweptView) (moves : List Move) → IsArea s.area → HoldsMoves (swept_along s moves).area s.at moves
 along_holds s [] is = tt
 along_holds s (move ∷ moves) is =
@@ -185,19 +186,19 @@ along_holds s (move ∷ moves) is =
       along_holds (swept_with s move) moves next,
     )
 
--- and lies in each area that does both
+-- with moves more an area lies in each area that holds it and the ends and reach of the moves
 along_least : (big : Area) (s : SweptView) (moves : List Move) → HoldsArea big s.area → HoldsMoves big s.at moves → HoldsArea big (swept_along s moves).area
 along_least big s [] w h = w
 along_least big s (move ∷ moves) w h =
     along_least big (swept_with s move) moves (to_least big s.area s.at (end_of move) (centre_in move) w h.0) h.1
 
--- the area of moves holds them
+-- the area of moves holds their ends and the reach of their arcs
 pub area_holds : (at : Point) (moves : List Move) → HoldsAll (area_of at moves) at moves
 area_holds at moves = (
   holds_more (area_of at moves) (area_at at) at (along_within (swept_at at) moves (at_is at)) (at_holds at),
   along_holds (swept_at at) moves (at_is at),
 )
 
--- and lies in each area that holds them
+-- the area of moves lies in each area that holds their ends and the reach of their arcs
 pub area_is_least : (at : Point) (moves : List Move) (other : Area) → HoldsAll other at moves → HoldsArea other (area_of at moves)
 area_is_least at moves other h = along_least other (swept_at at) moves (h.0, h.0) h.1

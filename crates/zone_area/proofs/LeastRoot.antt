@@ -1,4 +1,5 @@
--- The least number whose square is at least another.
+-- The least number whose square is at least another. `least_root` (src/arc.rt) and InArea.antt rest
+-- on it.
 use Rattle.std.proofs.Common.{◌≡◌, ◌<◌, ◌≤◌, ◌*◌, ◌+◌, ℕ, zero, suc, Bool, true, false, cond, refl, arith, inl, inr, nat_le}
 use Rattle.std.proofs.lemmas.Bool.{cases_lt, leb-true, leb-false}
 use Rattle.std.proofs.Math.Nat.{le-mul_of_pos_right, mul-le-mul}
@@ -6,7 +7,7 @@ use Rattle.nc_number.proofs.Roots.{root_le}
 use Rattle.zone_area.specs.Range.{far_squares}
 use Rattle.zone_area.specs.Roots.{least_root_below, least_root}
 
--- the square of the root is at least the number,
+-- the square of the least root up to a bound is at least the number, if that of the bound is
 root_below_reaches : (n most : ℕ) → n ≤ most * most → n ≤ least_root_below n most * least_root_below n most
 unfolding least_root_below
 root_below_reaches n zero within = within
@@ -17,7 +18,7 @@ root_below_reaches n (suc most) within = go (nat_le n (most * most)) refl (root_
     go true is lower = lower (leb-true _ _ is)
     go false is lower = within
 
--- and no lesser number has such a square
+-- no number whose square is at least n is lesser than the least root up to a bound
 root_below_is_least : (n most k : ℕ) → n ≤ k * k → least_root_below n most ≤ k
 unfolding least_root_below
 root_below_is_least n zero k square = omega arith
@@ -35,16 +36,16 @@ self_square : (n : ℕ) → n ≤ n * n
 self_square zero = omega arith
 self_square (suc n) = le-mul_of_pos_right (suc n) (omega arith)
 
--- the square of the root is at least the number,
+-- the square of the least root is at least the number
 pub root_reaches : (n : ℕ) → n ≤ least_root n * least_root n
 root_reaches n = root_below_reaches n n (self_square n)
 
--- and no lesser number has such a square
+-- no number whose square is at least n is lesser than the least root
 pub root_is_least : (n k : ℕ) → n ≤ k * k → least_root n ≤ k
 root_is_least n k square = root_below_is_least n n k square
 
--- of two numbers the one with the smaller square is the smaller
--- it is the one number whose square is at least n while that of the number before is less
+-- the least root is the one number whose square is at least n while that of the number before is
+-- less
 pub least_root_is : (n s : ℕ) → n ≤ s * s → ((k : ℕ) → s ≡ k + 1 → k * k < n) → least_root n ≡ s
 least_root_is n zero reaches before = let least = root_is_least n 0 reaches in omega arith
 least_root_is n (suc k) reaches before =
@@ -56,7 +57,7 @@ least_root_is n (suc k) reaches before =
       | inr more ↦ (let squares : least_root n * least_root n ≤ k * k = mul-le-mul more more in absurd (omega arith))
     ]
 
--- from the root rounded down
+-- if a root rounded down is not exact, the number after it is the least root
 pub root_after : (n r : ℕ) → r * r < n → n < (r + 1) * (r + 1) → least_root n ≡ r + 1
 root_after n r low high = least_root_is n (r + 1) (omega arith) (λ k e. let same : k ≡ r = omega arith in rw same low)
 

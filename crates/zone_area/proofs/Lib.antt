@@ -1,4 +1,6 @@
--- The lemmas of this crate, each file by its subject.
+-- The lemmas of this crate, which no other crate uses: lengths in parts and as they are stored
+-- (Scaled, Squares), roots rounded up (LeastRoot), what areas hold (InArea, Least), and areas that
+-- lie apart (Apart).
 mod Scaled
 mod LeastRoot
 mod InArea

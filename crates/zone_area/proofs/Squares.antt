@@ -1,4 +1,5 @@
--- Squares of lengths, and areas with equal parts.
+-- Squares and lengths of areas as numbers of 64 and 128 bits, and areas with equal parts. The
+-- functions of arc.rt, area.rt, clear.rt and frame.rt (src) rest on it.
 use Rattle.std.proofs.Common.{◌≡◌, ℕ, ◌+◌, max, pos, ◌-ℤ◌, ◌*ℤ◌, sym, ◌*◌, ◌≤◌, ◌∙◌, ap, refl, arith, Bool, if◌then◌else◌, ◌+ℤ◌, ℤ, unsigned_abs, to_z, of_z, w64}
 use Rattle.std.specs.Int.{int_min, int_max}
 use Rattle.std.proofs.lemmas.Int.{to_z-of_z, fits_signed_from_abs, ints}
@@ -35,7 +36,7 @@ pub edge_stored : (mirror : Bool) (r e o s e' o' s' : ℤ) → r ≡ (signed mir
 edge_stored mirror r e o s e' o' s' is e_is o_is s_is near =
     stored r (signed mirror (if mirror then o else e) +ℤ s) (is ∙ rw (e_is, o_is, s_is) refl) near
 
--- whether two spans lie distance, from lengths as they are stored
+-- whether two spans lie apart, from lengths as they are stored
 pub apart_stored : (r : Bool) (g l h k i : ℤ)
     → unsigned_abs g ≤ far_in_cell → unsigned_abs l ≤ far_in_cell → unsigned_abs h ≤ far_in_cell
     → unsigned_abs k ≤ far_in_cell → unsigned_abs i ≤ far_in_cell
@@ -44,12 +45,12 @@ pub apart_stored : (r : Bool) (g l h k i : ℤ)
 apart_stored r g l h k i ng nl nh nk ni is =
     is ∙ rw (stored g g refl ng, stored l l refl nl, stored h h refl nh, stored k k refl nk, stored i i refl ni) refl
 
--- the lesser of two lengths is what the code stores in 64 bits,
+-- the lesser of two lengths is what the code stores in 64 bits
 pub lesser_stored : (r a b : ℤ) → unsigned_abs a ≤ far_in_cell → unsigned_abs b ≤ far_in_cell → unsigned_abs r ≤ far_in_cell
     → r ≡ int_min (to_z w64 (of_z w64 a)) (to_z w64 (of_z w64 b)) → to_z w64 (of_z w64 r) ≡ int_min a b
 lesser_stored r a b na nb nr is = stored r (int_min a b) (is ∙ rw (stored a a refl na, stored b b refl nb) refl) nr
 
--- and so is the greater one
+-- the greater of two lengths is what the code stores in 64 bits
 pub greater_stored : (r a b : ℤ) → unsigned_abs a ≤ far_in_cell → unsigned_abs b ≤ far_in_cell → unsigned_abs r ≤ far_in_cell
     → r ≡ int_max (to_z w64 (of_z w64 a)) (to_z w64 (of_z w64 b)) → to_z w64 (of_z w64 r) ≡ int_max a b
 greater_stored r a b na nb nr is = stored r (int_max a b) (is ∙ rw (stored a a refl na, stored b b refl nb) refl) nr

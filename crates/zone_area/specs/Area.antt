@@ -19,7 +19,7 @@ abbrev pub reach_of : Point → Point → Centre → ℕ
 reach_of at to (Offset i k) = least_root (square_of at to (Offset i k))
 reach_of at to (Radius r) = 4 * unsigned_abs r
 
--- the area holds the point
+-- the area holds the point: its X and its Z lie between those of the corners, or are theirs
 pub record Holds (area : Area) (p : Point) : Type 0 where
   pub left : area.low.x ≤ℤ p.x
   pub right : p.x ≤ℤ area.high.x
@@ -40,11 +40,13 @@ HoldsEnd area at None centre = Unit {0}
 HoldsEnd area at (Some to) None = Holds area to
 HoldsEnd area at (Some to) (Some centre) = Holds area to × HoldsAround area (middle_of at centre) (reach_of at to centre)
 
--- the same of a move
+-- the area holds the end of a move from this place, if it goes somewhere, and what it may reach if
+-- it is an arc
 abbrev pub HoldsMove : Area → Point → Move → Type 0
 HoldsMove area at move = HoldsEnd area at (end_of move) (centre_in move)
 
--- and of each of these moves, one after another
+-- the area holds the ends of these moves, made one after another from this place, and what their
+-- arcs may reach
 abbrev pub HoldsMoves : Area → Point → List Move → Type 0
 HoldsMoves area at [] = Unit {0}
 HoldsMoves area at (move ∷ moves) = HoldsMove area at move × HoldsMoves area (place_after at move) moves
@@ -68,7 +70,8 @@ hull_of a b = record {
   high = record { x = int_max a.high.x b.high.x; z = int_max a.high.z b.high.z };
 }
 
--- a middle plus and minus a reach, Z rounded outward
+-- the area of a middle plus and minus a reach in 0.0005 mm: along X the number of the reach, along
+-- Z half of it, rounded outward
 abbrev pub area_around : Point → ℕ → Area
 area_around middle reach = record {
   low = record { x = middle.x -ℤ pos reach; z = middle.z -ℤ pos ((reach + 1) / 2) };
@@ -84,23 +87,25 @@ area_to area at (Some to) (Some centre) =
 
 -- what a path may have passed, and where it stands
 pub record SweptView : Type 0 where
+  -- the least area of what it may have passed
   pub area : Area
+  -- where it stands
   pub at : Point
 
--- before its first move
+-- what a path may have passed before its first move: the place where it stands
 abbrev pub swept_at : Point → SweptView
 swept_at at = record { area = area_at at; at = at }
 
--- with one move more
+-- what a path may have passed, with one move more
 abbrev pub swept_with : SweptView → Move → SweptView
 swept_with s move = record { area = area_to s.area s.at (end_of move) (centre_in move); at = place_after s.at move }
 
--- with these moves more
+-- what a path may have passed, with these moves more
 abbrev pub swept_along : SweptView → List Move → SweptView
 swept_along s [] = s
 swept_along s (move ∷ moves) = swept_along (swept_with s move) moves
 
--- the area of moves from a place
+-- the least area of moves that are made one after another from a place
 abbrev pub area_of : Point → List Move → Area
 area_of at moves = (swept_along (swept_at at) moves).area
 
@@ -117,7 +122,7 @@ area_in_cell frame area = record {
   };
 }
 
--- one length lies beyond the other by more than the gap
+-- the length `low` is greater than `high` by more than the gap
 abbrev pub is_beyond : ℤ → ℤ → ℤ → Bool
 is_beyond gap high low = int_lt (high +ℤ gap) low
 

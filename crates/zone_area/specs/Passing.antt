@@ -23,14 +23,14 @@ abbrev pub middle_of : Point → Centre → Point
 middle_of at (Offset i k) = record { x = at.x +ℤ pos 2 *ℤ i; z = at.z +ℤ k }
 middle_of at (Radius r) = at
 
--- the square of how far it may reach, in 0.0005 mm: to the farther of its ends, as the test of an
--- arc's end measures it, or twice its radius
+-- the square of how far an arc may reach from its middle, in 0.0005 mm: to the farther of its ends,
+-- as the test of an arc's end measures it, or twice its radius
 abbrev pub square_of : Point → Point → Centre → ℕ
 square_of at to (Offset i k) =
     max (square_between (centre_from (place_of at) i k) (place_of at)) (square_between (centre_from (place_of at) i k) (place_of to))
 square_of at to (Radius r) = (4 * unsigned_abs r) * (4 * unsigned_abs r)
 
--- where a move leads
+-- the place after a move: its end, or the place before it if it goes nowhere
 abbrev pub place_after : Point → Move → Point
 place_after at move = unwrap_or (end_of move) at
 
@@ -48,12 +48,14 @@ MayPassTo d at (Some to) (Some centre) q =
 abbrev pub MayPass : ℕ → Point → Move → Point → Type 0
 MayPass d at move q = MayPassTo d at (end_of move) (centre_in move) q
 
--- one of these moves may, or the point is the place where they begin
+-- one of these moves, made one after another from a place, may pass the point, or it is the place
+-- after them
 abbrev pub MayPassSome : ℕ → Point → List Move → Point → Type 0
 MayPassSome d at [] q = q ≡ in_parts d at
 MayPassSome d at (move ∷ moves) q = MayPass d at move q ⊎ MayPassSome d (place_after at move) moves q
 
--- a point in parts lies in an area of whole counts
+-- a point in parts lies in an area of whole counts: its X and its Z lie between those of the
+-- corners, or are theirs
 pub record IsInside (d : ℕ) (area : Area) (q : Point) : Type 0 where
   pub left : (in_parts d area.low).x ≤ℤ q.x
   pub right : q.x ≤ℤ (in_parts d area.high).x

@@ -1,8 +1,8 @@
--- Roots, rounded up.
+-- Square roots, rounded up: how far an arc may reach is one (Area.antt, src/arc.rt).
 -- For this crate alone.
 use Rattle.std.specs.Prelude.{ℕ, zero, suc, ◌*◌, nat_le, if◌then◌else◌}
 
--- the least number up to `most` whose square is at least n, where that of `most` is
+-- the least number up to `most` whose square is at least n, if the square of `most` is
 unfoldable pub least_root_below : ℕ → ℕ → ℕ
 least_root_below n zero = zero
 least_root_below n (suc most) = if nat_le n (most * most) then least_root_below n most else suc most

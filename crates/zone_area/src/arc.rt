@@ -1,5 +1,5 @@
-//! What an arc may reach: a circle round its middle.
-//! For this crate alone.
+//! What an arc may reach: the least area round its circle, or round all that its radius may reach.
+//! For swept.rt of this crate.
 ghost use Rattle.std.specs.Prelude.{◌≡◌, ◌≤◌, ◌*◌};
 ghost use Rattle.nc_number.specs.Position.{IsPosition, IsWithin};
 ghost use Rattle.motion_track.specs.Centre.{IsCentreWithin};
@@ -25,7 +25,8 @@ pub(crate) fn arc_area(at: &Point, to: &Point, centre: &Centre) -> Area
     area_around(&middle_of(at, centre), reach_of(at, to, centre))
 }
 
-/// A middle plus and minus a reach; along Z half of it, rounded outward.
+/// The area of a middle plus and minus a reach in 0.0005 mm; along Z it is half of the reach,
+/// rounded outward.
 fn area_around(middle: &Point, reach: u64) -> Area
     requires middle { IsWithin far_middle middle.now }
     requires reach { reach ≤ far_reach }
@@ -46,7 +47,8 @@ fn area_around(middle: &Point, reach: u64) -> Area
     }
 }
 
-/// The middle of the circle that the arc may reach.
+/// The middle of the circle that the arc may reach: its centre, or for an arc by its radius its
+/// start.
 fn middle_of(at: &Point, centre: &Centre) -> Point
     requires at { IsPosition at.now }
     requires centre { IsCentreWithin LONGEST centre.now }

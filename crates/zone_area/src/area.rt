@@ -1,6 +1,6 @@
 //! Rectangles in X and Z, in 0.001 mm, and the least one that holds two. How they lie in the cell
 //! is in frame.rt.
-//! zone_cell and tests use it.
+//! zone_cell brings areas into the cell and prints them.
 ghost use Rattle.std.specs.Prelude.{◌≡◌, ◌≤◌, unsigned_abs};
 ghost use Rattle.std.specs.Int.{int_min, int_max};
 ghost use Rattle.nc_number.specs.Position.{IsPosition};
@@ -14,7 +14,7 @@ use nc_number::Point;
 pub struct Area {
     /// The corner with the least X and the least Z, in 0.001 mm.
     pub low: Point,
-    /// The corner with the greatest X and the greatest Z.
+    /// The corner with the greatest X and the greatest Z, in 0.001 mm.
     pub high: Point,
 }
 
@@ -31,7 +31,7 @@ impl Area {
         }
     }
 
-    /// The least area that holds both.
+    /// The least area that holds this one and another.
     pub(crate) fn hull(&self, other: &Area) -> Area
         requires me { IsNearArea self.now }
         requires other { IsNearArea other.now }

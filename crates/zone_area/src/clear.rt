@@ -29,7 +29,7 @@ fn lie_apart(gap: i64, low: i64, high: i64, other_low: i64, other_high: i64) -> 
     is_beyond(gap, high, other_low) || is_beyond(gap, other_high, low)
 }
 
-/// The length lies beyond the other by more than the gap.
+/// The length `low` is greater than `high` by more than the gap.
 fn is_beyond(gap: i64, high: i64, low: i64) -> bool
     requires gap { unsigned_abs gap ≤ travel }
     requires high { unsigned_abs high ≤ far_in_cell }

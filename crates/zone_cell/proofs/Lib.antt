@@ -1,1 +1,2 @@
--- The lemmas of this crate, each file by its subject.
+-- This crate has no lemmas of its own. Its proofs are those of its functions, in the folders beside
+-- this file.

@@ -1,5 +1,5 @@
--- What a line of a text of zones says. A line that is none of these is not allowed.
--- For this crate alone.
+-- What a line of a text of zones says. A line that is none of these is not allowed. The functions
+-- of src/named.rt answer these definitions. For this crate alone.
 use Rattle.std.specs.Prelude.{ℕ, Bool, not, ◌&&◌, List, [], ◌∷◌, Option, Some, None, codes, pos, int_lt, if◌then◌else◌}
 use Rattle.std.specs.Str.{bytes_eq}
 use Rattle.nc_number.specs.declared.point.Point.{Point}
@@ -10,7 +10,7 @@ use Rattle.field_lines.specs.Length.{point_of}
 use Rattle.zone_cell.specs.declared.entry.Entry.{Entry}
 use Rattle.zone_cell.specs.declared.entry.Entry.TheVariants as says
 
--- a path, and where its origin lies in the cell
+-- what the values of `frame` say: a path, and where its origin lies in the cell
 unfoldable pub frame_of : List (List ℕ) → Option Entry
 frame_of (path ∷ x ∷ z ∷ []) = do
   p ← path_of path
@@ -18,7 +18,7 @@ frame_of (path ∷ x ∷ z ∷ []) = do
   Some (says.Frame p to)
 frame_of _ = None
 
--- a path that sees X from the other side
+-- what the value of `mirror` says: a path that sees X from the other side
 unfoldable pub mirror_of : List (List ℕ) → Option Entry
 mirror_of (path ∷ []) = do
   p ← path_of path
@@ -29,14 +29,14 @@ mirror_of _ = None
 abbrev pub is_gap : Point → Bool
 is_gap gap = not (int_lt gap.x (pos 0)) && not (int_lt gap.z (pos 0))
 
--- how far apart the paths are to stay
+-- what the values of `gap` say: how far apart the paths are to stay, in X and in Z
 unfoldable pub gap_of : List (List ℕ) → Option Entry
 gap_of (x ∷ z ∷ []) = do
   gap ← point_of x z
   if is_gap gap then Some (says.Gap gap) else None
 gap_of _ = None
 
--- what a name and its values say
+-- what a name and its values say; no other name than these three is allowed
 unfoldable pub named_of : List ℕ → List (List ℕ) → Option Entry
 named_of name values =
     if bytes_eq name (codes "frame") then frame_of values
@@ -44,12 +44,12 @@ named_of name values =
     else (if bytes_eq name (codes "gap") then gap_of values
     else None))
 
--- what fields say: a name and its values; no field says nothing
+-- what the fields of a line say: a name and its values; a line without fields says nothing
 unfoldable pub fields_say : List (List ℕ) → Option Entry
 fields_say [] = Some says.Nothing
 fields_say (name ∷ values) = named_of name values
 
--- the conditions of a line
+-- what a line says is in range: the point of a frame and the gap are positions
 abbrev pub IsAllowed : Entry → Type 0
 IsAllowed says.Nothing = Unit {0}
 IsAllowed (says.Frame path to) = IsPosition to

@@ -1,4 +1,4 @@
--- The refusal of a text of zones.
+-- The refusal of a text of zones: its number, its name and its line (`ZoneFault`, src/reading.rt).
 -- lathe_looks takes `fault_line`.
 use Rattle.std.specs.Prelude.{ℕ, List, codes}
 use Rattle.zone_cell.specs.declared.reading.ZoneFault.{ZoneFault}
@@ -7,7 +7,7 @@ use Rattle.zone_cell.specs.declared.reading.ZoneFault.{ZoneFault}
 abbrev pub fault_number : ℕ
 fault_number = 92
 
--- its name
+-- the name of the refusal, which is printed beside the number
 abbrev pub fault_name : List ℕ
 fault_name = codes "BadZone"
 

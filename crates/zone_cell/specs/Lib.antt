@@ -1,7 +1,7 @@
--- The zones of a text (Zones), the lines of a list of zones (Lines), and the refusal (Faults). The
--- first group is what callers read, the second is for this crate.
+-- The zones of a text (Zones), the lines of a list of zones (Lines), and the refusal (Faults):
+-- other crates cite these. Entry is for this crate alone.
 pub mod Zones
 pub mod Lines
 pub mod Faults
--- Words of the inside.
+-- Words for this crate alone.
 pub mod Entry

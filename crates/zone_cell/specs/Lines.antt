@@ -1,5 +1,5 @@
--- The lines of a list of zones.
--- lathe_looks, lathe_top and zone_check take words from here.
+-- The text of a list of zones, line by line (src/lines.rt writes them).
+-- lathe_looks, lathe_top and zone_check cite it.
 use Rattle.std.specs.Prelude.{ℕ, ◌+◌, ◌==◌, Bool, not, List, [], ◌∷◌, ◌++◌, length, codes, decimal, if◌then◌else◌}
 use Rattle.std.specs.List.{count_by}
 use Rattle.nc_number.specs.declared.point.Point.{Point}
@@ -11,11 +11,11 @@ use Rattle.zone_cell.specs.declared.cell.Zone.{Zone}
 unfoldable pub across_text : Point → Point → List ℕ
 across_text low high = codes " X" ++ length_text low.x ++ codes " X" ++ length_text high.x
 
--- its edges along Z
+-- the edges along Z of an area with these corners
 unfoldable pub along_text : Point → Point → List ℕ
 along_text low high = codes " Z" ++ length_text low.z ++ codes " Z" ++ length_text high.z
 
--- the edges of an area
+-- the edges of an area: those along X, and then those along Z
 unfoldable pub area_text : Area → List ℕ
 area_text area = across_text area.low area.high ++ along_text area.low area.high
 
@@ -32,11 +32,11 @@ unfoldable pub zone_texts : ℕ → List Zone → List ℕ
 zone_texts number [] = []
 zone_texts number (zone ∷ zones) = zone_text number zone ++ zone_texts (number + 1) zones
 
--- how many zones there are
+-- the line before the zones: how many there are
 unfoldable pub head_text : ℕ → List ℕ
 head_text count = codes "zones " ++ decimal count ++ codes "\n"
 
--- whether all are clear, or how many are not
+-- the line after the zones: whether all are clear, or how many are not
 unfoldable pub end_text : ℕ → List ℕ
 end_text hits = if hits == 0 then codes "end clear\n" else (codes "end hit " ++ decimal hits ++ codes "\n")
 

@@ -18,10 +18,12 @@ use Rattle.zone_cell.specs.Entry.{fields_say}
 
 -- the zones as contracts see them
 pub record ZonesView : Type 0 where
+  -- how each path lies in the cell
   pub frames : Both Frame
+  -- how far apart the paths are to stay, in 0.001 mm; X is a diameter
   pub gap : Point
 
--- frames and gap are no farther than positions
+-- the shifts of both frames, and the gap, are positions
 pub record AreNear (zones : ZonesView) : Type 0 where
   pub one : IsPosition zones.frames.one.shift
   pub two : IsPosition zones.frames.two.shift

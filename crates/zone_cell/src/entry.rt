@@ -1,5 +1,5 @@
-//! What one line of a text of zones says. How it is read is in named.rt.
-//! For this crate alone.
+//! What one line of a text of zones says: how a path lies in the cell, or the gap.
+//! For this crate alone: named.rt reads it, and cell.rt takes it into the zones.
 use nc_number::{Path, Point};
 
 /// What a line of a text of zones says.

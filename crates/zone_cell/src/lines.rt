@@ -20,7 +20,7 @@ fn add_across(piece: &mut Piece, low: Point, high: Point)
     piece.add_length(high.x);
 }
 
-/// Adds the edges along Z.
+/// Adds the edges of an area along Z, which are those of its corners.
 #[tactic(auto, unfolding(crate::specs::Lines::along_text))]
 fn add_along(piece: &mut Piece, low: Point, high: Point)
     requires { length piece.old + 52 ≤ 512 }
@@ -33,7 +33,7 @@ fn add_along(piece: &mut Piece, low: Point, high: Point)
     piece.add_length(high.z);
 }
 
-/// Adds the edges of an area.
+/// Adds the edges of an area: those along X, and then those along Z.
 #[tactic(auto, unfolding(crate::specs::Lines::area_text))]
 fn add_area(piece: &mut Piece, area: Area)
     requires { length piece.old + 104 ≤ 512 }

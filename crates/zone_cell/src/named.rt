@@ -1,5 +1,5 @@
-//! What the fields of a line of zones say.
-//! For this crate alone.
+//! What the fields of a line of zones say: `frame`, `mirror` or `gap`, or nothing.
+//! For reading.rt of this crate.
 ghost use Rattle.std.specs.Prelude.{◌≡◌, IfOk, IfSome};
 ghost use Rattle.field_lines.specs.Field.{texts};
 ghost use Rattle.field_lines.specs.Line.{line_says};
@@ -10,7 +10,7 @@ use field_lines::{line_fields, read_path, read_point};
 use nc_number::Point;
 use std::alloc::{AllocError, Global};
 
-/// A path, and where its origin lies in the cell.
+/// What the values of `frame` say: a path, and where its origin lies in the cell.
 #[tactic(auto, unfolding(crate::specs::Entry::frame_of))]
 fn frame(values: &[&[u8]]) -> Option<Entry>
     ensures value { result ≡ frame_of (texts values.now) }
@@ -26,7 +26,7 @@ fn frame(values: &[&[u8]]) -> Option<Entry>
     }
 }
 
-/// A path that sees X from the other side.
+/// What the value of `mirror` says: a path that sees X from the other side.
 #[tactic(auto, unfolding(crate::specs::Entry::mirror_of))]
 fn mirror(values: &[&[u8]]) -> Option<Entry>
     ensures value { result ≡ mirror_of (texts values.now) }
@@ -45,7 +45,7 @@ fn is_gap(gap: &Point) -> bool
     gap.x >= 0 && gap.z >= 0
 }
 
-/// How far apart the paths are to stay.
+/// What the values of `gap` say: how far apart the paths are to stay, in X and in Z.
 #[tactic(auto, unfolding(crate::specs::Entry::gap_of))]
 fn gap(values: &[&[u8]]) -> Option<Entry>
     ensures value { result ≡ gap_of (texts values.now) }
@@ -64,7 +64,7 @@ fn gap(values: &[&[u8]]) -> Option<Entry>
     }
 }
 
-/// What a name and its values say.
+/// What a name and its values say; no other name than these three is allowed.
 #[tactic(auto, unfolding(crate::specs::Entry::named_of))]
 fn named(name: &[u8], values: &[&[u8]]) -> Option<Entry>
     ensures value { result ≡ named_of name.now (texts values.now) }

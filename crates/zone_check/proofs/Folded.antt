@@ -1,4 +1,5 @@
--- The zones that are kept while records are done again are those of the segments.
+-- The zones that are kept while records are done again are those of the segments of the history.
+-- `boxes` (src/meetings.rt) rests on it; TurnsLead.antt takes the moves of a turn.
 use Rattle.std.proofs.Common.{◌≡◌, ℕ, Bool, true, false, List, [], ◌∷◌, ◌++◌, map, refl, ap, sym, ◌∙◌, append_assoc, append-nil, if◌then◌else◌}
 use Rattle.std.proofs.lemmas.List.{map-append}
 use Rattle.nc_number.specs.declared.both.Both.{Both}
@@ -27,7 +28,7 @@ what_lined : (line : ℕ) (moves : List Move) → map (λ (made : LinedMove). ma
 what_lined line [] = refl
 what_lined line (move ∷ moves) = ap (λ rest. move ∷ rest) (what_lined line moves)
 
--- the moves of a turn
+-- the moves of a turn, without their lines, are those that it answers
 what_made : (turn : Turn) → map (λ (made : LinedMove). made.what) (made_in turn) ≡ moves_of_turn turn
 what_made (Did moves) = what_lined moves.line moves.list
 what_made (Ended moves) = what_lined moves.line moves.list
@@ -40,14 +41,14 @@ what_made (Alarm alarm) = refl
 what_made (Halted alarm) = refl
 what_made Edited = refl
 
--- the moves of a turn without their lines
+-- the moves of `path` in a turn of the path `of`, without their lines, are `moves_by`
 pub what_by : (path of : Path) (turn : Turn) → map (λ (made : LinedMove). made.what) (made_by path (record { path = of; turn = turn })) ≡ moves_by path of turn
 what_by One One turn = what_made turn
 what_by One Two turn = refl
 what_by Two One turn = refl
 what_by Two Two turn = what_made turn
 
--- the moves of one record more
+-- one record more adds the moves of its turn, with their lines, to its path
 moves_more : (tapes : Tapes) (m : MachineView) (path : Path) (front : List Entry) (e : Entry)
     → moves_of tapes m path (front ++ e ∷ []) ≡ moves_of tapes m path front ++ made_by path (turn_at tapes (fold tapes m front) e)
 unfolding moves_in turns_from
@@ -56,7 +57,7 @@ moves_more tapes m path (x ∷ front) e =
     ap (λ (ms : List LinedMove). made_by path (turn_at tapes m x) ++ ms) (moves_more tapes (behind_entry tapes x m) path front e)
     ∙ sym (append_assoc (made_by path (turn_at tapes m x)) (moves_of tapes (behind_entry tapes x m) path front) (made_by path (turn_at tapes (fold tapes (behind_entry tapes x m) front) e)))
 
--- a record more adds the moves of its turn to its path
+-- one record more adds the moves of its turn, without their lines, to its path
 path_more : (tapes : Tapes) (m : MachineView) (path : Path) (front : List Entry) (e : Entry)
     → path_moves tapes m path (front ++ e ∷ [])
     ≡ path_moves tapes m path front ++ moves_by path e.path (turn_of_entry tapes e (fold tapes m front))
@@ -65,16 +66,16 @@ path_more tapes m path front e =
     ∙ map-append (λ (made : LinedMove). made.what) (moves_of tapes m path front) (made_by path (turn_at tapes (fold tapes m front) e))
     ∙ ap (λ (ms : List Move). path_moves tapes m path front ++ ms) (what_by path e.path (turn_of_entry tapes e (fold tapes m front)))
 
--- moves, and moves behind them
+-- sweeping moves and then others sweeps all of them
 swept_on : (s : SweptView) (front back : List Move) → swept_along s (front ++ back) ≡ swept_along (swept_along s front) back
 swept_on s [] back = refl
 swept_on s (move ∷ front) back = swept_on (swept_with s move) front back
 
--- what is kept of a segment that has begun
+-- what both paths have swept in a segment
 abbrev standing_of : Segment → Both SweptView
 standing_of s = record { one = swept_along (swept_at s.left_at) s.left; two = swept_along (swept_at s.right_at) s.right }
 
--- and the areas of the segment that goes on take them
+-- one record more, that is no meeting, adds the moves of its turn to what the segment swept
 standing_more : (tapes : Tapes) (m : MachineView) (front : List Entry) (e : Entry)
     → standing_of (segment_of tapes m (front ++ e ∷ []))
     ≡ standing_with (standing_of (segment_of tapes m front)) e.path (turn_of_entry tapes e (fold tapes m front))
@@ -90,13 +91,13 @@ standing_more tapes m front e =
     ap (λ a. at a (swept_along right (path_moves tapes m Two (front ++ e ∷ [])))) one
     ∙ ap (λ b. at (swept_along (swept_along left (path_moves tapes m One front)) (moves_by One e.path turn)) b) two
 
--- a choice on both sides
+-- two functions that agree on both values of a choice agree on the choice
 either_way : (test : Bool) (f : KeptView → List Zone) (g : List Segment → List Zone) (one two : KeptView) (some others : List Segment)
     → f one ≡ g some → f two ≡ g others → f (if test then one else two) ≡ g (if test then some else others)
 either_way true f g one two some others meets goes_on = meets
 either_way false f g one two some others meets goes_on = goes_on
 
--- a segment without a record
+-- a segment without a record has swept where the machine stands
 begun : (tapes : Tapes) (m : MachineView) → standing_at m ≡ standing_of (segment_of tapes m [])
 unfolding moves_in turns_from
 begun tapes m = refl
@@ -129,7 +130,7 @@ folded tapes zones m front done (e ∷ entries) =
     (segment_of tapes m front ∷ segments_from tapes next [] entries) (segments_from tapes m (front ++ e ∷ []) entries)
     meeting other
 
--- so those of a whole history are
+-- the zones of a whole history are those of its segments
 pub zones_are_those_of_the_segments : (tapes : Tapes) (m : MachineView) (zones : ZonesView) (entries : List Entry)
     → zones_from tapes zones m (record { list = []; standing = standing_at m }) entries ≡ zones_of_history tapes m zones entries
 zones_are_those_of_the_segments tapes m zones entries =

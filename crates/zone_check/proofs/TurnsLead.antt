@@ -1,4 +1,5 @@
--- A path stands where its moves led it.
+-- A path stands where its moves led it, behind any records. The law `moves_lead_to_positions`
+-- (src/laws.rt) rests on it.
 use Rattle.std.proofs.Common.{◌≡◌, ℕ, ◌==◌, Bool, true, false, List, [], ◌∷◌, ◌++◌, Option, Some, None, refl, ap, sym, ◌∙◌, unwrap_or}
 use Rattle.std.proofs.lemmas.List.{map-append}
 use Rattle.nc_number.specs.declared.path.Path.{Path}
@@ -33,13 +34,13 @@ abbrev LeadsBy : MachineView → TurnResult → Type 0
 LeadsBy m r = (r.machine.paths.one.path.position ≡ last_end m.paths.one.path.position (moves_of_turn r.turn))
     × (r.machine.paths.two.path.position ≡ m.paths.two.path.position)
 
--- a turn at a wait moves no path,
+-- a turn at a wait moves no path
 wait_leads : (path : Path) (line : ℕ) (m : MachineView) (code : ℕ) (there : Option ℕ) → LeadsBy m (result_at_wait path line m code there)
 wait_leads path line m code None = (refl, refl)
 wait_leads path line m code (Some other) =
     either (λ (r : TurnResult). LeadsBy m r) (code == other) (result (turn.Met code) (behind_meeting m)) (alarm_result (crossed_waits path line) m) (refl, refl) (refl, refl)
 
--- a turn that does a block leads its path to the end of its moves,
+-- a turn that does a block leads its path to the end of its moves
 effect_leads : (path : Path) (line : ℕ) (m : MachineView) (what : Effect) → LeadsOn m.paths.one.path.position what → LeadsBy m (result_by path line m what)
 effect_leads path line m (effect.Need variable) is = (refl, refl)
 effect_leads path line m (effect.Done after write moves) is = (is, refl)
@@ -47,7 +48,7 @@ effect_leads path line m (effect.AtWait code) is = wait_leads path line m code m
 effect_leads path line m (effect.AtEnd after moves) is = (is, refl)
 effect_leads path line m (effect.Alarm number value) is = (refl, refl)
 
--- a turn of a path that can't go on moves none,
+-- a turn of a path that can't go on moves no path
 idle_leads : (m : MachineView) (alarm : Option Alarm) (finished : Bool) (waiting : Option ℕ) (rest : TurnResult) → LeadsBy m rest
     → LeadsBy m (unless_idle m alarm finished waiting rest)
 idle_leads m (Some alarm) finished waiting rest is = (refl, refl)
@@ -55,14 +56,14 @@ idle_leads m None true waiting rest is = (refl, refl)
 idle_leads m None false (Some code) rest is = (refl, refl)
 idle_leads m None false None rest is = is
 
--- so a turn leads its path where its moves end
+-- each turn of the first path leads it to the end of its moves, and leaves the other where it stood
 own_leads : (flow : Flow) (path : Path) (m : MachineView) → LeadsBy m (own_turn (blocks_of flow) path m)
 own_leads flow path m =
     idle_leads m m.alarm m.paths.one.finished m.paths.one.waiting (block_turn (blocks_of flow) path m)
     (effect_leads path ((blocks_of flow).line m.paths.one.path.place) m ((blocks_of flow).effect m.paths.one.path m.paths.one.values)
     (block_leads flow m.paths.one.path m.paths.one.values))
 
--- a record of this path, with these stamps, and where a path stands behind it
+-- behind a step of this path, with these stamps, each path stands at the end of its moves
 step_leads : (left right : Flow) (of path : Path) (stamps : List ℕ) (m : MachineView)
     → position_of path (own_first of (behind_step (of_path (tapes_of left right) of) of stamps (own_first of m)))
     ≡ last_end (position_of path m) (moves_by path of (own_turn (of_path (tapes_of left right) of) of (with_reads (of_path (tapes_of left right) of) stamps (own_first of m))).turn)
@@ -71,7 +72,7 @@ step_leads left right One Two stamps m = (own_leads left One (with_reads (blocks
 step_leads left right Two One stamps m = (own_leads right Two (with_reads (blocks_of right) stamps (own_first Two m))).1
 step_leads left right Two Two stamps m = (own_leads right Two (with_reads (blocks_of right) stamps (own_first Two m))).0
 
--- a record, which is an edit or has these stamps, and where a path stands behind it
+-- behind a record, a step or an edit, each path stands at the end of its moves
 entry_leads : (left right : Flow) (of path : Path) (edit : Option Edit) (stamps : List ℕ) (m : MachineView)
     → position_of path (own_first of (behind_own (of_path (tapes_of left right) of) of edit stamps (own_first of m)))
     ≡ last_end (position_of path m) (moves_by path of (turn_by (of_path (tapes_of left right) of) of edit stamps (own_first of m)))
@@ -86,7 +87,7 @@ last_end_on : (at : Point) (front back : List Move) → last_end at (front ++ ba
 last_end_on at [] back = refl
 last_end_on at (move ∷ front) back = last_end_on (unwrap_or (end_of move) at) front back
 
--- the moves of a record, and of those behind it
+-- the moves of a path in records are those of the first record, and then those of the others
 path_first : (tapes : Tapes) (m : MachineView) (path : Path) (e : Entry) (entries : List Entry)
     → path_moves tapes m path (e ∷ entries) ≡ moves_by path e.path (turn_of_entry tapes e m) ++ path_moves tapes (behind_entry tapes e m) path entries
 unfolding moves_in turns_from

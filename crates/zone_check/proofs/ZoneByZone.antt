@@ -1,4 +1,5 @@
--- The lines of zones that are put one by one.
+-- The lines of zones that are put one by one, whole or up to a fault of the sink. `put_zones`
+-- (src/writing.rt) rests on it.
 use Rattle.std.proofs.Common.{◌≡◌, ℕ, ◌+◌, ◌≤◌, ◌<◌, List, [], ◌∷◌, ◌++◌, length, take, drop, get_or, Result, Ok, Err, refl, sym, subst, ap, ◌∙◌, append-nil, append_assoc, take-append-drop, take_all, length-take-le, arith}
 use Rattle.std.proofs.KnownBytes.{Appends-nil}
 use Rattle.std.proofs.lemmas.List.{drop_more, take_more}
@@ -20,7 +21,7 @@ put_nothing a = record {
   fault = record { later = omega arith; rose = λ failed. absurd (let e : ◌≡◌ {A = Result (Unit {0}) PutFault} (Ok tt) (Err Failed) = failed in cc); kept = λ none. refl };
 }
 
--- the lines of some zones, and of those behind them
+-- the lines of some zones and of those behind them are the lines of all, numbered through
 texts_append : (n : ℕ) (front back : List Zone) → zone_texts n (front ++ back) ≡ zone_texts n front ++ zone_texts (n + length front) back
 unfolding zone_texts
 texts_append n [] back = ap (λ k. zone_texts k back) (let e : n ≡ n + 0 = omega arith in e)
@@ -30,7 +31,7 @@ texts_append n (zone ∷ front) back =
     ∙ sym (append_assoc (zone_text n zone) (zone_texts (n + 1) front) (zone_texts (n + 1 + length front) back))
     ∙ ap (λ k. (zone_text n zone ++ zone_texts (n + 1) front) ++ zone_texts k back) count
 
--- with one line more
+-- the lines of one zone more are those before and its own
 pub texts_more : (zones : List Zone) (i : ℕ) (d : Zone) → i < length zones
     → zone_texts 0 (take (i + 1) zones) ≡ zone_texts 0 (take i zones) ++ zone_text i (get_or zones i d)
 unfolding zone_texts
@@ -42,7 +43,7 @@ texts_more zones i d within =
     ∙ ap (λ k. zone_texts 0 (take i zones) ++ zone_texts k (get_or zones i d ∷ [])) count
     ∙ ap (λ t. zone_texts 0 (take i zones) ++ t) (append-nil (zone_text i (get_or zones i d)))
 
--- the lines before one, its own, and those behind it
+-- all lines are those before a zone, its own, and those behind it
 pub texts_parted : (zones : List Zone) (i : ℕ) (d : Zone) → i < length zones
     → zone_texts 0 zones ≡ zone_texts 0 (take i zones) ++ (zone_text i (get_or zones i d) ++ zone_texts (i + 1) (drop (i + 1) zones))
 unfolding zone_texts
@@ -54,7 +55,7 @@ texts_parted zones i d within =
     ∙ ap (λ k. zone_texts 0 (take i zones) ++ zone_texts k (drop i zones)) count
     ∙ ap (λ zs. zone_texts 0 (take i zones) ++ zone_texts i zs) (drop_more zones i d within)
 
--- another line behind those that were put whole
+-- if the lines so far and the next one were put whole, those with the next one were
 pub line_put : (a b c : SinkState) (zones : List Zone) (i n : ℕ) (d : Zone) → n ≡ i → i < length zones
     → IsPut a b (zone_texts 0 (take i zones)) (Ok tt) → IsPut b c (zone_text n (get_or zones i d)) (Ok tt)
     → IsPut a c (zone_texts 0 (take (i + 1) zones)) (Ok tt)
@@ -63,7 +64,7 @@ line_put a b c zones i n d counted within one two =
     (put_then a b c (zone_texts 0 (take i zones)) (zone_text i (get_or zones i d)) (Ok tt) one
     (subst (λ k. IsPut b c (zone_text k (get_or zones i d)) (Ok tt)) counted two))
 
--- a line behind those was not put whole
+-- if the next line was not put whole, a prefix of all lines was put, and the fault is told
 pub line_breaks : (a b c : SinkState) (zones : List Zone) (i n : ℕ) (d : Zone) (fault : PutFault) → n ≡ i → i < length zones
     → IsPut a b (zone_texts 0 (take i zones)) (Ok tt) → IsPut b c (zone_text n (get_or zones i d)) (Err fault)
     → IsPut a c (zone_texts 0 zones) (Err fault)
@@ -73,7 +74,7 @@ line_breaks a b c zones i n d fault counted within one two =
     (put_then a b c (zone_texts 0 (take i zones)) (zone_text i (get_or zones i d) ++ rest) (Err fault) one
     (put_stops b c (zone_text i (get_or zones i d)) rest fault (subst (λ k. IsPut b c (zone_text k (get_or zones i d)) (Err fault)) counted two)))
 
--- all lines were put
+-- once no zone is left, all lines were put
 pub all_put : (a b : SinkState) (zones : List Zone) (i : ℕ) → length zones ≤ i → IsPut a b (zone_texts 0 (take i zones)) (Ok tt)
     → IsPut a b (zone_texts 0 zones) (Ok tt)
 all_put a b zones i le put = subst (λ zs. IsPut a b (zone_texts 0 zs) (Ok tt)) (take_all i zones le) put

@@ -1,6 +1,6 @@
 -- What is kept while the records of a history are done again: the zones of the segments that have
 -- ended, and of the one that goes on the areas so far and where the paths stand.
--- For this crate alone.
+-- For this crate alone: src/standing.rt and src/meetings.rt.
 use Rattle.std.specs.Prelude.{List, [], ◌∷◌, ◌++◌, if◌then◌else◌}
 use Rattle.nc_number.specs.Both.{both_of}
 use Rattle.nc_number.specs.Path.{is_same}
@@ -19,15 +19,16 @@ use Rattle.zone_area.specs.Area.{SweptView, swept_at, swept_along}
 use Rattle.zone_cell.specs.declared.cell.Zone.{Zone}
 use Rattle.zone_cell.specs.Zones.{ZonesView, zone_of_areas}
 
--- where a segment begins
+-- what both paths have swept where a segment begins: the places where the machine has them
 abbrev pub standing_at : MachineView → Both SweptView
 standing_at m = both_of (λ (part : Part). swept_at part.path.position) m.paths
 
--- of a turn of the path its moves, and of the other path's none
+-- the moves of `path` in a turn of the path `of`: those of the turn if it is the same path, and
+-- else none
 abbrev pub moves_by : Path → Path → Turn → List Move
 moves_by path of turn = if is_same path of then moves_of_turn turn else []
 
--- with a turn of this path
+-- what both paths have swept, with a turn of this path more
 abbrev pub standing_with : Both SweptView → Path → Turn → Both SweptView
 standing_with s of turn = record {
   one = swept_along s.one (moves_by One of turn);
@@ -40,16 +41,19 @@ standing_zone zones s = zone_of_areas zones (both_of (λ (swept : SweptView). sw
 
 -- the zones of the segments that have ended, and of each path what it has swept since
 pub record KeptView : Type 0 where
+  -- the zones of the segments that have ended
   pub list : List Zone
+  -- what each path has swept since the last meeting, and where it stands
   pub standing : Both SweptView
 
--- after a record that led to this machine by this turn
+-- what is kept after a record that led to this machine by this turn: a meeting ends the segment,
+-- and any other record adds the moves of its turn
 abbrev pub kept_with : ZonesView → Entry → Turn → MachineView → KeptView → KeptView
 kept_with zones e turn m k =
     if is_meeting e.kind then record { list = k.list ++ standing_zone zones k.standing ∷ []; standing = standing_at m }
     else record { list = k.list; standing = standing_with k.standing e.path turn }
 
--- all zones, where these are kept and these records are left
+-- all zones of a history, if this is kept at this machine and these records are left
 abbrev pub zones_from : Tapes → ZonesView → MachineView → KeptView → List Entry → List Zone
 zones_from tapes zones m k [] = k.list ++ standing_zone zones k.standing ∷ []
 zones_from tapes zones m k (e ∷ entries) =

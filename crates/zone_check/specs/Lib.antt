@@ -1,5 +1,5 @@
--- The segments of a history and their zones (Segments), and the text. The first group is what
--- callers read, the second is for this crate.
+-- The segments of a history and their zones (Segments), which lathe_looks and lathe_top cite. Kept
+-- is for this crate alone.
 pub mod Segments
--- Words of the inside.
+-- Words for this crate alone.
 pub mod Kept

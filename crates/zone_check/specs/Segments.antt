@@ -1,5 +1,5 @@
--- The segments of a history, and their zones.
--- lathe_looks takes `zones_of_history` and lathe_top `zones_of_history`.
+-- The segments of a history, which lie between its meetings, and their zones. lathe_looks and
+-- lathe_top cite `zones_of_history`.
 use Rattle.std.specs.Prelude.{List, [], ◌∷◌, ◌++◌, map, if◌then◌else◌}
 use Rattle.nc_number.specs.declared.path.Path.{Path}
 use Rattle.nc_number.specs.declared.path.Path.TheVariants.{One, Two}
@@ -17,9 +17,13 @@ use Rattle.zone_cell.specs.Zones.{ZonesView, zone_of_areas}
 
 -- what both paths do between two meetings: where each begins, and its moves
 pub record Segment : Type 0 where
+  -- where path 1 stands when the segment begins
   pub left_at : Point
+  -- the moves of path 1 in it
   pub left : List Move
+  -- where path 2 stands when the segment begins
   pub right_at : Point
+  -- the moves of path 2 in it
   pub right : List Move
 
 -- the moves of a path's records, in order

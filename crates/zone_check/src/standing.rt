@@ -1,6 +1,6 @@
 //! What is kept while records are done again: the zones of the segments that have ended, and what
 //! each path has swept since the last meeting.
-//! For this crate alone.
+//! For meetings.rt of this crate.
 ghost use Rattle.std.specs.Prelude.{◌≡◌, [], ◌∷◌, ◌++◌, IfOk, OnOk};
 ghost use Rattle.nc_number.specs.declared.path.Path.TheVariants as Path;
 ghost use Rattle.motion_track.specs.Within.{AreMovesWithin};
@@ -20,6 +20,7 @@ use zone_cell::{Zone, Zones};
 /// The zones of the segments that have ended, and what is kept of the one that goes on.
 #[derive(Debug, Drop)]
 pub(crate) struct Kept {
+    /// The zones of the segments that have ended.
     list: Vec<Zone>,
     /// What each path may have passed since they last met, and where it stands.
     standing: Both<Swept>,
@@ -66,7 +67,7 @@ fn add_turn_of(standing: &mut Both<Swept>, path: Path, turn: &Turn)
     }
 }
 
-/// The zone so far.
+/// The zone of the segment that goes on, so far.
 fn standing_zone(zones: &Zones, standing: &Both<Swept>) -> Zone
     ensures { result ≡ standing_zone zones.now standing.now }
 {

@@ -1,4 +1,5 @@
-//! Pairs of tapes, whose runs take turns, and their zones.
+//! Tests of zone_check: pairs of tapes whose paths take turns (turn_order), and the zones of their
+//! runs.
 use crate::row::{is_text, lines_of};
 use nc_outside::VecSink;
 use nc_verify::{Verified, verdict};
@@ -8,7 +9,8 @@ use turn_order::records_in_turn;
 use zone_cell::{Zones, read_zones};
 use zone_check::{boxes, write_zones};
 
-/// `WHAT IT TRIES|TAPE OF PATH 1|TAPE OF PATH 2|SETTINGS|ZONES|TEXT`.
+/// `WHAT IT TRIES|TAPE OF PATH 1|TAPE OF PATH 2|SETTINGS|ZONES|TEXT`; the text is the list of zones
+/// that `write_zones` is to give. In each, `~` stands for the end of a line.
 const ROWS: &str = "\
 a shaft on two turrets that face each other|%~O0001 (UPPER TURRET)~N10 G21 G40 G97 G99~N20 G28 U0 W0~N30 G50 S2500~N40 T0101~N50 G97 S800 M03~N60 G00 X52. Z2. M08~N70 M101~N80 G90 X48. Z-30. F0.25~N90 X46.~N100 G00 X100. Z50. M09~N110 T0100~N120 M102~N130 M30~%~|%~O0002 (LOWER TURRET)~N10 G21 G40 G99~N20 G28 U0 W0~N30 T0202~N40 M101~N50 G97 S600 M03~N60 G00 X54. Z-10.~N70 G01 X40. F0.1~N80 G03 X46. Z-13. R3.~N90 G04 P500~N100 G00 X60.~N110 T0200~N120 M102~N130 M30~%~|place 1 X200. Z150.~place 2 X200. Z150.~home 1 X300. Z200.~home 2 X300. Z200.~work 1 54 X0 Z100.~work 2 54 X0 Z100.~tool 1 1 X-20. Z-10.~tool 2 2 X-10. Z5.~|mirror 2~|zones 3~0 X32.000 X300.000 Z92.000 Z200.000 X-300.000 X-200.000 Z150.000 Z200.000 clear~1 X26.000 X80.000 Z60.000 Z140.000 X-300.000 X-18.000 Z89.000 Z200.000 clear~2 X80.000 X80.000 Z140.000 Z140.000 X-50.000 X-50.000 Z92.000 Z92.000 clear~end clear~
 the same shaft on turrets of one side|%~O0001 (UPPER TURRET)~N10 G21 G40 G97 G99~N20 G28 U0 W0~N30 G50 S2500~N40 T0101~N50 G97 S800 M03~N60 G00 X52. Z2. M08~N70 M101~N80 G90 X48. Z-30. F0.25~N90 X46.~N100 G00 X100. Z50. M09~N110 T0100~N120 M102~N130 M30~%~|%~O0002 (LOWER TURRET)~N10 G21 G40 G99~N20 G28 U0 W0~N30 T0202~N40 M101~N50 G97 S600 M03~N60 G00 X54. Z-10.~N70 G01 X40. F0.1~N80 G03 X46. Z-13. R3.~N90 G04 P500~N100 G00 X60.~N110 T0200~N120 M102~N130 M30~%~|place 1 X200. Z150.~place 2 X200. Z150.~home 1 X300. Z200.~home 2 X300. Z200.~work 1 54 X0 Z100.~work 2 54 X0 Z100.~tool 1 1 X-20. Z-10.~tool 2 2 X-10. Z5.~||zones 3~0 X32.000 X300.000 Z92.000 Z200.000 X200.000 X300.000 Z150.000 Z200.000 hit~1 X26.000 X80.000 Z60.000 Z140.000 X18.000 X300.000 Z89.000 Z200.000 hit~2 X80.000 X80.000 Z140.000 Z140.000 X50.000 X50.000 Z92.000 Z92.000 clear~end hit 2~

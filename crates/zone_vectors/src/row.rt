@@ -1,4 +1,5 @@
-//! The texts that rows write: `~` stands for the end of a line.
+//! The texts that rows of these tests write: `~` stands for the end of a line. pairs.rt and
+//! texts.rt read their rows by it.
 use std::alloc::{AllocError, Global};
 
 /// The byte that a byte of a row stands for.

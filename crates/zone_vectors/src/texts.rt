@@ -1,5 +1,5 @@
-//! Texts of zones, and what they make of an area of path 1 from X1. Z3. to X2. Z4. and one of path
-//! 2 from X11. Z13. to X12. Z14.
+//! Tests of zone_cell: texts of zones, and what they make of an area of path 1 from X1. Z3. to X2.
+//! Z4. and one of path 2 from X11. Z13. to X12. Z14.
 use crate::row::lines_of;
 use nc_number::{Both, Failing, Point};
 use std::alloc::Global;
@@ -56,11 +56,13 @@ mirror 1\r|line 1
 mirror 1 (of path 1)~|line 1
 mirror 1~~gap~frame~|line 3";
 
+/// The area of path 1, in 0.001 mm.
 const LEFT: Area = Area {
     low: Point { x: 1_000, z: 3_000 },
     high: Point { x: 2_000, z: 4_000 },
 };
 
+/// The area of path 2, in 0.001 mm.
 const RIGHT: Area = Area {
     low: Point {
         x: 11_000,

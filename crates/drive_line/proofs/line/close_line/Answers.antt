@@ -1,5 +1,5 @@
--- What was taken is a prefix of what was sent, with all of it before an answered mark, and all if
--- the end was taken (src/line.rt).
+-- The moves taken are a prefix of those sent: all that were sent before a drain, and all if the end
+-- was taken. The answers received are a prefix of those given (`close_line`, src/line.rt).
 use Rattle.std.proofs.Common.{◌≡◌, ◌++◌, ◌∙◌, ap, sym, append_assoc}
 use Rattle.drive_line.specs.Line.{moves_among, mark_counts}
 use Rattle.drive_line.proofs.Items.{moves_of_both, whole_of, taken_of}

@@ -1,4 +1,5 @@
--- Other answers came so far, on the same wire (loop of src/line_in.rt).
+-- Only other answers were received so far, on the same wire (loop of `await_answer`,
+-- src/line_in.rt).
 use Rattle.std.proofs.Common.{◌≡◌, ◌++◌, List, ℕ}
 use Rattle.drive_line.proofs.line_in.await_answer.Given as goal
 

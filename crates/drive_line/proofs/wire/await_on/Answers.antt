@@ -1,4 +1,5 @@
--- Taking an item keeps the order of the channel (src/wire.rt).
+-- Taking an item keeps the rule of the wire's channel: first in, first out (`await_on`,
+-- src/wire.rt).
 use Rattle.std.proofs.Common.{ap, ◌∙◌}
 use Rattle.drive_line.proofs.Orders.{takes}
 use Rattle.drive_line.proofs.wire.await_on.Goals as goal

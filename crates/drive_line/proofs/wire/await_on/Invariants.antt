@@ -1,4 +1,4 @@
--- Nothing was taken so far (loop of src/wire.rt).
+-- No item was taken from the wire so far (loop of `await_on`, src/wire.rt).
 use Rattle.std.proofs.Common.{◌≡◌}
 use Rattle.crossbeam_channel.specs.Claims.{view, IsSeatAt}
 use Rattle.crossbeam_channel.specs.Ends.{receives_on}

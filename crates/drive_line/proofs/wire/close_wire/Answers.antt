@@ -1,5 +1,5 @@
--- The two ends are put together, and the whole has what was taken before what is left
--- (src/wire.rt).
+-- The two ends may be put together, and then all that was sent is what was taken and what the
+-- channel holds (`close_wire`, src/wire.rt).
 use Rattle.std.proofs.Common.{rules}
 use Rattle.drive_line.proofs.Orders.{joins, totals}
 use Rattle.drive_line.proofs.wire.close_wire.Goals as goal

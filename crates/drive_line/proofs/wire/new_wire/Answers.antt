@@ -1,4 +1,5 @@
--- A new channel is in order, and so are its two ends once cut apart (src/wire.rt).
+-- A new channel keeps the rule of a wire, and so do its two ends once cut apart (`new_wire`,
+-- src/wire.rt).
 use Rattle.std.proofs.Common.{rules}
 use Rattle.drive_line.proofs.Orders.{begins, cuts}
 use Rattle.drive_line.proofs.wire.new_wire.Goals as goal

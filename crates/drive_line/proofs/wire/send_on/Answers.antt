@@ -1,4 +1,5 @@
--- Sending an item keeps the order of the channel (src/wire.rt).
+-- Sending an item keeps the rule of the wire's channel: first in, first out (`send_on`,
+-- src/wire.rt).
 use Rattle.std.proofs.Common.{ap, ◌∙◌}
 use Rattle.drive_line.proofs.Orders.{sends}
 use Rattle.drive_line.proofs.wire.send_on.Goals as goal

@@ -1,4 +1,5 @@
--- Nothing was sent so far, and the item is the same (loop of src/wire.rt).
+-- Nothing was sent along the wire so far, and the item to be sent is the same (loop of `send_on`,
+-- src/wire.rt).
 use Rattle.std.proofs.Common.{◌≡◌}
 use Rattle.crossbeam_channel.specs.Claims.{view, IsSeatAt}
 use Rattle.crossbeam_channel.specs.Ends.{sends_on}

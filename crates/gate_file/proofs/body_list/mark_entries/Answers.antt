@@ -1,4 +1,5 @@
--- One more entry is noted, and it lies in the bytes (src/body_list.rt).
+-- With one entry more noted, the ends are still those of the entries that lie whole in the bytes
+-- (loop of `mark_entries`, src/body_list.rt).
 use Rattle.std.proofs.Common.{◌≡◌, ◌+◌, ◌-◌, [], ◌∷◌, ◌++◌, List, ℕ, length, take, sym, ap, subst, ◌∙◌, arith, length-append}
 use Rattle.gate_file.specs.Bodies.{bodies_from, AreEnds}
 use Rattle.gate_file.proofs.Windows.{taken_more, behind_entry, marked_ends, marked_bodies}

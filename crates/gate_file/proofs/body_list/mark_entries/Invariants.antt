@@ -1,4 +1,5 @@
--- The ends noted so far are those of the entries seen, and the rest is unread (src/body_list.rt).
+-- The ends noted so far are those of the entries seen, and the rest of the bytes is unread (loop of
+-- `mark_entries`, src/body_list.rt).
 use Rattle.std.proofs.Common.{◌≡◌, ◌+◌, ◌-◌, ◌*◌, ◌<◌, ◌≤◌, ◌++◌, List, ℕ, length, take, drop, vec_capacity}
 use Rattle.gate_file.specs.Bodies.{bodies_from, AreEnds}
 use Rattle.gate_file.specs.Chain.{Opens}

@@ -1,5 +1,5 @@
--- A beginning promises its bodies, or its one error, whichever call of the disk failed
--- (src/create.rt).
+-- Whichever call of the disk fails, the answer and what a crash may leave are as a beginning of a
+-- file of gates promises (`begin`, src/create.rt).
 use Rattle.std.proofs.Common.{rules, [], refl, ◌∙◌, arith}
 use Rattle.std.proofs.lemmas.Result.{err_from_is_err_and}
 use Rattle.gate_file.proofs.Beginning.{not_there, moments_shut, moments_added, kept_anew, begun_used, shut_used}

@@ -1,4 +1,5 @@
--- An open first gate is a run; else it is known what stands there (src/create.rt).
+-- An open first gate, in a file of more than one byte, is a run; else it is known what stands first
+-- (`look_first`, src/create.rt).
 use Rattle.std.proofs.Common.{◌≡◌, ◌<◌, length, sym, ◌∙◌, arith}
 use Rattle.disk_model.proofs.Runs.{unwritten_look, unwritten_more, settled_kept}
 use Rattle.gate_file.proofs.Beginning.{first_read, is_shut, not_shut}

@@ -1,4 +1,5 @@
--- After this a shut gate stands first, and a crash leaves no run (src/create.rt).
+-- After an Ok a shut gate stands first and is on the disk; a crash in the call leaves no run
+-- (`shut_first`, src/create.rt).
 use Rattle.std.proofs.Common.{◌≤◌, [], ◌∷◌, length, Some, refl, ap, subst, ◌∙◌, List, ℕ}
 use Rattle.disk_model.specs.Device.{Reads}
 use Rattle.gate_file.specs.declared.create.FirstGate.{FirstGate}

@@ -1,5 +1,5 @@
--- The bodies are added, and a crash leaves them all or none of them, whichever call failed
--- (src/gate.rt).
+-- After an Ok the staged bodies are added; a crash leaves all of them or none, whichever call of
+-- the disk failed (`add_staged`, src/gate.rt).
 use Rattle.gate_file.specs.Chain.{IsBeforeOrAfter}
 use Rattle.disk_model.proofs.Runs.{looks_on}
 use Rattle.gate_file.proofs.Appending.{moment_1, reads_2, moment_3, kept_4}

@@ -1,4 +1,5 @@
--- The shut gate stands where the bodies put it (src/laws.rt).
+-- The shut gate of a file of gates stands at the offset that its bodies give (the law
+-- `a_file_ends_behind_its_bodies`, src/laws.rt).
 use Rattle.gate_file.proofs.Ends.{keeps_end}
 use Rattle.gate_file.proofs.laws.a_file_ends_behind_its_bodies.Goals as goal
 

@@ -1,4 +1,5 @@
--- No run, one list of bodies, or an entry cut short at one offset (src/laws.rt).
+-- A file of gates stands for one thing: no run, one list of bodies, or an entry cut short at one
+-- offset (the law `a_file_stands_for_one_thing`, src/laws.rt).
 use Rattle.gate_file.proofs.Unique.{one_list, none_spelled, one_cut, spelled_uncut, none_uncut}
 use Rattle.gate_file.proofs.laws.a_file_stands_for_one_thing.Goals as goal
 

@@ -1,4 +1,5 @@
--- A stop leaves the bodies of the first appends, all acknowledged ones among them (src/laws.rt).
+-- A crash leaves the bodies of the first appends to a file of gates, all acknowledged ones among
+-- them (the law `appends_leave_prefixes`, src/laws.rt).
 use Rattle.gate_file.proofs.Prefixes.{prefixes}
 use Rattle.gate_file.proofs.laws.appends_leave_prefixes.Goals as goal
 

@@ -1,4 +1,5 @@
--- A gate with its length, a shut gate, or too few bytes (src/open.rt).
+-- The first five bytes at a gate, or all of them if they are fewer, are what is looked at
+-- (`head_of`, src/open.rt).
 use Rattle.std.proofs.Common.{rules, ◌≡◌, ℕ, min, length, take, ap, subst, ◌∙◌}
 use Rattle.gate_file.specs.First.{IsHead}
 use Rattle.gate_file.proofs.Windows.{take_front}

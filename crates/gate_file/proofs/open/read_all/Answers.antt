@@ -1,4 +1,5 @@
--- What the opening of a file promises, for each answer of the disk (src/open.rt).
+-- Whichever call of the disk fails, the answer is as the opening of a file of gates promises
+-- (`read_all`, src/open.rt).
 use Rattle.std.proofs.Common.{rules, ◌+◌, ◌*◌, [], length, refl, ◌∙◌, arith}
 use Rattle.std.proofs.lemmas.Result.{err_from_is_err_and}
 use Rattle.disk_model.proofs.Runs.{unwritten_none, uses_none, uses_widened, peeks_more, settled_kept}

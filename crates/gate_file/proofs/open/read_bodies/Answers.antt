@@ -1,4 +1,5 @@
--- A refusal in reading on is one of the whole reading, and the loop goes on (src/open.rt).
+-- A fault met in reading on is one of the whole reading, and with each window read the loop keeps
+-- its facts (`read_bodies`, src/open.rt).
 use Rattle.std.proofs.Common.{◌+◌, ◌*◌, length, ◌∙◌, ap, arith}
 use Rattle.std.proofs.lemmas.Result.{err_from_is_err_and}
 use Rattle.disk_model.proofs.Runs.{peeks_more}

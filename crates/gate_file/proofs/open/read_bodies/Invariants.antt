@@ -1,4 +1,5 @@
--- The bodies so far stand before this offset, and so many calls were made (src/open.rt).
+-- The bodies read so far stand before this offset, and at most two calls of the disk were made for
+-- each (loop of `read_bodies`, src/open.rt).
 use Rattle.std.proofs.Common.{◌≡◌, ◌*◌, ◌-◌, ◌<◌, [], List, ℕ, length, drop}
 use Rattle.disk_model.specs.Moments.{Peeks}
 use Rattle.gate_file.specs.Chain.{Opens}

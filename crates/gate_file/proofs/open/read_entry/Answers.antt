@@ -1,4 +1,5 @@
--- A whole entry gives its body; one that is cut short is told at its offset (src/open.rt).
+-- A whole entry at a gate gives its body; one that is cut short is told at the offset of its gate
+-- (`read_entry`, src/open.rt).
 use Rattle.std.proofs.Common.{◌≡◌, ◌+◌, ℕ, length, take, drop, refl, sym, subst, ◌∙◌, ap, arith, length-drop}
 use Rattle.std.proofs.lemmas.List.{drop-drop}
 use Rattle.gate_file.specs.declared.open.Head.{Head}

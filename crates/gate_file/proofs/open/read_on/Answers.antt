@@ -1,5 +1,5 @@
--- The entries of a window, or one long entry, are read, and the next gate's place is given
--- (src/open.rt).
+-- The whole entries of a window of the file, or one longer entry, are read, and the next gate's
+-- place is given (`read_on`, src/open.rt).
 use Rattle.std.proofs.Common.{rules, ◌≡◌, ◌+◌, ◌++◌, [], ◌∷◌, ap, List, ℕ, length, drop, sym, subst, ◌∙◌, arith}
 use Rattle.std.proofs.lemmas.Result.{err_from_is_err_and}
 use Rattle.gate_file.specs.Chain.{Opens}

@@ -1,4 +1,5 @@
--- A machine that begins has read nothing, and no path of it waits.
+-- No block of a machine that begins has read anything, and no path of it waits (`opened`,
+-- src/walk.rt).
 use Rattle.std.proofs.Common.{◌≡◌, sym, subst, refl}
 use Rattle.nc_number.specs.declared.path.Path.TheVariants.{One, Two}
 use Rattle.path_state.specs.Opening.{opening_path}

@@ -1,4 +1,5 @@
--- Paths that wait stand at waits, and no block of the second machine has read anything.
+-- In both machines a path that waits stands at a wait, and no block of the second has read anything
+-- (loop of `put_words`, src/walk.rt).
 use Rattle.std.proofs.Common.{◌≡◌}
 use Rattle.two_path.specs.Machine.{without_reads}
 use Rattle.two_path.specs.Joined.{AreAtTheirWaits}

@@ -1,4 +1,5 @@
--- The centre is the start with I and K, in 0.0005 mm (src/circle.rt).
+-- The place that the code computes in 64 bits is the start with I and K, in 0.0005 mm
+-- (`centre_from`, src/circle.rt).
 use Rattle.std.proofs.Common.{arith}
 use Rattle.std.proofs.lemmas.Int.{ints}
 use Rattle.motion_track.proofs.Places.{same_place}

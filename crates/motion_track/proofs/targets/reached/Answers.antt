@@ -1,4 +1,5 @@
--- Where two axis words lead, from the lengths as they are stored (src/targets.rt).
+-- The point that the code computes in 64 bits is where the two axis words lead (`reached`,
+-- src/targets.rt).
 use Rattle.nc_number.proofs.Points.{same_point}
 use Rattle.motion_track.proofs.Places.{stored_part}
 use Rattle.motion_track.proofs.targets.reached.Goals as goal

@@ -1,4 +1,5 @@
--- An image that a run left stands for the first so many records of its history (src/laws.rt).
+-- An image that a run left stands for the first so many records of its history (the law
+-- `an_image_of_a_run_is_never_bad`, src/laws.rt).
 use Rattle.nc_number.specs.declared.path.Path.TheVariants.{One, Two}
 use Rattle.path_state.specs.Opening.{opening_path}
 use Rattle.nc_restart.specs.Pair.{tapes_in}

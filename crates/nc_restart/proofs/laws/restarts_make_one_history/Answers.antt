@@ -1,6 +1,6 @@
 -- Over any restarts and stops, restarts that are stopped among them, the records are one history of
 -- one pair: each image stands for a history that begins with all that the restart before it found
--- (src/laws.rt).
+-- (the law `restarts_make_one_history`, src/laws.rt).
 use Rattle.nc_number.specs.declared.path.Path.TheVariants.{One, Two}
 use Rattle.path_state.specs.Opening.{opening_path}
 use Rattle.nc_restart.specs.Pair.{tapes_in}

@@ -1,4 +1,5 @@
--- The pair that the texts of the header are, which are judged anew (src/pair.rt).
+-- If the judgement refuses the three texts of the header, the refusal is one of that header
+-- (`pair_of`, src/pair.rt).
 use Rattle.std.proofs.Common.{◌≡◌, subst}
 use Rattle.nc_verify.specs.Verdict.{Texts, IsRefusalOf}
 use Rattle.nc_restart.specs.Pair.{texts_of}

@@ -1,5 +1,5 @@
--- The pair of the header, and its machine behind these records, which begin at these offsets
--- (src/rebuilding.rt).
+-- Texts that are refused, or the first record out of place, told at its offset, are why there is no
+-- run (`rebuild`, src/rebuilding.rt).
 use Rattle.std.proofs.Common.{ℕ, List, get_or, sym, subst}
 use Rattle.nc_restart.specs.Meaning.{IsBadReading, out_of_place}
 use Rattle.nc_restart.proofs.rebuilding.rebuild.Goals as goal

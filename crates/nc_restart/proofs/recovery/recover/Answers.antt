@@ -1,4 +1,5 @@
--- Recovers the run of which this disk has the journal (src/recovery.rt).
+-- Once the journal is opened, the answer is the run that was rebuilt from it, or why there is none
+-- (`recover`, src/recovery.rt).
 use Rattle.std.proofs.Common.{Err, sym, subst}
 use Rattle.run_journal.specs.Opening.{Found}
 use Rattle.nc_restart.specs.Recovered.{Recovers}

@@ -1,5 +1,5 @@
--- Does one record more again, where it may stand there: it is the machine's step, and the settings
--- allow one record more (src/replay.rt).
+-- A record that the machine refuses, or one past as many as the settings allow, is out of place;
+-- any other is done, and the machine stands behind it (`redo`, src/replay.rt).
 use Rattle.std.proofs.Common.{◌≡◌, ◌≤◌, ◌<◌, ap, subst, arith}
 use Rattle.std.proofs.lemmas.Bool.Decides.{nat_tests}
 use Rattle.nc_number.specs.declared.path.Path.TheVariants.{One, Two}

@@ -1,5 +1,5 @@
--- Does the records again, over a machine of the pair before its first turn, with room for all of
--- them (src/replay.rt).
+-- Of records that are done again none is done at first, the next one may always be done, and the
+-- first out of place is told by its index (`replay`, src/replay.rt).
 use Rattle.std.proofs.Common.{arith}
 use Rattle.nc_restart.proofs.Replays.{none_done, room_there, few_done, bad_at}
 use Rattle.nc_restart.proofs.replay.replay.Goals as goal

@@ -1,4 +1,5 @@
--- The records so far are done again, and there is room for the others (loop of src/replay.rt).
+-- The records so far are done again on the machine, and it has room for the others (loop of
+-- `replay`, src/replay.rt).
 use Rattle.nc_restart.specs.Reading.{AreDone}
 use Rattle.nc_restart.proofs.replay.replay.Given as goal
 

@@ -1,5 +1,5 @@
 -- One item more is served, and at the end the turret got all moves, or a prefix of them before its
--- fault, which has halted the run (src/drive.rt).
+-- fault, which has halted the run (`run_drive`, src/drive.rt).
 use Rattle.std.proofs.Common.{◌≡◌, false, ◌++◌, ◌∷◌, [], refl, ap, sym, ◌∙◌, subst}
 use Rattle.nc_outside.specs.Calls.{IsCalled}
 use Rattle.drive_line.specs.declared.item.Item.{Item}

@@ -1,5 +1,5 @@
--- The turret served all items that were taken, and a fault has halted the run (loop of
--- src/drive.rt).
+-- The turret served the moves of all items that were taken, and if it failed, that has halted the
+-- run (loop of `run_drive`, src/drive.rt).
 use Rattle.std.proofs.Common.{◌≡◌, false}
 use Rattle.nc_outside.specs.Calls.{IsCalled}
 use Rattle.drive_line.specs.Driving.{has_failed, Serves}

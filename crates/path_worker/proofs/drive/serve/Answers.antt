@@ -1,4 +1,5 @@
--- A move is handed to the turret; at a mark and at the end the turret stands still (src/drive.rt).
+-- A turret that served the moves of the items so far has served those with the next item too: a
+-- move is handed to it, and a mark and the end add none (`serve`, src/drive.rt).
 use Rattle.std.proofs.Common.{◌++◌, ◌∷◌, [], sym, subst}
 use Rattle.drive_line.specs.declared.item.Item.{Item}
 use Rattle.drive_line.specs.Driving.{Serves}

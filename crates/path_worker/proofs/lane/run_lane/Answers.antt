@@ -1,5 +1,5 @@
--- Runs the worker and the drive of a path in a thread each, over the two ends of a new line
--- (src/lane.rt).
+-- The drive took what the worker sent, so the turret served the moves that the steps answered
+-- (`run_lane`, src/lane.rt).
 use Rattle.std.proofs.Common.{◌≡◌, List, ◌++◌, ◌∙◌, ap, sym, subst, IsTrue, length, refl, flat_map}
 use Rattle.nc_outside.specs.declared.lined_move.LinedMove.{LinedMove}
 use Rattle.nc_outside.specs.Calls.{IsCalled, moves_answered}

@@ -1,5 +1,5 @@
--- Works a path until its stepper answers that it has ended or stopped, and answers which
--- (src/worker.rt).
+-- With one answer more, the calls and the items sent are those of all answers; the last one is why
+-- the worker ended (`run_path`, src/worker.rt).
 use Rattle.std.proofs.Common.{[], ◌∷◌, ◌++◌, ◌∙◌, refl}
 use Rattle.std.proofs.lemmas.List.Elements.{All-push}
 use Rattle.path_worker.specs.Work.{GoesOn}

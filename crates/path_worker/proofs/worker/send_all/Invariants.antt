@@ -1,5 +1,5 @@
 -- The moves so far stand on the line in their order, and the line has no end yet (loop of
--- src/worker.rt).
+-- `send_all`, src/worker.rt).
 use Rattle.std.proofs.Common.{◌≡◌, ◌++◌, map, take, false}
 use Rattle.drive_line.specs.declared.item.Item.TheVariants.{Move}
 use Rattle.nc_outside.specs.Lined.{lined_move}

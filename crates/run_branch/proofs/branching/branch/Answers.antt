@@ -1,5 +1,5 @@
--- A branch is made, or refused: no such meeting, no memory, or as its file of gates is
--- (src/branching.rt).
+-- A branch is made, or refused: no such meeting, no memory, or as its file of gates is (`branch`,
+-- src/branching.rt).
 use Rattle.std.proofs.Common.{◌∙◌, Some, Ok, sym, subst, arith}
 use Rattle.run_branch.specs.Branches.{Branches}
 use Rattle.run_branch.specs.Meetings.{branch_point}

@@ -1,4 +1,5 @@
--- One record more is looked at, and the search goes on (loop of src/branching.rt).
+-- With one record more looked at, the search of the others finds what the search of all finds (loop
+-- of `branch_point`, src/branching.rt).
 use Rattle.std.proofs.Common.{ℕ, ◌+◌, ◌-◌, ◌<◌, ap, sym, ◌∙◌, arith, drop, length, if◌then◌else◌}
 use Rattle.std.specs.Option.{option_map}
 use Rattle.run_records.specs.declared.entry.EntryKind.{EntryKind}

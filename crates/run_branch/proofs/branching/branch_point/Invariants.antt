@@ -1,5 +1,5 @@
--- The search of the records that are left, for the meetings that are left, finds the same (loop of
--- src/branching.rt).
+-- Where a branch ends is found by a search of the records that are left for the meetings that are
+-- left (loop of `branch_point`, src/branching.rt).
 use Rattle.std.proofs.Common.{◌≡◌, ◌+◌, ◌-◌, ◌≤◌, ℕ, length, drop}
 use Rattle.std.specs.Option.{option_map}
 use Rattle.run_branch.specs.Meetings.{branch_point}

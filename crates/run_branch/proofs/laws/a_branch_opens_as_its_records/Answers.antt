@@ -1,4 +1,5 @@
--- A disk that stands for a branch opens as its header and records (src/laws.rt).
+-- A disk that stands for a branch opens as its header and records (the law
+-- `a_branch_opens_as_its_records`, src/laws.rt).
 use Rattle.run_branch.proofs.Opened.{opened}
 use Rattle.run_branch.proofs.laws.a_branch_opens_as_its_records.Goals as goal
 

@@ -1,4 +1,5 @@
--- A branch is the shortest prefix with n meetings; none exists exactly with fewer (src/laws.rt).
+-- A branch is the shortest prefix with n meetings; none exists exactly with fewer (the law
+-- `a_branch_point_is_the_least`, src/laws.rt).
 use Rattle.run_branch.proofs.Points.{point_is, is_point, none_left, too_few}
 use Rattle.run_branch.proofs.laws.a_branch_point_is_the_least.Goals as goal
 

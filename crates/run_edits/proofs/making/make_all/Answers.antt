@@ -1,4 +1,5 @@
--- Makes all edits in the run of a machine and its journal (src/making.rt).
+-- If there are edits, all of them were written, or the disk failed and the run that was found is
+-- left with them or without (`make_all`, src/making.rt).
 use Rattle.std.proofs.Common.{rules, ◌≡◌, ◌==◌, false, length, refl}
 use Rattle.run_edits.specs.Made.{records_of}
 use Rattle.run_edits.proofs.Written.{none_made, when_failed, when_made}

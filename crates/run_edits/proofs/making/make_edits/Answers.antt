@@ -1,4 +1,5 @@
--- Makes edits in a run behind which no alarm stands, and gives the disk back (src/making.rt).
+-- The records of the edits may follow those of the run, and the disk that is given back has what
+-- making them promises (`make_edits`, src/making.rt).
 use Rattle.std.proofs.Common.{List, sym, ap, subst, ◌∙◌}
 use Rattle.edit_texts.specs.declared.edit_list.PathEdit.{PathEdit}
 use Rattle.two_path.specs.Machine.{MachineView}

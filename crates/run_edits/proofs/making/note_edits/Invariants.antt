@@ -1,5 +1,5 @@
 -- The records of the edits so far are in the batch that is to be written, and the file is as it was
--- (loop of src/making.rt).
+-- (loop of `note_edits`, src/making.rt).
 use Rattle.std.proofs.Common.{◌≡◌, ◌+◌, ◌≤◌, None, length, take}
 use Rattle.std.specs.Prelude.{IsTrue}
 use Rattle.nc_number.specs.declared.limits.TheConstants.{MOST_RECORDS}

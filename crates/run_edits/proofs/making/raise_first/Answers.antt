@@ -1,4 +1,5 @@
--- Raises a journal of version 1 (src/making.rt).
+-- A journal of version 1 is raised: the disk holds the same records, at every moment
+-- (`raise_first`, src/making.rt).
 use Rattle.std.proofs.Common.{rules, ◌≡◌, subst}
 use Rattle.run_records.specs.declared.version.Version.{Version}
 use Rattle.run_records.specs.declared.version.Version.TheVariants.{One}

@@ -1,5 +1,5 @@
--- Raises a journal of version 1, and writes a record for each of the edits, as one batch
--- (src/making.rt).
+-- At every moment the disk holds the run that was found, or it and all edits; after an Ok it holds
+-- the latter (`write_edits`, src/making.rt).
 use Rattle.std.proofs.Common.{inl}
 use Rattle.disk_model.proofs.Runs.{widened}
 use Rattle.run_journal.specs.Stands.{Stands, StandsEither}

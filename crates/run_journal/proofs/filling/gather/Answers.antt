@@ -1,4 +1,5 @@
--- The batch has one record more of those it is to have (loop of src/filling.rt).
+-- With the next record put into it, the batch has the records up to the next index (loop of
+-- `gather`, src/filling.rt).
 use Rattle.std.proofs.Common.{◌≡◌, List, arith, sym, subst}
 use Rattle.run_records.specs.declared.version.Version.TheVariants.{One, Two}
 use Rattle.run_records.specs.Entries.{Entry}

@@ -1,4 +1,4 @@
--- The batch has the records from the start up to this index (loop of src/filling.rt).
+-- The batch has the records from the start up to this index (loop of `gather`, src/filling.rt).
 use Rattle.std.proofs.Common.{◌-◌, take, drop}
 use Rattle.run_records.specs.declared.version.Version.TheVariants.{Two}
 use Rattle.run_journal.specs.Stands.{Pends}

@@ -1,4 +1,5 @@
--- One batch more is filled, of 64 or of all records that are left (loop of src/filling.rt).
+-- With one batch more, of 64 records or of all that are left, the bodies are those of the records
+-- up to its end (loop of `journal_bodies`, src/filling.rt).
 use Rattle.std.proofs.Common.{◌∙◌, ◌+◌, ◌++◌, [], ◌∷◌, List, ℕ, ap, arith}
 use Rattle.run_journal.proofs.Fillings.{none_filled, batch_filled}
 use Rattle.run_journal.proofs.filling.journal_bodies.Goals as goal

@@ -1,4 +1,5 @@
--- The bodies are those of the records so far; fewer are left each time (loop of src/filling.rt).
+-- The bodies are those of the records so far; fewer are left each time (loop of `journal_bodies`,
+-- src/filling.rt).
 use Rattle.std.proofs.Common.{◌-◌}
 use Rattle.run_journal.proofs.Fillings.{IsFilling}
 use Rattle.run_journal.proofs.filling.journal_bodies.Given as goal

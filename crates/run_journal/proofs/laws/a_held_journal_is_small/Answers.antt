@@ -1,4 +1,5 @@
--- A journal ends within the bytes of its header, its records and their gates (src/laws.rt).
+-- A journal ends within the bytes of its header, its records and their gates (the law
+-- `a_held_journal_is_small`, src/laws.rt).
 use Rattle.run_journal.proofs.Ends.{held_end}
 use Rattle.run_journal.proofs.laws.a_held_journal_is_small.Goals as goal
 

@@ -1,4 +1,5 @@
--- An opening gives what the bodies hold, with an offset for each record (src/opening.rt).
+-- An opening gives what the bodies hold, with an offset for each record (`open_journal`,
+-- src/opening.rt).
 use Rattle.std.proofs.Common.{◌+◌, length, sym, ap, subst, Ok}
 use Rattle.gate_file.specs.Gate.{Gate}
 use Rattle.gate_file.specs.Opening.{Finds}

@@ -1,5 +1,5 @@
 -- A body is refused as a batch: empty, counted wrong, a record missing, or bytes left
--- (src/reading.rt).
+-- (`read_batch`, src/reading.rt).
 use Rattle.std.proofs.Common.{◌≡◌, ◌⊎◌, inl, inr, ⊎_elim, ◌+◌, ◌-◌, ◌<◌, length, drop, take, get_or, sym, subst, arith}
 use Rattle.run_journal.specs.Reading.{RefusesBatch}
 use Rattle.run_journal.proofs.Records.{count_first, bad_empty, bad_count, bad_unread, bad_late}

@@ -1,4 +1,5 @@
--- Bodies whose first one is no header are refused for that (src/reading.rt).
+-- Bodies of which the first is no header are refused as such at its offset (`read_contents`,
+-- src/reading.rt).
 use Rattle.std.proofs.Common.{◌∙◌}
 use Rattle.run_journal.proofs.Openings.{no_header}
 use Rattle.run_journal.proofs.reading.read_contents.Goals as goal

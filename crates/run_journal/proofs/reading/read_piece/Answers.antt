@@ -1,4 +1,4 @@
--- A body that is read as a batch is read as a piece (src/reading.rt).
+-- A body that is read as a batch is read as a piece (`read_piece`, src/reading.rt).
 use Rattle.run_journal.proofs.Records.{piece_read}
 use Rattle.run_journal.proofs.reading.read_piece.Goals as goal
 

@@ -1,4 +1,5 @@
--- One piece more is read, or its body is the first bad one (loop of src/reading.rt).
+-- The next body is read as a piece of the journal, or it is the first bad one (loop of
+-- `read_pieces`, src/reading.rt).
 use Rattle.std.proofs.Common.{◌<◌, length, arith}
 use Rattle.std.proofs.lemmas.Result.{err_from_is_err_and}
 use Rattle.run_journal.proofs.PieceByPiece.{more_are_read, not_read}

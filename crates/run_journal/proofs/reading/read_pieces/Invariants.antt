@@ -1,4 +1,4 @@
--- The bodies up to this index are read as pieces (loop of src/reading.rt).
+-- The bodies up to this index are read as pieces (loop of `read_pieces`, src/reading.rt).
 use Rattle.run_journal.specs.Reading.{AreRead}
 use Rattle.run_journal.proofs.reading.read_pieces.Given as goal
 

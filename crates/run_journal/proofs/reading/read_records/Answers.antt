@@ -1,4 +1,5 @@
--- One record more is read, with its offset (loop of src/reading.rt).
+-- With one record more read, the records and their offsets are put after the others (loop of
+-- `read_records`, src/reading.rt).
 use Rattle.std.proofs.Common.{◌≡◌, ◌+◌, ◌-◌, ◌∷◌, [], ◌++◌, List, ℕ, length, sym, ◌∙◌, ap, refl, arith, length-append}
 use Rattle.run_records.specs.Spelling.{entry_bytes}
 use Rattle.run_journal.proofs.Records.{read_more}

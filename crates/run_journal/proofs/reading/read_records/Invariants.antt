@@ -1,4 +1,5 @@
--- So many records are read, and there is room for those that are left (loop of src/reading.rt).
+-- So many records are read, and there is room for those that are left (loop of `read_records`,
+-- src/reading.rt).
 use Rattle.std.proofs.Common.{◌+◌, ◌-◌, ◌≤◌, length, vec_capacity}
 use Rattle.run_journal.specs.Reading.{IsRecordsRead}
 use Rattle.run_journal.proofs.reading.read_records.Given as goal

@@ -1,5 +1,5 @@
--- With one call more, a halt among the calls still means that the table has halted
--- (src/stepper.rt).
+-- With one call more, a halt among the calls still means that the table has halted (`call_noted`,
+-- src/stepper.rt).
 use Rattle.seat_table.proofs.Telling.{call_told}
 use Rattle.seat_table.proofs.stepper.call_noted.Goals as goal
 

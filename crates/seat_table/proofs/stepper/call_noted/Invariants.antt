@@ -1,4 +1,5 @@
--- The note is of the call that was handed in (src/stepper.rt).
+-- The call that is noted in the pass of a drive is the one that was handed in (`call_noted`,
+-- src/stepper.rt).
 use Rattle.std.proofs.Common.{[], ◌∷◌}
 use Rattle.seat_table.proofs.stepper.call_noted.Given as goal
 

@@ -1,4 +1,5 @@
--- The note is of the drain (src/stepper.rt).
+-- The call that is noted in the pass of the path is that of the drain (`drained_noted`,
+-- src/stepper.rt).
 use Rattle.std.proofs.Common.{[], ◌∷◌}
 use Rattle.seat_table.proofs.stepper.drained_noted.Given as goal
 

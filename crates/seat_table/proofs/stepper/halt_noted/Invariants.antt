@@ -1,4 +1,5 @@
--- The note is of the halt (src/stepper.rt).
+-- The call that is noted in the pass of the path is that of the halt (`halt_noted`,
+-- src/stepper.rt).
 use Rattle.std.proofs.Common.{[], ◌∷◌}
 use Rattle.seat_table.proofs.stepper.halt_noted.Given as goal
 

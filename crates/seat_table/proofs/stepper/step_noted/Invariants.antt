@@ -1,4 +1,5 @@
--- The note is of the step and its answer (src/stepper.rt).
+-- The call that is noted in the pass of the path is that of the step, with its answer
+-- (`step_noted`, src/stepper.rt).
 use Rattle.std.proofs.Common.{[], ◌∷◌}
 use Rattle.nc_outside.specs.declared.stepper.Call.TheVariants.{Step}
 use Rattle.seat_table.proofs.stepper.step_noted.Given as goal

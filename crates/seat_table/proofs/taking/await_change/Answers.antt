@@ -1,4 +1,5 @@
--- To count a sleeper, and to count it off, keeps the rule of the table (src/taking.rt).
+-- To count a sleeper, and to count it off, keeps the rule of the table (`await_change`,
+-- src/taking.rt).
 use Rattle.std.proofs.Common.{rules, arith, ◌+◌, ◌-◌, ◌%◌, ◌^◌}
 use Rattle.seat_table.proofs.Keeping.{touches}
 use Rattle.seat_table.proofs.taking.await_change.Goals as goal

@@ -1,5 +1,5 @@
 -- Each of the three joins keeps the rule, and then the slot has the table with the records and
--- stops that the seats know (src/taking.rt).
+-- stops that the seats know (`close_all`, src/taking.rt).
 use Rattle.std.proofs.Common.{rules, ◌≡◌, is_some, true≢false, ap, ◌∙◌, sym}
 use mathlib.Core.Option.{some-injective}
 use Rattle.nc_number.specs.declared.path.Path.TheVariants.{One, Two}

@@ -1,4 +1,4 @@
--- To count the end of a wait keeps the rule of the table (src/taking.rt).
+-- To count the end of a wait keeps the rule of the table (`count_change`, src/taking.rt).
 use Rattle.std.proofs.Common.{rules, arith, ◌+◌, ◌%◌, ◌^◌}
 use Rattle.seat_table.proofs.Keeping.{touches}
 use Rattle.seat_table.proofs.taking.count_change.Goals as goal

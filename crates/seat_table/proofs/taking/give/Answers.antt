@@ -1,4 +1,4 @@
--- To give the turn back keeps the rule of the table (src/taking.rt).
+-- To give the turn back keeps the rule of the table (`give`, src/taking.rt).
 use Rattle.std.proofs.Common.{rules, ◌∷◌, Some, ap, ◌∙◌}
 use Rattle.atomic_table.specs.Table.{rest}
 use Rattle.seat_table.proofs.Keeping.{gives_turn}

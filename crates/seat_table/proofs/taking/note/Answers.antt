@@ -1,4 +1,4 @@
--- To note calls keeps the rule of the table (src/taking.rt).
+-- To note calls keeps the rule of the table (`note`, src/taking.rt).
 use Rattle.std.proofs.Common.{rules}
 use Rattle.seat_table.proofs.Keeping.{notes}
 use Rattle.seat_table.proofs.taking.note.Goals as goal

@@ -1,4 +1,4 @@
--- To ask for a wake keeps the rule of the table (src/taking.rt).
+-- To ask for a wake keeps the rule of the table (`stand_by`, src/taking.rt).
 use Rattle.std.proofs.Common.{rules}
 use Rattle.seat_table.proofs.Keeping.{asks}
 use Rattle.seat_table.proofs.taking.stand_by.Goals as goal

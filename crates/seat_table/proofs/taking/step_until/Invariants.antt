@@ -1,5 +1,5 @@
 -- The seat does not have the turn, and keeps its rights, calls and records, and what it knows of a
--- halt (loop of src/taking.rt).
+-- halt (loop of `step_until`, src/taking.rt).
 use Rattle.std.proofs.Common.{◌≡◌}
 use Rattle.seat_table.specs.Knowing.{Idle, Keeps, list_at, stop_at, KeepsStop}
 use Rattle.seat_table.proofs.taking.step_until.Given as goal

@@ -1,4 +1,4 @@
--- To take the turn keeps the rule, and then the slot has the table (src/taking.rt).
+-- To take the turn keeps the rule, and then the slot has the table (`take`, src/taking.rt).
 use Rattle.std.proofs.Common.{rules, ◌∷◌, Some, ap, ◌∙◌, sym}
 use Rattle.atomic_table.specs.Table.{rest}
 use Rattle.seat_table.proofs.Keeping.{takes_turn}

@@ -1,5 +1,5 @@
 -- The seat does not have the turn, and keeps its rights, calls and records, and what it knows of a
--- halt (loop of src/taking.rt).
+-- halt (loop of `tell_until`, src/taking.rt).
 use Rattle.std.proofs.Common.{◌≡◌, true}
 use Rattle.nc_number.specs.declared.path.Path.{Path}
 use Rattle.seat_table.specs.Knowing.{Idle, Keeps, steps, has, list_at, stop_at, KeepsStop}

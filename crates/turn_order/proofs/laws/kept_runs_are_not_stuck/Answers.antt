@@ -1,4 +1,5 @@
--- A machine that is kept with its history is lawful, so it is not stuck (src/laws.rt).
+-- The machine behind a legal history of an accepted pair is not stuck (the law
+-- `kept_runs_are_not_stuck`, src/laws.rt).
 use Rattle.std.proofs.Common.{refl, subst}
 use Rattle.nc_number.specs.declared.path.Path.TheVariants.{One, Two}
 use Rattle.path_state.specs.Opening.{opening_path}

@@ -1,4 +1,5 @@
--- Two runs whose paths take turns have the same records (src/laws.rt).
+-- Two runs of a pair whose paths take turns, up to the same number of records, have the same
+-- records (the law `one_run_in_turn`, src/laws.rt).
 use Rattle.turn_order.proofs.OneRun.{one_run}
 use Rattle.turn_order.proofs.laws.one_run_in_turn.Goals as goal
 

@@ -1,4 +1,5 @@
--- The records of turns are a legal history (src/laws.rt).
+-- The records of a run whose paths take turns are a legal history (the law
+-- `runs_in_turn_are_legal`, src/laws.rt).
 use Rattle.std.proofs.Common.{subst}
 use Rattle.nc_number.specs.declared.path.Path.TheVariants.{One}
 use Rattle.two_path.specs.Machine.{opening}

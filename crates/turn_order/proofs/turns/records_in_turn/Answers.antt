@@ -1,5 +1,5 @@
 -- Each turn goes on with the run, fewer are left, and at the end the records are those of its turns
--- (src/turns.rt).
+-- (`records_in_turn`, src/turns.rt).
 use Rattle.std.proofs.Common.{length, min, refl, sym, subst, ap, ◌∙◌, arith, length-append}
 use Rattle.nc_number.specs.declared.path.Path.TheVariants.{One, Two}
 use Rattle.cell_settings.specs.declared.settings.Settings.{Settings}

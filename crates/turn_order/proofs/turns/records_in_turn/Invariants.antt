@@ -1,5 +1,5 @@
 -- The records so far are those of the turns so far, there are no more than there may be, and fewer
--- turns are left each time (loop of src/turns.rt).
+-- turns are left each time (loop of `records_in_turn`, src/turns.rt).
 use Rattle.std.proofs.Common.{◌≤◌, length}
 use Rattle.two_path.specs.Histories.{IsKept}
 use Rattle.two_path.specs.Joined.{AreAtTheirWaits}

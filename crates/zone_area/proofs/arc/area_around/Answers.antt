@@ -1,4 +1,5 @@
--- A middle plus and minus a reach; along Z half of it, rounded outward (src/arc.rt).
+-- The four edges that the code computes in 64 bits are those of the area around the middle
+-- (`area_around`, src/arc.rt).
 use Rattle.std.proofs.Common.{arith}
 use Rattle.std.proofs.lemmas.Int.{ints}
 use Rattle.zone_area.specs.Area.{area_around}

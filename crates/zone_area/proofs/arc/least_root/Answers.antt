@@ -1,4 +1,5 @@
--- The least number whose square is at least n (src/arc.rt).
+-- The root rounded down is the least root if its square is n, and else the next number is
+-- (`least_root`, src/arc.rt).
 use Rattle.std.proofs.Common.{arith, sym}
 use Rattle.zone_area.proofs.LeastRoot.{root_after, root_exact}
 use Rattle.zone_area.proofs.arc.least_root.Goals as goal

@@ -1,4 +1,5 @@
--- The middle of the circle that the arc may reach (src/arc.rt).
+-- By I and K, the middle that the code computes in 64 bits is the centre of the arc (`middle_of`,
+-- src/arc.rt).
 use Rattle.std.proofs.Common.{arith, subst}
 use Rattle.std.proofs.lemmas.Int.{ints}
 use Rattle.nc_moves.specs.declared.motion.Centre.TheVariants.{Offset}

@@ -1,4 +1,5 @@
--- How far the arc may reach from its middle, in 0.0005 mm (src/arc.rt).
+-- By I and K, the root of the greater squared distance from the centre to an end, rounded up, is
+-- the reach of the arc (`reach_of`, src/arc.rt).
 use Rattle.std.proofs.Common.{ap, sym, ◌∙◌}
 use Rattle.zone_area.specs.Passing.{middle_of}
 use Rattle.zone_area.specs.Area.{reach_of}

@@ -1,4 +1,5 @@
--- The square of the distance of two points, in 0.0005 mm (src/arc.rt).
+-- The squares along X and along Z, as the code adds them up, are the square of the distance in
+-- 0.0005 mm (`square_between`, src/arc.rt).
 use Rattle.std.proofs.Common.{arith}
 use Rattle.zone_area.proofs.Squares.{squares_between, distance_stored}
 use Rattle.zone_area.proofs.arc.square_between.Goals as goal

@@ -1,4 +1,5 @@
--- Whether the areas lie more than the gap apart in X or in Z (src/clear.rt).
+-- Areas that do not lie apart in X are clear exactly if they lie apart in Z (`is_clear`,
+-- src/clear.rt).
 use Rattle.std.proofs.Common.{◌≡◌, ◌∙◌, sym, false, arith}
 use Rattle.zone_area.specs.Area.{lie_apart}
 use Rattle.zone_area.proofs.Squares.{apart_stored}

@@ -1,5 +1,5 @@
 -- The area of moves holds their ends and the reach of their arcs, and lies within each other that
--- does (src/laws.rt).
+-- does (the law `an_area_is_the_least`, src/laws.rt).
 use Rattle.zone_area.proofs.Least.{area_holds, area_is_least}
 use Rattle.zone_area.proofs.laws.an_area_is_the_least.Goals as goal
 

@@ -1,5 +1,5 @@
 -- Each point that a path may pass in a segment lies in its area, in the cell, however finely points
--- are counted (src/laws.rt).
+-- are counted (the law `a_zone_holds_what_may_be_passed`, src/laws.rt).
 use Rattle.zone_check.proofs.laws.a_zone_holds_what_may_be_passed.Goals as goal
 
 pub returns-clause-left : goal.returns-clause-left

@@ -1,5 +1,6 @@
 -- In a clear zone any two points that the paths may pass differ by more than the gap in X or in Z,
--- whatever the timing of their moves between these meetings (src/laws.rt).
+-- whatever the timing of their moves between these meetings (the law `clear_zones_keep_apart`,
+-- src/laws.rt).
 use Rattle.zone_check.proofs.laws.clear_zones_keep_apart.Goals as goal
 
 pub returns : goal.returns

@@ -1,5 +1,5 @@
--- The zones of a history of the pair: one for each segment, in order, the first before the first
--- meeting (src/meetings.rt).
+-- The zones that were kept while the records were done again are those of the history's segments
+-- (`boxes`, src/meetings.rt).
 use Rattle.two_path.specs.Turns.{tapes_of}
 use Rattle.two_path.specs.Start.{machine_at_start}
 use Rattle.zone_check.proofs.Folded.{zones_are_those_of_the_segments}

@@ -1,5 +1,5 @@
--- Does the records of a history again, one by one, on a machine of the pair, and keeps the zones
--- (src/meetings.rt).
+-- Each record of the history may be done again, and what is kept goes on to be all zones
+-- (`kept_boxes`, src/meetings.rt).
 use Rattle.std.proofs.Common.{◌≡◌, ◌+◌, ◌≤◌, ◌<◌, length, take, drop, refl, sym, subst, ◌∙◌, arith}
 use Rattle.nc_number.specs.declared.path.Path.TheVariants.{One, Two}
 use Rattle.path_state.specs.Opening.{opening_path}

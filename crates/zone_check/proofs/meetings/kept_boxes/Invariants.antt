@@ -1,5 +1,5 @@
 -- The machine is the fold of the records so far, and the zones that are kept go on to be all zones
--- (loop of src/meetings.rt).
+-- (loop of `kept_boxes`, src/meetings.rt).
 use Rattle.std.proofs.Common.{◌≡◌, ◌+◌, ◌≤◌, [], length, take, drop}
 use Rattle.two_path.specs.Machine.{without_reads}
 use Rattle.two_path.specs.Turns.{tapes_of}

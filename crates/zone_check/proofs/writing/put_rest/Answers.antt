@@ -1,5 +1,5 @@
--- Writes to the sink the lines of the zones, and the last line; if the sink fails, a prefix of that
--- (src/writing.rt).
+-- The sink has the lines of the zones and the last line; if it failed, a prefix of that
+-- (`put_rest`, src/writing.rt).
 use Rattle.nc_verify.proofs.Put.{put_then, put_stops}
 use Rattle.zone_check.proofs.writing.put_rest.Goals as goal
 

@@ -1,4 +1,4 @@
--- Writes to the sink a line for each zone; if the sink fails, a prefix of that (src/writing.rt).
+-- The sink has a line for each zone; if it failed, a prefix of that (`put_zones`, src/writing.rt).
 use Rattle.std.proofs.Common.{◌+◌, refl, ap}
 use Rattle.std.proofs.lemmas.Result.{err_from_is_err_and}
 use Rattle.zone_check.proofs.ZoneByZone.{put_nothing, line_put, line_breaks, all_put}

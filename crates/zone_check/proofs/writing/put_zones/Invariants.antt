@@ -1,4 +1,4 @@
--- The lines of the zones so far were put whole (loop of src/writing.rt).
+-- The lines of the zones so far were put to the sink whole (loop of `put_zones`, src/writing.rt).
 use Rattle.std.proofs.Common.{◌≡◌, take, Ok}
 use Rattle.nc_verify.specs.Printed.{IsPut}
 use Rattle.zone_cell.specs.Lines.{zone_texts}

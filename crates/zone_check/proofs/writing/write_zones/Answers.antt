@@ -1,6 +1,5 @@
--- Writes a list of zones: how many there are; a line for each, with its number from 0, the edges of
--- path 1's area and of path 2's, and `clear` or `hit`; and whether all are clear, or how many are
--- hit (src/writing.rt).
+-- The sink has the head line, the lines of the zones and the last line; if it failed, a prefix of
+-- that (`write_zones`, src/writing.rt).
 use Rattle.nc_verify.proofs.Put.{put_then, put_stops}
 use Rattle.zone_cell.specs.Lines.{list_text}
 use Rattle.zone_check.proofs.writing.write_zones.Goals as goal

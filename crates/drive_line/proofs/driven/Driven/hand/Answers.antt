@@ -1,5 +1,5 @@
 -- A move handed to the turret is one more that it took, or the first that it missed
--- (src/driven.rt).
+-- (`Driven::hand`, src/driven.rt).
 use Rattle.std.proofs.Common.{◌≡◌, ◌++◌, ◌∷◌, [], false, true≢false, List, refl, ap, sym, ◌∙◌, subst}
 use Rattle.nc_outside.specs.declared.lined_move.LinedMove.{LinedMove}
 use Rattle.nc_outside.specs.Received.{TurretState}

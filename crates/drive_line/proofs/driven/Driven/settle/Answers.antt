@@ -1,5 +1,5 @@
 -- A turret that may be on its way is told to settle once, and stands still then or failed
--- (src/driven.rt).
+-- (`Driven::settle`, src/driven.rt).
 use Rattle.std.proofs.Common.{false, true≢false, List, refl, ap, sym, subst}
 use Rattle.nc_outside.specs.declared.lined_move.LinedMove.{LinedMove}
 use Rattle.nc_outside.specs.Received.{TurretState}

@@ -1,4 +1,5 @@
--- A mark that got its answer keeps the worker's end, and does not end the line (src/line_in.rt).
+-- What the worker's side keeps holds still after a mark that got its answer, and the line is open
+-- (`LineIn::drain`, src/line_in.rt).
 use Rattle.std.proofs.Common.{◌≡◌, false, ap, ◌∙◌}
 use Rattle.drive_line.specs.Line.{has_end}
 use Rattle.drive_line.proofs.Items.{kept_mark, open_mark}

@@ -1,4 +1,5 @@
--- The end keeps the worker's end: nothing follows it (src/line_in.rt).
+-- What the worker's side keeps holds still once the end is sent: nothing follows it
+-- (`LineIn::end_line`, src/line_in.rt).
 use Rattle.std.proofs.Common.{◌≡◌, false, ap, ◌∙◌}
 use Rattle.drive_line.specs.Line.{has_end}
 use Rattle.drive_line.proofs.Items.{kept_end}

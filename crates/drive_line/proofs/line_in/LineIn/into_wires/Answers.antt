@@ -1,4 +1,5 @@
--- Each mark that was sent was answered (src/line_in.rt).
+-- Each mark that the worker sent has its answer among those received (`LineIn::into_wires`,
+-- src/line_in.rt).
 use Rattle.std.proofs.Common.{subst, All, Contains}
 use Rattle.drive_line.specs.Line.{Sending, mark_counts}
 use Rattle.drive_line.proofs.line_in.LineIn.into_wires.Goals as goal

@@ -1,4 +1,5 @@
--- The body of an index lies between the gate before it and its end (src/body_list.rt).
+-- The body of an index lies in the list's bytes between the gate before it and its end
+-- (`BodyList::body`, src/body_list.rt).
 use Rattle.std.proofs.Common.{rules, ◌≡◌, ◌+◌, ◌<◌, ◌^◌, ◌∷◌, [], List, ℕ, length, get_or, sym, ◌∙◌, ap, arith, vec_len}
 use Rattle.std.proofs.lemmas.List.{get_or_read}
 use Rattle.gate_file.specs.Bodies.{between}

@@ -1,4 +1,5 @@
--- The length of the bytes is where the shut gate stands (src/body_list.rt).
+-- The shut gate after a list of bodies stands at the length of the list's bytes (`BodyList::end`,
+-- src/body_list.rt).
 use Rattle.std.proofs.Common.{rules, ◌≡◌, length, ap, ◌∙◌}
 use Rattle.gate_file.specs.Chain.{ends_at}
 use Rattle.gate_file.proofs.Bodies.{bytes_end}

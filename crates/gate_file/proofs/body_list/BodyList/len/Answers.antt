@@ -1,4 +1,4 @@
--- There are as many bodies as ends noted (src/body_list.rt).
+-- A list of bodies has as many bodies as ends were noted (`BodyList::len`, src/body_list.rt).
 use Rattle.std.proofs.Common.{rules, ◌≡◌, length, sym, ◌∙◌, ap}
 use Rattle.gate_file.proofs.Bodies.{length_bodies}
 use Rattle.gate_file.proofs.body_list.BodyList.len.Goals as goal

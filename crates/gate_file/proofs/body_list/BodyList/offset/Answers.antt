@@ -1,4 +1,5 @@
--- A body begins five bytes after the gate before it, within the list (src/body_list.rt).
+-- A body of a list begins five bytes after the gate before it, and ends within the bytes
+-- (`BodyList::offset`, src/body_list.rt).
 use Rattle.std.proofs.Common.{rules, ◌≡◌, ◌<◌, ◌^◌, ◌∷◌, [], List, ℕ, length, take, get_or, ◌∙◌, ap, arith}
 use Rattle.gate_file.specs.Chain.{ends_at}
 use Rattle.gate_file.specs.Bodies.{bodies_from}

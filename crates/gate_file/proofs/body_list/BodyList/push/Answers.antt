@@ -1,4 +1,5 @@
--- The new body stands last, and its end is noted (src/body_list.rt).
+-- A body that is pushed stands last in the list, and its end is noted (`BodyList::push`,
+-- src/body_list.rt).
 use Rattle.std.proofs.Common.{rules, ◌≡◌, ◌+◌, ◌++◌, [], ◌∷◌, List, ℕ, length, sym, subst, ◌∙◌, ap, arith, append_assoc, length-append}
 use Rattle.gate_file.specs.Bodies.{bodies_from, AreBodies}
 use Rattle.gate_file.specs.Chain.{entry}

@@ -1,5 +1,5 @@
--- The bytes without their first gate, and a shut gate at the end, stage the bodies
--- (src/body_list.rt).
+-- The bytes of the list without their first gate, with a shut gate at the end, are what is to be
+-- written to add its bodies (`BodyList::staged`, src/body_list.rt).
 use Rattle.std.proofs.Common.{rules, ◌≡◌, ◌++◌, [], ◌∷◌, List, ℕ, length, drop, sym, subst, ap, ◌∙◌, arith}
 use Rattle.gate_file.specs.Chain.{Opens, IsStaged, ends_at}
 use Rattle.gate_file.proofs.Bodies.{bytes_end, some_bytes, chain_staged}

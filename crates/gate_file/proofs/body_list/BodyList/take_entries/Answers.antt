@@ -1,5 +1,6 @@
--- The entries that lie whole in the bytes are taken, and the list still opens its bodies
--- (src/body_list.rt).
+-- The entries that lie whole in the bytes are taken: a file that opened the bodies before and then
+-- had these bytes opens the longer list, and goes on with the bytes that are left
+-- (`BodyList::take_entries`, src/body_list.rt).
 use Rattle.std.proofs.Common.{rules, ◌≡◌, ◌+◌, ◌++◌, List, ℕ, length, take, drop, sym, subst, ◌∙◌, ap, arith}
 use Rattle.std.proofs.Math.Seq.{take-append-add}
 use Rattle.gate_file.specs.Bodies.{bodies_from, AreEnds, AreBodies}

@@ -1,4 +1,5 @@
--- A crash leaves the bodies before the call, or those and the new one (src/gate.rt).
+-- A crash in an append leaves the bodies before the call, or those and the new one
+-- (`GateFile::append`, src/gate.rt).
 use Rattle.std.proofs.Common.{ℕ, List, [], ◌∷◌, subst, sym}
 use Rattle.disk_model.specs.Moments.{LeavesOnly}
 use Rattle.gate_file.specs.Chain.{IsBeforeOrAfter, IsStaged}

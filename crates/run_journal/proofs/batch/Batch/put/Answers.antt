@@ -1,4 +1,5 @@
--- A record is put after those that are to be written, and counted (src/batch.rt).
+-- A record that is put into a batch stands after those that are to be written, and is counted
+-- (`Batch::put`, src/batch.rt).
 use Rattle.std.proofs.Common.{◌++◌, [], ◌∷◌, List, ℕ, subst}
 use Rattle.run_records.specs.declared.version.Version.{Version}
 use Rattle.run_records.specs.Entries.{Entry}

@@ -1,4 +1,4 @@
--- A journal is begun or refused as its file of gates is (src/journal.rt).
+-- A journal is begun or refused as its file of gates is (`Journal::begin`, src/journal.rt).
 use Rattle.std.proofs.Common.{◌≡◌, [], ◌∷◌, sym, ap, subst, ◌∙◌, Ok}
 use Rattle.gate_file.specs.Creation.{Begins}
 use Rattle.gate_file.specs.Gate.{Gate}

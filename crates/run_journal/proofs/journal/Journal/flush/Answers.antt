@@ -1,5 +1,5 @@
 -- After an Ok the disk holds the records and the batch; a crash leaves the records or both
--- (src/journal.rt).
+-- (`Journal::flush`, src/journal.rt).
 use Rattle.std.proofs.Common.{rules, ◌≡◌, ◌++◌, List, ℕ, subst, sym, ◌∙◌, ap, ◌≤◌, arith}
 use Rattle.disk_model.specs.Moments.{LeavesOnly}
 use Rattle.run_records.specs.declared.header.Header.{Header}

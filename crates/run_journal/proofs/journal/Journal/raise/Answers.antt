@@ -1,5 +1,5 @@
 -- After an Ok the journal is of version 2; its records are the same at every moment
--- (src/journal.rt).
+-- (`Journal::raise`, src/journal.rt).
 use Rattle.std.proofs.Common.{rules, List, refl, ap, subst, arith}
 use Rattle.std.proofs.lemmas.Result.{err_from_is_err_and}
 use Rattle.disk_model.specs.Moments.{LeavesOnly}

@@ -1,4 +1,5 @@
--- The pass of a path has a right, and does not have the turn (src/seats.rt).
+-- The pass of a path may tell the table: it has a right, and does not have the turn
+-- (`SeatTable::drained`, src/seats.rt).
 use Rattle.seat_table.specs.Knowing.{steps}
 use Rattle.seat_table.proofs.Keeping.{has_one}
 use Rattle.seat_table.proofs.seats.SeatTable.drained.Goals as goal

@@ -1,4 +1,5 @@
--- The pass of a drive has a right, and does not have the turn (src/seats.rt).
+-- The pass of a drive may tell the table: it has a right, and does not have the turn
+-- (`SeatTable::halt`, src/seats.rt).
 use Rattle.seat_table.specs.Knowing.{halts}
 use Rattle.seat_table.proofs.Keeping.{has_one}
 use Rattle.seat_table.proofs.seats.SeatTable.halt.Goals as goal

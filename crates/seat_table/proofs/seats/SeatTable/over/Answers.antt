@@ -1,5 +1,5 @@
 -- The new table has the rule, each of the three cuts keeps it, and a slot that comes back has the
--- table (src/seats.rt).
+-- table (`SeatTable::over`, src/seats.rt).
 use Rattle.std.proofs.Common.{rules, [], ◌∷◌, sym, subst, ◌∙◌}
 use Rattle.atomic_table.specs.Table.{opening}
 use Rattle.seat_table.specs.Knowing.{opened, Kept}

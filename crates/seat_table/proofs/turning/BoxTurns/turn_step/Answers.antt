@@ -1,4 +1,4 @@
--- The step of a table on the heap answers what the table's step does (src/turning.rt).
+-- The step of a table on the heap answers what the table's step does (`turn_step`, src/turning.rt).
 use Rattle.seat_table.specs.Turning.{Answers}
 use Rattle.seat_table.proofs.Lifting.{step_lifted}
 use Rattle.seat_table.proofs.turning.BoxTurns.turn_step.Goals as goal

@@ -1,4 +1,5 @@
--- The least area that holds both (src/area.rt).
+-- The lesser and the greater edges, as they are stored in 64 bits, are those of the hull
+-- (`Area::hull`, src/area.rt).
 use Rattle.std.proofs.Common.{arith}
 use Rattle.zone_area.specs.Area.{hull_of}
 use Rattle.zone_area.proofs.Squares.{same_area, lesser_stored, greater_stored}

@@ -1,4 +1,5 @@
--- The area as it lies in the cell (src/frame.rt).
+-- The four edges, mirrored and shifted as the code stores them in 64 bits, are those of the area in
+-- the cell (`Frame::in_cell`, src/frame.rt).
 use Rattle.std.proofs.Common.{arith}
 use Rattle.std.proofs.lemmas.Int.{ints}
 use Rattle.zone_area.specs.Area.{area_in_cell}

@@ -1,5 +1,5 @@
 -- What was swept so far, with the moves that are left, is what all moves sweep (loop of
--- src/swept.rt).
+-- `Swept::add_all`, src/swept.rt).
 use Rattle.std.proofs.Common.{◌≡◌, drop}
 use Rattle.zone_area.specs.Area.{swept_along}
 use Rattle.zone_area.proofs.swept.Swept.add_all.Given as goal
