@@ -1,4 +1,5 @@
 -- What the tests of a form say of it: that the contour is one, and that a finish starts above it.
+-- For the proofs of src/form.rt and src/finish.rt.
 use Rattle.std.proofs.Common.{◌≡◌, ◌≤◌, true, not, ◌&&◌, List, [], ◌∷◌, pos, ◌+ℤ◌, All}
 use Rattle.std.specs.Prelude.{int_le}
 use Rattle.std.proofs.lemmas.List.Elements.{All-head, All-tail}
@@ -10,7 +11,7 @@ use Rattle.rough_cycle.specs.Roughing.{Rough, IsForm, IsFinishStart}
 use Rattle.nc_number.proofs.Integers.{le_is}
 use Rattle.cycle_form.specs.Forms.{goes_down, descends, is_form, is_finish_start}
 
--- A contour that passes the test descends.
+-- A contour that passes the test of `descends` descends as rough_cycle asks.
 falls : (p : Point) (points : List Point) → descends p points ≡ true → Descends p points
 falls p [] e = tt
 falls p (q ∷ points) e =

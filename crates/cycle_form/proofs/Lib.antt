@@ -1,3 +1,4 @@
+-- The lemmas of cycle_form, each file by its subject. No other crate takes any.
 pub mod Marking
 pub mod PointsRead
 pub mod Forms

@@ -1,4 +1,5 @@
--- One byte more of a text whose lines are marked. 10 is the line feed.
+-- One byte more of a text whose lines are marked. For the loop of `marks_of` (src/marks.rt). 10 is
+-- the line feed.
 use Rattle.std.proofs.Common.{◌≡◌, ℕ, ◌+◌, ◌<◌, Bool, true, false, ◌||◌, ◌==◌, List, [], ◌∷◌, ◌++◌, drop, length, get_or, refl, ap, sym, ◌∙◌, append_assoc}
 use Rattle.std.proofs.lemmas.List.{drop_more}
 use Rattle.cycle_form.specs.Marks.{is_mark, marks_from}
@@ -8,7 +9,7 @@ at_line_feed : (marked : Bool) (b : ℕ) (bytes : List ℕ) → (b == 10) ≡ tr
 unfolding marks_from
 at_line_feed marked b bytes end = rw end refl
 
--- Another byte marks the line, or it doesn't.
+-- A byte that is no line feed marks the line, or it doesn't.
 at_byte : (marked : Bool) (b : ℕ) (bytes : List ℕ) → (b == 10) ≡ false → marks_from marked (b ∷ bytes) ≡ marks_from (marked || is_mark b) bytes
 unfolding marks_from
 at_byte marked b bytes other = rw other refl
@@ -26,7 +27,7 @@ ended marks new all marked text i before so_far end new_is =
     ap (λ l. l ++ marks_from false (drop (i + 1) text)) new_is ∙ append_assoc marks (marked ∷ []) (marks_from false (drop (i + 1) text))
     ∙ ap (λ l. marks ++ l) (sym (at_line_feed marked (get_or text i 0) (drop (i + 1) text) end)) ∙ ap (λ l. marks ++ marks_from marked l) (sym (drop_more text i 0 before)) ∙ so_far
 
--- After another byte they still are.
+-- After a byte that is no line feed, the marks so far and those ahead are still the text's.
 pub went_on : (marks all : List Bool) (marked new : Bool) (text : List ℕ) (i : ℕ) → i < length text
     → marks ++ marks_from marked (drop i text) ≡ all → (get_or text i 0 == 10) ≡ false → new ≡ (marked || is_mark (get_or text i 0))
     → marks ++ marks_from new (drop (i + 1) text) ≡ all

@@ -1,4 +1,5 @@
--- How many plain blocks a form with so many passes stands for.
+-- How many plain blocks a form with so many passes stands for: the code counts its blocks to know
+-- its passes (`is_short`, src/form.rt).
 use Rattle.std.proofs.Common.{◌≡◌, ℕ, ◌+◌, ◌*◌, Bool, true, false, List, [], ◌∷◌, length, map, refl, arith}
 use Rattle.std.specs.Prelude.{nat_le}
 use Rattle.std.specs.List.{flat_map}
@@ -21,7 +22,7 @@ along start p points =
     let same = length-map points (straight_to true) in
     omega (arith, joined, same)
 
--- So a form has four blocks a pass, four more, and one for each point.
+-- A form has four blocks a pass, four more, and one for each point after the first.
 pub blocks_are : (r : Rough) (most : ℕ) → length (rough_blocks r most) ≡ 4 * length (passes_from r 1 most) + (length r.points + 4)
 blocks_are r most =
     let joined = length-append (flat_map (pass_blocks r) (passes_from r 1 most)) (contour_blocks r.start (first_moved r) (points_moved r)) in
@@ -30,7 +31,7 @@ blocks_are r most =
     let moved = length-map r.points (moved_point r.across r.along) in
     omega (arith, joined, passes, contour, moved)
 
--- At most 4,004 blocks and one for each point are at most 1,000 passes.
+-- A count of at most 4,004 blocks and one for each point is that of at most 1,000 passes.
 counted : (n passes points : ℕ) → n ≡ 4 * passes + (points + 4) → nat_le n (4004 + points) ≡ nat_le passes 1000
 counted n passes points e = go (nat_le passes 1000) refl
   where
@@ -38,7 +39,7 @@ counted n passes points e = go (nat_le passes 1000) refl
     go true short = grind (arith, nat_tests)
     go false short = grind (arith, nat_tests)
 
--- So the count of blocks says whether a form has at most 1,000 passes.
+-- The count of blocks says whether a form has at most 1,000 passes.
 pub short : (r : Rough) (n points : ℕ) → n ≡ length (rough_blocks r 1001) → points ≡ length r.points → nat_le n (4004 + points) ≡ is_short r
 short r n points n_is points_is =
     let blocks = blocks_are r 1001 in

@@ -1,4 +1,5 @@
--- One part more of a tape that has so many blocks: it still fits, or has more than 20,000.
+-- One part more of a tape that has so many blocks: it still fits, or has more than 20,000. For the
+-- loop of `check_sizes` (src/sizes.rt). The lemmas in `at_` speak of the part at a place of a list.
 use Rattle.std.proofs.Common.{◌≡◌, ℕ, ◌+◌, ◌<◌, ◌≤◌, true, false, List, [], ◌∷◌, drop, length, get_or, Result, Ok, Err, refl, ap, sym, ◌∙◌}
 use Rattle.std.specs.Prelude.{nat_lt, ⊤}
 use Rattle.std.proofs.lemmas.List.{drop_more}
@@ -20,7 +21,7 @@ too_large : (blocks : ℕ) (part : PartView) (parts : List PartView) → nat_lt 
 unfolding sized
 too_large blocks part parts large = rw large refl
 
--- With another part the count goes on.
+-- With a part that does not make too many the count goes on.
 goes_on : (blocks : ℕ) (part : PartView) (parts : List PartView) → nat_lt MOST_BLOCKS (blocks_with blocks part) ≡ false
     → sized blocks (part ∷ parts) ≡ sized (blocks_with blocks part) parts
 unfolding sized

@@ -1,5 +1,6 @@
 -- One block more of a program, and one program more of a tape: the parts so far and those of what
--- is ahead stay the same.
+-- is ahead stay the same. For the loops of `with_program` and `parts_of` (src/walk.rt). The lemmas
+-- in `at_` and `program_` speak of the block or the program at a place of a list.
 use Rattle.std.proofs.Common.{◌≡◌, ℕ, zero, suc, ◌+◌, ◌-◌, ◌<◌, Bool, List, [], ◌∷◌, ◌++◌, take, drop, length, get_or, Ok, Err, refl, ap, sym, ◌∙◌, arith}
 use Rattle.std.proofs.lemmas.List.{drop_more, take_more}
 use Rattle.nc_number.specs.declared.fault.Failing.{Failing}
@@ -53,14 +54,16 @@ at_place marks from skip done blocks i = parts_from marks from skip (take i bloc
 
 -- The block b stands at this place.
 pub record IsAt (blocks : List Block) (i : ℕ) (b : Block) : Type 0 where
+  -- it is the block of the list at this place
   pub is : b ≡ get_or blocks i b
+  -- the place lies in the list
   pub before : i < length blocks
 
 -- The blocks from a place on are the block there and those after it.
 rest_is : (blocks : List Block) (i : ℕ) (b : Block) → IsAt blocks i b → drop i blocks ≡ b ∷ drop (i + 1) blocks
 rest_is blocks i b at = drop_more blocks i b at.before ∙ ap (λ c. c ∷ drop (i + 1) blocks) (sym at.is)
 
--- The blocks that are passed after it are those before it, and it.
+-- The blocks that are passed after this one are those before it, and it.
 passed_is : (blocks : List Block) (i : ℕ) (b : Block) → IsAt blocks i b → take (i + 1) blocks ≡ take i blocks ++ b ∷ []
 passed_is blocks i b at = take_more blocks i b at.before ∙ ap (λ c. take i blocks ++ c ∷ []) (sym at.is)
 
@@ -74,13 +77,13 @@ closed : (marks : List Bool) (from skip : ℕ) (done : List PartView) (blocks : 
     → parts_from marks from skip (take i blocks ++ b ∷ []) done (drop (i + 1) blocks) ≡ at_place marks from skip done blocks (i + 1)
 closed marks from skip done blocks i b at = ap (λ passed. parts_from marks from skip passed done (drop (i + 1) blocks)) (sym (passed_is blocks i b at))
 
--- With no block left the parts so far are the answer, at a place.
+-- With no block left in the list the parts so far are the answer.
 pub at_end : (marks : List Bool) (from skip : ℕ) (passed : List Block) (done : List PartView) (rest : List Block) (all : Answer)
     → rest ≡ [] → parts_from marks from skip passed done rest ≡ all → all ≡ Ok done
 at_end marks from skip passed done rest all empty so_far =
     sym so_far ∙ ap (parts_from marks from skip passed done) empty ∙ none marks from skip passed done
 
--- A block of the part before is passed, at a place.
+-- If the block at this place belongs to the part before, it is passed.
 pub at_skip : (marks : List Bool) (from skip new : ℕ) (done : List PartView) (blocks : List Block) (i : ℕ) (b : Block) (all : Answer) → IsAt blocks i b
     → 0 < skip → new ≡ skip - 1 → at_place marks from skip done blocks i ≡ all → at_place marks from new done blocks (i + 1) ≡ all
 at_skip marks from zero new done blocks i b all at more less so_far = absurd (omega (arith, more))
@@ -93,7 +96,7 @@ at_skip marks from (suc skip) new done blocks i b all at more less so_far =
 abbrev pub found_at : List Bool → ℕ → List PartView → List Block → ℕ → Block → Found
 found_at marks from done blocks i b = part_in marks (take i blocks) (drop from done) b (drop i blocks)
 
--- The same with the block apart from those after it.
+-- What begins in the block at this place is what begins in it apart from the blocks after it.
 found_is : (marks : List Bool) (from : ℕ) (done : List PartView) (blocks : List Block) (i : ℕ) (b : Block) (what : Found) → IsAt blocks i b
     → found_at marks from done blocks i b ≡ what → part_in marks (take i blocks) (drop from done) b (b ∷ drop (i + 1) blocks) ≡ what
 found_is marks from done blocks i b what at e = ap (part_in marks (take i blocks) (drop from done) b) (sym (rest_is blocks i b at)) ∙ e
@@ -107,12 +110,12 @@ found_by marks from done whole behind blocks passed rest i b got what passed_is 
     ∙ ap (λ l. part_in marks passed l b (drop i blocks)) (sym (behind_is ∙ ap (drop from) whole_is))
     ∙ ap (part_in marks passed behind b) (sym rest_is) ∙ sym got_is ∙ e
 
--- If no block is skipped, the walk is that with 0.
+-- If no block is to be skipped, the walk is that with a count of 0.
 unskipped : (marks : List Bool) (from skip : ℕ) (done : List PartView) (blocks : List Block) (i : ℕ) (all : Answer)
     → skip ≡ 0 → at_place marks from skip done blocks i ≡ all → at_place marks from 0 done blocks i ≡ all
 unskipped marks from skip done blocks i all zero_is so_far = ap (λ n. at_place marks from n done blocks i) (sym zero_is) ∙ so_far
 
--- A block in which nothing begins is passed, at a place.
+-- If nothing begins in the block at this place, it is passed.
 pub at_nothing : (marks : List Bool) (from skip : ℕ) (done : List PartView) (blocks : List Block) (i : ℕ) (b : Block) (all : Answer) → IsAt blocks i b
     → skip ≡ 0 → found_at marks from done blocks i b ≡ found.Nothing
     → at_place marks from skip done blocks i ≡ all → at_place marks from skip done blocks (i + 1) ≡ all
@@ -121,7 +124,7 @@ at_nothing marks from skip done blocks i b all at zero_is e so_far =
     ∙ sym (nothing marks from (take i blocks) done b (drop (i + 1) blocks) (found_is marks from done blocks i b found.Nothing at e))
     ∙ sym (opened marks from 0 done blocks i b at) ∙ unskipped marks from skip done blocks i all zero_is so_far
 
--- A cycle that is part of no form is refused, at a place.
+-- If the block at this place has a cycle that is part of no form, it is refused at its line.
 pub at_bad : (marks : List Bool) (from skip : ℕ) (done : List PartView) (blocks : List Block) (i : ℕ) (b : Block) (all : Answer) → IsAt blocks i b
     → skip ≡ 0 → found_at marks from done blocks i b ≡ found.Bad
     → at_place marks from skip done blocks i ≡ all → all ≡ Err (BadCycle b.line)
@@ -129,7 +132,7 @@ at_bad marks from skip done blocks i b all at zero_is e so_far =
     sym (unskipped marks from skip done blocks i all zero_is so_far) ∙ opened marks from 0 done blocks i b at
     ∙ bad marks from (take i blocks) done b (drop (i + 1) blocks) (found_is marks from done blocks i b found.Bad at e)
 
--- A part is added, at a place.
+-- If a part begins in the block at this place, it is added, and its other blocks are skipped.
 pub at_one : (marks : List Bool) (from skip left : ℕ) (done new : List PartView) (blocks : List Block) (i : ℕ) (b : Block) (part : PartView) (all : Answer) → IsAt blocks i b
     → skip ≡ 0 → found_at marks from done blocks i b ≡ found.One part → left ≡ blocks_left part → new ≡ done ++ part ∷ []
     → at_place marks from skip done blocks i ≡ all → at_place marks from left new blocks (i + 1) ≡ all
@@ -160,7 +163,7 @@ refused marks done p ps fault e = rw e refl
 program_is : (tape : List Program) (i : ℕ) (p : Program) → p ≡ get_or tape i p → i < length tape → drop i tape ≡ p ∷ drop (i + 1) tape
 program_is tape i p is before = drop_more tape i p before ∙ ap (λ c. c ∷ drop (i + 1) tape) (sym is)
 
--- With no program left the parts so far are the answer, at a place.
+-- With no program left in the list the parts so far are the answer.
 pub tape_read : (marks : List Bool) (done : List PartView) (rest : List Program) (all : Answer) → rest ≡ [] → parts_behind marks done rest ≡ all → all ≡ Ok done
 tape_read marks done rest all empty so_far = sym so_far ∙ ap (parts_behind marks done) empty ∙ all_read marks done
 

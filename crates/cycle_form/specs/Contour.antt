@@ -1,5 +1,5 @@
--- The blocks of a contour: lines with G01 or without, and the points they lead to, in 0.001 mm. 71,
--- 88 and 90 are the letters G, X and Z. For this crate alone.
+-- The blocks of a contour: lines with G01 or without, and the points they lead to, in 0.001 mm.
+-- src/contour.rt reads them; Head and Forms cite them. 71, 88 and 90 are the letters G, X and Z.
 use Rattle.std.specs.Prelude.{ℕ, ◌==◌, List, [], ◌∷◌, ◌++◌, length, drop, Option, Some, None, ℤ, pos, if◌then◌else◌}
 use Rattle.nc_number.specs.Options.{◌>>=◌, is_some_of}
 use Rattle.line_text.specs.declared.body.Word.{Word}
@@ -9,7 +9,7 @@ use Rattle.line_text.specs.declared.body.Body.TheVariants.{Words, Statement}
 use Rattle.nc_number.specs.declared.point.Point.{Point}
 use Rattle.cycle_form.specs.Words.{literal_at, length_at, is_code}
 
--- The words of a block that is no statement.
+-- The words of a block, or none of a statement.
 abbrev pub words_of : Body → Option (List Word)
 words_of (Words words) = Some words
 words_of (Statement text) = None
@@ -18,7 +18,8 @@ words_of (Statement text) = None
 unfoldable pub behind_line : List Word → List Word
 behind_line words = if is_code (pos 1) (literal_at words 0 71) then drop 1 words else words
 
--- The point of X, Z, or both in either order. An axis that is not named stays where it was.
+-- The point that X, Z, or both in either order lead to. An axis that is not named stays where it
+-- was; other words make it none.
 unfoldable pub target_of : Point → List Word → Option Point
 target_of from words =
     if length words == 1 then one_axis (length_at words 0 88) (length_at words 0 90)

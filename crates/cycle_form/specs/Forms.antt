@@ -1,5 +1,6 @@
 -- The forms of G71 and G70 in the blocks of a program: which blocks are one, and the part of the
--- tape that it is. The first four blocks: Head. For this crate alone.
+-- tape that it is. src/form.rt and src/finish.rt compute it; Walk takes it for a whole tape. The
+-- first four blocks: Head.
 use Rattle.std.specs.Prelude.{ℕ, ◌+◌, Bool, true, not, ◌&&◌, ◌==◌, nat_le, List, [], ◌∷◌, length, map, take, drop, Option, Some, None, slice_get, pos, ◌+ℤ◌, int_le, if◌then◌else◌}
 use Rattle.std.specs.List.{list_all}
 use Rattle.nc_number.specs.Options.{◌>>=◌}
@@ -17,7 +18,7 @@ use Rattle.cycle_form.specs.Contour.{points_behind}
 use Rattle.cycle_form.specs.Head.{plain_words, number_at, feed_at, head_at}
 use Rattle.cycle_form.specs.Parts.{PartView, is_called}
 
--- The contour, cut and allowances of a head and of the points after the contour's first.
+-- The form of a head and of the points after the contour's first.
 abbrev pub rough_by : Head → List Point → Rough
 rough_by head points = record {
   start = head.start;
@@ -29,24 +30,24 @@ rough_by head points = record {
   points = points;
 }
 
--- From p to q X does not fall, Z does not rise, and the two points differ.
+-- Whether from p to q X does not fall, Z does not rise, and the two points differ.
 abbrev pub goes_down : Point → Point → Bool
 goes_down p q = (int_le p.x q.x && int_le q.z p.z) && not (int_le q.x p.x && int_le p.z q.z)
 
--- Each point goes down from the one before it.
+-- Whether each point of the contour goes down from the one before it.
 abbrev pub descends : Point → List Point → Bool
 descends p [] = true
 descends p (q ∷ points) = goes_down p q && descends q points
 
--- The last X of a contour with its allowance across is at most the start's.
+-- Whether the last X of a contour with its allowance in X is at most the start's.
 abbrev pub is_below_start : Point → ℕ → Point → Bool
 is_below_start last across start = int_le (last.x +ℤ pos across) start.x
 
--- The contour descends and ends below the start.
+-- Whether the contour descends and ends below the start.
 abbrev pub is_form : Rough → Bool
 is_form r = descends r.first r.points && is_below_start (last_of r.first r.points) r.across r.start
 
--- There are at most 1,000 passes. Passes are counted up to 1,001.
+-- Whether there are at most 1,000 passes. Passes are counted up to 1,001.
 abbrev pub is_short : Rough → Bool
 is_short r = nat_le (length (passes_from r 1 1001)) 1000
 
@@ -55,7 +56,7 @@ is_short r = nat_le (length (passes_from r 1 1001)) 1000
 abbrev pub blocks_of_form : List Point → List Block → List Block
 blocks_of_form points rest = take (length points + 3) rest
 
--- The part of the tape that these blocks are.
+-- The part of the tape that these blocks, G71 with its contour, are.
 abbrev pub roughing_part : Head → List Point → List Block → PartView
 roughing_part head points blocks = record {
   kind = Roughing;
@@ -82,7 +83,8 @@ form_at marks a rest = do
   points ← points_behind [] head.first head.call.last (drop 3 rest)
   form_of marks a head points (blocks_of_form points rest)
 
--- G70 P<first> Q<last> F<feed>, in this order. 80, 81 and 70 are the letters P, Q and F; 71 is G.
+-- The call of G70 P<first> Q<last> F<feed>, in this order and with no other word. 80, 81 and 70 are
+-- the letters P, Q and F; 71 is G.
 unfoldable pub finish_call_of : List Word → Option FinishCall
 finish_call_of words =
     if length words == 4 && is_code (pos 70) (literal_at words 0 71) then (do
@@ -106,12 +108,12 @@ latest first last parts = do
   place ← latest_from first last None 0 parts
   slice_get parts place
 
--- The start lies above and before the contour: its X is at least the last point's, its Z at least
--- the first's.
+-- Whether the start lies above and before the contour: its X is at least the last point's, its Z at
+-- least the first's.
 abbrev pub is_finish_start : Rough → Point → Bool
 is_finish_start r start = int_le (last_of r.first r.points).x start.x && int_le r.first.z start.z
 
--- The part of the tape that a G70 along a form is, from a start, at a line.
+-- The part of the tape that a G70 on this line is, along the contour of this form, from this start.
 abbrev pub finishing_part : PartView → FinishCall → Point → ℕ → PartView
 finishing_part form call start line = record {
   kind = Finishing start;
@@ -122,24 +124,25 @@ finishing_part form call start line = record {
   lines = line ∷ [];
 }
 
--- The same if the start lies above and before the contour.
+-- The part of a G70 along this form, if its start lies above and before the contour.
 abbrev pub finish_by : PartView → FinishCall → Point → ℕ → Option PartView
 finish_by form call start line = if is_finish_start form.rough start then Some (finishing_part form call start line) else None
 
--- The start that a block without a number says: G00 X Z.
+-- The start that a block without a sequence number says: G00 X Z.
 unfoldable pub start_in : Block → Option Point
 start_in block = do
   words ← plain_words block
   start_of words
 
--- The G70 of a block without a number.
+-- The call of a block without a sequence number that is a G70.
 unfoldable pub finish_call_in : Block → Option FinishCall
 finish_call_in block = do
   words ← plain_words block
   finish_call_of words
 
--- G70 in the block `b`, from the start in the block `a` before it, along the contour of the latest
--- form of these parts with its numbers.
+-- The part of the G70 in the block `b`, from the start in the block `a` before it, along the
+-- contour of the latest form of these parts with its numbers; no line of both blocks may have a
+-- mark.
 unfoldable pub finish_at : List Bool → Block → Block → List PartView → Option PartView
 finish_at marks a b done = do
   start ← start_in a

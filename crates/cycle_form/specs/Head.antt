@@ -1,5 +1,6 @@
 -- What the first four blocks of a G71 form say: the start, two G71, and the contour's first block.
--- The letters are bytes: 71 G, 85 U, 82 R, 80 P, 81 Q, 87 W, 70 F, 88 X. For this crate alone.
+-- src/head.rt reads them; Forms makes a form of them. The letters are bytes: 71 G, 85 U, 82 R, 80
+-- P, 81 Q, 87 W, 70 F, 88 X.
 use Rattle.std.specs.Prelude.{◌≡◌, ℕ, ◌≤◌, ◌&&◌, ◌==◌, nat_lt, List, [], ◌∷◌, length, Option, Some, None, is_none, ℤ, pos, negsuc, int_lt, if◌then◌else◌}
 use Rattle.nc_number.specs.Arithmetic.{whole_of}
 use Rattle.nc_number.specs.Options.{◌>>=◌, is_some_of}
@@ -24,7 +25,8 @@ size_at words i letter = do
   z ← length_at words i letter
   natural z
 
--- The sequence number that the word at place i writes under this letter.
+-- The whole number from 0 on that the word at place i writes under this letter: it names a sequence
+-- number.
 unfoldable pub number_at : List Word → ℕ → ℕ → Option ℕ
 number_at words i letter = do
   literal ← literal_at words i letter
@@ -37,7 +39,7 @@ feed_at words i letter = do
   literal ← literal_at words i letter
   if int_lt (pos 0) literal.value then Some literal.value else None
 
--- G71 U<depth> R<retreat>, in this order; the depth is above 0.
+-- The cut of G71 U<depth> R<retreat>, in this order and with no other word; the depth is above 0.
 unfoldable pub cut_of : List Word → Option Cut
 cut_of words =
     if length words == 3 && is_code (pos 71) (literal_at words 0 71) then (do
@@ -45,7 +47,8 @@ cut_of words =
       retreat ← size_at words 2 82
       if nat_lt 0 depth then Some (record { depth = depth; retreat = retreat }) else None) else None
 
--- G71 P<first> Q<last> U<across> W<along> F<feed>, in this order.
+-- The call of G71 P<first> Q<last> U<across> W<along> F<feed>, in this order and with no other
+-- word.
 unfoldable pub call_of : List Word → Option Call
 call_of words =
     if length words == 6 && is_code (pos 71) (literal_at words 0 71) then (do
@@ -56,11 +59,11 @@ call_of words =
       feed ← feed_at words 5 70
       Some (record { first = first; last = last; across = across; along = along; feed = feed })) else None
 
--- The words of a block without a sequence number.
+-- The words of a block that has no sequence number and is no statement.
 unfoldable pub plain_words : Block → Option (List Word)
 plain_words block = if is_none block.sequence then words_of block.body else None
 
--- The X of the contour's first block: G00 X<x> under this number.
+-- The X of the contour's first block: G00 X<x> under the sequence number that the call names.
 unfoldable pub first_of : ℕ → Block → Option ℤ
 first_of number block = do
   words ← words_of block.body
@@ -79,7 +82,7 @@ head_of a b c d = do
   x ← first_of call.first d
   Some (record { start = start; cut = cut; call = call; first = record { x = x; z = start.z } })
 
--- The same of a block and of the three after it.
+-- What a block and the three blocks after it say, if they are the first four of a form.
 abbrev pub head_at : Block → List Block → Option Head
 head_at a [] = None
 head_at a (b ∷ []) = None
@@ -89,20 +92,30 @@ head_at a (b ∷ c ∷ d ∷ blocks) = head_of a b c d
 -- The lengths of a cut are those that a literal can write (at most 10^11 increments of 0.001 mm),
 -- and the depth is above 0.
 pub record IsSoundCut (cut : Cut) : Type 0 where
+  -- the depth is above 0
   pub deep : 1 ≤ cut.depth
+  -- a literal can write the depth
   pub depth : cut.depth ≤ 100000000000
+  -- a literal can write the retreat
   pub retreat : cut.retreat ≤ 100000000000
 
 -- The allowances are lengths that a literal can write.
 pub record IsSoundCall (call : Call) : Type 0 where
+  -- a literal can write the allowance in X
   pub across : call.across ≤ 100000000000
+  -- a literal can write the allowance in Z
   pub along : call.along ≤ 100000000000
 
 -- All lengths are those that a literal can write, the depth is above 0, and the contour begins at
 -- the start's Z.
 pub record IsSoundHead (head : Head) : Type 0 where
+  -- literals can write the start
   pub start : IsWritten head.start
+  -- the cut is sound
   pub cut : IsSoundCut head.cut
+  -- the call is sound
   pub call : IsSoundCall head.call
+  -- literals can write the contour's first point
   pub first : IsWritten head.first
+  -- the contour begins at the start's Z
   pub at_start : head.first.z ≡ head.start.z

@@ -1,5 +1,5 @@
 -- How many blocks a tape has once its parts are written out, and the part with which it first has
--- more than 20,000. tape_expand reads this.
+-- more than 20,000. src/sizes.rt computes `sized`; tape_expand cites it.
 use Rattle.std.specs.Prelude.{ℕ, ◌+◌, ◌-◌, ⊤, nat_lt, List, [], ◌∷◌, length, Result, Ok, Err, if◌then◌else◌}
 use Rattle.nc_number.specs.declared.limits.TheConstants.{MOST_BLOCKS}
 use Rattle.cycle_form.specs.declared.fault.CycleFault.{CycleFault}
@@ -10,7 +10,7 @@ use Rattle.cycle_form.specs.Parts.{PartView, part_blocks}
 abbrev pub blocks_with : ℕ → PartView → ℕ
 blocks_with blocks part = (blocks + length (part_blocks part)) - length part.lines
 
--- The first of these lines, or 0.
+-- The first of these lines, or 0 if there is none.
 abbrev pub first_line : List ℕ → ℕ
 first_line [] = 0
 first_line (line ∷ lines) = line

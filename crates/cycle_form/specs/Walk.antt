@@ -1,5 +1,5 @@
 -- The parts of a tape that are written out, in the order of the text, or the first block with a
--- cycle that is part of none. tape_expand reads `parts_of`.
+-- cycle that is part of no form. src/walk.rt computes `parts_of`; tape_expand cites it.
 use Rattle.std.specs.Prelude.{ℕ, zero, suc, ◌-◌, Bool, false, List, [], ◌∷◌, ◌++◌, length, drop, Option, Some, None, Result, Ok, Err, slice_get, ℤ, pos, if◌then◌else◌}
 use Rattle.std.specs.List.{list_any}
 use Rattle.nc_number.specs.Options.{◌>>=◌}
@@ -16,16 +16,16 @@ use Rattle.cycle_form.specs.Words.{literal_of, is_code}
 use Rattle.cycle_form.specs.Forms.{form_at, finish_at}
 use Rattle.cycle_form.specs.Parts.{PartView, IsSoundPart}
 
--- The word writes this G code out. 71 is the letter G.
+-- Whether the word writes this G code out. 71 is the letter G.
 abbrev pub has_word : ℤ → Word → Bool
 has_word code word = is_code code (literal_of 71 (Some word))
 
--- One of the block's words writes this G code out.
+-- Whether one of the block's words writes this G code out; a statement has none.
 abbrev pub has_code : ℤ → Body → Bool
 has_code code (Words words) = list_any (has_word code) words
 has_code code (Statement text) = false
 
--- The part, or that the cycle is part of none.
+-- The part that was found, or that the cycle is part of no form.
 abbrev pub part_or_bad : Option PartView → Found
 part_or_bad None = found.Bad
 part_or_bad (Some part) = found.One part
@@ -36,19 +36,21 @@ IsSoundFound found.Nothing = Unit {0}
 IsSoundFound found.Bad = Unit {0}
 IsSoundFound (found.One part) = IsSoundPart part
 
--- The last of the blocks that were passed.
+-- The last of the blocks that were passed, if there is one.
 abbrev pub block_before : List Block → Option Block
 block_before passed = slice_get passed (length passed - 1)
 
--- A form whose first G71 is the first of these blocks.
+-- The part of a form whose start is the last of the blocks that were passed, and whose first G71 is
+-- the first of these blocks.
 abbrev pub form_behind : List Bool → List Block → List Block → Option PartView
 form_behind marks passed rest = block_before passed >>= (λ a. form_at marks a rest)
 
--- A finish whose G70 is this block, over a form of the same program.
+-- The part of a finish whose start is the last of the blocks that were passed, and whose G70 is
+-- this block, over a form of the same program.
 abbrev pub finish_behind : List Bool → List Block → Block → List PartView → Option PartView
 finish_behind marks passed block done = block_before passed >>= (λ a. finish_at marks a block done)
 
--- What begins in a block: nothing, a part, or a cycle that is part of none. It depends on the
+-- What begins in a block: nothing, a part, or a cycle that is part of no form. It depends on the
 -- blocks that were passed, on the parts of the program so far, and on the blocks from this one on.
 abbrev pub part_in : List Bool → List Block → List PartView → Block → List Block → Found
 part_in marks passed done block rest =
@@ -65,7 +67,7 @@ abbrev pub blocks_left : PartView → ℕ
 blocks_left part = length part.lines - 1
 
 -- What the walk answers, by what begins in a block: it goes on with `rest`, or with `more` after a
--- part; a cycle that is part of none is refused with 93 at this line.
+-- part; a cycle that is part of no form is refused with 93 at this line.
 abbrev pub found_next : ℕ → Found → Answer → (PartView → Answer) → Answer
 found_next line found.Nothing rest more = rest
 found_next line found.Bad rest more = Err (BadCycle line)
@@ -81,12 +83,12 @@ parts_from marks from zero passed done (block ∷ blocks) =
     (parts_from marks from 0 (passed ++ block ∷ []) done blocks)
     (λ part. parts_from marks from (blocks_left part) (passed ++ block ∷ []) (done ++ part ∷ []) blocks)
 
--- The next step with the parts, or the refusal.
+-- What the next step makes of the parts, or the refusal.
 abbrev pub and_then : Answer → (List PartView → Answer) → Answer
 and_then (Ok parts) next = next parts
 and_then (Err fault) next = Err fault
 
--- The parts so far and those of these programs.
+-- The parts so far and those of these programs, or the first refusal.
 unfoldable pub parts_behind : List Bool → List PartView → List Program → Answer
 parts_behind marks done [] = Ok done
 parts_behind marks done (program ∷ programs) =

@@ -1,5 +1,5 @@
--- The words that a form may have, read as literals, lengths and codes. A letter is its byte: 71 G,
--- 88 X, 90 Z. For this crate alone.
+-- The words that a form may have, read as literals, lengths and codes. src/words.rt reads them;
+-- Contour, Head, Forms and Walk cite them. A letter is its byte: 71 G, 88 X, 90 Z.
 use Rattle.std.specs.Prelude.{ℕ, Bool, false, ◌==◌, List, length, Option, Some, None, Result, Ok, Err, ℤ, pos, slice_get, if◌then◌else◌}
 use Rattle.std.specs.Ordering.{int_eq}
 use Rattle.nc_number.specs.declared.literal.Literal.{Literal}
@@ -11,7 +11,7 @@ use Rattle.nc_number.specs.Options.{◌>>=◌}
 use Rattle.line_text.specs.declared.body.Word.{Word}
 use Rattle.nc_number.specs.declared.point.Point.{Point}
 
--- The literal that was read, if it was.
+-- The literal that was read, if it has no more digits than are allowed.
 abbrev pub value_of : Result Literal NumberFault → Option Literal
 value_of (Ok literal) = Some literal
 value_of (Err fault) = None
@@ -27,18 +27,19 @@ literal_of letter (Some word) =
 unfoldable pub literal_at : List Word → ℕ → ℕ → Option Literal
 literal_at words i letter = literal_of letter (slice_get words i)
 
--- The length in 0.001 mm that this literal writes. Without a point it counts 0.001 mm.
+-- The length in 0.001 mm that the word at place i writes under this letter. Without a point it
+-- counts 0.001 mm.
 unfoldable pub length_at : List Word → ℕ → ℕ → Option ℤ
 length_at words i letter = do
   literal ← literal_at words i letter
   Some (thousandths_of literal)
 
--- The whole number, if there is one, is this code.
+-- Whether the whole number, if there is one, is this code.
 abbrev pub is_whole : ℤ → Option ℤ → Bool
 is_whole code None = false
 is_whole code (Some n) = int_eq n code
 
--- The literal is this G code, by its value: 1, 1. and 01 are the same.
+-- Whether the literal is this G code, by its value: 1, 1. and 01 are the same.
 abbrev pub is_code : ℤ → Option Literal → Bool
 is_code code None = false
 is_code code (Some literal) = is_whole code (whole_of literal.value)

@@ -1,5 +1,5 @@
-//! The contour that a roughing cycle names: its blocks, and the points they lead to. Whether it
-//! descends is judged in `form`.
+//! The contour that a roughing cycle names: its blocks, and the points they lead to, in 0.001 mm.
+//! form.rt reads the points and judges whether they descend; head.rt takes `is_numbered`.
 ghost use Rattle.std.specs.Prelude.{◌≡◌, [], Some, IfOk, IfSome, All, option_map};
 ghost use Rattle.rough_cycle.specs.Form.{IsWritten};
 ghost use Rattle.nc_number.specs.Options.{is_some_of};

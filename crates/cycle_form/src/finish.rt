@@ -1,4 +1,5 @@
 //! The finishing cycle G70: its call, its start, and the form of G71 whose contour it takes.
+//! walk.rt calls `finish_at` for each block with G70.
 ghost use Rattle.std.specs.Prelude.{◌≡◌, None, IfOk, IfSome, option_copied};
 ghost use Rattle.rough_cycle.specs.Form.{rough_of};
 ghost use Rattle.cycle_form.specs.Parts.{IsSoundPart};
@@ -21,7 +22,7 @@ pub struct FinishCall {
     pub first: u32,
     /// The sequence number of its last block.
     pub last: u32,
-    /// The feed, above 0.
+    /// The feed of its cuts, above 0.
     pub feed: Value,
 }
 
@@ -63,7 +64,7 @@ fn latest_place(first: u32, last: u32, parts: &[Part]) -> Option<usize>
     found
 }
 
-/// The latest form of these parts with these numbers.
+/// The last of these parts that is a form with these numbers.
 #[tactic(auto, unfolding(crate::specs::Forms::latest))]
 fn latest(first: u32, last: u32, parts: &[Part]) -> Option<&Part>
     ensures { option_copied result ≡ latest first last parts.now }
@@ -72,7 +73,8 @@ fn latest(first: u32, last: u32, parts: &[Part]) -> Option<&Part>
     parts.get(place)
 }
 
-/// Whether the start lies above and before the contour.
+/// Whether the start lies above and before the contour: its X is at least the last point's, its Z
+/// at least the first's.
 fn is_finish_start(rough: &RoughForm, start: &Point) -> bool
     ensures { result ≡ is_finish_start (rough_of rough.now) start.now }
 {

@@ -1,5 +1,6 @@
 //! The forms of the roughing cycle G71: from its start to the last block of its contour. What its
-//! first blocks say: `head`; its contour: `contour`.
+//! first blocks say is in head.rt, its contour in contour.rt. walk.rt calls `form_at` for each
+//! block with G71; finish.rt takes `last_of`.
 ghost use Rattle.std.specs.Prelude.{◌≡◌, ◌+◌, ◌≤◌, IfOk, IfSome, All, take, drop, map};
 ghost use Rattle.rough_cycle.specs.Contour.{last_of};
 ghost use Rattle.rough_cycle.specs.Form.{rough_of, IsNearForm, IsWritten};
@@ -16,7 +17,7 @@ use nc_text::Block;
 use rough_cycle::RoughForm;
 use std::alloc::{AllocError, Global};
 
-/// The passes that a form may have.
+/// The most passes that a form may have.
 const MOST_PASSES: u128 = 1_000;
 
 /// The part of the form that begins with the block `a` and goes on with `rest`; none if that is no
@@ -77,7 +78,7 @@ fn form_of(
     )))
 }
 
-/// The head and the points as the one thing that the passes are made of.
+/// A head and the points after its first as the form that rough_cycle makes passes of.
 fn rough_by(head: &Head, points: Vec<Point>) -> RoughForm
     requires head { IsSoundHead head.now }
     requires points { All IsWritten points.items }

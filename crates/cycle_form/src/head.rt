@@ -1,5 +1,5 @@
 //! What the first four blocks of a G71 form say: its start, its two G71, and the contour's first
-//! block.
+//! block. form.rt makes a form of it; finish.rt reads the words of G70 with the same functions.
 ghost use Rattle.std.specs.Prelude.{◌≡◌, ◌≤◌, IfSome, Some, option_map, unsigned_abs};
 ghost use Rattle.cycle_form.specs.Head.{natural, size_at, number_at, feed_at, cut_of, call_of, plain_words, first_of, head_of, head_at, IsSoundCall, IsSoundCut, IsSoundHead};
 
@@ -29,15 +29,18 @@ pub struct Call {
     pub across: u64,
     /// The allowance along Z.
     pub along: u64,
+    /// The feed of its cuts, above 0.
     pub feed: Value,
 }
 
 /// What the first four blocks of a form say.
 #[derive(Clone, Copy, Debug, PartialEq, Eq)]
 pub struct Head {
-    /// Where the tool stands before the cycle.
+    /// Where the tool stands before the cycle, in 0.001 mm, X a diameter.
     pub start: Point,
+    /// The first G71: depth and retreat.
     pub cut: Cut,
+    /// The second G71: the contour that it calls, allowances and feed.
     pub call: Call,
     /// The contour's first point, at the Z of the start.
     pub first: Point,
@@ -60,7 +63,8 @@ fn size_at(words: &[Word], i: usize, letter: u8) -> Option<u64>
     natural(z)
 }
 
-/// The sequence number that the word at place i writes under this letter.
+/// The whole number from 0 on that the word at place i writes under this letter: it names a
+/// sequence number.
 #[tactic(auto, unfolding(crate::specs::Head::number_at))]
 pub(crate) fn number_at(words: &[Word], i: usize, letter: u8) -> Option<u32>
     ensures { result ≡ number_at words.now i letter }

@@ -3,7 +3,7 @@
 //! `parts_of` finds the parts of a tape that its roughing cycles stand for, in the order of the
 //! text, or the first block with G70 or G71 that is part of no form. A `Part` is sound by its type:
 //! the layer above has its blocks, which never enter the contour (`a_sound_part_is_clear`).
-//! tape_expand leans on this; lathe_looks prints its refusals.
+//! tape_expand writes these parts out; lathe_looks prints the refusals.
 #![tactic(auto)]
 
 mod contour;

@@ -1,5 +1,6 @@
 //! Which lines of a text have a skip sign or a comment. A form with such a line is none: to write
-//! it out would lose the comment, and the sign would skip only a part of it.
+//! it out would lose the comment, and the sign would skip only a part of it. tape_expand makes the
+//! marks of a text; form.rt and finish.rt ask them.
 ghost use Rattle.std.specs.Prelude.{◌≡◌, ◌||◌, IfOk};
 ghost use Rattle.std.specs.List.{list_all};
 ghost use Rattle.cycle_form.specs.Marks.{is_mark, marks_of, is_plain};
@@ -26,7 +27,8 @@ pub fn marks_of(alloc: Global, text: &[u8]) -> Result<Vec<bool>, AllocError>
     Ok(marks)
 }
 
-/// Whether the line has a mark with this byte: a bracket begins a comment, a slash is a skip sign.
+/// Whether the line has a mark, if it had one `before` this byte or has it with it: `(` begins a
+/// comment, `/` is a skip sign.
 fn is_marked(before: bool, b: u8) -> bool
     ensures { result ≡ (before || is_mark b) }
 {

@@ -1,5 +1,6 @@
-//! A part of a tape that stands for plain blocks. How its moves are made is in rough_cycle; how
-//! they are written, in tape_expand.
+//! A part of a tape that stands for plain blocks, and the law that its moves stay out of its
+//! contour. form.rt and finish.rt make parts, tape_expand writes them. How its moves are made is in
+//! rough_cycle.
 ghost use Rattle.std.specs.Prelude.{◌≡◌, IfOk};
 ghost use Rattle.rough_cycle.specs.Form.{rough_of};
 ghost use Rattle.cycle_form.specs.Parts.{PartView, IsSoundPart, IsClearPart, part_blocks, is_called};
@@ -25,6 +26,7 @@ pub enum PartKind {
 /// finish starts above and before the contour.
 #[derive(Debug, Drop)]
 pub struct Part {
+    /// Whether it is a G71 or a G70.
     kind: PartKind,
     /// The contour, the cut and the allowances, in 0.001 mm.
     rough: RoughForm,
@@ -32,8 +34,9 @@ pub struct Part {
     first: u32,
     /// The sequence number of its last block.
     last: u32,
+    /// The feed of its cuts.
     feed: Value,
-    /// The lines of the text that it takes the place of.
+    /// The lines of the text that its blocks take the place of, from 1.
     lines: Vec<u32>,
 }
 
@@ -63,7 +66,7 @@ impl Model for Part {
 }
 
 impl Part {
-    /// A part of these lines, along the contour between these sequence numbers.
+    /// A part of these lines, along the contour between these sequence numbers, which is sound.
     pub(crate) fn of(
         kind: PartKind,
         rough: RoughForm,
@@ -133,7 +136,7 @@ impl Part {
         }
     }
 
-    /// Its form, which is one by the type.
+    /// Its contour, cut and allowances; by the type they are a form.
     pub(crate) fn rough(&self) -> &RoughForm
         ensures form { rough_of result.now ≡ self.now.rough }
         ensures sound { IsSoundPart self.now }
@@ -142,8 +145,8 @@ impl Part {
     }
 }
 
-/// No whole point on a move of a sound part lies inside its contour: of G71 the one with its
-/// allowances, of G70 the one itself.
+/// A law: no whole point on a move of a sound part lies inside its contour: for G71 the contour
+/// with its allowances, for G70 the contour itself.
 pub fn a_sound_part_is_clear()
     ensures { (part : PartView) → IsSoundPart part → IsClearPart part }
 {

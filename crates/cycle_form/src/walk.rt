@@ -1,5 +1,5 @@
-//! The parts of a tape, from its first block to its last. What makes a form is judged in `form` and
-//! `finish`.
+//! The parts of a tape, found from its first block to its last. What makes a form is judged in
+//! form.rt and finish.rt. tape_expand calls `parts_of`.
 ghost use Rattle.std.specs.Prelude.{◌≡◌, [], IfOk, IfSome, All, length, drop};
 ghost use Rattle.cycle_form.specs.Parts.{IsSoundPart};
 ghost use Rattle.std.specs.List.{list_any};
@@ -20,7 +20,7 @@ use std::alloc::{AllocError, Global};
 pub enum Found {
     /// No cycle.
     Nothing,
-    /// A part of the tape.
+    /// A part of the tape, with its cycle.
     One(Part),
     /// A cycle that is part of no form.
     Bad,
@@ -50,7 +50,8 @@ fn has_code(code: i64, body: &Body) -> bool
     }
 }
 
-/// The part; or that the cycle is part of no form, which is refused and not passed by.
+/// The part, if the cycle is one of a form; else that it is of none, which is refused and not
+/// passed by.
 fn part_or_bad(part: Option<Part>) -> Found
     requires { IfSome part IsSoundPart }
     ensures found { result ≡ part_or_bad part }
@@ -62,8 +63,8 @@ fn part_or_bad(part: Option<Part>) -> Found
     }
 }
 
-/// The part of a form whose first G71 is the first of these blocks. The only error is out of
-/// memory.
+/// The part of a form whose start is the last block of `passed`, and whose first G71 is the first
+/// of `rest`. The only error is out of memory.
 fn form_behind(
     alloc: Global,
     marks: &[bool],
@@ -79,8 +80,8 @@ fn form_behind(
     }
 }
 
-/// The part of a finish whose G70 is this block, over a form of the same program. The only error is
-/// out of memory.
+/// The part of a finish whose start is the last block of `passed`, and whose G70 is this block,
+/// over a form of the same program (`done`). The only error is out of memory.
 fn finish_behind(
     alloc: Global,
     marks: &[bool],
@@ -97,7 +98,8 @@ fn finish_behind(
     }
 }
 
-/// What begins in a block. If it has both, G71 comes before G70. The only error is out of memory.
+/// What begins in a block. If it has both G71 and G70, it is taken for a G71. The only error is out
+/// of memory.
 fn part_in(
     alloc: Global,
     marks: &[bool],

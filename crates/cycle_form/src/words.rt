@@ -1,4 +1,5 @@
 //! The words of a block, as lengths and codes. A place is the index of a word in its block, from 0.
+//! contour.rt, finish.rt, head.rt and walk.rt read blocks with it.
 ghost use Rattle.std.specs.Prelude.{◌≡◌, ◌≤◌, IfSome, Some, unsigned_abs};
 ghost use Rattle.rough_cycle.specs.Form.{IsWritten};
 ghost use Rattle.cycle_form.specs.Words.{literal_of, literal_at, length_at, is_code, start_of};
@@ -35,7 +36,7 @@ pub(crate) fn literal_of(letter: u8, word: &Word) -> Option<Literal>
     }
 }
 
-/// The length that the word in this place writes, in 0.001 mm.
+/// The length in 0.001 mm that the word in this place writes under this letter.
 #[tactic(auto, unfolding(crate::specs::Words::length_at))]
 pub(crate) fn length_at(words: &[Word], i: usize, letter: u8) -> Option<i64>
     ensures length { result ≡ length_at words.now i letter }
@@ -58,7 +59,7 @@ pub(crate) fn is_code(code: i64, literal: Option<Literal>) -> bool
     }
 }
 
-/// The point of a block of G00, X and Z, in this order, in 0.001 mm.
+/// The point of a block of G00, X and Z, in this order and with no other word, in 0.001 mm.
 #[tactic(auto, unfolding(crate::specs::Words::start_of))]
 pub(crate) fn start_of(words: &[Word]) -> Option<Point>
     ensures start { result ≡ start_of words.now }

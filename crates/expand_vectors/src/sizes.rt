@@ -1,4 +1,5 @@
-//! Tapes of many passes and of many blocks.
+//! Tests of the limits of roughing cycles, 1,000 passes and 20,000 blocks, and of what lies inside
+//! a contour.
 use crate::written::answer;
 use nc_number::Point;
 use rough_cycle::inside;

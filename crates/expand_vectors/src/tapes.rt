@@ -1,4 +1,5 @@
-//! Tapes with roughing cycles, and what they are once these are written out.
+//! Tests of roughing cycles: tapes with G71 and G70, row by row, and their texts with these written
+//! out, or their refusals.
 use crate::written::holds;
 use std::alloc::Global;
 use std::process::Abort;

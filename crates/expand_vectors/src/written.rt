@@ -1,4 +1,5 @@
-//! The text that a tape is written out to, or its refusal, as rows write them.
+//! The text that a tape is written out to, or its refusal, as the rows of tapes.rt write them.
+//! sizes.rt and tapes.rt check their tapes with it.
 use nc_number::Failing;
 use std::alloc::{AllocError, Global};
 use tape_expand::{ExpandFault, expand_tape};
@@ -30,6 +31,7 @@ pub(crate) fn answer(alloc: Global, bytes: &[u8]) -> Result<Vec<u8>, AllocError>
     }
 }
 
+/// The refusal as a row writes it: its number and its line.
 fn refusal(alloc: Global, fault: ExpandFault) -> Result<Vec<u8>, AllocError> {
     let text = format!(in alloc; "refused {} line {}", fault.number(), fault.line())?;
     Vec::from_slice(alloc, text.as_bytes())

@@ -1,4 +1,5 @@
--- The first word of signs, and the words after it: the loop of `pieces`. tape_relation takes facts.
+-- The first word of signs, and the words after it. For the loop of `pieces` (src/cut.rt);
+-- tape_relation takes `depth_stays`.
 use Rattle.std.proofs.Common.{◌≡◌, ◌==◌, ℕ, suc, ◌+◌, Bool, true, false, cond, List, [], ◌∷◌, ◌++◌, map, take, drop, refl, sym, ap, subst, ◌∙◌, append_assoc, arith}
 use Rattle.std.specs.Char.{is_ascii_uppercase}
 use Rattle.std.proofs.lemmas.Bool.{and_parts, eqb-true}
@@ -7,7 +8,8 @@ use Rattle.line_text.specs.declared.sign.Sign.{Sign}
 use Rattle.line_text.specs.declared.piece.Piece.{Piece}
 use Rattle.line_text.specs.Pieces.{Cut, begins_word, depth_behind, add_to_cut, cut_at, value_len, piece_of, pieces_of}
 
--- a cut that goes on after the first n signs
+-- a cut whose first n signs stand before the first word, and whose words are those of the signs
+-- after them
 abbrev Behind : ℕ → List Sign → Cut → Type 0
 Behind n signs cut = (cut ≡ record { lead = take n signs; groups = (cut_at (drop n signs) 0).groups }) × (value_len (drop n signs) 0 ≡ 0)
 
@@ -23,7 +25,7 @@ one_more sign signs cut n before =
     let e : 1 + n ≡ suc n = omega arith in
     rw e (rw (before.0) refl, before.1)
 
--- a sign that begins a word stands before none of it
+-- if a sign begins a word, no sign stands before the first word
 at_word : (sign : Sign) (signs : List Sign) (depth : ℕ) → depth ≡ 0 → begins_word depth sign.byte ≡ true → Behind 0 (sign ∷ signs) (add_to_cut true sign (cut_at signs (depth_behind depth sign.byte)))
 at_word sign signs depth top begins =
     let here : begins_word 0 sign.byte ≡ true = subst (λ (d : ℕ). begins_word d sign.byte ≡ true) top begins in
@@ -42,7 +44,7 @@ begins : (test : Bool) (n : ℕ) → cond test 0 (1 + n) ≡ 0 → test ≡ true
 begins true n e = refl
 begins false n e = absurd (omega arith)
 
--- a letter opens and closes nothing
+-- a letter opens and closes no bracket
 pub depth_stays : (b : ℕ) → is_ascii_uppercase b ≡ true → depth_behind 0 b ≡ 0
 depth_stays b letter = grind (arith, nat_tests)
 
@@ -50,7 +52,7 @@ depth_stays b letter = grind (arith, nat_tests)
 pub record IsFirst (letter : Sign) (others : List Sign) : Type 0 where
   -- the first word and the words of the rest are all words
   pub cut : pieces_of (letter ∷ others) ≡ piece_of (record { letter = letter; value = take (value_len others 0) others }) ∷ pieces_of (drop (value_len others 0) others)
-  -- the rest begins with a word too
+  -- the signs after the first word begin with a word
   pub next : value_len (drop (value_len others 0) others) 0 ≡ 0
 
 -- signs of which the first begins a word are that word and the words of the rest
@@ -66,7 +68,7 @@ first_piece letter others lead =
       next = behind.1;
     }
 
--- one word more
+-- what the loop keeps when it has cut off one word more
 pub record IsNext (before : List Piece) (piece : Piece) (behind : List Sign) (all : List Piece) : Type 0 where
   -- the words so far with this one, and those after it, are all words
   pub cut : (before ++ piece ∷ []) ++ pieces_of behind ≡ all

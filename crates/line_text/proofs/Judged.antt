@@ -1,4 +1,5 @@
--- What makes a line readable: none of its refusals holds. open_forms and tape_relation take it.
+-- A line that says something has none of the refusals of a line by itself.
+-- For ShapeOfLine; open_forms and tape_relation take it too.
 use Rattle.std.proofs.Common.{◌≡◌, Bool, true, false, cond, not, ◌&&◌, Result, Ok, Err, refl}
 use Rattle.line_text.specs.declared.refusal.Refusal.{Refusal}
 use Rattle.line_text.specs.declared.refusal.Refusal.TheVariants.{TooManyDigits, BadCharacter, NoNumber, OpenComment}
@@ -7,14 +8,15 @@ use Rattle.line_text.specs.declared.said.Said.TheVariants as said
 use Rattle.line_text.specs.declared.said.Reading.{Reading}
 use Rattle.line_text.specs.Said.{judged}
 
--- the least refusal of a line, or what it says
+-- the least refusal of a line, or what it says; the flags: too many digits, a bad byte, a broken
+-- word, an open comment, a skipped block
 abbrev pub least : Bool → Bool → Bool → Bool → Bool → Said → Result Said Refusal
 least long bad broken unclosed skipped what =
     cond long (Err TooManyDigits) (cond bad (Err BadCharacter) (cond broken (Err NoNumber) (cond unclosed (Err OpenComment) (cond skipped (Ok said.Nothing) (Ok what)))))
 
 -- a line that can be read has allowed bytes and whole words, and says this
 pub record IsReadable (skipped allowed broken : Bool) (what says : Said) : Type 0 where
-  -- each byte is allowed where it stands
+  -- each byte outside comments is a character of a tape
   pub allowed_is : allowed ≡ true
   -- each word is whole
   pub whole : broken ≡ false

@@ -1,4 +1,5 @@
--- The files of proofs, each after those that it uses.
+-- The lemma files of line_text, each after those that it uses. nc_text takes ShapeOfLine;
+-- open_forms and tape_relation take Judged, and tape_relation Cutting.
 pub mod Cutting
 pub mod Placing
 pub mod Judged

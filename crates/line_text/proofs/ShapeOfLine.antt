@@ -1,6 +1,6 @@
--- What a line says has the shape of a block or of an O number, and its texts are no longer than the
--- line. nc_text takes `line_said`. The first facts are on lengths, then come numbers, words and
--- statements, as a line is read.
+-- What a line says has the shape of a block or of an O number (`IsSaid`), and its texts are no
+-- longer than the line. nc_text takes `line_said`. The first facts are on lengths, then come
+-- numbers, words and statements, as a line is read.
 use Rattle.std.proofs.Common.{◌≡◌, ℕ, ◌+◌, ◌-◌, ◌≤◌, ◌==◌, Bool, true, false, cond, not, ◌&&◌, ltb, leb, List, [], ◌∷◌, length, take, drop, map, filter, get_or, slice_index, Option, Some, None, is_some, Result, Ok, Err, refl, sym, subst, ◌∙◌, arith, ℤ, pos, negsuc}
 use Rattle.std.specs.Prelude.{All, IfSome}
 use Rattle.std.specs.Char.{is_ascii_uppercase}
@@ -32,16 +32,16 @@ use Rattle.line_text.proofs.Judged.{judged_ok}
 
 -- Lengths: nothing that is read of a line is longer than the line.
 
--- of two lists of at most n, whichever is taken
+-- whichever of two lists of at most n items is taken has at most n items
 cond_len : {A : Type 0} (t : Bool) (a b : List A) (n : ℕ) → length a ≤ n → length b ≤ n → length (cond t a b) ≤ n
 cond_len true a b n p q = p
 cond_len false a b n p q = q
 
--- the first items are no more than all
+-- the first items of a list are no more than all
 take_len : {A : Type 0} (n : ℕ) (xs : List A) → length (take n xs) ≤ length xs
 take_len n xs = let e = length-take n xs in omega arith
 
--- the last items are no more than all
+-- the last items of a list are no more than all
 drop_len : {A : Type 0} (n : ℕ) (xs : List A) → length (drop n xs) ≤ length xs
 drop_len n xs = let e = length-drop n xs in omega arith
 
@@ -61,12 +61,12 @@ content_len line ended =
     let blanks = take_len (length (without_return line ended) - suffix_len is_blank (without_return line ended)) (without_return line ended) in
     let semicolon = without_last_len 59 (without_blanks (without_return line ended)) in omega arith
 
--- at most one sign more
+-- a byte in front adds at most one sign
 sign_added : (t : Bool) (place b : ℕ) (scan : Scan) → length (add_sign t place b scan).list ≤ 1 + length scan.list
 sign_added true place b scan = omega arith
 sign_added false place b scan = omega arith
 
--- there are no more signs than bytes
+-- bytes have no more signs than bytes
 scan_len : (bs : List ℕ) (inside : Bool) (place : ℕ) → length (scan_of bs inside place).list ≤ length bs
 scan_len [] inside place = omega arith
 scan_len (b ∷ bs) inside place =
@@ -121,7 +121,7 @@ IsSequence n = IfSome n (λ k. k ≤ 99999)
 sequence_text : (text : List ℕ) → IsSequence (number_in 0 99999 text)
 sequence_text text = at_most (number_in 0 99999 text) 0 99999 (number_is 0 99999 text)
 
--- whichever of two such sequence numbers is taken
+-- whichever of two sequence numbers of at most 99,999 is taken is at most 99,999
 either_number : (t : Bool) (a b : Option ℕ) → IsSequence a → IsSequence b → IsSequence (cond t a b)
 either_number true a b p q = p
 either_number false a b p q = q
@@ -138,20 +138,20 @@ sequence_is (piece ∷ pieces) before h =
 record IsPiece (most : ℕ) (piece : Piece) : Type 0 where
   -- it begins with a letter, in upper case
   letter : is_ascii_uppercase piece.letter ≡ true
-  -- its text is no longer than that
+  -- its text has at most that many bytes
   short : length piece.text ≤ most
 
--- the value is whole, and an O that is not alone, or is alone and a literal, does not stand among
--- words
+-- a piece that may stand among the words of a block: its value is whole, and it is no O with a
+-- literal
 record IsGood (most : ℕ) (piece : Piece) : Type 0 where
-  -- it is such a piece
+  -- it is a letter and a text of at most so many bytes
   piece_is : IsPiece most piece
   -- it has a whole value
   value : is_value piece.text ≡ true
   -- an O (79) has no literal
   program : piece.letter ≡ 79 → is_literal piece.text ≡ false
 
--- at most one sign more stands before the first word
+-- a sign in front adds at most one sign before the first word
 lead_added : (t : Bool) (sign : Sign) (cut : Cut) → length (add_to_cut t sign cut).lead ≤ 1 + length cut.lead
 lead_added true sign cut = omega arith
 lead_added false sign cut = omega arith
@@ -168,11 +168,11 @@ lead_len (sign ∷ signs) depth =
 value_len_is : (group : Group) → length (piece_of group).text ≤ length group.value
 value_len_is group = let mapped = length-map (value_part group.value) (λ (sign : Sign). sign.byte) in let part = take_len (position_or_len is_comment group.value) group.value in omega arith
 
--- the group begins with a letter, and is no longer than that
+-- the group as a piece is a letter and a text of at most so many bytes
 abbrev IsGroup : ℕ → Group → Type 0
 IsGroup most group = IsPiece most (piece_of group)
 
--- one sign more keeps that of all groups
+-- a sign in front of a cut keeps each of its groups a letter and a short text
 group_added : (t : Bool) (most depth : ℕ) (sign : Sign) (cut : Cut) → begins_word depth sign.byte ≡ t → length cut.lead ≤ most → All (IsGroup most) cut.groups → All (IsGroup most) (add_to_cut t sign cut).groups
 group_added true most depth sign cut e short all =
     let group : Group = record { letter = sign; value = cut.lead } in
@@ -180,7 +180,7 @@ group_added true most depth sign cut e short all =
     All-cons (IsGroup most) group cut.groups (record { letter = (both (depth == 0) (is_ascii_uppercase sign.byte) e).1; short = omega arith }) all
 group_added false most depth sign cut e short all = all
 
--- each letter of the signs with what stands after it is such a group
+-- each group of the signs is a letter and a text that is no longer than the signs
 groups_are : (most : ℕ) (signs : List Sign) (depth : ℕ) → length signs ≤ most → All (IsGroup most) (cut_at signs depth).groups
 groups_are most [] depth short = All-nil (IsGroup most)
 groups_are most (sign ∷ signs) depth short =
@@ -232,7 +232,7 @@ one_word : (t : Bool) (piece : Piece) → is_sequence piece ≡ t → has_o (map
 one_word true piece e h = absurd cc
 one_word false piece e h = (refl, rw e refl)
 
--- several pieces have no O
+-- if an O must stand alone, two or more pieces have none
 several : (slash : Bool) (first second : Piece) (pieces : List Piece) → stands_alone slash (first ∷ second ∷ pieces) ≡ true → has_program_letter (first ∷ second ∷ pieces) ≡ false
 several slash first second pieces e = go (has_program_letter (first ∷ second ∷ pieces)) refl
   where
@@ -254,14 +254,14 @@ one_program : (slash : Bool) (piece : Piece) → stands_alone slash (piece ∷ [
 one_program true piece e off is = let bad : false ≡ true = rw (eq-eqb piece.letter 79 is) at e in absurd cc
 one_program false piece e off is = rw (eq-eqb piece.letter 79 is) at off
 
--- where no O is, no O has a literal
+-- if no piece has an O, no O has a literal
 no_letter : (pieces : List Piece) → has_program_letter pieces ≡ false → All (λ (p : Piece). p.letter ≡ 79 → is_literal p.text ≡ false) pieces
 no_letter [] e = All-nil (λ (p : Piece). p.letter ≡ 79 → is_literal p.text ≡ false)
 no_letter (piece ∷ pieces) e =
     let p = or_parts (piece.letter == 79) (has_program_letter pieces) e in
     All-cons (λ (q : Piece). q.letter ≡ 79 → is_literal q.text ≡ false) piece pieces (λ is. let bad : true ≡ false = sym (eq-eqb piece.letter 79 is) ∙ p.0 in absurd cc) (no_letter pieces p.1)
 
--- where no O number begins a program, no O has a literal
+-- if the pieces of an allowed block are no O number, no O among them has a literal
 programs_are : (slash : Bool) (pieces : List Piece) → stands_alone slash pieces ≡ true → is_program slash pieces ≡ false → All (λ (p : Piece). p.letter ≡ 79 → is_literal p.text ≡ false) pieces
 programs_are slash [] e off = All-nil (λ (p : Piece). p.letter ≡ 79 → is_literal p.text ≡ false)
 programs_are slash (piece ∷ []) e off = All-cons (λ (q : Piece). q.letter ≡ 79 → is_literal q.text ≡ false) piece [] (one_program slash piece e off) (All-nil (λ (p : Piece). p.letter ≡ 79 → is_literal p.text ≡ false))
@@ -278,7 +278,7 @@ program_said most slash (piece ∷ pieces) = some (number_in 1 9999 piece.text) 
     some None h = tt
     some (Some n) h = h
 
--- some is out of bounds, or all are sound
+-- if no piece stands after the sound ones at the front, all pieces are sound
 sound_all : (pieces : List Piece) → ltb (prefix_len is_sound pieces) (length pieces) ≡ false → All (λ (p : Piece). is_sound p ≡ true) pieces
 sound_all pieces e i d h = let all : length pieces ≤ prefix_len is_sound pieces = grind arith in prefix_len_passes is_sound pieces i d (omega arith)
 
@@ -352,7 +352,7 @@ block_read most slash signs short = go (is_numbered signs) refl (is_statement (s
 
 -- A whole line.
 
--- after a skip sign no more signs are left
+-- after a skip sign no more signs are left than before it
 behind_len : (signs : List Sign) → length (behind_switch signs) ≤ length signs
 behind_len [] = omega arith
 behind_len (sign ∷ signs) =
@@ -382,7 +382,7 @@ judged_said most skipped allowed unclosed reading says is e =
     go true shape = tt
     go false shape = shape
 
--- what a line says has the shape of what can be said on a line of so many bytes
+-- what a line of at most so many bytes says has its shape (`IsSaid`)
 pub line_said : (most skips : ℕ) (line : List ℕ) (ended : Bool) (says : Said) → length line ≤ most → line_says skips line ended ≡ Ok says → IsSaid most says
 unfolding line_says
 line_said most skips line ended says short e =

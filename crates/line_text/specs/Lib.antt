@@ -1,4 +1,5 @@
 -- What a line of a tape says, in the order in which it is read: signs, pieces, front, values, said.
+-- nc_text and the crates above cite Said, LineShape and Refusals; Places is for this crate alone.
 pub mod Signs
 pub mod Places
 pub mod Pieces

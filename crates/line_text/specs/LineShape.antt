@@ -1,4 +1,5 @@
--- The shape of what a line says: what nc_text and the crates above may count on.
+-- The shape of what a line says. nc_text makes the shape of a tape of it (`IsTapeShape`), on which
+-- the crates above count; proofs/ShapeOfLine shows it of each line.
 use Rattle.std.specs.Prelude.{◌≡◌, ℕ, ◌≤◌, ◌==◌, true, false, List, length, All, Option, None, Some, IfSome}
 use Rattle.std.specs.Char.{is_ascii_uppercase}
 use Rattle.std.specs.List.{list_any}
@@ -25,23 +26,25 @@ pub record IsWordShape (most : ℕ) (word : Word) : Type 0 where
   -- a word O (79) has no literal
   pub program : word.letter ≡ 79 → is_literal word.text ≡ false
 
--- a computed O is alone in its block
+-- if the words have an O (79), it is the only word, and the block has no sequence number
 abbrev pub IsAlone : Option ℕ → List Word → Type 0
 IsAlone sequence words = list_any (λ word. word.letter == 79) words ≡ true → (length words ≡ 1) × (sequence ≡ None)
 
--- words of that shape, or a text that begins as a statement does
+-- The body of a block on a line of at most so many bytes, with this sequence number: words, each of
+-- its shape, or a text that begins as a statement does.
 abbrev pub IsBodyShape : ℕ → Option ℕ → Body → Type 0
 IsBodyShape most sequence (Words words) = All (IsWordShape most) words × IsAlone sequence words
 IsBodyShape most sequence (Statement text) = (is_statement text ≡ true) × (length text ≤ most)
 
--- what stands in a block
+-- a block on a line of at most so many bytes: its sequence number and its body
 pub record IsSaidShape (most : ℕ) (sequence : Option ℕ) (body : Body) : Type 0 where
   -- a sequence number is at most 99,999
   pub sequence_is : IfSome sequence (λ n. n ≤ 99999)
   -- the words or the statement have their shape
   pub body_is : IsBodyShape most sequence body
 
--- what a line of so many bytes says
+-- what a line of at most so many bytes may say: nothing, an O number from 1 to 9,999, an O number
+-- out of that range (`Program None`), or a block of its shape
 abbrev pub IsSaid : ℕ → Said → Type 0
 IsSaid most said.Nothing = Unit {0}
 IsSaid most (said.Program None) = Unit {0}

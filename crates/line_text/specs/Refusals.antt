@@ -7,7 +7,7 @@ use Rattle.nc_number.specs.Causes.{cause_number}
 use Rattle.line_text.specs.declared.refusal.Refusal.{Refusal}
 use Rattle.line_text.specs.declared.refusal.Refusal.TheVariants.{TooManyDigits, BadCharacter, NoNumber, OpenComment, NoProgramNumber, NoEnd, LineTooLong, TooManyBlocks, TapeTooLong, WordRange}
 
--- the row of a refusal
+-- the row of a refusal in nc_number's table of causes, which has its number and its name
 abbrev pub cause_of : Refusal → Cause
 cause_of TooManyDigits = causes.TooManyDigits
 cause_of BadCharacter = causes.BadCharacter

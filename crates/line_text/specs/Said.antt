@@ -18,40 +18,42 @@ use Rattle.line_text.specs.Pieces.{bytes_of, pieces_of, value_len}
 use Rattle.line_text.specs.Front.{behind_comments, switch_of, behind_switch, sentence_of, is_statement, is_numbered, number_part, behind_number}
 use Rattle.line_text.specs.Values.{is_value, number_in, has_long_front}
 
--- the text of each piece is shorter than 2 ^ 32 bytes
+-- the text of each piece is shorter than 2 ^ 32 bytes, as the code needs it to count brackets
 abbrev pub AreShort : List Piece → Type 0
 AreShort pieces = All (λ piece. length piece.text < 2 ^ 32) pieces
 
--- an N with a literal is the block's sequence number
+-- whether the piece is a sequence number: an N (78) with a literal
 abbrev pub is_sequence : Piece → Bool
 is_sequence piece = piece.letter == 78 && is_literal piece.text
 
--- a letter with a whole value
+-- whether the piece is a letter with a whole value
 abbrev pub is_sound : Piece → Bool
 is_sound piece = piece.whole && is_value piece.text
 
--- a sequence number or an O number with more digits than are allowed, whatever stands after it
+-- whether the piece is an N or an O whose value begins with a literal of too many digits
 abbrev pub is_long : Piece → Bool
 is_long piece = (piece.letter == 78 || piece.letter == 79) && has_long_front piece.text
 
--- an O stands among the words, with whatever value
+-- whether an O stands among the pieces, with whatever value
 abbrev pub has_program_letter : List Piece → Bool
 has_program_letter pieces = list_any (λ piece. piece.letter == 79) pieces
 
--- nothing but comments stands beside an O word
+-- whether there is no O word, or it is the only word and no skip sign stands before it; the flag
+-- says whether there is a skip sign
 abbrev pub stands_alone : Bool → List Piece → Bool
 stands_alone slash pieces = not (has_program_letter pieces) || (not slash && length pieces == 1)
 
--- the last sequence number, or what it was before
+-- the number of the last piece that is a sequence number (none if out of range), or what it was
+-- before, if no piece is one
 abbrev pub sequence_from : Option ℕ → List Piece → Option ℕ
 sequence_from before [] = before
 sequence_from before (piece ∷ pieces) = sequence_from (if is_sequence piece then number_in 0 99999 piece.text else before) pieces
 
--- a sequence number is from 0 to 99,999; any other word is in range here
+-- whether a piece is in range: a sequence number is from 0 to 99,999; any other word always is here
 abbrev pub is_in_range : Piece → Bool
 is_in_range piece = not (is_sequence piece) || is_some (number_in 0 99999 piece.text)
 
--- a piece as a word of a block
+-- a piece as a word of a block, without the note whether it is whole
 abbrev pub word_of : Piece → Word
 word_of piece = record { letter = piece.letter; start = piece.start; end = piece.end; text = piece.text }
 
@@ -59,23 +61,24 @@ word_of piece = record { letter = piece.letter; start = piece.start; end = piece
 abbrev pub words_of : List Piece → List Word
 words_of pieces = map word_of (filter (λ piece. not (is_sequence piece)) pieces)
 
--- an O number begins a program
+-- whether the pieces are an O (79) with a literal, alone in its block and without a skip sign
 abbrev pub is_program : Bool → List Piece → Bool
 is_program slash [] = false
 is_program slash (piece ∷ pieces) = ((not slash && length pieces == 0) && piece.letter == 79) && is_literal piece.text
 
--- the O number from 1 to 9,999, or none if it is out of that range
+-- the O number that the first piece writes: from 1 to 9,999, or none if it is out of that range
 abbrev pub program_number : List Piece → Option ℕ
 program_number [] = None
 program_number (piece ∷ pieces) = number_in 1 9999 piece.text
 
--- the words say an O number if they are one, and else a block
+-- what pieces say: an O number if they are one, else a block of their words
 abbrev pub said_by : Bool → List Piece → Said
 said_by slash pieces =
     if is_program slash pieces then said.Program (program_number pieces)
     else said.Block (record { sequence = sequence_from None pieces; in_range = list_all is_in_range pieces; body = Words (words_of pieces) })
 
--- the numbers up to the first place where no word can begin count
+-- How pieces read: the first one that is not sound breaks the block, as an O that is not alone
+-- does. Too many digits count only up to and in the first piece that is not sound.
 abbrev pub read_pieces : Bool → List Piece → Reading
 read_pieces slash pieces = record {
   long = list_any is_long (take (prefix_len is_sound pieces + 1) pieces);
@@ -83,25 +86,25 @@ read_pieces slash pieces = record {
   said = said_by slash pieces;
 }
 
--- something stands before the first letter that begins no word
+-- how a block reads in which something stands before its first letter: broken
 abbrev pub unreadable : Reading
 unreadable = record { long = false; broken = true; said = said.Nothing }
 
--- a block of words, if nothing stands before the first letter
+-- how the signs of a block of words read; the flag says whether there is a skip sign
 unfoldable pub read_words : Bool → List Sign → Reading
 read_words slash signs = if value_len signs 0 == 0 then read_pieces slash (pieces_of signs) else unreadable
 
--- the literal after N
+-- the literal after the first sign, N
 abbrev pub numbered_text : List Sign → List ℕ
 numbered_text [] = []
 numbered_text (sign ∷ signs) = bytes_of (number_part signs)
 
--- the statement after N and its literal
+-- the text of the statement after the first sign, N, and its literal
 abbrev pub numbered_sentence : List Sign → List ℕ
 numbered_sentence [] = []
 numbered_sentence (sign ∷ signs) = sentence_of (behind_number signs)
 
--- a statement with a sequence number
+-- how a statement with a sequence number reads
 unfoldable pub read_numbered : List Sign → Reading
 read_numbered signs = record {
   long = has_too_many_digits (numbered_text signs);
@@ -109,7 +112,7 @@ read_numbered signs = record {
   said = said.Block (record { sequence = number_in 0 99999 (numbered_text signs); in_range = is_some (number_in 0 99999 (numbered_text signs)); body = Statement (numbered_sentence signs) });
 }
 
--- a statement without one
+-- how a statement without a sequence number reads
 unfoldable pub read_statement : List Sign → Reading
 read_statement signs = record {
   long = false;
@@ -117,22 +120,23 @@ read_statement signs = record {
   said = said.Block (record { sequence = None; in_range = true; body = Statement (sentence_of signs) });
 }
 
--- a block after its skip sign
+-- how a block reads after its skip sign; the flag says whether there was one
 unfoldable pub read_block : Bool → List Sign → Reading
 read_block slash signs =
     if is_numbered signs then read_numbered signs
     else (if is_statement (sentence_of signs) then read_statement signs else read_words slash signs)
 
--- a line without a block
+-- how a line without a block reads
 abbrev pub no_block : Reading
 no_block = record { long = false; broken = false; said = said.Nothing }
 
--- a block's switch is set
+-- whether a block with this switch, or without a skip sign, is skipped: bit n of skips is switch n
 abbrev pub is_skipped : ℕ → Option ℕ → Bool
 is_skipped skips None = false
 is_skipped skips (Some switch) = (skips / 2 ^ switch) % 2 == 1
 
--- the least refusal of a line by itself; a skipped block must be readable, but says nothing
+-- The least refusal of a line by itself, or what the line says. A skipped block says nothing; too
+-- many digits do not refuse it, its other faults do.
 abbrev pub judged : Bool → Bool → Bool → Reading → Result Said Refusal
 judged skipped allowed unclosed reading =
     if reading.long && not skipped then Err TooManyDigits
@@ -142,26 +146,29 @@ judged skipped allowed unclosed reading =
     else (if skipped then Ok said.Nothing
     else Ok reading.said))))
 
--- what stands after the first comments of a line: a block with or without a skip sign, or none
+-- how the signs after the first comments of a line read: as a block with or without a skip sign, or
+-- as no block
 unfoldable pub read_head : List Sign → Reading
 read_head [] = no_block
 read_head (sign ∷ signs) = read_block (is_some (switch_of (sign ∷ signs))) (behind_comments (behind_switch (sign ∷ signs)))
 
--- what the signs of a line say, or the least refusal; the skips are the switches that are set
+-- what the signs of a line say, or the least refusal; bit n of skips is switch n
 abbrev pub judged_signs : ℕ → Scan → Result Said Refusal
 judged_signs skips scan =
     judged (is_skipped skips (switch_of (behind_comments scan.list))) (are_allowed scan.list) scan.unclosed (read_head (behind_comments scan.list))
 
--- what a line says, or its least refusal by itself
+-- What a line says, or its least refusal by itself: the definition that `read_line` computes and
+-- nc_text's `tape_of` is built on. The flag says whether a line feed ends the line.
 unfoldable pub line_says : ℕ → List ℕ → Bool → Result Said Refusal
 line_says skips line ended = judged_signs skips (signs_of line ended)
 
--- the number and the text of a numbered statement, where the signs are one
+-- an answer of the code: the literal and the text of a statement with a sequence number, or none
+-- if the signs are no such statement
 abbrev pub IsNumbered : List Sign → Option (Vec ℕ × Vec ℕ) → Type 0
 IsNumbered signs None = is_numbered signs ≡ false
 IsNumbered signs (Some found) = (is_numbered signs ≡ true) × (found.0.items ≡ numbered_text signs) × (found.1.items ≡ numbered_sentence signs) × (is_literal found.0.items ≡ true)
 
--- a statement as a reading: it is never broken here
+-- a statement as a reading; it is never broken here, because macro_expr reads its text
 abbrev pub statement_reading : Option ℕ → Bool → List ℕ → Bool → Reading
 statement_reading number in_range text long = record {
   long = long;

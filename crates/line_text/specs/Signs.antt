@@ -1,5 +1,5 @@
--- The bytes of a line that count: its signs. Of a comment only its opening bracket does. nc_text,
--- open_forms and tape_relation cite it too.
+-- The bytes of a line that count: its signs. Of a comment only its opening bracket counts.
+-- src/sign.rt computes `signs_of`; nc_text, open_forms and tape_relation cite these words too.
 use Rattle.std.specs.Prelude.{ℕ, ◌+◌, ◌-◌, Bool, true, false, not, ◌&&◌, ◌||◌, ◌==◌, List, [], ◌∷◌, length, take, slice_index, if◌then◌else◌}
 use Rattle.std.specs.Char.{is_ascii_digit, is_ascii_uppercase, to_ascii_uppercase}
 use Rattle.std.specs.List.{list_all, suffix_len}
@@ -16,12 +16,12 @@ pub record Scan : Type 0 where
   -- the line ends inside a comment
   pub unclosed : Bool
 
--- one sign more in front, if it counts
+-- a scan with the byte b at this place in front of it, if the byte counts
 abbrev pub add_sign : Bool → ℕ → ℕ → Scan → Scan
 add_sign true place b scan = record scan { list = record { place = place; byte = to_ascii_uppercase b } ∷ scan.list }
 add_sign false place b scan = scan
 
--- a byte as a sign, if it counts
+-- the byte b at this place as one sign, or no sign if it does not count
 abbrev pub counted_sign : Bool → ℕ → ℕ → List Sign
 counted_sign true place b = record { place = place; byte = to_ascii_uppercase b } ∷ []
 counted_sign false place b = []
@@ -31,7 +31,7 @@ abbrev pub inside_behind : Bool → ℕ → Bool
 inside_behind true b = not (b == 41)
 inside_behind false b = b == 40
 
--- bytes of which the first stands in a comment or not, and has this place
+-- the signs of bytes; the flag says whether the first stands in a comment, the number is its place
 abbrev pub scan_of : List ℕ → Bool → ℕ → Scan
 scan_of [] inside place = record { list = []; unclosed = inside }
 scan_of (b ∷ bs) inside place = add_sign (not inside && not (is_blank b)) place b (scan_of bs (inside_behind inside b) (place + 1))
@@ -40,11 +40,12 @@ scan_of (b ∷ bs) inside place = add_sign (not inside && not (is_blank b)) plac
 abbrev pub without_last : ℕ → List ℕ → List ℕ
 without_last b line = if slice_index line (length line - 1) == b then take (length line - 1) line else line
 
--- a carriage return (13) is ignored directly before a line feed
+-- a line without the carriage return (13) directly before its line feed; the flag says whether it
+-- has a line feed
 abbrev pub without_return : List ℕ → Bool → List ℕ
 without_return line ended = if ended then without_last 13 line else line
 
--- the line without the blanks at its end
+-- a line without the blanks at its end
 abbrev pub without_blanks : List ℕ → List ℕ
 without_blanks line = take (length line - suffix_len is_blank line) line
 
@@ -58,10 +59,10 @@ is_allowed b =
     is_ascii_uppercase b || is_ascii_digit b || b == 46 || b == 43 || b == 45 || b == 47 || b == 40 || b == 41 || b == 35 || b == 91
     || b == 93 || b == 61 || b == 42
 
--- each sign may stand there
+-- whether each sign is a byte that may stand outside comments
 abbrev pub are_allowed : List Sign → Bool
 are_allowed signs = list_all (λ sign. is_allowed sign.byte) signs
 
--- what counts of a line
+-- the signs of a line, and whether it ends in a comment; the flag says whether it has a line feed
 unfoldable pub signs_of : List ℕ → Bool → Scan
 signs_of line ended = scan_of (content_of line ended) false 0

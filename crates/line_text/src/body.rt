@@ -1,5 +1,5 @@
-//! What stands in a block: words or a statement. What a word means is left to block_words and
-//! others.
+//! What stands in a block: words or a statement. nc_text puts it into its `Block`; what a word
+//! means is left to block_words and the crates above.
 use nc_number::{ByteList, ListOf};
 
 /// An address letter and its value.
@@ -22,8 +22,9 @@ pub type WordList = ListOf<Word>;
 /// What a block says.
 #[derive(Debug, Drop)]
 pub enum Body {
-    /// Words; none where the block has a sequence number or a skip sign alone.
+    /// The words without sequence numbers: none if the block has nothing else but a skip sign.
     Words(WordList),
-    /// An assignment, a jump or a loop: its text, without comments.
+    /// An assignment, a jump or a loop: its text without N, blanks and comments, in upper case.
+    /// macro_expr reads it.
     Statement(ByteList),
 }

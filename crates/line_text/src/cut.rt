@@ -1,4 +1,5 @@
 //! The words that the signs of a line are cut into: each letter outside square brackets begins one.
+//! line.rt cuts a block with it, values.rt counts brackets with it; words.rt checks what is cut.
 ghost use Rattle.std.specs.Prelude.{◌≡◌, ◌+◌, ◌-◌, ◌^◌, ◌<◌, ◌≤◌, [], length, IfOk};
 ghost use Rattle.std.specs.List.{list_all, position_or_len};
 ghost use Rattle.line_text.specs.Pieces.{is_comment, depth_behind, begins_word, bytes_of, end_of, piece_of, pieces_of, value_len};
@@ -10,7 +11,8 @@ use crate::sign::Sign;
 use nc_number::ByteList;
 use std::alloc::{AllocError, Global};
 
-/// How many square brackets are open after a byte. One that closes nothing counts for nothing.
+/// How many square brackets are open after a byte, if `depth` were open before it. A `]` that
+/// closes nothing leaves 0.
 pub(crate) fn depth_behind(depth: usize, byte: u8) -> usize
     requires { depth < 2 ^ 63 }
     ensures value { result ≡ depth_behind depth byte }
@@ -25,7 +27,8 @@ pub(crate) fn depth_behind(depth: usize, byte: u8) -> usize
     }
 }
 
-/// Whether the byte begins a word: letters inside square brackets are names of functions.
+/// Whether the byte begins a word: a letter does, but not inside square brackets, where it belongs
+/// to the name of a function.
 fn begins_word(depth: usize, byte: u8) -> bool
     ensures { result ≡ begins_word depth byte }
 {
@@ -65,7 +68,7 @@ fn are_comments(signs: &[Sign]) -> bool
     signs.iter().all(|sign| sign.byte == b'(')
 }
 
-/// The bytes of the signs.
+/// The bytes of the signs, without their places.
 pub(crate) fn bytes(alloc: Global, signs: &[Sign]) -> Result<Vec<u8>, AllocError>
     ensures { IfOk result (λ bytes. bytes.items ≡ bytes_of signs.now) }
 {
@@ -76,7 +79,7 @@ pub(crate) fn bytes(alloc: Global, signs: &[Sign]) -> Result<Vec<u8>, AllocError
     Ok(bytes)
 }
 
-/// The place after the last sign.
+/// The place after the last sign, or `start` if there is no sign.
 fn end_of(start: u32, signs: &[Sign]) -> u32
     requires { ArePlaced signs.now }
     ensures { result ≡ end_of start signs.now }
@@ -105,7 +108,7 @@ fn piece(alloc: Global, letter: Sign, value: &[Sign]) -> Result<Piece, AllocErro
     })
 }
 
-/// The words that signs are cut into, of which the first is a letter.
+/// The words that signs are cut into. The first sign must begin a word (`lead`).
 pub(crate) fn pieces(alloc: Global, signs: &[Sign]) -> Result<Vec<Piece>, AllocError>
     requires short { length signs.now < 2 ^ 32 }
     requires placed { ArePlaced signs.now }

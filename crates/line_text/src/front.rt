@@ -1,4 +1,5 @@
-//! What a block may begin with: comments, a skip sign, and the first word of a statement.
+//! What a block may begin with: comments, a skip sign, a sequence number's literal, and the first
+//! word of a statement. line.rt asks it what kind of block a line is.
 ghost use Rattle.std.specs.Char.{is_ascii_digit};
 ghost use Rattle.std.specs.Prelude.{◌≡◌, ◌≤◌, ◌||◌, ◌==◌, nat_eq, length, IfOk, IfSome};
 ghost use Rattle.std.specs.List.{prefix_len, starts_with};
@@ -100,7 +101,7 @@ fn begins_with(signs: &[Sign], word: &[u8]) -> bool
     rest.is_empty()
 }
 
-/// Whether the signs begin as a statement does.
+/// Whether the signs, without comments, begin as a statement does: with `#` or one of five words.
 pub(crate) fn begins_statement(signs: &[Sign]) -> bool
     ensures { result ≡ is_statement (sentence_of signs.now) }
 {
@@ -119,7 +120,7 @@ fn is_number_sign(byte: u8) -> bool
     byte.is_ascii_digit() || byte == b'.' || byte == b'+' || byte == b'-'
 }
 
-/// How many signs of a literal the signs begin with.
+/// How many of the first signs could belong to a literal: digits, points, pluses and minuses.
 pub(crate) fn number_len(signs: &[Sign]) -> usize
     ensures count { result ≡ prefix_len is_number_sign signs.now }
     ensures within { result ≤ length signs.now }

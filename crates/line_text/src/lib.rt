@@ -1,4 +1,4 @@
-//! What one line of a tape says.
+//! What one line of a tape says, for nc_text, which reads a tape line by line.
 //!
 //! `read_line` takes the bytes of a line between the `%` lines, and answers with the O number or
 //! the block that it says, or with the least refusal of the line by itself. What stands before the

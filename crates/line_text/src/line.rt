@@ -1,4 +1,5 @@
 //! A whole line: which of the readings its signs have, and its least refusal by itself.
+//! nc_text calls `read_line` for each line between the `%` lines.
 ghost use Rattle.std.specs.Prelude.{◌≡◌, ◌-◌, ◌^◌, ◌<◌, length, IfOk, IfSome, ◌≤◌};
 ghost use Rattle.nc_number.specs.Answers.{Gives};
 ghost use Rattle.line_text.specs.Places.{ArePlaced};
@@ -34,7 +35,8 @@ fn read_words(alloc: Global, slash: bool, signs: &[Sign]) -> Result<Reading, All
     read_pieces(alloc, slash, pieces)
 }
 
-/// The literal after N and the statement after that, if the signs are these.
+/// The literal after N and the text of the statement after it, if the signs are a statement with a
+/// sequence number.
 fn numbered(alloc: Global, signs: &[Sign]) -> Result<Option<(Vec<u8>, Vec<u8>)>, AllocError>
     ensures { IfOk result (λ found. IsNumbered signs.now found) }
 {
@@ -73,7 +75,8 @@ fn statement(number: Option<u32>, in_range: bool, text: Vec<u8>, long: bool) -> 
     }
 }
 
-/// Reads a block after its skip sign.
+/// Reads a block after its skip sign: a statement with or without a sequence number, or words.
+/// `slash` says whether there was a skip sign.
 #[tactic(auto, unfolding(crate::specs::Said::read_block, crate::specs::Said::read_numbered, crate::specs::Said::read_statement))]
 fn read_block(alloc: Global, slash: bool, signs: &[Sign]) -> Result<Reading, AllocError>
     requires short { length signs.now < 2 ^ 32 }
@@ -103,7 +106,8 @@ fn is_skipped(skips: u16, switch: Option<u8>) -> bool
     }
 }
 
-/// The least refusal of a line by itself, or what it says.
+/// The least refusal of a line by itself, or what it says. A skipped block says nothing, and too
+/// many digits do not refuse it; its other faults do.
 fn judged(
     skipped: bool,
     allowed: bool,
@@ -145,7 +149,8 @@ fn read_head(alloc: Global, head: &[Sign]) -> Result<Reading, AllocError>
     read_block(alloc, switch.is_some(), behind_comments(rest))
 }
 
-/// What a line says, or its least refusal by itself.
+/// What a line says, or its least refusal by itself. Bit n of `skips` is switch n; `ended` says
+/// whether a line feed ends the line.
 #[tactic(auto, unfolding(crate::specs::Said::line_says))]
 pub fn read_line(
     buffer: &mut LineBuffer,

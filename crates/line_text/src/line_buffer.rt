@@ -1,4 +1,4 @@
-//! The room in which lines are read. nc_text keeps one for all lines of a tape.
+//! The room in which `read_line` reads a line. nc_text keeps one for all lines of a tape.
 use crate::sign::Sign;
 use std::alloc::Global;
 
@@ -12,7 +12,7 @@ pub struct LineBuffer {
 }
 
 impl LineBuffer {
-    /// An empty one; it takes no memory yet.
+    /// An empty buffer; it takes no memory yet.
     pub fn new(alloc: Global) -> Self {
         LineBuffer {
             alloc,

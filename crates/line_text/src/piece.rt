@@ -1,4 +1,5 @@
-//! A letter with what may be its value: a word before it is checked. words.rt makes words of them.
+//! A letter with what may be its value: a word before it is checked. cut.rt makes pieces of signs,
+//! words.rt makes words of pieces. The grammar of tape_relation speaks of them too.
 use nc_number::ByteList;
 
 /// A letter and what may be its value.

@@ -1,14 +1,15 @@
-//! Why a tape can't be read, and the numbers of that. The refusals of more than one line are
-//! nc_text's.
+//! Why a tape can't be read, and the number of each refusal. This crate raises the four that a line
+//! has by itself; the others, which need more than the line, nc_text raises.
 ghost use Rattle.std.specs.Prelude.{◌≡◌};
 ghost use Rattle.line_text.specs.Refusals.{cause_of, refusal_number};
 
 use nc_number::Cause;
 
-/// Why a tape can't be read.
+/// Why a tape can't be read: the refusals of a tape's text, each with a row in nc_number's `Cause`.
 #[derive(Clone, Copy, Debug, PartialEq, Eq)]
 pub enum Refusal {
-    /// A sequence number or an O number of more than 8 whole or 6 fraction digits.
+    /// A sequence number or an O number of more than 8 whole digits, zeros in front not counted, or
+    /// of more than 6 after the point.
     TooManyDigits,
     /// A byte that may not stand there.
     BadCharacter,

@@ -1,12 +1,15 @@
-//! What a line says: nothing, an O number or a block. nc_text puts blocks into programs.
+//! What a line says: nothing, an O number or a block. `read_line` answers it, and nc_text puts the
+//! blocks into programs.
 use crate::body::Body;
 
-/// A block without its line.
+/// A block without the number of its line, which nc_text adds.
 #[derive(Debug, Drop)]
 pub struct SaidBlock {
-    /// The last sequence number of the block, if it has one.
+    /// The number of its last N with a literal: none if it has no such N, or if that number is out
+    /// of its range.
     pub sequence: Option<u32>,
-    /// Each sequence number of the block is in its range.
+    /// Each sequence number of the block is in its range, 0 to 99,999. If not, nc_text refuses the
+    /// block.
     pub in_range: bool,
     /// Its words or its statement.
     pub body: Body,
@@ -17,19 +20,20 @@ pub struct SaidBlock {
 pub enum Said {
     /// No block: the line is empty, holds comments alone, or is skipped.
     Nothing,
-    /// An O number, if it is in its range.
+    /// An O number alone in its block: none if it is out of its range, 1 to 9,999.
     Program(Option<u32>),
     /// A block.
     Block(SaidBlock),
 }
 
-/// What a line says if it is readable.
+/// How the signs of a line read before the line is judged: two of its faults, and what it says if
+/// it has none.
 #[derive(Debug, Drop)]
 pub struct Reading {
     /// A sequence number or an O number has too many digits.
     pub long: bool,
     /// Something stands where no word can.
     pub broken: bool,
-    /// What it says.
+    /// What the line says, if no fault refuses it.
     pub said: Said,
 }

@@ -1,4 +1,5 @@
-//! The bytes of a line that count: its signs. cut.rt cuts words out of them.
+//! The bytes of a line that count: its signs. line.rt reads them into the line's buffer; front.rt
+//! and cut.rt cut blocks and words out of them.
 ghost use Rattle.std.specs.Prelude.{◌≡◌, ◌+◌, ◌-◌, ◌^◌, ◌<◌, ◌≤◌, ◌++◌, ◌&&◌, false, not, length, IfOk, OnOk};
 ghost use Rattle.line_text.specs.Signs.{is_blank, is_allowed, inside_behind, counted_sign, scan_of, without_return, without_blanks, without_last, signs_of, are_allowed};
 ghost use Rattle.line_text.specs.Places.{ArePlaced};
@@ -42,7 +43,7 @@ fn is_allowed(byte: u8) -> bool
         || byte == b'*'
 }
 
-/// Whether each byte may stand where it does.
+/// Whether each sign is a character that a tape may have.
 pub(crate) fn are_allowed(signs: &[Sign]) -> bool
     ensures { result ≡ are_allowed signs.now }
 {
@@ -62,7 +63,7 @@ fn without_return(line: &[u8], ended: bool) -> &[u8]
     }
 }
 
-/// How many blanks a line ends with. They would hide its semicolon.
+/// How many blanks a line ends with. The semicolon that ends a block may stand before them.
 fn blanks_at_end(line: &[u8]) -> usize
     ensures count { result ≡ suffix_len is_blank line.now }
     ensures within { result ≤ length line.now }
@@ -88,14 +89,14 @@ fn without_semicolon(line: &[u8]) -> &[u8]
     }
 }
 
-/// Whether the byte after this one stands in a comment.
+/// Whether the byte after this one stands in a comment; `inside` says it of this one.
 fn inside_behind(inside: bool, byte: u8) -> bool
     ensures { result ≡ inside_behind inside byte }
 {
     if inside { byte != b')' } else { byte == b'(' }
 }
 
-/// Puts a byte into the list if it counts.
+/// Puts a byte into the list, in upper case, if it is no blank and stands in no comment.
 fn push_sign(list: &mut Vec<Sign>, inside: bool, place: u32, byte: u8) -> Result<(), AllocError>
     ensures { OnOk result (list.new.items
         ≡ list.old.items ++ counted_sign (not inside && not (is_blank byte)) place byte) }

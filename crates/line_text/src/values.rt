@@ -1,5 +1,6 @@
 //! What may stand after an address letter: a literal, a variable or an expression in brackets.
-//! Expressions themselves are read by macro_expr.
+//! words.rt checks the value of each word with it, line.rt a sequence number. macro_expr reads
+//! what stands in the brackets.
 ghost use Rattle.std.specs.Prelude.{◌≡◌, ◌+◌, ◌^◌, ◌<◌, ◌≤◌, length, IfSome};
 ghost use Rattle.std.specs.Char.{is_ascii_digit};
 ghost use Rattle.std.specs.List.{list_all};
@@ -94,7 +95,8 @@ pub(crate) fn is_value(text: &[u8]) -> bool
     is_literal(text) || is_reference(behind_sign(text))
 }
 
-/// Whether a literal has more digits than are allowed.
+/// Whether a literal has more than 8 whole digits, zeros in front not counted, or more than 6 after
+/// the point.
 pub(crate) fn has_too_many_digits(text: &[u8]) -> bool
     requires { IsLiteral text.now }
     ensures { result ≡ has_too_many_digits text.now }
@@ -110,7 +112,7 @@ fn digits_len(text: &[u8]) -> usize
     text.iter().take_while(|b| b.is_ascii_digit()).count()
 }
 
-/// The length of a point and the digits after it.
+/// The length of a point and the digits after it, or 0 if the text begins with no point.
 fn fraction_len(text: &[u8]) -> usize
     ensures count { result ≡ fraction_len text.now }
     ensures within { result ≤ length text.now }
@@ -137,7 +139,7 @@ fn unsigned_len(text: &[u8]) -> usize
     digits + fraction_len(rest)
 }
 
-/// How many signs a text begins with: one at most counts.
+/// 1 if a text begins with a plus or a minus, else 0.
 fn sign_len(text: &[u8]) -> usize
     ensures count { result ≡ sign_len text.now }
     ensures within { result ≤ length text.now }
@@ -148,7 +150,7 @@ fn sign_len(text: &[u8]) -> usize
     }
 }
 
-/// The number that a text begins with.
+/// The longest beginning of a text that is a sign or none, digits, and a point with digits or none.
 fn number_front(text: &[u8]) -> &[u8]
     ensures { result.now ≡ number_front text.now }
 {
@@ -158,7 +160,7 @@ fn number_front(text: &[u8]) -> &[u8]
     front
 }
 
-/// Whether a text begins with a literal of more digits than are allowed.
+/// Whether a text begins with a literal of too many digits.
 pub(crate) fn has_long_front(text: &[u8]) -> bool
     ensures { result ≡ has_long_front text.now }
 {
@@ -166,7 +168,7 @@ pub(crate) fn has_long_front(text: &[u8]) -> bool
     is_literal(front) && has_too_many_digits(front)
 }
 
-/// The number, if it is from low to high. A number below 0 is in no range.
+/// The number `n`, if there is one and it is from low to high.
 fn in_range(low: u32, high: u32, n: Option<i64>) -> Option<u32>
     ensures value { result ≡ in_range low high n }
     ensures range { IfSome result (λ n. n ≤ high) }

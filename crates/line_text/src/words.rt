@@ -1,4 +1,5 @@
-//! A block of words: its sequence number, its words, or the O number that it is.
+//! A block of words: its sequence number, its words, or the O number that it is. line.rt calls
+//! `read_pieces` for each block that is no statement.
 ghost use Rattle.std.specs.Prelude.{◌≡◌, ◌^◌, ◌<◌, ◌≤◌, None, ◌+◌, length, take, if◌then◌else◌, IfOk, IsTrue};
 ghost use Rattle.std.specs.List.{list_all, list_any, prefix_len};
 ghost use Rattle.line_text.specs.Values.{number_in};
@@ -26,7 +27,7 @@ fn is_sound(piece: &Piece) -> bool
     piece.whole && is_value(piece.text.as_slice())
 }
 
-/// Whether it is a sequence number or an O number with too many digits, whatever follows.
+/// Whether the piece is an N or an O whose value begins with a literal of too many digits.
 fn is_long(piece: &Piece) -> bool
     ensures { result ≡ is_long piece.now }
 {
@@ -56,7 +57,8 @@ fn has_program_letter(pieces: &[Piece]) -> bool
     pieces.iter().any(|piece| piece.letter == b'O')
 }
 
-/// Whether nothing but comments stands beside an O word.
+/// Whether nothing but comments stands beside an O word, and no skip sign before it. True if there
+/// is no O word.
 fn stands_alone(slash: bool, pieces: &[Piece]) -> bool
     ensures { result ≡ stands_alone slash pieces.now }
 {
@@ -74,7 +76,7 @@ fn sequence_number(piece: &Piece, before: Option<u32>) -> Option<u32>
     }
 }
 
-/// The last sequence number.
+/// The last sequence number of a block: none if it has none, or if the last is out of its range.
 fn sequence(pieces: &[Piece]) -> Option<u32>
     ensures { result ≡ sequence_from None pieces.now }
 {
@@ -143,7 +145,7 @@ fn is_program(slash: bool, pieces: &[Piece]) -> bool
     }
 }
 
-/// The O number from 1 to 9,999, or none where it is out of that range.
+/// The O number of a block that is one: from 1 to 9,999, or none if it is out of that range.
 fn program_number(slash: bool, pieces: &[Piece]) -> Option<u32>
     requires { IsTrue (is_program slash pieces.now) }
     ensures { result ≡ program_number pieces.now }
@@ -154,7 +156,8 @@ fn program_number(slash: bool, pieces: &[Piece]) -> Option<u32>
     }
 }
 
-/// What the words of a block say.
+/// What the pieces of a block say: an O number if they are one, else a block of words. The pieces
+/// need not be sound; `read_pieces` says whether they are.
 fn said_by(alloc: Global, slash: bool, pieces: Vec<Piece>) -> Result<Said, AllocError>
     ensures { IfOk result (λ said. said ≡ said_by slash pieces.items) }
 {
@@ -171,7 +174,7 @@ fn said_by(alloc: Global, slash: bool, pieces: Vec<Piece>) -> Result<Said, Alloc
     }))
 }
 
-/// The first pieces, one more than this.
+/// The first `count` pieces and the one after them, if there is one.
 fn front_of(pieces: &[Piece], count: usize) -> &[Piece]
     requires { count ≤ length pieces.now }
     ensures { result.now ≡ take (count + 1) pieces.now }
@@ -183,7 +186,8 @@ fn front_of(pieces: &[Piece], count: usize) -> &[Piece]
     front
 }
 
-/// Reads the words of a block, with or without a skip sign.
+/// Reads the words of a block; `slash` says whether it has a skip sign. The first piece that is not
+/// sound breaks the block, and too many digits count only up to that piece.
 pub(crate) fn read_pieces(
     alloc: Global,
     slash: bool,

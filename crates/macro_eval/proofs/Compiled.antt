@@ -1,5 +1,6 @@
--- The code of a tree makes of it what the tree means. It needs one operand more at once than right
--- operands are deep inside one another.
+-- The code of a tree makes of it what the tree means, and fits the stack: it needs one operand more
+-- at once than right operands are deep inside one another. For `compile` (src/code.rt) and
+-- `evaluate` (src/running.rt).
 use Rattle.std.proofs.Common.{◌≡◌, ℕ, suc, ◌+◌, ◌-◌, ◌<◌, List, [], ◌∷◌, Result, refl, sym, ◌∙◌, ap, arith}
 use Rattle.std.proofs.lemmas.Bool.Decides.{nat_tests}
 use Rattle.nc_number.specs.declared.value.Var.{Var}

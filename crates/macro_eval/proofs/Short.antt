@@ -1,4 +1,5 @@
--- Code that needs no stack: an operand alone, and two operands with their operator.
+-- Code that needs no stack: an operand alone, and two operands with their operator. For the two
+-- short ways of `evaluate` (src/running.rt).
 use Rattle.std.proofs.Common.{◌≡◌, ℕ, ◌≤◌, ◌<◌, List, [], ◌∷◌, length, get_or, Result, refl, ◌∙◌, ap, arith}
 use Rattle.nc_number.specs.declared.value.Var.{Var}
 use Rattle.macro_eval.specs.declared.code.Instr.{Instr}
@@ -23,7 +24,7 @@ three_are (i ∷ j ∷ []) a b c most least = absurd (omega (arith, most))
 three_are (i ∷ j ∷ k ∷ []) a b c most least = refl
 three_are (i ∷ j ∷ k ∷ l ∷ code) a b c most least = absurd (omega (arith, least))
 
--- An operand alone is what the code answers.
+-- The code of one instruction answers what that instruction gives.
 pub alone_runs : (table : ℕ → Result Look VarFault) (i : Instr) (reads : List Var) (a : Answer)
     → step table i [] reads ≡ (a, []) → run table (i ∷ []) [] reads ≡ a
 alone_runs table i reads a is =

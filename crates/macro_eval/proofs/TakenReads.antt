@@ -1,5 +1,5 @@
 -- Each variable of a tree takes at most one read, and a read is needed only if fewer were given
--- than the tree names variables. path_state takes this.
+-- than the tree names variables. For the law of src/running.rt; path_state takes it too.
 use Rattle.std.proofs.Common.{◌≡◌, ℕ, suc, ◌+◌, ◌<◌, ◌≤◌, List, [], ◌∷◌, length, Result, Ok, Err, ℤ, ap, arith}
 use Rattle.nc_number.specs.declared.cause.Cause.{Cause}
 use Rattle.nc_number.specs.declared.fault.NumberFault.{NumberFault}
@@ -13,13 +13,13 @@ use Rattle.macro_eval.specs.declared.scope.Eval.{Eval}
 use Rattle.macro_eval.specs.declared.scope.Eval.TheVariants.{Got, Need, Fault}
 use Rattle.macro_eval.specs.Meaning.{Answer, made, function_value, operator_value, variable_number, seen, looked_by, looked_up, then_with, meaning}
 
--- One more than the reads that are left, and 0 if one is needed.
+-- One more than the reads that are left, or 0 if a read is needed.
 abbrev spare : Eval → ℕ → ℕ
 spare (Need n) left = 0
 spare (Got v) left = suc left
 spare (Fault n) left = suc left
 
--- It is at most one more than the reads that are left.
+-- The spare reads are at most one more than the reads that are left.
 spare_most : (e : Eval) (left : ℕ) → spare e left ≤ suc left
 spare_most (Need n) left = omega arith
 spare_most (Got v) left = omega arith
@@ -77,7 +77,7 @@ module _ (table : ℕ → Result Look VarFault) where
   takes t reads =
       omega (arith, meaning_takes t reads, spare_most (meaning table t reads).0 (length (meaning table t reads).1))
 
-  -- A read is needed only if fewer were given than that.
+  -- A read is needed only if fewer were given than the tree names variables.
   pub needs : (t : Tree) (reads : List Var) (n : ℕ) → (meaning table t reads).0 ≡ Need n → length reads < variables t
   needs t reads n is =
       let none = ap (λ e. spare e (length (meaning table t reads).1)) is in omega (arith, meaning_takes t reads, none)

@@ -1,6 +1,6 @@
 -- What an expression means: its value, the shared variable that must be read next, or an alarm; and
--- the reads that are left. Numbers are in 0.000001. path_state, block_values, named_vars and
--- two_path read this.
+-- the reads that are left. Numbers are in 0.000001. The contract of `evaluate` (src/running.rt);
+-- path_state, block_values, named_vars and two_path cite it.
 use Rattle.std.specs.Prelude.{ℕ, Bool, List, [], ◌∷◌, Option, Some, None, Result, Ok, Err, ℤ, pos, unsigned_abs, if◌then◌else◌}
 use Rattle.std.specs.Int.{is_negative}
 use Rattle.nc_number.specs.declared.cause.Cause.{Cause}
@@ -101,7 +101,7 @@ module _ (table : ℕ → Result Look VarFault) where
   abbrev pub looked_at : ℕ → List Var → Answer
   looked_at n reads = seen (table n) n reads
 
-  -- The same of a number that was calculated, or its alarm.
+  -- What the variable gives whose number was calculated, or the alarm of that number.
   abbrev pub looked_by : Result ℕ Cause → List Var → Answer
   looked_by (Ok n) reads = looked_at n reads
   looked_by (Err cause) reads = (alarm cause, reads)

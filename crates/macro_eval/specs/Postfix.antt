@@ -1,5 +1,6 @@
 -- Postfix code (each operator after its operands), and what a machine with a stack of operands
--- makes of it. race_report reads this.
+-- makes of it. The contracts of src/code.rt, src/stepping.rt and src/running.rt; race_report cites
+-- it. A new instruction needs its row in each function here.
 use Rattle.std.specs.Prelude.{◌≡◌, ℕ, ◌+◌, ◌-◌, ◌==◌, ◌&&◌, nat_le, Bool, true, List, [], ◌∷◌, Result, pos, refl}
 use Rattle.std.proofs.Common.{◌∙◌, ap}
 use Rattle.nc_number.specs.declared.value.Var.{Var}
@@ -41,12 +42,12 @@ abbrev pub built : List Instr → List Tree → List Tree
 built [] trees = trees
 built (i ∷ code) trees = built code (put i trees)
 
--- The tree on top of the stack.
+-- The tree on top of the stack; without one, the number 0.
 abbrev pub first_tree : List Tree → Tree
 first_tree [] = Number (pos 0)
 first_tree (e ∷ trees) = e
 
--- The tree whose code it is.
+-- The tree whose code the instructions are.
 abbrev pub tree_of_code : List Instr → Tree
 tree_of_code code = first_tree (built code [])
 
@@ -83,10 +84,13 @@ fits most (i ∷ code) height =
 
 -- Code that is a tree's, and finds room for its operands.
 pub record IsCode (code : List Instr) : Type 0 where
+  -- It is the code of its tree.
   pub written : code ≡ postfix (tree_of_code code)
+  -- Each instruction finds its operands, and at most 16 are on the stack at once.
   pub runs : fits OPERANDS code 0 ≡ true
 
--- One instruction on the stack, its last operand first: its answer, and the stack below.
+-- One instruction on the stack, its last operand first: its answer, and the stack below. Without
+-- its operands the answer is a fault with no number, which code that fits never comes to.
 abbrev pub step : (ℕ → Result Look VarFault) → Instr → List Var → List Var → Answer × List Var
 step table (instr.Number z) stack reads = ((Got (Is z), reads), stack)
 step table (instr.Variable n) stack reads = (looked_at table n reads, stack)
@@ -96,12 +100,13 @@ step table (instr.Call f) (v ∷ stack) reads = ((applied f v, reads), stack)
 step table (instr.Join op) (w ∷ v ∷ stack) reads = ((joined op v w, reads), stack)
 step table i stack reads = ((Fault 0, reads), stack)
 
--- The value on top of the stack.
+-- The value on top of the stack, or vacant if there is none.
 abbrev pub top : List Var → Var
 top [] = Vacant
 top (v ∷ stack) = v
 
--- The instructions one after another.
+-- The answer of instructions one after another, and the reads that are left; the first need or
+-- alarm ends them.
 abbrev pub run : (ℕ → Result Look VarFault) → List Instr → List Var → List Var → Answer
 run table [] stack reads = (Got (top stack), reads)
 run table (i ∷ code) stack reads =

@@ -1,5 +1,5 @@
 -- When a condition holds. Vacant equals vacant alone in EQ and NE, and counts as 0 in the others.
--- block_values reads this.
+-- The contract of `holds` (src/compare.rt); block_values cites it.
 use Rattle.std.specs.Prelude.{Bool, true, false, not, int_lt, int_le}
 use Rattle.std.specs.Ordering.{int_eq}
 use Rattle.nc_number.specs.declared.value.Var.{Var}
@@ -8,14 +8,14 @@ use Rattle.macro_expr.specs.declared.tree.Rel.{Rel}
 use Rattle.macro_expr.specs.declared.tree.Rel.TheVariants.{Eq, Ne, Gt, Ge, Lt, Le}
 use Rattle.nc_number.specs.Variables.{or_zero}
 
--- Both are vacant, or both are the same number.
+-- Whether both values are vacant, or both are the same number.
 abbrev pub are_same : Var → Var → Bool
 are_same Vacant Vacant = true
 are_same (Is x) (Is y) = int_eq x y
 are_same Vacant (Is y) = false
 are_same (Is x) Vacant = false
 
--- The relation holds of the two values.
+-- Whether the relation holds of the two values.
 abbrev pub holds_of : Rel → Var → Var → Bool
 holds_of Eq a b = are_same a b
 holds_of Ne a b = not (are_same a b)

@@ -1,5 +1,6 @@
-//! An expression as code for a stack, and its making. What is done with it is in `running`; how it
-//! is read from the text, in macro_expr.
+//! An expression as code for a stack, and its making from a tree of macro_expr. running.rt runs it.
+//! block_forms makes the codes of a tape, block_words keeps those of words, block_values evaluates
+//! them, and race_report reads their instructions.
 ghost use Rattle.std.specs.Prelude.{◌≡◌, ◌-◌, ◌<◌, nat_le, ◌∷◌, reverse, true, IfOk, OnOk};
 ghost use Rattle.macro_expr.specs.Tree.{tree_of, right_depth};
 ghost use Rattle.macro_eval.specs.Postfix.{postfix, code_before, fits};
@@ -48,8 +49,7 @@ impl Model for Code {
 
     ghost Value = { Tree };
 
-    /// The instructions of the code, in just the room that they need. The only error is out of
-    /// memory.
+    /// A tree is told by its instructions, of which it is got back.
     ghost coded = { code_by (List Instr) (coded_list (row instr_type).coded) postfix tree_of_code tree_is };
 
     ghost view = { λ code. tree_of_code code.instrs.items };

@@ -1,5 +1,5 @@
-//! The codes of a statement, in the order in which they are evaluated. What is done with their
-//! values is in block_values.
+//! The codes of a statement, in the order in which they are evaluated. block_forms makes them, a
+//! list for each statement of a tape; block_values says what is done with their values.
 ghost use Rattle.std.specs.Prelude.{◌≡◌, ◌≤◌, [], ◌∷◌, ◌++◌, length, IfOk, OnOk};
 ghost use Rattle.macro_expr.specs.Tree.{tree_of, variable_of, test_of, aim_of, sentence_of, evaluated, evaluated_name, evaluated_test, evaluated_aim};
 
@@ -12,6 +12,7 @@ use std::marker::Model;
 /// The codes of what a statement evaluates, in their order. Contracts see their trees.
 #[derive(Debug, Drop)]
 pub struct CodeList {
+    /// The codes, the one that is evaluated first at the head.
     codes: Vec<Code>,
 }
 

@@ -1,4 +1,5 @@
-//! The stack of an evaluation. It has room for 16 values and takes no memory.
+//! The stack of an evaluation: room for 16 values (`OPERANDS`, code.rt), without any memory.
+//! running.rt and stepping.rt use it.
 ghost use Rattle.std.specs.Prelude.{◌≡◌, ◌<◌, [], ◌∷◌, length};
 
 use crate::code::OPERANDS;
@@ -27,7 +28,7 @@ impl Model for Operands {
 }
 
 impl Operands {
-    /// A stack that is empty.
+    /// An empty stack.
     pub(crate) fn new() -> Operands
         ensures { result ≡ [] }
     {

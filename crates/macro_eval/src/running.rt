@@ -1,4 +1,5 @@
-//! The evaluation of a code. One instruction is in `stepping`.
+//! The evaluation of a code; stepping.rt does one instruction. block_values calls `evaluate` for
+//! each word and each operand; `eval` and `count_reads` are for tests.
 ghost use Rattle.std.specs.Prelude.{◌≡◌, ◌+◌, ◌-◌, ◌<◌, ◌≤◌, ℕ, List, [], true, length, Result};
 ghost use Rattle.nc_number.specs.declared.value.Var.{Var};
 ghost use Rattle.macro_expr.specs.Tree.{Tree, variables};
@@ -13,8 +14,8 @@ use crate::scope::{Eval, Scope};
 use crate::stepping::{is_join, is_operand, operand_value, pair_value, step};
 use nc_number::Var;
 
-/// The answer of the code, and the reads that are left, by a stack of operands. The general way of
-/// `evaluate`.
+/// The answer of any code, and the reads that are left, by a stack of operands. `evaluate` takes
+/// this way if no shorter one will do.
 #[inline(never)]
 fn run<'a, S: Scope>(instrs: &[Instr], scope: &S, reads: &'a [Var]) -> (Eval, &'a [Var])
     requires { fits OPERANDS instrs.now 0 ≡ true }
@@ -69,7 +70,7 @@ pub fn count_reads<S: Scope>(code: &Code, scope: &S, reads: &[Var]) -> usize
         .saturating_sub(evaluate(code, scope, reads).1.len())
 }
 
-/// Each variable of an expression takes at most one read, and a read is needed only where fewer
+/// A law: each variable of an expression takes at most one read, and a read is needed only if fewer
 /// were given than it names variables.
 #[tactic(auto, using(crate::proofs::TakenReads::takes, crate::proofs::TakenReads::needs))]
 pub fn each_variable_takes_one_read_at_most()

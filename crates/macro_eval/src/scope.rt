@@ -1,5 +1,5 @@
-//! What an evaluation asks of its variables, and what it answers. Who knows the variables
-//! (path_state) has this trait.
+//! What an evaluation asks of its variables, and what it answers. path_state knows the variables of
+//! a path and implements `Scope`; block_values passes it on.
 ghost use Rattle.std.specs.Prelude.{◌≡◌, ℕ, Result};
 ghost use Rattle.macro_eval.specs.declared.scope.Look.{Look};
 ghost use Rattle.macro_eval.specs.declared.scope.VarFault.{VarFault};
@@ -9,7 +9,7 @@ use nc_number::Var;
 /// What is known of a variable.
 #[derive(Clone, Copy, Debug, PartialEq, Eq)]
 pub enum Look {
-    /// What it holds.
+    /// Its value, or vacant.
     Is(Var),
     /// The paths share it, so that each reading is an event of its own.
     Shared,
@@ -38,7 +38,7 @@ pub trait Scope {
     /// What is known of each variable.
     ghost table: { Self → ℕ → Result Look VarFault };
 
-    /// What is known of the variable.
+    /// What is known of the variable of this number.
     fn look(&self, variable: u32) -> Result<Look, VarFault>
         ensures { result ≡ table self.now variable };
 }

@@ -1,4 +1,4 @@
-//! One instruction of an evaluation. The order of instructions is in `running`.
+//! One instruction of an evaluation, as specs/Postfix defines it. running.rt calls it in order.
 ghost use Rattle.std.specs.Prelude.{◌≡◌, ◌≤◌, ◌==◌, [], ◌∷◌, List, length};
 ghost use Rattle.nc_number.specs.declared.value.Var.{Var};
 ghost use Rattle.macro_eval.specs.Meaning.{made, signed, function_value, operator_value, looked_at, looked_up};
@@ -61,7 +61,8 @@ fn operator_value(op: Op, a: Value, b: Value) -> Result<Value, NumberFault>
     }
 }
 
-/// What a look at the variable gives, and the reads that are left.
+/// What the variable gives: its value, the next read if the paths share it, or alarm 30; and the
+/// reads that are left.
 fn looked_at<'a, S: Scope>(scope: &S, variable: u32, reads: &'a [Var]) -> (Eval, &'a [Var])
     ensures { (result.0, result.1.now) ≡ looked_at (S.table scope.now) variable reads.now }
 {
@@ -75,7 +76,8 @@ fn looked_at<'a, S: Scope>(scope: &S, variable: u32, reads: &'a [Var]) -> (Eval,
     }
 }
 
-/// What a look at the variable of that number gives, and the reads that are left.
+/// What the variable gives whose number was calculated, and the reads that are left. Alarm 4 if the
+/// number has a fraction, 30 if it is below 0.
 fn looked_up<'a, S: Scope>(scope: &S, number: &Var, reads: &'a [Var]) -> (Eval, &'a [Var])
     ensures { (result.0, result.1.now) ≡ looked_up (S.table scope.now) number.now reads.now }
 {

@@ -1,4 +1,4 @@
--- A chain of operators reads exactly the chains of the grammar.
+-- A chain of operators reads exactly the chains of the grammar. For Sound and Complete;
 -- macro_limits takes `chained`.
 use Rattle.std.proofs.Common.{◌≡◌, ℕ, zero, suc, ◌+◌, ◌-◌, ◌≤◌, List, ◌++◌, length, None, Ok, ◌∙◌, ap, arith, append_assoc, length-append}
 use Rattle.std.proofs.lemmas.Bool.{leb-true}
@@ -13,20 +13,21 @@ use Rattle.macro_expr.proofs.Heads.{leading, leads}
 use Rattle.macro_expr.proofs.Chains.{chain_stops, chain_step}
 use Rattle.macro_expr.proofs.Steps.{Sound, found, Reads, step}
 
--- a text of this kind is read as it stands, where what follows does not go on with it
+-- a text of this kind is read as what it stands for, if what follows does not go on with it
 abbrev pub IsRead : {A : Type 0} → (List ℕ → Type 0) → (List ℕ → A → Type 0) → (List ℕ → Read A) → Type 0
 IsRead {A} Quiet Is reader =
     (t : List ℕ) (x : A) → Is t x → (rest : List ℕ) → Quiet rest → reader (t ++ rest) ≡ Ok (x, rest)
 
--- a chain, read from its first part on
+-- a chain of a rank, read from its first operand on
 abbrev pub chained : Rank → (List ℕ → Read Tree) → (List ℕ → Read Tree) → List ℕ → Read Tree
 chained rank first operand text = first text >>= λ x. chain (operator rank) operand (length x.1) x.0 x.1
 
 module _ (rank : Rank) (First Operand : List ℕ → Tree → Type 0) (first operand : List ℕ → Read Tree) where
+  -- a text is a chain of this rank, from its first operand on
   abbrev IsOne : List ℕ → Tree → Type 0
   IsOne = IsChain rank First Operand
 
-  -- what is read is in the grammar
+  -- a chain that is read on from a first part is one of the grammar
   chain_sound : Reads Operand operand → (n : ℕ) (text t at : List ℕ) (left : Tree) → text ≡ t ++ at → IsOne t left
       → Sound IsOne text (chain (operator rank) operand n left at)
   unfolding chain operator

@@ -1,4 +1,5 @@
--- One operator of a chain, and its end.
+-- One operator of a chain, and its end. For the loop of `chain_at` (src/reading.rt), and for
+-- ChainLaws.
 use Rattle.std.proofs.Common.{◌≡◌, ℕ, zero, suc, ◌+◌, ◌-◌, ◌<◌, ◌≤◌, List, Option, None, Some, Result, Ok, Err, refl, sym, ◌∙◌, ap, arith}
 use Rattle.macro_expr.specs.declared.stop.Stop.{Stop}
 use Rattle.macro_expr.specs.declared.tree.Op.{Op}
@@ -9,19 +10,19 @@ use Rattle.nc_number.specs.Results.{◌>>=◌}
 use Rattle.nc_number.specs.Answers.{Fails}
 use Rattle.macro_expr.specs.Reading.{Read, chain, joined_by}
 
--- the tree, as it is read
+-- a tree as the result of reading that did not stop
 abbrev pub ok_tree : Tree → Result Tree Stop
 ok_tree t = Ok t
 
 module _ (operator : List ℕ → Option (Op × List ℕ)) (operand : List ℕ → Read Tree) where
-  -- a chain ends without an operator
+  -- a chain ends if no operator stands at the head of the text
   pub chain_stops : (n : ℕ) (left : Tree) (text : List ℕ) → operator text ≡ None
       → chain operator operand n left text ≡ Ok (left, text)
   unfolding chain
   chain_stops zero left text none = refl
   chain_stops (suc n) left text none = ap (λ o. joined_by left text o operand (chain operator operand n)) none
 
-  -- one operator more
+  -- one operator and its operand more is one step of a chain
   pub chain_step : (n m : ℕ) (left : Tree) (text rest : List ℕ) (op : Op) (right : Read Tree) → n ≡ suc m
       → operator text ≡ Some (op, rest) → operand rest ≡ right
       → chain operator operand n left text ≡ (right >>= λ x. chain operator operand m (Joined op left x.0) x.1)
@@ -31,7 +32,7 @@ module _ (operator : List ℕ → Option (Op × List ℕ)) (operand : List ℕ �
       ∙ ap (λ o. joined_by left text o operand (chain operator operand m)) some
       ∙ ap (λ r. r >>= λ x. chain operator operand m (Joined op left x.0) x.1) is
 
-  -- a step that fails, seen by the loop
+  -- if the operand of the next operator does not read, the whole chain stops so
   pub stops_at_fault : (end i : ℕ) (left : Tree) (text rest : List ℕ) (op : Op) (whole : Read Tree) (e : Failing Stop)
       → i < end → operator text ≡ Some (op, rest) → Fails e (operand rest)
       → chain operator operand (end - i) left text ≡ whole → Fails e whole
@@ -39,7 +40,7 @@ module _ (operator : List ℕ → Option (Op × List ℕ)) (operand : List ℕ �
   stops_at_fault end i left text rest op whole (failing.Fault f) inside some err kept =
       sym kept ∙ chain_step (end - i) (end - (i + 1)) left text rest op (Err f) (omega arith) some err
 
-  -- a step that is done, seen by the loop
+  -- if the next operator and its operand are read, the chain goes on from both
   pub keeps : (end i : ℕ) (left right new : Tree) (text rest after : List ℕ) (op : Op) (whole : Read Tree)
       → i < end → operator text ≡ Some (op, rest) → operand rest ≡ Ok (right, after)
       → ok_tree (Joined op left right) ≡ ok_tree new → chain operator operand (end - i) left text ≡ whole
@@ -49,7 +50,7 @@ module _ (operator : List ℕ → Option (Op × List ℕ)) (operand : List ℕ �
       ap (λ t. chain operator operand (end - (i + 1)) t after) (sym same)
       ∙ sym (chain_step (end - i) (end - (i + 1)) left text rest op (Ok (right, after)) (omega arith) some ok) ∙ kept
 
-  -- where the text is used up the loop is done
+  -- after as many rounds as the text has bytes, the chain is at its end
   pub is_used_up : (end i : ℕ) (left : Tree) (text : List ℕ) (whole : Read Tree) → end ≤ i
       → chain operator operand (end - i) left text ≡ whole → whole ≡ Ok (left, text)
   unfolding chain

@@ -1,4 +1,4 @@
--- What has a tree by the grammar is read as that tree.
+-- What has a tree by the grammar is read as that tree. For StatementsComplete and Sound;
 -- macro_limits takes `first_at`, `looked` and `sum_is`.
 use Rattle.std.proofs.Common.{◌≡◌, ℕ, zero, suc, ◌/◌, ◌==◌, Bool, true, false, cond, List, [], ◌∷◌, ◌++◌, None, Some, Result, Ok, Err, ℤ, unsigned_abs, refl, sym, ◌∙◌, ap, arith, append_assoc}
 use Rattle.std.specs.Prelude.{codes}
@@ -20,7 +20,7 @@ use Rattle.macro_expr.specs.Grammar.{IsWord, IsWhole, IsBracketed, closed, IsVar
 use Rattle.macro_expr.proofs.Heads.{◌also◌, each, run_whole}
 use Rattle.macro_expr.proofs.ChainLaws.{IsRead, chained, chain_read}
 
--- nothing that would go on with a number, with a product, or with a sum
+-- the text begins with nothing that could go on a number
 abbrev pub NoNumber : List ℕ → Type 0
 NoNumber rest = begins is_number_byte rest ≡ false
 
@@ -32,14 +32,14 @@ NoProduct rest = NoNumber rest × (operator Product rest ≡ None)
 abbrev pub NoSum : List ℕ → Type 0
 NoSum rest = NoNumber rest × (operator Product rest ≡ None) × (operator Sum rest ≡ None)
 
--- operators go on with no operand
+-- an operator of a product goes on no number
 product_quiet : (word : List ℕ) (op : Op) → IsWord (operator_words Product) word op
     → (rest : List ℕ) → NoNumber (word ++ rest)
 product_quiet =
     each (operator_words Product) (λ w op. (rest : List ℕ) → NoNumber (w ++ rest))
     ((λ _. refl) also (λ _. refl) also (λ _. refl) also (λ _. refl) also tt)
 
--- an operator of a sum is none of a term
+-- an operator of a sum goes on no product
 sum_quiet : (word : List ℕ) (op : Op) → IsWord (operator_words Sum) word op
     → (rest : List ℕ) → NoProduct (word ++ rest)
 unfolding operator
@@ -120,7 +120,7 @@ looked v = Ok (look v.0, v.1)
 module _ (inner : List ℕ → Read Tree) (Inner : List ℕ → Tree → Type 0)
     (inner_reads : (t : List ℕ) (e : Tree) → Inner t e → (rest : List ℕ)
     → inner (t ++ (codes "]" ++ rest)) ≡ Ok (e, codes "]" ++ rest)) where
-  -- what stands in brackets is read,
+  -- an expression in brackets is read
   pub bracket_read : (t : List ℕ) (e : Tree) → IsBracketed Inner t e → (rest : List ℕ)
       → bracket_at inner (t ++ rest) ≡ Ok (e, rest)
   unfolding bracket_at word_at
@@ -129,7 +129,7 @@ module _ (inner : List ℕ → Read Tree) (Inner : List ℕ → Tree → Type 0)
       ap (λ xs. inner xs >>= f) (let e : (t ++ codes "]") ++ rest ≡ t ++ (codes "]" ++ rest) = simp append_assoc in e)
       ∙ ap (λ r. r >>= f) (inner_reads t e is rest)
 
-  -- so is a variable,
+  -- a variable is read
   pub variable_read : IsRead NoNumber (IsVariable Inner) (variable_at inner)
   unfolding variable_at variable_behind word_at
   variable_read _ _ (fixed t n is) rest quiet =
@@ -152,7 +152,7 @@ module _ (inner : List ℕ → Read Tree) (Inner : List ℕ → Tree → Type 0)
       ((λ _. (refl, refl)) also (λ _. (refl, refl)) also (λ _. (refl, refl)) also (λ _. (refl, refl))
       also (λ _. (refl, refl)) also tt)
 
-  -- a prim begins with no sign, and is read
+  -- an operand begins with no sign
   prim_begins : (t : List ℕ) (e : Tree) → IsPrim Inner t e → (rest : List ℕ) → NoNumber rest
       → (sign (t ++ rest) ≡ None) × (prim_at inner (t ++ rest) ≡ Ok (e, rest))
   unfolding sign prim_at number_at
@@ -179,6 +179,8 @@ module _ (inner : List ℕ → Read Tree) (Inner : List ℕ → Tree → Type 0)
             ∙ ap (λ r. r >>= λ e. Ok (Applied f e.0, e.1)) (bracket_read _ e (closed t e is) rest),
       )
 
+  -- These four are read as their trees: an operand, one with a sign, a product, and the first
+  -- product of a sum.
   prim_read : IsRead NoNumber (IsPrim Inner) (prim_at inner)
   prim_read t e is rest quiet = (prim_begins t e is rest quiet).1
 
@@ -205,14 +207,14 @@ module _ (inner : List ℕ → Read Tree) (Inner : List ℕ → Tree → Type 0)
       chain_read Product _ _ (signed_at inner) (prim_at inner) NoNumber signed_read prim_read product_quiet
       t e is rest quiet.0 quiet.1
 
-  -- and a sum
+  -- a sum is read as its tree
   pub sum_read : IsRead NoSum (IsSum Inner) (sum_at inner)
   sum_read t e is rest quiet =
       sum_is inner (t ++ rest)
       ∙ chain_read Sum _ _ (first_at inner) (product_at inner) NoProduct first_read product_read sum_quiet
       t e is rest (quiet.0, quiet.1) quiet.2
 
--- behind a closing bracket no operator stands
+-- a closing bracket goes on no expression
 pub behind_bracket : (rest : List ℕ) → NoSum (codes "]" ++ rest)
 unfolding operator
 behind_bracket rest = (refl, refl, refl)

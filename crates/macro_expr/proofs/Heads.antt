@@ -1,5 +1,5 @@
--- Words and runs at the head of a text.
--- macro_limits and open_forms take lemmas from here.
+-- Words and runs at the head of a text: what a search in a table of words finds. For the other
+-- lemmas of this crate; macro_limits and open_forms take lemmas from here.
 use Rattle.std.proofs.Common.{◌≡◌, ℕ, suc, ◌+◌, ◌==◌, ◌&&◌, not, Bool, true, false, cond, List, [], ◌∷◌, ◌++◌, length, take, drop, Option, None, Some, refl, sym, ◌∙◌, ap, subst, arith, inl, inr, eqb-true}
 use Rattle.std.specs.Prelude.{nat_le}
 use Rattle.std.specs.Option.{option_or, option_map}
@@ -14,7 +14,8 @@ use Rattle.macro_expr.specs.declared.words.Rank.TheVariants.{Product, Sum}
 use Rattle.macro_expr.specs.Words.{behind, first_word, all_of, operator_words, operator, run, behind_run, begins}
 use Rattle.macro_expr.specs.Grammar.{IsWord}
 
--- what is due of the text behind a word, where it begins with that and where it does not
+-- what is shown of the text after a word, whether or not the text begins with it, holds of the
+-- search
 pub behind_word : (G : Option (List ℕ) → Type 0) (word text : List ℕ)
     → ((rest : List ℕ) → text ≡ word ++ rest → G (Some rest)) → G None → G (behind word text)
 behind_word G [] text some none = some text refl
@@ -27,7 +28,8 @@ behind_word G (w ∷ word) (b ∷ text) some none =
     go true same further = further same
     go false other further = none
 
--- what is due of what a table of words finds, where one of them begins the text and where none does
+-- what is shown of each word of a table that begins the text, and of a text with none, holds of the
+-- search
 pub leading : {A : Type 0} (G : Option (A × List ℕ) → Type 0) (words : List (List ℕ × A)) (text : List ℕ)
     → ((w rest : List ℕ) (m : A) → IsWord words w m → text ≡ w ++ rest → G (Some (m, rest)))
     → G None → G (first_word words text)
@@ -37,7 +39,8 @@ leading G (w ∷ words) text found none =
     behind_word (λ o. G (option_or (option_map (λ rest. (w.1, rest)) o) (first_word words text))) w.0 text
     (λ rest stands. found w.0 rest w.1 (inl (refl, refl)) stands) further
 
--- the same where a word must be all of the text
+-- what is shown of each word of a table that is all of the text, and of a text that is none, holds
+-- of the search
 pub meant : {A : Type 0} (G : Option A → Type 0) (words : List (List ℕ × A)) (name : List ℕ)
     → ((m : A) → IsWord words name m → G (Some m)) → G None → G (all_of (first_word words name))
 meant {A} G words name found none = leading (λ o. G (all_of o)) words name go none
@@ -48,7 +51,7 @@ meant {A} G words name found none = leading (λ o. G (all_of o)) words name go n
         let some : (length (b ∷ rest) == 0) ≡ false = grind (arith, nat_tests) in
         subst (λ t. G (cond t (Some m) None)) (sym some) none
 
--- what holds of each word of a table
+-- what holds of each word of a table, word by word
 abbrev pub Each : {A : Type 0} → List (List ℕ × A) → (List ℕ → A → Type 0) → Type 0
 Each [] P = Unit {0}
 Each (w ∷ words) P = P w.0 w.1 × Each words P
@@ -92,7 +95,7 @@ count_run p (b ∷ t) rest all quiet =
     ap (λ x. cond (not (not x)) (1 + prefix_len (λ b. not (not (p b))) (t ++ rest)) 0) parts.0
     ∙ (let e : 1 + prefix_len (λ b. not (not (p b))) (t ++ rest) ≡ suc (length t) = omega (arith, further) in e)
 
--- a run and what stands behind it
+-- a run that no further such byte follows is the text's run, and the rest stands after it
 pub run_whole : (p : ℕ → Bool) (t rest : List ℕ) → list_all p t ≡ true → begins p rest ≡ false
     → (run p (t ++ rest) ≡ t) × (behind_run p (t ++ rest) ≡ rest)
 run_whole p t rest all quiet =
@@ -101,11 +104,11 @@ run_whole p t rest all quiet =
       ap (λ n. drop n (t ++ rest)) count ∙ drop-append_seam t rest,
     )
 
--- a text is its longest run and what stands behind it
+-- a text is its longest run and what stands after it
 pub run_splits : (p : ℕ → Bool) (text : List ℕ) → text ≡ run p text ++ behind_run p text
 run_splits p text = sym (take-append-drop (position_or_len (λ b. not (p b)) text) text)
 
--- all bytes of the run are such bytes
+-- all bytes of the run pass the test
 pub run_all : (p : ℕ → Bool) (text : List ℕ) → list_all p (run p text) ≡ true
 run_all p [] = refl
 run_all p (b ∷ text) = go (run_all p text) (p b) refl

@@ -1,6 +1,6 @@
 -- What holds of each tree by the grammar: how deep its right operands stand, and how many variables
--- it names.
--- path_state takes `variables-append`.
+-- it names. For `parse_expr` and `parse_statement` (src/parse.rt); path_state takes
+-- `variables-append`.
 use Rattle.std.proofs.Common.{◌≡◌, ℕ, zero, suc, ◌+◌, ◌*◌, ◌≤◌, List, [], ◌∷◌, ◌++◌, arith}
 use Rattle.std.specs.Prelude.{codes}
 use Rattle.std.specs.List.{All}
@@ -15,16 +15,19 @@ use Rattle.macro_expr.specs.Limits.{variable_signs}
 use Rattle.macro_expr.specs.Grammar.{IsWord, IsBracketed, closed, IsVariable, fixed, computed, IsPrim, number, variable, bracket, function, IsSigned, plain, signed, IsChain, one, more, IsProduct, IsSum, IsWithin, IsExpression, IsTest, compares, IsTarget, line, line_of, line_in, IsAssignment, assigns, IsStatement, assign, goto, if_goto, if_then, while_do, do_only, end_loop}
 use Rattle.macro_expr.proofs.Heads.{◌also◌, each}
 
--- a tree that is so deep at most, and names no more variables than its text has signs of them
+-- right operands of the tree stand at most so deep, and it names no more variables than its text
+-- has `#`
 pub record Kept (most : ℕ) (t : List ℕ) (e : Tree) : Type 0 where
+  -- how deep its right operands stand
   pub deep : right_depth e ≤ most
+  -- it names no more variables than its text has `#`
   pub named : variables e ≤ variable_signs t
 
--- so is each tree of these texts
+-- each tree of such a text is kept
 abbrev AreKept : ℕ → (List ℕ → Tree → Type 0) → Type 0
 AreKept most Texts = (t : List ℕ) (e : Tree) → Texts t e → Kept most t e
 
--- two texts name the variables of both
+-- the signs of variables in two texts are those of both
 signs-append : (t u : List ℕ) → variable_signs (t ++ u) ≡ variable_signs t + variable_signs u
 signs-append t u = sum_by-append _ t u
 
@@ -46,6 +49,7 @@ chain_kept rank First Operand most first operand _ _ (more t word u op left righ
     }
 
 module _ (Inner : List ℕ → Tree → Type 0) (most : ℕ) (inner : AreKept most Inner) where
+  -- These four: brackets, a variable, an operand and one with a sign keep it.
   bracket_kept : AreKept most (IsBracketed Inner)
   bracket_kept _ _ (closed t e is) =
       let kept = inner t e is in
@@ -95,20 +99,22 @@ expression_kept = within_kept 6
 inside_kept : AreKept 12 (IsWithin 5)
 inside_kept t e is = let kept = within_kept 5 t e is in record { deep = omega (arith, kept.deep); named = kept.named }
 
--- its right operands stand at most 12 deep
+-- the right operands of a tree stand at most 12 deep
 abbrev IsShallow : Tree → Type 0
 IsShallow e = right_depth e ≤ 12
 
--- the same of the trees of a text, in their order
+-- each of these trees is shallow, and all together name no more variables than the text has `#`
 pub record AllKept (t : List ℕ) (trees : List Tree) : Type 0 where
+  -- right operands of each tree stand at most 12 deep
   pub shallow : All IsShallow trees
+  -- all together name no more variables than the text has `#`
   pub named : variables_in trees ≤ variable_signs t
 
--- no tree at all,
+-- no trees are kept by any text
 no_tree : (t : List ℕ) → AllKept t []
 no_tree t = record { shallow = All-nil IsShallow; named = omega arith }
 
--- one tree,
+-- one tree that is kept is a list that is kept
 alone : (t : List ℕ) (e : Tree) → Kept 12 t e → AllKept t (e ∷ [])
 alone t e kept = record {
   shallow = All-cons IsShallow e [] kept.deep (All-nil IsShallow);
@@ -120,32 +126,32 @@ pub variables-append : (xs ys : List Tree) → variables_in (xs ++ ys) ≡ varia
 variables-append [] ys = omega arith
 variables-append (x ∷ xs) ys = let further = variables-append xs ys in omega arith
 
--- and the trees of two texts are kept by both texts
+-- the trees of two texts are kept by both texts together
 both : {t u : List ℕ} {xs ys : List Tree} → AllKept t xs → AllKept u ys → AllKept (t ++ u) (xs ++ ys)
 both {t} {u} {xs} {ys} left right = record {
   shallow = All-append IsShallow xs ys left.shallow right.shallow;
   named = rw (variables-append xs ys) (omega (arith, left.named, right.named, signs-append t u));
 }
 
--- the trees of a condition,
+-- the trees of a condition are kept
 test_kept : (t : List ℕ) (test : Test) → IsTest t test → AllKept t (evaluated_test test)
 test_kept _ _ (compares t word u rel left right is_left is_word is_right) =
     both (no_tree (codes "[")) (both (alone t left (inside_kept t left is_left))
     (both (no_tree word) (both (alone u right (inside_kept u right is_right)) (no_tree (codes "]")))))
 
--- of the target of a jump,
+-- the tree of the target of a jump is kept, and a number that is written out is in range
 aim_kept : (t : List ℕ) (aim : Aim) → IsTarget t aim → AllKept t (evaluated_aim aim) × IsAimInRange aim
 aim_kept _ _ (line t n is small) = (no_tree t, small)
 aim_kept _ _ (line_of t v is) = (alone t (look v) (variable_kept (IsWithin 5) 12 inside_kept t v is), tt)
 aim_kept _ _ (line_in t e is) = (alone t e (bracket_kept (IsWithin 5) 12 inside_kept t e is), tt)
 
--- of the left side,
+-- the tree of the number of an assigned variable is kept
 name_kept : (t : List ℕ) (v : Named) → IsVariable (IsWithin 5) t v → AllKept t (evaluated_name v)
 name_kept _ _ (fixed t n is) = no_tree (codes "#" ++ t)
 name_kept _ _ (computed t e is) =
     both (no_tree (codes "#")) (alone t e (bracket_kept (IsWithin 5) 12 inside_kept t e is))
 
--- and of an assignment
+-- the trees of an assignment are kept
 assignment_kept : (t : List ℕ) (v : Named) (e : Tree) → IsAssignment t v e → AllKept t (evaluated_name v ++ e ∷ [])
 assignment_kept _ _ _ (assigns t u v e is_variable is) =
     both (name_kept t v is_variable) (both (no_tree (codes "=")) (alone u e (expression_kept u e is)))
@@ -156,7 +162,7 @@ loop_in_range =
     each loop_words (λ w m. IsLoop m)
     ((omega arith, omega arith) also (omega arith, omega arith) also (omega arith, omega arith) also tt)
 
--- so a statement keeps it, and its numbers are in range
+-- the trees of a statement are kept, and its numbers are in range
 pub statement_kept : (t : List ℕ) (s : Sentence) → IsStatement t s → AllKept t (evaluated s) × IsInRange s
 statement_kept _ _ (assign t v e is) = (assignment_kept t v e is, tt)
 statement_kept _ _ (goto t aim is) =

@@ -1,4 +1,5 @@
--- The lemmas of this crate, each file by its subject. macro_limits takes most of them.
+-- The lemmas of macro_expr, each file by its subject. macro_limits takes most of them; Scans,
+-- Chains and Trees serve the proofs of this crate alone.
 pub mod Prefixes
 pub mod Chains
 pub mod Scans

@@ -1,11 +1,11 @@
--- A text begins with a word.
--- open_forms takes `behind_prefix`.
+-- The code's prefix search finds what the specs say stands after a word. For `behind`
+-- (src/words.rt); open_forms takes `behind_prefix`.
 use Rattle.std.proofs.Common.{◌≡◌, ℕ, ◌+◌, true, false, ◌==◌, ◌&&◌, nat_eq, List, [], ◌∷◌, length, take, drop, Option, None, Some, MatchOption, refl, cond, sym, ◌∙◌, ap, Bor}
 use Rattle.std.specs.Option.{option_map}
 use lib.Pointwise.{pointwise}
 use Rattle.macro_expr.specs.Words.{behind}
 
--- what stands behind a word, by comparing the front
+-- what stands after a word, by comparing the front of the text
 behind_is : (word text : List ℕ)
     → behind word text ≡ cond (pointwise nat_eq (take (length word) text) word) (Some (drop (length word) text)) None
 behind_is [] text = refl

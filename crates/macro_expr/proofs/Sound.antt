@@ -1,5 +1,5 @@
--- What is read of an expression has its tree by the grammar.
--- macro_limits takes lemmas from here.
+-- What is read of an expression has its tree by the grammar. For StatementsSound; macro_limits
+-- takes lemmas from here.
 use Rattle.std.proofs.Common.{◌≡◌, ℕ, zero, suc, ◌/◌, ◌==◌, Bool, true, false, cond, List, [], ◌++◌, Ok, Err, ℤ, unsigned_abs, refl, sym, subst, append_assoc}
 use Rattle.std.specs.Prelude.{codes}
 use Rattle.std.specs.Char.{is_ascii_digit}
@@ -17,7 +17,7 @@ use Rattle.macro_expr.proofs.Steps.{Sound, found, stops, Reads, step, word_step,
 use Rattle.macro_expr.proofs.ChainLaws.{chained_sound}
 use Rattle.macro_expr.proofs.Complete.{valued, sum_is, first_at, looked}
 
--- what is due of what goes on behind a literal
+-- what is shown after a literal is read, and of reading that stops there, holds of both steps
 pub literal_step : {B : Type 0} (G : Read B → Type 0) (t : List ℕ) (f : ℤ → Read B)
     → (is_literal t ≡ true → has_too_many_digits t ≡ false → G (f (literal_micro t)))
     → G (Err stop.Expression) → G (literal_of t >>= f)
@@ -30,7 +30,7 @@ literal_step {B} G t f next fails = go (is_literal t) refl (has_too_many_digits 
     go true is false short = next is short
     go false is b long = fails
 
--- a run of digits that is read is such a number
+-- a run of bytes that is read as a number is such a number
 run-sound : {A : Type 0} {Is : List ℕ → A → Type 0} (p : ℕ → Bool) (value : ℤ → A)
     → ((t : List ℕ) → list_all p t ≡ true → is_literal t ≡ true → has_too_many_digits t ≡ false
     → Is t (value (literal_micro t))) → Reads Is (λ text. literal_of (run p text) >>= valued p value text)
@@ -40,7 +40,7 @@ run-sound {Is} p value make text =
     found (run p text) (behind_run p text) _ (make (run p text) (run_all p text) is short) (run_splits p text))
     (stops stop.Expression)
 
--- a whole number that is read is one
+-- a whole number that is read is one of the grammar
 pub digits-sound : Reads IsWhole digits_at
 unfolding digits_at
 digits-sound =
@@ -48,7 +48,7 @@ digits-sound =
     (λ t all is short. record { bytes = all; literal = is; short = short; value = refl })
 
 module _ (inner : List ℕ → Read Tree) (Inner : List ℕ → Tree → Type 0) (inner-sound : Reads Inner inner) where
-  -- what is read in brackets stands there by the grammar,
+  -- what is read in brackets stands there by the grammar
   pub bracket-sound : Reads (IsBracketed Inner) (bracket_at inner)
   unfolding bracket_at
   bracket-sound text =
@@ -57,7 +57,7 @@ module _ (inner : List ℕ → Read Tree) (Inner : List ℕ → Tree → Type 0)
       word_step _ (codes "]") after (λ rest ends.
       found _ rest e (closed t e is) (simp (here, stands, ends, append_assoc)))))
 
-  -- so does a variable that is read,
+  -- a variable that is read is one of the grammar
   pub variable-sound : Reads (IsVariable Inner) (variable_at inner)
   unfolding variable_at variable_behind
   variable-sound text = word_step _ (codes "#") text (λ after here. go after here (begins is_ascii_digit after))
@@ -68,13 +68,14 @@ module _ (inner : List ℕ → Read Tree) (Inner : List ℕ → Tree → Type 0)
       go after here true = joins (codes "#") Fixed fixed here (digits-sound after)
       go after here false = joins (codes "#") Computed computed here (bracket-sound after)
 
+  -- a number that is read is an operand of the grammar
   number-sound : Reads (IsPrim Inner) number_at
   unfolding number_at
   number-sound =
       run-sound is_number_byte Number
       (λ t all is short. number t (literal_micro t) (record { bytes = all; literal = is; short = short; value = refl }))
 
-  -- a function,
+  -- a function that is read is an operand of the grammar
   pub function-sound : Reads (IsPrim Inner) (function_at inner)
   unfolding function_at function_of function_word
   function-sound text =
@@ -86,7 +87,7 @@ module _ (inner : List ℕ → Read Tree) (Inner : List ℕ → Tree → Type 0)
       (bracket-sound after))
       (stops stop.Function)
 
-  -- a prim,
+  -- an operand that is read is one of the grammar
   pub prim-sound : Reads (IsPrim Inner) (prim_at inner)
   unfolding prim_at
   prim-sound text = go (begins (λ b. b == 35) text) (begins (λ b. b == 91) text) (begins is_letter text)
@@ -99,7 +100,7 @@ module _ (inner : List ℕ → Read Tree) (Inner : List ℕ → Tree → Type 0)
       go false false true = function-sound text
       go false false false = number-sound text
 
-  -- a prim with its sign,
+  -- an operand that is read with its sign is one of the grammar
   pub signed-sound : Reads (IsSigned Inner) (signed_at inner)
   unfolding signed_at sign
   signed-sound text =
@@ -108,22 +109,22 @@ module _ (inner : List ℕ → Read Tree) (Inner : List ℕ → Tree → Type 0)
       joins word (Signed minus) (λ t e is. signed word t minus e is_word is) here (prim-sound rest))
       (turned plain (prim-sound text))
 
-  -- a term,
+  -- a product that is read is one of the grammar
   pub product-sound : Reads (IsProduct Inner) (product_at inner)
   unfolding product_at
   product-sound = chained_sound Product _ _ _ _ prim-sound prim-sound
 
-  -- the first term of a sum,
+  -- the first product of a sum that is read is one of the grammar
   pub first-sound : Reads (IsChain Product (IsSigned Inner) (IsPrim Inner)) (first_at inner)
   first-sound = chained_sound Product _ _ _ _ signed-sound prim-sound
 
-  -- and a sum
+  -- a sum that is read is one of the grammar
   pub sum-sound : Reads (IsSum Inner) (sum_at inner)
   sum-sound text =
       subst (Sound (IsSum Inner) text) (sym (sum_is inner text))
       (chained_sound Sum _ _ _ _ first-sound product-sound text)
 
--- an expression that is read within so many brackets has that tree
+-- an expression that is read within so many brackets has its tree by the grammar
 pub within-sound : (n : ℕ) → Reads (IsWithin n) (inside n)
 unfolding inside
 within-sound zero text = stops stop.Expression

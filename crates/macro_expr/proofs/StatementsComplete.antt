@@ -1,4 +1,4 @@
--- A statement of the grammar is read as that statement.
+-- A statement of the grammar is read as that statement. For the clauses of src/parse.rt;
 -- macro_limits takes `condition_read`, `digits_target`, `looping` and `test_read`.
 use Rattle.std.proofs.Common.{◌≡◌, ℕ, ◌==◌, true, false, cond, List, [], ◌++◌, Some, Ok, Err, refl, sym, ◌∙◌, ap, append_assoc}
 use Rattle.std.specs.Prelude.{codes}
@@ -16,11 +16,11 @@ use Rattle.macro_expr.specs.Grammar.{IsWord, IsWhole, closed, IsVariable, fixed,
 use Rattle.macro_expr.proofs.Heads.{◌also◌, each}
 use Rattle.macro_expr.proofs.Complete.{NoSum, digits_read, begins_it, behind_bracket, bracket_read, variable_read, within_read}
 
--- how a relation begins a text
+-- this word begins any text as this relation, and goes on no expression
 abbrev Compares : List ℕ → Rel → Type 0
 Compares word rel = (rest : List ℕ) → (relation (word ++ rest) ≡ Some (rel, rest)) × NoSum (word ++ rest)
 
--- a word of a relation is read as the relation
+-- each word of a relation is read as that relation
 compares_it : (word : List ℕ) (rel : Rel) → IsWord relation_words word rel → Compares word rel
 unfolding relation operator
 compares_it =
@@ -43,16 +43,16 @@ nothing_follows = (refl, refl, refl)
 expression_read : (t : List ℕ) (e : Tree) → IsExpression t e → inside 6 t ≡ Ok (e, [])
 expression_read t e is = ap (inside 6) (sym (append-nil t)) ∙ within_read 6 t e is [] nothing_follows
 
--- what stands behind the relation of a condition, and the condition behind its right side
+-- what is read after the right side of a condition, and the condition it makes
 abbrev pub closing : Tree → Rel → (Tree × List ℕ) → Read Test
 closing left rel right =
     word_at (codes "]") right.1 >>= λ rest. Ok (record { left = left; rel = rel; right = right.0 }, rest)
 
--- what stands behind the relation of a condition
+-- what is read after the relation of a condition
 abbrev pub related : Tree → Rel × List ℕ → Read Test
 related left rel = inside 5 rel.1 >>= closing left rel.0
 
--- a condition is read, whatever follows it,
+-- a condition of the grammar is read, whatever follows it
 pub condition_read : (c : List ℕ) (test : Test) → IsTest c test → (rest : List ℕ)
     → condition_at (c ++ rest) ≡ Ok (test, rest)
 unfolding condition_at relation_at word_at
@@ -66,7 +66,7 @@ condition_read _ _ (compares t word u rel left right is_left is_rel is_right) re
     ∙ ap (λ o. relation_found o >>= related left) c.0
     ∙ ap (λ r. r >>= closing left rel) (inner_reads 5 u right is_right rest)
 
--- also with its brackets
+-- a condition of the grammar is read after IF or WHILE, whatever follows it
 pub test_read : (c : List ℕ) (test : Test) → IsTest c test → (rest : List ℕ) → test_at (c ++ rest) ≡ Ok (test, rest)
 unfolding test_at
 test_read c test is rest = ap or_no_condition (condition_read c test is rest)
@@ -77,13 +77,13 @@ as_variable t v is =
     ap (variable_at (inside 5)) (sym (append-nil t))
     ∙ variable_read (inside 5) (IsWithin 5) (inner_reads 5) t v is [] refl
 
--- a target that is no number
+-- the target of a jump, if it does not begin with a digit
 abbrev pub other_target : List ℕ → Read Aim
 other_target t =
     cond (begins (λ b. b == 35) t) (variable_at (inside 5) t >>= λ v. Ok (ToNumberOf (look v.0), v.1))
     (bracket_at (inside 5) t >>= λ e. Ok (ToNumberOf e.0, e.1))
 
--- a target of digits, whatever stands behind them
+-- a target of digits is read as its number, whatever else follows
 pub digits_target : (t rest : List ℕ) (n : ℕ) → IsWhole t n → begins is_ascii_digit rest ≡ false
     → target_at (t ++ rest) ≡ numbered n rest
 unfolding target_at
@@ -92,7 +92,7 @@ digits_target t rest n is quiet =
     (begins_it is_ascii_digit t rest is.bytes is.literal)
     ∙ ap (λ r. r >>= (λ (n : ℕ × List ℕ). numbered n.0 n.1)) (digits_read t n is rest quiet)
 
--- so is the target of a jump,
+-- the target of a jump that is all of the text is read
 target_read : (t : List ℕ) (aim : Aim) → IsTarget t aim → target_at t ≡ Ok (aim, [])
 unfolding target_at
 target_read _ _ (line t n is small) =
@@ -107,12 +107,12 @@ target_read _ _ (line_in _ _ (closed t e is)) =
     (ap (bracket_at (inside 5)) (sym (append-nil (codes "[" ++ (t ++ codes "]"))))
     ∙ bracket_read (inside 5) (IsWithin 5) (inner_reads 5) _ e (closed t e is) [])
 
--- the number of a loop,
+-- the number of a loop that is all of the text is read
 loop_read : (word : List ℕ) (m : ℕ) → IsWord loop_words word m → loop_at word ≡ Ok (m, [])
 unfolding loop_at loop_of loop_word
 loop_read = each loop_words (λ w m. loop_at w ≡ Ok (m, [])) (refl also refl also refl also tt)
 
--- what stands behind the left side of an assignment
+-- what is read after the left side of an assignment
 abbrev pub equals : Named × List ℕ → Read (Named × Tree)
 equals v = word_at (codes "=") v.1 >>= λ rest. inside 6 rest >>= λ e. Ok ((v.0, e.0), e.1)
 
@@ -128,7 +128,7 @@ starts_as_variable : (t : List ℕ) (v : Named) (e : Tree) → IsAssignment t v 
 starts_as_variable _ _ _ (assigns _ u _ e (fixed t n w) is) = refl
 starts_as_variable _ _ _ (assigns _ u _ e (computed t x w) is) = refl
 
--- what stands behind the condition of WHILE
+-- what is read after the condition of WHILE
 abbrev pub looping : Test × List ℕ → Read Sentence
 looping test = word_at (codes "DO") test.1 >>= λ rest. loop_at rest >>= λ m. Ok (WhileDo test.0 m.0, m.1)
 
@@ -136,7 +136,7 @@ looping test = word_at (codes "DO") test.1 >>= λ rest. loop_at rest >>= λ m. O
 abbrev as_assign : (Named × Tree) × List ℕ → Read Sentence
 as_assign a = Ok (Assign a.0.0 a.0.1, a.1)
 
--- a statement that is all of the text is read,
+-- a statement that is all of the text is read
 statement_read : (t : List ℕ) (s : Sentence) → IsStatement t s → statement_at t ≡ Ok (s, [])
 unfolding statement_at if_at while_at branch_at word_at keyword
 statement_read _ _ (assign t v e is) =
@@ -155,10 +155,10 @@ statement_read _ _ (while_do c word test m is_test is) =
 statement_read _ _ (do_only word m is) = ap (λ r. r >>= (λ m. Ok (DoOnly m.0, m.1))) (loop_read word m is)
 statement_read _ _ (end_loop word m is) = ap (λ r. r >>= (λ m. Ok (EndLoop m.0, m.1))) (loop_read word m is)
 
--- a text with a tree is read whole
+-- an expression of the grammar is read whole, with nothing after it
 pub whole_expression_read : (t : List ℕ) (e : Tree) → IsExpression t e → whole (expression_at t) ≡ Ok e
 whole_expression_read t e is = ap whole (expression_read t e is)
 
--- and nothing stands behind it
+-- a statement of the grammar is read whole, with nothing after it
 pub whole_statement_read : (t : List ℕ) (s : Sentence) → IsStatement t s → whole (statement_at t) ≡ Ok s
 whole_statement_read t s is = ap whole (statement_read t s is)

@@ -1,5 +1,5 @@
--- A statement that is read is one of the grammar.
--- macro_limits and open_forms take lemmas from here.
+-- A statement that is read is one of the grammar. For the clauses of src/parse.rt; macro_limits and
+-- open_forms take lemmas from here.
 use Rattle.std.proofs.Common.{◌≡◌, ℕ, ◌==◌, nat_lt, Bool, true, false, cond, List, [], ◌∷◌, ◌++◌, length, Ok, Err, refl, sym, ◌∙◌, ap, subst, arith, append_assoc}
 use Rattle.std.specs.Prelude.{codes}
 use Rattle.std.specs.Char.{is_ascii_digit}
@@ -19,7 +19,7 @@ use Rattle.macro_expr.proofs.Steps.{Sound, found, stops, Reads, step, word_step,
 use Rattle.macro_expr.proofs.Sound.{digits-sound, bracket-sound, variable-sound, within-sound}
 use Rattle.macro_expr.proofs.StatementsComplete.{related}
 
--- a condition that is read is one of the grammar,
+-- a condition that is read is one of the grammar
 pub condition-sound : Reads IsTest condition_at
 unfolding condition_at relation_at relation
 condition-sound text =
@@ -33,7 +33,7 @@ condition-sound text =
     (simp (here, stands, relates, follows, ends, append_assoc)))))
     (stops stop.Expression)))
 
--- also with its brackets,
+-- a condition that is read after IF or WHILE is one of the grammar
 pub test-sound : Reads IsTest test_at
 unfolding test_at
 test-sound text = go (condition-sound text)
@@ -42,7 +42,7 @@ test-sound text = go (condition-sound text)
     go (found t rest x is stands) = found t rest x is stands
     go (stops s) = stops stop.Condition
 
--- so is the target of a jump,
+-- the target of a jump that is read is one of the grammar
 pub target-sound : Reads IsTarget target_at
 unfolding target_at
 target-sound text = go (begins is_ascii_digit text) (begins (λ b. b == 35) text)
@@ -60,7 +60,7 @@ target-sound text = go (begins is_ascii_digit text) (begins (λ b. b == 35) text
         joins [] (λ v. ToNumberOf (look v)) line_of refl (variable-sound (inside 5) (IsWithin 5) (within-sound 5) text)
     go false false = joins [] ToNumberOf line_in refl (bracket-sound (inside 5) (IsWithin 5) (within-sound 5) text)
 
--- and the number of a loop
+-- the number of a loop that is read is one of the grammar
 loop-sound : Reads (IsWord loop_words) loop_at
 unfolding loop_at loop_of loop_word
 loop-sound text =
@@ -73,7 +73,7 @@ loop-sound text =
 abbrev pub IsAssign : List ℕ → Named × Tree → Type 0
 IsAssign t a = IsAssignment t a.0 a.1
 
--- an assignment that is read is one of the grammar,
+-- an assignment that is read is one of the grammar
 pub assignment-sound : Reads IsAssign assignment_at
 unfolding assignment_at
 assignment-sound text =
@@ -83,7 +83,7 @@ assignment-sound text =
     found (t ++ (codes "=" ++ u)) rest (v, e) (assigns t u v e is_variable is)
     (simp (here, equals, stands, append_assoc)))))
 
--- what is read behind IF,
+-- what is read after IF makes a statement of the grammar
 if-sound : (text at : List ℕ) → text ≡ codes "IF" ++ at → Sound IsStatement text (if_at at)
 unfolding if_at branch_at
 if-sound text at here =
@@ -96,7 +96,7 @@ if-sound text at here =
     step _ (assignment-sound body) (λ t rest a is follows.
     found _ rest _ (if_then c t test a.0 a.1 is_test is) (simp (here, stands, does, follows, append_assoc))))))
 
--- behind WHILE,
+-- what is read after WHILE makes a statement of the grammar
 while-sound : (text at : List ℕ) → text ≡ codes "WHILE" ++ at → Sound IsStatement text (while_at at)
 unfolding while_at
 while-sound text at here =
@@ -105,11 +105,11 @@ while-sound text at here =
     step _ (loop-sound number) (λ t rest m is follows.
     found _ rest _ (while_do c t test m is_test is) (simp (here, stands, does, follows, append_assoc)))))
 
--- what stands behind the word that begins a statement
+-- after this keyword in the text, what is read makes a statement of the grammar
 abbrev Behind : List ℕ → List ℕ → Keyword → Type 0
 Behind text word k = (at : List ℕ) → text ≡ word ++ at → Sound IsStatement text (statement_for k at)
 
--- and so each statement
+-- a statement that is read is one of the grammar
 pub statement-sound : Reads IsStatement statement_at
 unfolding statement_at keyword
 statement-sound text = go (begins (λ b. b == 35) text)
@@ -143,6 +143,6 @@ whole-sound (found t (b ∷ rest) x is stands) y read =
 pub whole-expression-sound : (text : List ℕ) (e : Tree) → whole (expression_at text) ≡ Ok e → IsExpression text e
 whole-expression-sound text e read = whole-sound (within-sound 6 text) e read
 
--- and so has a statement
+-- a statement that is all of the text has its tree by the grammar
 pub whole-statement-sound : (text : List ℕ) (s : Sentence) → whole (statement_at text) ≡ Ok s → IsStatement text s
 whole-statement-sound text s read = whole-sound (statement-sound text) s read

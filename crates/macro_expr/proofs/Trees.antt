@@ -1,4 +1,5 @@
--- What is answered, and the trees of the grammar.
+-- From what reading gives to what a call answers: a tree is answered exactly if it was read and the
+-- text names at most 32 variables. For `parse_expr` and `parse_statement` (src/parse.rt).
 use Rattle.std.proofs.Common.{◌≡◌, ◌≤◌, ℕ, Bool, true, false, cond, List, Result, Ok, Err, IfOk, refl, ◌∙◌, ap, subst}
 use Rattle.std.proofs.lemmas.Bool.{ltb-false, le-ltb}
 use Rattle.nc_number.specs.declared.cause.Cause.TheVariants.{TooManyVariables}
@@ -8,7 +9,8 @@ use Rattle.macro_expr.specs.declared.tree.ExprFault.{ExprFault}
 use Rattle.macro_expr.specs.declared.stop.Stop.{Stop}
 use Rattle.macro_expr.specs.Limits.{variable_signs, has_many_variables, refusal, answer}
 
--- a tree that is answered was read, and names few variables, and has what each such tree has
+-- what holds of each tree that is read from a text with few variables holds of the tree that is
+-- answered
 pub has : {A X : Type 0} (view : X → A) (text : List ℕ) (read : Result A Stop) (r : Result X (Failing ExprFault))
     → Gives view r (answer text read) → (P : A → Type 0)
     → ((e : A) → read ≡ Ok e → variable_signs text ≤ 32 → P e) → IfOk r (λ x. P (view x))

@@ -1,5 +1,5 @@
--- What is answered for a text, as it stands on the tape.
--- block_forms, macro_limits and open_forms take words from here.
+-- What is answered for a text, as it stands on the tape: the contract of `parse_expr` and
+-- `parse_statement` (src/parse.rt). block_forms, macro_limits and open_forms cite it.
 use Rattle.std.specs.Prelude.{◌≤◌, ℕ, false, List, Result}
 use Rattle.nc_number.specs.declared.limits.TheConstants.{MOST_READS}
 use Rattle.macro_expr.specs.declared.tree.ExprFault.{ExprFault}
@@ -8,11 +8,11 @@ use Rattle.macro_expr.specs.Grammar.{IsExpression, IsStatement}
 use Rattle.macro_expr.specs.Statements.{expression_at, statement_at, whole}
 use Rattle.macro_expr.specs.Limits.{cleaned, variable_signs, answer}
 
--- The tree of a text, which names no more variables than a block may read.
+-- the text, cleaned, is an expression with this tree, and names no more than 32 variables
 abbrev pub HasTree : List ℕ → Tree → Type 0
 HasTree text tree = IsExpression (cleaned false text) tree × (variable_signs (cleaned false text) ≤ MOST_READS)
 
--- the same of a statement
+-- the text, cleaned, is a statement with this tree, and names no more than 32 variables
 abbrev pub HasSentence : List ℕ → Sentence → Type 0
 HasSentence text sentence = IsStatement (cleaned false text) sentence × (variable_signs (cleaned false text) ≤ MOST_READS)
 

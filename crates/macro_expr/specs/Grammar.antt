@@ -1,5 +1,6 @@
--- The grammar of expressions and statements: which trees a cleaned text has.
--- block_forms, macro_limits and open_forms take words from here.
+-- The grammar of expressions and statements: which trees a cleaned text has. The reader gives
+-- exactly these trees (proofs/Sound and Complete). block_forms, macro_limits and open_forms cite
+-- it.
 use Rattle.std.specs.Prelude.{◌≡◌, ℕ, zero, suc, ◌/◌, ◌≤◌, Bool, true, false, List, [], ◌∷◌, ◌++◌, ℤ, unsigned_abs, codes, ◌⊎◌}
 use Rattle.std.specs.Char.{is_ascii_digit}
 use Rattle.std.specs.List.{list_all}
@@ -20,19 +21,27 @@ IsWord (w ∷ words) t meaning = ((t ≡ w.0) × (meaning ≡ w.1)) ⊎ IsWord w
 
 -- a number of so many millionths, with or without a point, and without a sign
 pub record IsNumber (t : List ℕ) (micro : ℤ) : Type 0 where
+  -- it is made of digits and points
   pub bytes : list_all is_number_byte t ≡ true
+  -- it is a literal
   pub literal : is_literal t ≡ true
+  -- it has not too many digits
   pub short : has_too_many_digits t ≡ false
+  -- its value, in 0.000001
   pub value : micro ≡ literal_micro t
 
 -- a whole number, of digits alone
 pub record IsWhole (t : List ℕ) (n : ℕ) : Type 0 where
+  -- it is made of digits
   pub bytes : list_all is_ascii_digit t ≡ true
+  -- it is a literal
   pub literal : is_literal t ≡ true
+  -- it has not too many digits
   pub short : has_too_many_digits t ≡ false
+  -- its value, in whole units
   pub value : n ≡ unsigned_abs (literal_micro t) / 1000000
 
--- "[" expr "]", where Inner says what stands in brackets
+-- "[" expr "]", if Inner says what may stand in brackets
 pub data IsBracketed (Inner : List ℕ → Tree → Type 0) : List ℕ → Tree → Type 0 where
   closed : (t : List ℕ) (e : Tree) → Inner t e → IsBracketed Inner (codes "[" ++ (t ++ codes "]")) e
 
@@ -49,7 +58,7 @@ pub data IsPrim (Inner : List ℕ → Tree → Type 0) : List ℕ → Tree → T
   function : (name t : List ℕ) (f : Fun) (e : Tree) → IsWord function_words name f → IsBracketed Inner t e
       → IsPrim Inner (name ++ t) (Applied f e)
 
--- a prim with its sign, if it has one
+-- a prim with a sign in front, or without
 pub data IsSigned (Inner : List ℕ → Tree → Type 0) : List ℕ → Tree → Type 0 where
   plain : (t : List ℕ) (e : Tree) → IsPrim Inner t e → IsSigned Inner t e
   signed : (word t : List ℕ) (minus : Bool) (e : Tree) → IsWord sign_words word minus → IsPrim Inner t e
@@ -70,12 +79,12 @@ IsProduct Inner = IsChain rank.Product (IsPrim Inner) (IsPrim Inner)
 abbrev pub IsSum : (List ℕ → Tree → Type 0) → List ℕ → Tree → Type 0
 IsSum Inner = IsChain rank.Sum (IsChain rank.Product (IsSigned Inner) (IsPrim Inner)) (IsProduct Inner)
 
--- an expression whose brackets nest less than so deep
+-- an expression whose brackets nest less than this number deep
 abbrev pub IsWithin : ℕ → List ℕ → Tree → Type 0
 IsWithin zero t e = ⊥
 IsWithin (suc n) t e = IsSum (IsWithin n) t e
 
--- an expression: its brackets nest no deeper than they may
+-- an expression: its brackets nest at most five deep
 abbrev pub IsExpression : List ℕ → Tree → Type 0
 IsExpression t e = IsWithin (suc MOST_BRACKETS) t e
 
@@ -85,7 +94,7 @@ pub data IsTest : List ℕ → Test → Type 0 where
       → IsWithin MOST_BRACKETS u right
       → IsTest (codes "[" ++ (t ++ (word ++ (u ++ codes "]")))) (record { left = left; rel = rel; right = right })
 
--- target = digits | var | "[" expr "]", with digits in the range of a sequence number
+-- target = digits | var | "[" expr "]", with digits that are at most 99,999
 pub data IsTarget : List ℕ → Aim → Type 0 where
   line : (t : List ℕ) (n : ℕ) → IsWhole t n → n ≤ 99999 → IsTarget t (ToNumber n)
   line_of : (t : List ℕ) (v : Named) → IsVariable (IsWithin MOST_BRACKETS) t v → IsTarget t (ToNumberOf (look v))
@@ -96,7 +105,8 @@ pub data IsAssignment : List ℕ → Named → Tree → Type 0 where
   assigns : (t u : List ℕ) (v : Named) (e : Tree) → IsVariable (IsWithin MOST_BRACKETS) t v → IsExpression u e
       → IsAssignment (t ++ (codes "=" ++ u)) v e
 
--- a statement
+-- a statement: an assignment, a jump, a condition with a jump or an assignment, or the begin or end
+-- of a loop
 pub data IsStatement : List ℕ → Sentence → Type 0 where
   assign : (t : List ℕ) (v : Named) (e : Tree) → IsAssignment t v e → IsStatement t (Assign v e)
   goto : (t : List ℕ) (aim : Aim) → IsTarget t aim → IsStatement (codes "GOTO" ++ t) (Goto aim)

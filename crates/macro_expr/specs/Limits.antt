@@ -1,6 +1,6 @@
--- The limits of a text, and which refusal is answered where several hold.
+-- The limits of a text, and which refusal is answered if several hold. src/limits.rt and
+-- src/parse.rt compute it; block_forms, macro_limits and open_forms cite it.
 -- Bytes: 9 is the tab, 32 the space, 35 `#`, 40 `(`, 41 `)`, 46 the point, 91 `[`, 93 `]`.
--- block_forms, macro_limits and open_forms take words from here.
 use Rattle.std.specs.Prelude.{ℕ, suc, Bool, true, false, ◌-◌, ◌==◌, ◌&&◌, ◌||◌, not, nat_eq, nat_lt, List, [], ◌∷◌, ◌++◌, length, slice_index, count_by, codes, Result, Ok, Err, if◌then◌else◌}
 use Rattle.std.specs.Char.{is_ascii_digit, to_ascii_uppercase}
 use Rattle.std.specs.List.{starts_with, ends_with}
@@ -33,48 +33,49 @@ cleaned false (b ∷ text) =
     else if b == 32 || b == 9 then cleaned false text
     else to_ascii_uppercase b ∷ cleaned false text
 
--- whether the last byte passes; no byte does where there is none
+-- whether the text has a last byte, and it passes
 abbrev pub ends : (ℕ → Bool) → List ℕ → Bool
 ends p text = nat_lt 0 (length text) && p (slice_index text (length text - 1))
 
--- whether the number of a loop stands behind that text, in a statement of its own
+-- whether a text is all that may stand before the number of a loop: DO, END, or WHILE with its
+-- condition and DO
 abbrev pub is_loop_head : List ℕ → Bool
 is_loop_head before =
     bytes_eq before (codes "DO") || bytes_eq before (codes "END")
     || (starts_with nat_eq before (codes "WHILE") && ends_with nat_eq before (codes "]DO"))
 
--- whether these digits, behind that text, are more than a number may have: 6 behind a point, else
--- 8, zeros at the head not counted. The digits of a loop are no number.
+-- whether these digits, after that text, are more than a number may have: 6 after a point, else 8,
+-- zeros in front not counted. The digits of a loop's number are never too many.
 abbrev pub are_too_many : List ℕ → List ℕ → Bool
 are_too_many before digits =
     if ends (λ b. b == 46) before then nat_lt 6 (length digits)
     else if is_loop_head before then false
     else nat_lt 8 (length (significant digits))
 
--- whether a number with too many digits begins behind that text
+-- whether a number with too many digits begins here, after that text
 abbrev pub begins_long : List ℕ → List ℕ → Bool
 begins_long before text =
     begins is_ascii_digit text && not (ends is_ascii_digit before) && are_too_many before (run is_ascii_digit text)
 
--- whether such a number begins anywhere in the text, which stands behind another
+-- whether a number with too many digits begins anywhere in the text, which stands after another
 abbrev pub long_behind : List ℕ → List ℕ → Bool
 long_behind before [] = false
 long_behind before (b ∷ text) = begins_long before (b ∷ text) || long_behind (before ++ b ∷ []) text
 
--- a number in the text has too many digits
+-- whether a number in the text has too many digits
 unfoldable pub has_long_number : List ℕ → Bool
 has_long_number text = long_behind [] text
 
--- how many brackets are open behind a byte, of which so many were open before it
+-- how many brackets are open after a byte, if so many were open before it
 abbrev pub open_behind : ℕ → ℕ → ℕ
 open_behind opened b = if b == 91 then suc opened else if b == 93 then opened - 1 else opened
 
--- whether more brackets are open at once than may be, where so many are at the head
+-- whether more than five brackets are open at once, if so many are open before the text
 abbrev pub too_deep : ℕ → List ℕ → Bool
 too_deep opened [] = nat_lt MOST_BRACKETS opened
 too_deep opened (b ∷ text) = nat_lt MOST_BRACKETS opened || too_deep (open_behind opened b) text
 
--- more than five brackets are open at once
+-- whether more than five brackets are open at once
 unfoldable pub has_deep_brackets : List ℕ → Bool
 has_deep_brackets text = too_deep 0 text
 
@@ -82,11 +83,11 @@ has_deep_brackets text = too_deep 0 text
 abbrev pub variable_signs : List ℕ → ℕ
 variable_signs text = count_by (λ b. b == 35) text
 
--- the text names more variables than a block may read, which are 32
+-- whether the text names more than the 32 variables that a block may read
 abbrev pub has_many_variables : List ℕ → Bool
 has_many_variables text = nat_lt MOST_READS (variable_signs text)
 
--- the refusal of a place where reading stops
+-- the cause for which a text is refused if reading stops so and it names few enough variables
 abbrev pub cause_of : Stop → Cause
 cause_of Expression = BadExpression
 cause_of Condition = BadCondition
@@ -94,7 +95,8 @@ cause_of Function = UnknownFunction
 cause_of Loop = BadLoopNumber
 cause_of Sequence = WordRange
 
--- too many variables come before 64, and before 20, which is answered only for no other cause
+-- the cause for which a text is refused if reading stops so; the test says whether it names too
+-- many variables, which come before 64, and before 20 that is answered only for no other cause
 abbrev pub cause_beside : Bool → Stop → Cause
 cause_beside true Expression = TooManyVariables
 cause_beside true Sequence = TooManyVariables
@@ -116,7 +118,7 @@ abbrev pub answer : {A : Type 0} → List ℕ → Result A Stop → Result A Exp
 answer text (Ok tree) = if has_many_variables text then Err (refusal TooManyVariables) else Ok tree
 answer text (Err stop) = Err (refusal_of text stop)
 
--- the same of what a call answers that may lack memory
+-- what a call answers for a cleaned text that is read so; it may run out of memory
 abbrev pub answer_to : {A : Type 0} → List ℕ → Result A (Failing Stop) → Result A (Failing ExprFault)
 answer_to text (Ok tree) = if has_many_variables text then Err (failing.Fault (refusal TooManyVariables)) else Ok tree
 answer_to text (Err (failing.Fault stop)) = Err (failing.Fault (refusal_of text stop))

@@ -1,7 +1,7 @@
--- Reading a text from left to right: its tree, or the refusal of the first place where reading
--- fails. Laws beside this say that the trees are exactly those of the grammar.
+-- Reading a text from left to right: its tree, or the cause at the first place where reading fails.
+-- src/reading.rt computes it. The proofs of this crate show that the trees are exactly those of the
+-- grammar; macro_limits says what stands where reading stops.
 -- Bytes: 35 is `#`, 91 `[`.
--- macro_limits takes words from here.
 use Rattle.std.specs.Prelude.{ℕ, zero, suc, ◌/◌, ◌==◌, Bool, List, length, Option, Some, None, Result, Ok, Err, ℤ, unsigned_abs, codes, if◌then◌else◌}
 use Rattle.std.specs.Char.{is_ascii_digit}
 use Rattle.nc_number.specs.Literals.{is_literal, has_too_many_digits, literal_micro}
@@ -15,27 +15,27 @@ use Rattle.macro_expr.specs.declared.tree.Op.{Op}
 use Rattle.macro_expr.specs.Tree.{Tree, Number, Named, Fixed, Computed, look, Signed, Applied, Joined}
 use Rattle.macro_expr.specs.Words.{behind, operator, sign, function_of, is_letter, is_number_byte, run, behind_run, begins}
 
--- a value that was read, and what stands behind it
+-- a value that was read and the text after it, or why reading stops
 abbrev pub Read : Type 0 → Type 0
 Read A = Result (A × List ℕ) Stop
 
--- the word must stand here
+-- the text after a word that must stand here, or that this is no expression
 abbrev pub expected : Option (List ℕ) → Result (List ℕ) Stop
 expected None = Err stop.Expression
 expected (Some rest) = Ok rest
 
--- this word, and what stands behind it
+-- the text after this word, which must stand here
 unfoldable pub word_at : List ℕ → List ℕ → Result (List ℕ) Stop
 word_at word text = expected (behind word text)
 
--- the number of a literal, in millionths
+-- the value of a literal in 0.000001; reading stops if it is none, or has too many digits
 unfoldable pub literal_of : List ℕ → Result ℤ Stop
 literal_of digits =
     if is_literal digits
     then (if has_too_many_digits digits then Err stop.Expression else Ok (literal_micro digits))
     else Err stop.Expression
 
--- a number without a sign
+-- a number without a sign, and the text after it
 unfoldable pub number_at : List ℕ → Read Tree
 number_at text = do
   micro ← literal_of (run is_number_byte text)
@@ -47,7 +47,7 @@ digits_at text = do
   micro ← literal_of (run is_ascii_digit text)
   Ok (unsigned_abs micro / 1000000, behind_run is_ascii_digit text)
 
--- an expression in brackets, where inner reads an expression
+-- an expression in brackets, if inner reads the expression
 unfoldable pub bracket_at : (List ℕ → Read Tree) → List ℕ → Read Tree
 bracket_at inner text = do
   inside ← word_at (codes "[") text
@@ -55,7 +55,7 @@ bracket_at inner text = do
   rest ← word_at (codes "]") e.1
   Ok (e.0, rest)
 
--- what stands behind the sign of a variable
+-- the number of a variable after its `#`: digits, or an expression in brackets
 unfoldable pub variable_behind : (List ℕ → Read Tree) → List ℕ → Read Named
 variable_behind inner text =
     if begins is_ascii_digit text
@@ -79,7 +79,7 @@ applied inner (Some f) text = do
 unfoldable pub function_at : (List ℕ → Read Tree) → List ℕ → Read Tree
 function_at inner text = applied inner (function_of (run is_letter text)) (behind_run is_letter text)
 
--- what an operator can stand before or behind
+-- what an operator joins: a number, a variable, a function, or an expression in brackets
 unfoldable pub prim_at : (List ℕ → Read Tree) → List ℕ → Read Tree
 prim_at inner text =
     if begins (λ b. b == 35) text then (variable_at inner text >>= λ v. Ok (look v.0, v.1))
@@ -87,18 +87,19 @@ prim_at inner text =
     else if begins is_letter text then function_at inner text
     else number_at text
 
--- a prim behind a sign, if there is one
+-- an operand after the sign that was found, or without one
 abbrev pub signed_by : (List ℕ → Read Tree) → Option (Bool × List ℕ) → List ℕ → Read Tree
 signed_by inner None text = prim_at inner text
 signed_by inner (Some found) text = do
   e ← prim_at inner found.1
   Ok (Signed found.0 e.0, e.1)
 
--- a prim with its sign, if it has one
+-- the first operand of a sum: with its sign, if it has one
 unfoldable pub signed_at : (List ℕ → Read Tree) → List ℕ → Read Tree
 signed_at inner text = signed_by inner (sign text) text
 
--- what an operator joins to left; without one left stands alone
+-- what the operator that was found joins to left, and then what next makes of both; without an
+-- operator left stands alone
 abbrev pub joined_by : Tree → List ℕ → Option (Op × List ℕ) → (List ℕ → Read Tree) → (Tree → List ℕ → Read Tree)
     → Read Tree
 joined_by left text None operand next = Ok (left, text)
@@ -106,7 +107,7 @@ joined_by left text (Some found) operand next = do
   right ← operand found.1
   next (Joined found.0 left right.0) right.1
 
--- operators of one rank and what they join to left, from left to right, so many at most
+-- at most so many operators of one rank, and what they join to left, from left to right
 unfoldable pub chain : (List ℕ → Option (Op × List ℕ)) → (List ℕ → Read Tree) → ℕ → Tree → List ℕ → Read Tree
 chain operator operand zero left text = Ok (left, text)
 chain operator operand (suc n) left text = joined_by left text (operator text) operand (chain operator operand n)
@@ -117,12 +118,12 @@ product_at inner text = do
   first ← prim_at inner text
   chain (operator Product) (prim_at inner) (length first.1) first.0 first.1
 
--- what stands between the operators of a rank
+-- what stands between the operators of a rank: operands in a product, products in a sum
 abbrev pub operand_at : Rank → (List ℕ → Read Tree) → List ℕ → Read Tree
 operand_at Product inner = prim_at inner
 operand_at Sum inner = product_at inner
 
--- the operators of a rank and what they join to left
+-- all operators of a rank and what they join to left
 abbrev pub chain_at : Rank → (List ℕ → Read Tree) → Tree → List ℕ → Read Tree
 chain_at rank inner left text = chain (operator rank) (operand_at rank inner) (length text) left text
 
@@ -133,7 +134,7 @@ sum_at inner text = do
   product ← chain_at Product inner first.0 first.1
   chain_at Sum inner product.0 product.1
 
--- an expression, where so many brackets less one may still be open at once
+-- an expression whose brackets nest less than this number deep
 unfoldable pub inside : ℕ → List ℕ → Read Tree
 inside zero text = Err stop.Expression
 inside (suc n) text = sum_at (inside n) text

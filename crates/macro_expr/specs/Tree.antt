@@ -1,5 +1,6 @@
--- Trees of expressions and statements, without where they lie in memory.
--- block_forms, block_values and nine more crates take words from here.
+-- Trees of expressions and statements, without where they lie in memory: what contracts see of
+-- src/tree.rt. macro_eval says what they mean; block_forms, block_values, path_state, named_vars
+-- and others cite them.
 use Rattle.std.specs.Prelude.{ℕ, suc, ◌+◌, ◌≤◌, max, ℤ, Bool, List, [], ◌∷◌, ◌++◌}
 use Rattle.macro_expr.specs.declared.tree.Fun.{Fun}
 use Rattle.macro_expr.specs.declared.tree.Op.{Op}
@@ -16,15 +17,19 @@ use Rattle.macro_expr.specs.declared.tree.Statement.TheVariants as statement
 pub data Tree : Type 0 where
   -- a number that is written out, in millionths
   Number : ℤ → Tree
-  -- a variable of this number, and one whose number is computed
+  -- a variable of this number
   Variable : ℕ → Tree
+  -- a variable whose number the tree gives
   VariableOf : Tree → Tree
-  -- a sign, minus where it is true
+  -- a tree after a sign; true is minus
   Signed : Bool → Tree → Tree
+  -- a function of a tree
   Applied : Fun → Tree → Tree
+  -- an operator between two trees
   Joined : Op → Tree → Tree → Tree
 
--- how many right operands stand inside one another at most
+-- how many right operands stand inside one another at most: so deep a call of its own goes in a
+-- walk of the tree
 abbrev pub right_depth : Tree → ℕ
 right_depth (Number z) = 0
 right_depth (Variable n) = 0
@@ -33,7 +38,7 @@ right_depth (Signed minus e) = right_depth e
 right_depth (Applied f e) = right_depth e
 right_depth (Joined op a b) = max (right_depth a) (suc (right_depth b))
 
--- how many variables it names, those that give a number of another among them
+-- how many variables the tree names, those that give the number of another among them
 abbrev pub variables : Tree → ℕ
 variables (Number z) = 0
 variables (Variable n) = 1
@@ -52,6 +57,7 @@ abbrev pub look : Named → Tree
 look (Fixed n) = Variable n
 look (Computed e) = VariableOf e
 
+-- an expression of the code as a tree, and a variable of the code as it is named
 abbrev mutual
   pub tree_of : Expr → Tree
   tree_of (Lit z) = Number z
@@ -64,13 +70,16 @@ abbrev mutual
   variable_of (FixedRef n) = Fixed n
   variable_of (ComputedRef p e) = Computed (tree_of e)
 
--- a condition
+-- a condition: two trees that are compared
 pub record Test : Type 0 where
+  -- the tree before the relation
   pub left : Tree
+  -- how the two are compared
   pub rel : Rel
+  -- the tree after the relation
   pub right : Tree
 
--- the condition of the code, without where it lies in memory
+-- a condition of the code as a tree
 abbrev pub test_of : Cond → Test
 test_of c = record { left = tree_of c.left; rel = c.rel; right = tree_of c.right }
 
@@ -79,12 +88,13 @@ pub data Aim : Type 0 where
   ToNumber : ℕ → Aim
   ToNumberOf : Tree → Aim
 
--- the target of a jump of the code
+-- the target of a jump of the code as a tree
 abbrev pub aim_of : Target → Aim
 aim_of (Line n) = ToNumber n
 aim_of (LineOf e) = ToNumberOf (tree_of e)
 
--- a statement
+-- a statement: an assignment, a jump, a condition with a jump or an assignment, a loop that begins,
+-- with a condition or without, or one that ends
 pub data Sentence : Type 0 where
   Assign : Named → Tree → Sentence
   Goto : Aim → Sentence
@@ -94,7 +104,7 @@ pub data Sentence : Type 0 where
   DoOnly : ℕ → Sentence
   EndLoop : ℕ → Sentence
 
--- the statement of the code
+-- a statement of the code as a tree
 abbrev pub sentence_of : Statement → Sentence
 sentence_of (statement.Assign v e) = Assign (variable_of v) (tree_of e)
 sentence_of (statement.Goto t) = Goto (aim_of t)
@@ -104,23 +114,23 @@ sentence_of (statement.WhileDo c m) = WhileDo (test_of c) m
 sentence_of (statement.DoOnly m) = DoOnly m
 sentence_of (statement.EndLoop m) = EndLoop m
 
--- The trees that a statement evaluates, in their order: of a condition left and right, then the
--- number of a variable on the left side where it is computed, then the value; of a target its
--- number where it is computed.
+-- the trees that a condition evaluates, in order: left and right
 abbrev pub evaluated_test : Test → List Tree
 evaluated_test test = test.left ∷ test.right ∷ []
 
--- of a left side: the tree that gives its number, if it is computed
+-- the tree that gives the number of an assigned variable, if it is computed
 abbrev pub evaluated_name : Named → List Tree
 evaluated_name (Fixed n) = []
 evaluated_name (Computed e) = e ∷ []
 
--- of a target: the tree that gives it, if it is computed
+-- the tree that gives the target of a jump, if it is computed
 abbrev pub evaluated_aim : Aim → List Tree
 evaluated_aim (ToNumber n) = []
 evaluated_aim (ToNumberOf e) = e ∷ []
 
--- and of a statement
+-- The trees that a statement evaluates, in their order: of a condition left and right, then the
+-- number of the assigned variable if it is computed, then the value; of a jump its target if it is
+-- computed.
 abbrev pub evaluated : Sentence → List Tree
 evaluated (Assign v e) = evaluated_name v ++ e ∷ []
 evaluated (Goto aim) = evaluated_aim aim
@@ -135,11 +145,11 @@ abbrev pub variables_in : List Tree → ℕ
 variables_in [] = 0
 variables_in (e ∷ trees) = variables e + variables_in trees
 
--- a loop is 1, 2 or 3, and a sequence number at most 99,999
+-- the number of a loop: 1, 2 or 3
 abbrev pub IsLoop : ℕ → Type 0
 IsLoop m = (1 ≤ m) × (m ≤ 3)
 
--- a target that is written out is a sequence number, at most 99,999
+-- the target of a jump, if it is written out, is at most 99,999
 abbrev pub IsAimInRange : Aim → Type 0
 IsAimInRange (ToNumber n) = n ≤ 99999
 IsAimInRange (ToNumberOf e) = Unit {0}

@@ -1,5 +1,5 @@
--- The words of the grammar, and the runs of letters and digits. 65 is A, 90 Z, 46 the point.
--- macro_limits and open_forms take words from here.
+-- The words of the grammar as tables, and runs of letters and digits. src/words.rt finds them at
+-- the head of a text; macro_limits and open_forms cite them. 65 is A, 90 Z, 46 the point.
 use Rattle.std.specs.Prelude.{ℕ, Bool, true, false, ◌==◌, ◌&&◌, ◌||◌, nat_le, List, [], ◌∷◌, length, take, drop, not, Option, None, Some, codes, if◌then◌else◌}
 use Rattle.std.specs.Option.{option_or, option_map}
 use Rattle.std.specs.List.{position_or_len}
@@ -15,13 +15,13 @@ use Rattle.macro_expr.specs.declared.words.Rank.TheVariants.{Product, Sum}
 use Rattle.macro_expr.specs.declared.tree.Rel.{Rel}
 use Rattle.macro_expr.specs.declared.tree.Rel.TheVariants.{Eq, Ne, Gt, Ge, Lt, Le}
 
--- what stands behind the word, where the text begins with it
+-- what stands after the word, if the text begins with it
 abbrev pub behind : List ℕ → List ℕ → Option (List ℕ)
 behind [] text = Some text
 behind (w ∷ word) [] = None
 behind (w ∷ word) (b ∷ text) = if b == w then behind word text else None
 
--- the meaning of the first word of the table with which the text begins, and what stands behind it
+-- the meaning of the first word of the table with which the text begins, and what stands after it
 abbrev pub first_word : {A : Type 0} → List (List ℕ × A) → List ℕ → Option (A × List ℕ)
 first_word [] text = None
 first_word (w ∷ words) text = option_or (option_map (λ rest. (w.1, rest)) (behind w.0 text)) (first_word words text)
@@ -40,31 +40,31 @@ relation_words =
 abbrev pub sign_words : List (List ℕ × Bool)
 sign_words = (codes "+", false) ∷ (codes "-", true) ∷ []
 
--- the operator of this rank with which the text begins
+-- the operator of this rank with which the text begins, and what stands after it
 unfoldable pub operator : Rank → List ℕ → Option (Op × List ℕ)
 operator rank = first_word (operator_words rank)
 
--- the relation with which it begins
+-- the relation with which the text begins, and what stands after it
 unfoldable pub relation : List ℕ → Option (Rel × List ℕ)
 relation = first_word relation_words
 
--- the sign with which it begins
+-- the sign with which the text begins, and what stands after it
 unfoldable pub sign : List ℕ → Option (Bool × List ℕ)
 sign = first_word sign_words
 
--- the byte is a letter, A to Z
+-- whether the byte is a letter, A to Z
 abbrev pub is_letter : ℕ → Bool
 is_letter b = nat_le 65 b && nat_le b 90
 
--- the byte is a digit or the point
+-- whether the byte is a digit or the point
 abbrev pub is_number_byte : ℕ → Bool
 is_number_byte b = is_ascii_digit b || b == 46
 
--- the longest run of such bytes at the head, and what stands behind it
+-- the longest run of such bytes at the head of the text
 abbrev pub run : (ℕ → Bool) → List ℕ → List ℕ
 run p text = take (position_or_len (λ b. not (p b)) text) text
 
--- what stands behind the longest run of such bytes
+-- what stands after the longest run of such bytes at the head
 abbrev pub behind_run : (ℕ → Bool) → List ℕ → List ℕ
 behind_run p text = drop (position_or_len (λ b. not (p b)) text) text
 
@@ -73,16 +73,16 @@ abbrev pub begins : (ℕ → Bool) → List ℕ → Bool
 begins p [] = false
 begins p (b ∷ text) = p b
 
--- the functions
+-- the names of the functions
 abbrev pub function_words : List (List ℕ × Fun)
 function_words =
     (codes "SQRT", Sqrt) ∷ (codes "ABS", Abs) ∷ (codes "FIX", Fix) ∷ (codes "FUP", Fup) ∷ (codes "ROUND", Round) ∷ []
 
--- the function whose name begins the text
+-- the function whose name begins the text, and what stands after it
 unfoldable pub function_word : List ℕ → Option (Fun × List ℕ)
 function_word = first_word function_words
 
--- what the text means where a word is all of it
+-- the meaning of the word that was found, if nothing stands after it
 abbrev pub all_of : {A : Type 0} → Option (A × List ℕ) → Option A
 all_of None = None
 all_of (Some found) = if length found.1 == 0 then Some found.0 else None
@@ -91,12 +91,12 @@ all_of (Some found) = if length found.1 == 0 then Some found.0 else None
 unfoldable pub function_of : List ℕ → Option Fun
 function_of name = all_of (function_word name)
 
--- the words of statements
+-- the words that begin a statement
 abbrev pub keyword_words : List (List ℕ × Keyword)
 keyword_words =
     (codes "IF", If) ∷ (codes "WHILE", While) ∷ (codes "GOTO", Goto) ∷ (codes "DO", Do) ∷ (codes "END", End) ∷ []
 
--- the word that begins a statement
+-- the word that begins a statement, and what stands after it
 unfoldable pub keyword : List ℕ → Option (Keyword × List ℕ)
 keyword = first_word keyword_words
 
@@ -104,10 +104,10 @@ keyword = first_word keyword_words
 abbrev pub loop_words : List (List ℕ × ℕ)
 loop_words = (codes "1", 1) ∷ (codes "2", 2) ∷ (codes "3", 3) ∷ []
 
--- the number of a loop with which it begins
+-- the number of a loop with which the text begins, and what stands after it
 unfoldable pub loop_word : List ℕ → Option (ℕ × List ℕ)
 loop_word = first_word loop_words
 
--- the loop of this number
+-- the number of a loop, if these digits are 1, 2 or 3
 unfoldable pub loop_of : List ℕ → Option ℕ
 loop_of digits = all_of (loop_word digits)

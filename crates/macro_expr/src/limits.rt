@@ -1,6 +1,6 @@
-//! The limits of an expression: digits of a number, brackets, variables; and the text as it is
-//! read, without blanks and comments.
-//! For this crate alone.
+//! The limits of an expression or statement (digits of a number, brackets, variables), and the text
+//! as it is read, without blanks and comments. parse.rt asks them of a text; macro_limits shows
+//! that each has its refusal.
 ghost use Rattle.std.specs.Prelude.{◌≡◌, ◌==◌, nat_eq, false, IfOk};
 ghost use Rattle.std.specs.Char.{is_ascii_digit};
 ghost use Rattle.macro_expr.specs.Limits.{cleaned, ends, is_loop_head, are_too_many, begins_long, has_long_number, has_deep_brackets, has_many_variables};
@@ -45,7 +45,8 @@ fn ends_with_point(text: &[u8]) -> bool
     !text.is_empty() && text[text.len() - 1] == b'.'
 }
 
-/// Whether the number of a loop stands behind that text, in a statement of its own.
+/// Whether a text is all that may stand before the number of a loop: DO, END, or a WHILE with its
+/// condition and DO.
 fn is_loop_head(before: &[u8]) -> bool
     ensures { result ≡ is_loop_head before.now }
 {
@@ -54,7 +55,8 @@ fn is_loop_head(before: &[u8]) -> bool
         || before.starts_with(b"WHILE") && before.ends_with(b"]DO")
 }
 
-/// Whether these digits, behind that text, are more than a number may have.
+/// Whether these digits, after the text `before`, are more than a number may have: 6 after a point,
+/// else 8, zeros in front not counted. The digits of a loop's number are never too many.
 fn are_too_many(before: &[u8], number: &[u8]) -> bool
     ensures { result ≡ are_too_many before.now number.now }
 {
@@ -67,7 +69,7 @@ fn are_too_many(before: &[u8], number: &[u8]) -> bool
     significant(number).len() > 8
 }
 
-/// Whether a number with too many digits begins between the texts.
+/// Whether a number with too many digits begins where `before` ends and `text` begins.
 fn begins_long(before: &[u8], text: &[u8]) -> bool
     ensures { result ≡ begins_long before.now text.now }
 {
@@ -92,7 +94,7 @@ pub(crate) fn has_long_number(text: &[u8]) -> bool
     false
 }
 
-/// Whether more brackets are open at once than may be.
+/// Whether more than five square brackets are open at once.
 #[tactic(auto, unfolding(crate::specs::Limits::has_deep_brackets))]
 pub(crate) fn has_deep_brackets(text: &[u8]) -> bool
     ensures { result ≡ has_deep_brackets text.now }
@@ -109,7 +111,7 @@ pub(crate) fn has_deep_brackets(text: &[u8]) -> bool
     false
 }
 
-/// Whether the text names more variables than a block may read.
+/// Whether the text names more variables than the 32 that a block may read.
 pub(crate) fn has_many_variables(text: &[u8]) -> bool
     ensures { result ≡ has_many_variables text.now }
 {

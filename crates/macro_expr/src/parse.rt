@@ -1,5 +1,5 @@
-//! From a text to its tree, or to the least refusal that holds of it.
-//! block_forms and tests use it.
+//! From a text to its tree, or to the least refusal that holds of it: the public functions of this
+//! crate. block_forms calls them for each value and each statement of a block; tests do too.
 ghost use Rattle.std.specs.Prelude.{◌≡◌, ◌≤◌, ◌==◌, ℕ, List, false, length, IfOk, Ok, Err, if◌then◌else◌};
 ghost use Rattle.std.specs.List.{All};
 ghost use Rattle.nc_number.specs.declared.fault.Failing.TheVariants.{Fault};
@@ -19,7 +19,8 @@ use crate::tree::{Expr, ExprFault, Statement};
 use nc_number::{Cause, Failing, MOST_BRACKETS};
 use std::alloc::Global;
 
-/// The refusal of a text whose reading stops so: the least of those that hold.
+/// The refusal of a text whose reading stops for this cause: the least of those that hold, 20 only
+/// if there is no other.
 fn refusal_of(text: &[u8], stop: Stop) -> ExprFault
     ensures { result ≡ refusal_of text.now stop }
 {
@@ -32,7 +33,7 @@ fn refusal_of(text: &[u8], stop: Stop) -> ExprFault
     stop.refusal(has_many_variables(text))
 }
 
-/// The answer for a text that is read so.
+/// The answer for a cleaned text, by what reading made of it.
 fn answer<T: Drop>(text: &[u8], read: Result<T, Failing<Stop>>) -> Result<T, Failing<ExprFault>>
     ensures { result ≡ answer_to text.now read }
 {
@@ -46,7 +47,7 @@ fn answer<T: Drop>(text: &[u8], read: Result<T, Failing<Stop>>) -> Result<T, Fai
     }
 }
 
-/// What was read, where nothing stands behind it.
+/// What was read, if nothing stands after it; else the text is no expression.
 fn alone<T: Drop>(tree: T, rest: &[u8]) -> Result<T, Failing<Stop>>
     ensures { result ≡ (if length rest.now == 0 then Ok tree else Err (Fault Expression)) }
 {
@@ -132,7 +133,8 @@ pub fn parse_statement(alloc: Global, text: &[u8]) -> Result<Statement, Failing<
     // Which refusal it is.
     ensures exact { Gives (λ tree. sentence_of tree) result (statement_of text.now) }
 
-    // So do right operands in each expression of it, and they name no more variables than the text.
+    // In each expression of it, right operands stand in one another twelve deep at most; and all
+    // its expressions together name no more variables than the text.
     ensures shallow { IfOk result (λ tree. All (λ e. right_depth e ≤ 12) (evaluated (sentence_of tree))) }
     ensures named { IfOk result
         (λ tree. variables_in (evaluated (sentence_of tree)) ≤ variable_signs (cleaned false text.now)) }

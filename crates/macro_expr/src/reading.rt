@@ -1,5 +1,6 @@
-//! Expressions, read from left to right.
-//! For this crate alone.
+//! Expressions, read from left to right: a function for each rule of the grammar, which gives what
+//! it read and the text after it. Its functions call one another, as deep as brackets nest.
+//! parse.rt and statements.rt read with it.
 ghost use Rattle.std.specs.Prelude.{◌-◌, ◌<◌, Ok};
 ghost use Rattle.macro_expr.specs.Tree.{tree_of, variable_of, Joined};
 ghost use Rattle.nc_number.specs.Answers.{Gives};
@@ -13,7 +14,7 @@ use crate::words::{
 use nc_number::{Failing, Value, is_literal, parse_word};
 use std::alloc::Global;
 
-/// The text behind the word, which must stand here.
+/// The text after the word, which must stand here.
 #[tactic(auto, unfolding(crate::specs::Reading::word_at))]
 pub(crate) fn word_at<'a>(text: &'a [u8], word: &[u8]) -> Result<&'a [u8], Failing<Stop>>
     ensures { Gives (λ rest. rest.now) result (word_at word.now text.now) }
@@ -24,7 +25,8 @@ pub(crate) fn word_at<'a>(text: &'a [u8], word: &[u8]) -> Result<&'a [u8], Faili
     }
 }
 
-/// The value that the digits write.
+/// The value that digits write, with a point or without; reading stops if it is no literal, or one
+/// of too many digits.
 #[tactic(auto, unfolding(crate::specs::Reading::literal_of))]
 fn literal_of(digits: &[u8]) -> Result<Value, Failing<Stop>>
     ensures { Gives (λ value. value) result (literal_of digits.now) }
@@ -38,7 +40,7 @@ fn literal_of(digits: &[u8]) -> Result<Value, Failing<Stop>>
     }
 }
 
-/// A number that is written out, and what stands behind it.
+/// A number that is written out, with a point or without and without a sign.
 #[tactic(auto, unfolding(crate::specs::Reading::number_at))]
 fn number_at(text: &[u8]) -> Result<(Expr, &[u8]), Failing<Stop>>
     ensures { Gives (λ x. (tree_of x.0, x.1.now)) result (number_at text.now) }
@@ -65,7 +67,7 @@ fn joined(alloc: Global, op: Op, left: Expr, right: Expr) -> Result<Expr, Failin
     Ok(Expr::Two(op, Box::new(alloc, left)?, Box::new(alloc, right)?))
 }
 
-/// An expression in brackets.
+/// An expression in brackets, which count as one of `levels` open ones.
 #[cycle(reading)]
 #[tactic(auto, unfolding(crate::specs::Reading::bracket_at))]
 pub(crate) fn bracket_at(
@@ -114,7 +116,7 @@ fn function_at(alloc: Global, levels: u32, text: &[u8]) -> Result<(Expr, &[u8]),
     Ok((Expr::Call(function, Box::new(alloc, tree)?), text))
 }
 
-/// What an operator can stand before or behind.
+/// What an operator joins: a number, a variable, a function, or an expression in brackets.
 #[cycle(reading)]
 #[tactic(auto, unfolding(crate::specs::Reading::prim_at))]
 fn prim_at(alloc: Global, levels: u32, text: &[u8]) -> Result<(Expr, &[u8]), Failing<Stop>>
@@ -131,7 +133,7 @@ fn prim_at(alloc: Global, levels: u32, text: &[u8]) -> Result<(Expr, &[u8]), Fai
     }
 }
 
-/// A prim behind a sign, if there is one.
+/// The first operand of a sum: with a sign, if there is one.
 #[cycle(reading)]
 #[tactic(auto, unfolding(crate::specs::Reading::signed_at))]
 fn signed_at(alloc: Global, levels: u32, text: &[u8]) -> Result<(Expr, &[u8]), Failing<Stop>>
@@ -144,7 +146,7 @@ fn signed_at(alloc: Global, levels: u32, text: &[u8]) -> Result<(Expr, &[u8]), F
     Ok((Expr::Sign(minus, Box::new(alloc, tree)?), text))
 }
 
-/// A product.
+/// A product: operands with `*`, `/`, AND and MOD between them, or one alone.
 #[cycle(reading)]
 #[tactic(auto, unfolding(crate::specs::Reading::product_at))]
 fn product_at(alloc: Global, levels: u32, text: &[u8]) -> Result<(Expr, &[u8]), Failing<Stop>>
@@ -154,7 +156,7 @@ fn product_at(alloc: Global, levels: u32, text: &[u8]) -> Result<(Expr, &[u8]), 
     chain_at(alloc, Rank::Product, levels, first, text)
 }
 
-/// What stands between the operators of that rank.
+/// What stands between the operators of this rank: products in a sum, single operands in a product.
 #[cycle(reading)]
 fn operand_at(
     alloc: Global,
@@ -170,7 +172,7 @@ fn operand_at(
     }
 }
 
-/// The operators of that rank and what they join to `first`, from left to right.
+/// The operators of this rank and what they join to `first`, from left to right.
 #[cycle(reading)]
 fn chain_at<'a>(
     alloc: Global,
@@ -194,7 +196,7 @@ fn chain_at<'a>(
     Ok((left, rest))
 }
 
-/// A sum: an expression whose brackets may nest `levels - 1` deep.
+/// A sum: an expression whose brackets may nest `levels` deep.
 #[cycle(reading)]
 #[tactic(auto, unfolding(crate::specs::Reading::sum_at))]
 fn sum_at(alloc: Global, levels: u32, text: &[u8]) -> Result<(Expr, &[u8]), Failing<Stop>>
@@ -205,7 +207,7 @@ fn sum_at(alloc: Global, levels: u32, text: &[u8]) -> Result<(Expr, &[u8]), Fail
     chain_at(alloc, Rank::Sum, levels, product, text)
 }
 
-/// An expression inside brackets that may themselves hold `levels - 1` open brackets.
+/// An expression whose brackets may nest `levels - 1` deep; with `levels` 0 there is none.
 #[cycle(reading)]
 #[tactic(auto, unfolding(crate::specs::Reading::inside))]
 pub(crate) fn inside(

@@ -1,5 +1,5 @@
-//! Statements, read from left to right.
-//! For this crate alone.
+//! Statements, read from left to right: assignments, jumps, loops. Each function gives what it read
+//! and the text after it. parse.rt calls `statement_at`.
 ghost use Rattle.macro_expr.specs.Tree.{tree_of, variable_of, test_of, aim_of, sentence_of};
 ghost use Rattle.nc_number.specs.Answers.{Gives};
 ghost use Rattle.macro_expr.specs.Statements.{relation_at, condition_at, test_at, target_at, loop_at, assignment_at, branch_at, if_at, while_at, statement_for, statement_at};
@@ -40,7 +40,7 @@ fn condition_at(alloc: Global, text: &[u8]) -> Result<(Cond, &[u8]), Failing<Sto
     Ok((Cond { left, rel, right }, text))
 }
 
-/// The condition behind IF or WHILE.
+/// The condition after IF or WHILE; if it does not read, reading stops for want of a condition.
 #[tactic(auto, unfolding(crate::specs::Statements::test_at))]
 fn test_at(alloc: Global, text: &[u8]) -> Result<(Cond, &[u8]), Failing<Stop>>
     ensures { Gives (λ x. (test_of x.0, x.1.now)) result (test_at text.now) }
@@ -52,7 +52,7 @@ fn test_at(alloc: Global, text: &[u8]) -> Result<(Cond, &[u8]), Failing<Stop>>
     }
 }
 
-/// Where a jump leads.
+/// Where a jump leads: a sequence number, a variable, or an expression in brackets.
 #[tactic(auto, unfolding(crate::specs::Statements::target_at))]
 fn target_at(alloc: Global, text: &[u8]) -> Result<(Target, &[u8]), Failing<Stop>>
     ensures { Gives (λ x. (aim_of x.0, x.1.now)) result (target_at text.now) }
@@ -95,7 +95,7 @@ fn assignment_at(alloc: Global, text: &[u8]) -> Result<((VarRef, Expr), &[u8]), 
     Ok(((variable, tree), text))
 }
 
-/// What stands behind the condition of an IF.
+/// What stands after the condition of an IF: GOTO and a target, or THEN and an assignment.
 #[tactic(auto, unfolding(crate::specs::Statements::branch_at))]
 fn branch_at(
     alloc: Global,
@@ -159,7 +159,7 @@ fn statement_for(
     }
 }
 
-/// A statement.
+/// A statement at the head of the text, and what stands after it.
 #[tactic(auto, unfolding(crate::specs::Statements::statement_at))]
 pub(crate) fn statement_at(alloc: Global, text: &[u8]) -> Result<(Statement, &[u8]), Failing<Stop>>
     ensures { Gives (λ x. (sentence_of x.0, x.1.now)) result (statement_at text.now) }

@@ -1,5 +1,6 @@
-//! Why reading stops, and the refusal that this is.
-//! block_forms, macro_limits and open_forms use it.
+//! Why reading stops, and the refusal that this is. reading.rt and statements.rt stop so, parse.rt
+//! makes the refusal of it. macro_limits says of each `Stop` what stands there, for the laws of
+//! block_forms. A new one needs its row in specs/Limits and in macro_limits/specs/Refusals.
 ghost use Rattle.std.specs.Prelude.{◌≡◌};
 ghost use Rattle.macro_expr.specs.Limits.{refusal, cause_beside};
 
@@ -9,7 +10,7 @@ use nc_number::Cause;
 /// Why reading from left to right stops at a place.
 #[derive(Clone, Copy, Debug, PartialEq, Eq)]
 pub enum Stop {
-    /// What stands there goes on with no expression and no statement.
+    /// What stands there is no part of an expression or a statement that could go on.
     Expression,
     /// No condition stands behind IF or WHILE.
     Condition,
@@ -17,12 +18,12 @@ pub enum Stop {
     Function,
     /// The number of a loop is not 1, 2 or 3.
     Loop,
-    /// A sequence number is above its range.
+    /// The target of a jump is a sequence number above 99,999.
     Sequence,
 }
 
 impl Stop {
-    /// The refusal of the place, in a text that names too many variables or does not.
+    /// The refusal of a text whose reading stops so; `many` says that it names too many variables.
     pub(crate) fn refusal(self, many: bool) -> ExprFault
         ensures { result ≡ refusal (cause_beside many self) }
     {

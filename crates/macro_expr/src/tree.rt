@@ -1,5 +1,6 @@
-//! The trees of expressions and statements.
-//! block_forms, block_values and six more crates use it.
+//! The trees of expressions and statements. macro_eval makes code of them; block_forms,
+//! block_values, path_state and race_report go by their variants. A new variant needs its line in
+//! specs/Tree, in specs/Grammar, and in macro_eval.
 ghost use Rattle.std.specs.Prelude.{◌≡◌};
 ghost use Rattle.macro_expr.specs.Limits.{refusal};
 
@@ -42,40 +43,54 @@ impl Drop for Expr {
     }
 }
 
-/// Which variable is meant.
+/// Which variable is named.
 #[derive(Drop)]
 #[cycle(tree)]
 pub enum VarRef {
-    /// The one of this number.
+    /// The variable of this number.
     Fixed(u32),
-    /// The one whose number the expression gives.
+    /// The variable whose number the expression gives.
     Computed(Box<Expr>),
 }
 
-/// A function.
+/// A function of one value, which stands in brackets after its name.
 #[derive(Clone, Copy, Debug, PartialEq, Eq)]
 pub enum Fun {
+    /// The square root.
     Sqrt,
+    /// The magnitude.
     Abs,
+    /// The fraction dropped, towards zero.
     Fix,
+    /// The magnitude raised to a whole number.
     Fup,
+    /// The nearest whole number, halves away from zero.
     Round,
 }
 
-/// An operator.
+/// An operator between two values.
 #[derive(Clone, Copy, Debug, PartialEq, Eq)]
 pub enum Op {
+    /// `+`
     Add,
+    /// `-`
     Sub,
+    /// OR, on the bits of whole numbers.
     BitOr,
+    /// XOR, on the bits of whole numbers.
     BitXor,
+    /// `*`
     Mul,
+    /// `/`
     Div,
+    /// AND, on the bits of whole numbers.
     BitAnd,
+    /// MOD, the remainder with the sign of the left value.
     Modulo,
 }
 
-/// How a condition compares.
+/// How a condition compares its two sides: equal, not equal, greater, greater or equal, less, less
+/// or equal.
 #[derive(Clone, Copy, Debug, PartialEq, Eq)]
 pub enum Rel {
     Eq,
@@ -86,14 +101,14 @@ pub enum Rel {
     Le,
 }
 
-/// A condition.
+/// A condition of IF or WHILE: two expressions that are compared.
 #[derive(Drop)]
 pub struct Cond {
     /// What stands before the relation.
     pub left: Expr,
     /// The relation.
     pub rel: Rel,
-    /// What stands behind it.
+    /// What stands after the relation.
     pub right: Expr,
 }
 

@@ -1,5 +1,6 @@
-//! The words of expressions: keywords, operators, functions.
-//! macro_limits and open_forms use it.
+//! The words of expressions and statements at the head of a text: keywords, operators, functions,
+//! and runs of letters or digits. reading.rt, statements.rt and limits.rt read with it; proofs of
+//! macro_limits and open_forms speak of `Keyword` and `Rank`.
 ghost use Rattle.std.specs.Prelude.{◌≡◌, ◌≤◌, ◌==◌, not, length, take, drop, position, unwrap_or, IfSome};
 ghost use Rattle.std.specs.Option.{option_map};
 ghost use Rattle.std.specs.Char.{is_ascii_digit};
@@ -13,13 +14,17 @@ use crate::tree::{Fun, Op, Rel};
 pub enum Keyword {
     /// Before a condition, and then a jump or an assignment.
     If,
+    /// Before a condition, and then the DO of a loop.
     While,
+    /// Before the target of a jump.
     Goto,
+    /// Before the number of a loop that begins.
     Do,
+    /// Before the number of a loop that ends.
     End,
 }
 
-/// How tightly an operator binds.
+/// How tightly an operator binds: products before sums.
 #[derive(Clone, Copy, Debug, PartialEq, Eq)]
 pub enum Rank {
     /// `*`, `/`, AND and MOD.
@@ -28,7 +33,7 @@ pub enum Rank {
     Sum,
 }
 
-/// What stands behind the word, where the text begins with it.
+/// What stands after the word, if the text begins with it.
 pub(crate) fn behind<'a>(text: &'a [u8], word: &[u8]) -> Option<&'a [u8]>
     ensures { option_map (λ rest. rest.now) result ≡ behind word.now text.now }
 {
@@ -154,7 +159,7 @@ fn first_no_letter(text: &[u8]) -> Option<usize>
     text.iter().position(|b| !(*b >= b'A' && *b <= b'Z'))
 }
 
-/// The text before the place and behind it; all of it is before no place.
+/// The text before the place, and from the place on. Without a place, all of it is before.
 fn split(text: &[u8], at: Option<usize>) -> (&[u8], &[u8])
     requires { IfSome at (λ at. at ≤ length text.now) }
     ensures before { result.0.now ≡ take (unwrap_or at (length text.now)) text.now }

@@ -1,5 +1,5 @@
--- Which refusal is answered, by the cases of what is read and which limits are passed.
--- For the law `each_limit_has_its_refusal`.
+-- Which refusal is answered, by the cases of what is read and of which limits are passed. For the
+-- law `each_limit_has_its_refusal` (src/law.rt).
 use Rattle.std.proofs.Common.{◌≡◌, ◌↔◌, ℕ, ◌==◌, ◌&&◌, Bool, true, false, not, cond, List, Result, Ok, Err, refl, sym, ◌∙◌, ap, eqb-true, eq-eqb}
 use Rattle.std.proofs.lemmas.Bool.{and_parts, and_from, true≢false}
 use Rattle.nc_number.proofs.Bools.{not_true}
@@ -15,7 +15,7 @@ use Rattle.macro_expr.proofs.StatementsSound.{whole-expression-sound, whole-stat
 use Rattle.macro_limits.specs.Refused.{IsWithinLimits, stops_before_variables, IsRefusedByLimits}
 use Rattle.macro_limits.proofs.Grammar.{expression_limits, statement_limits}
 
--- the number of a refusal, and 0 where there is none
+-- the number of a refusal, or 0 if there is none
 abbrev number_in : {A : Type 0} → Result A ExprFault → ℕ
 number_in (Ok x) = 0
 number_in (Err fault) = fault.number
@@ -24,7 +24,8 @@ number_in (Err fault) = fault.number
 abbrev fault_of : ℕ → ExprFault
 fault_of n = record { number = n }
 
--- a refusal is told by its number
+-- a refusal is told by its number: the answer is the refusal of a cause exactly if it has the
+-- number of that cause
 told : {A : Type 0} (cause : Cause) (r : Result A ExprFault) → (cause_number cause == 0) ≡ false
     → (r ≡ Err (refusal cause)) ↔ ((number_in r == cause_number cause) ≡ true)
 told cause (Ok x) some = (
@@ -36,14 +37,14 @@ told {A} cause (Err fault) some = (
   λ e. ap (λ n. Err (fault_of n)) (eqb-true fault.number (cause_number cause) e),
 )
 
--- whether the answer is 5, 21 and 25, by the limits that are passed and whether reading stops for a
--- lesser refusal
+-- that the number is 5, 21 or 25 exactly as the limits say; the flags: too many digits, too deep,
+-- too many variables, a stop for 22, 23 or 24
 abbrev Told : ℕ → Bool → Bool → Bool → Bool → Type 0
 Told n long deep many below =
     ◌≡◌ {A = Bool × Bool × Bool} (n == 5, n == 21, n == 25)
     (long, not long && deep, (not long && not deep) && (many && not below))
 
--- so if reading stops,
+-- if reading stops, the number is as the limits say
 told_stop : (A : Type 0) (stop : Stop) (long deep many : Bool)
     → Told
     (cond long (refusal TooManyDigits) (cond deep (refusal TooManyBrackets) (refusal (cause_beside many stop)))).number
@@ -61,7 +62,7 @@ told_stop A stop.Loop false false false = refl
 told_stop A stop.Sequence false false true = refl
 told_stop A stop.Sequence false false false = refl
 
--- and if it does not,
+-- if the text reads and is within its limits, the number is as the limits say
 told_tree : {A : Type 0} (x : A) (long deep many : Bool) → long ≡ false → deep ≡ false
     → Told (number_in (cond many (Err (refusal TooManyVariables)) (Ok x))) long deep many false
 told_tree x true deep many short shallow = absurd (true≢false short)
@@ -69,7 +70,7 @@ told_tree x false true many short shallow = absurd (true≢false shallow)
 told_tree x false false true short shallow = refl
 told_tree x false false false short shallow = refl
 
--- whatever the text reads as
+-- whether or not the text reads, the number of its answer is as the limits say
 told_answer : {A : Type 0} (text : List ℕ) (read : Result A Stop) → ((x : A) → read ≡ Ok x → IsWithinLimits text)
     → Told (number_in (answer text read)) (has_long_number text) (has_deep_brackets text) (has_many_variables text)
     (stops_before_variables read)

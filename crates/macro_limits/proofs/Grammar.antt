@@ -1,5 +1,5 @@
--- Each text of the grammar passes no limit: by induction over its parts.
--- For both laws of src/law.rt.
+-- Each text of the grammar passes no limit: by induction over its parts. For both laws of
+-- src/law.rt, by way of Exact too.
 use Rattle.std.proofs.Common.{◌≡◌, ℕ, zero, suc, ◌+◌, ◌≤◌, Bool, true, false, cond, List, [], ◌∷◌, ◌++◌, length, nat_lt, refl, sym, ◌∙◌, ap, subst, arith, append_assoc}
 use Rattle.std.specs.Prelude.{codes}
 use Rattle.std.specs.Char.{is_ascii_digit}
@@ -17,11 +17,11 @@ use Rattle.macro_limits.specs.Refused.{IsWithinLimits}
 use Rattle.macro_limits.proofs.Scan.{passes_limit, text_within}
 use Rattle.macro_limits.proofs.Numbers.{Starts, Ends, Passes, Opens, opens_passes, is_plain_word, no_digit, word_ends, open_ends, close_ends, head_digits, number_passes, whole_passes}
 
--- each text of a kind passes no limit, where so many brackets are open
+-- each text of a kind passes no limit, if so many brackets are open before it
 abbrev AllPass : {A : Type 0} → ℕ → (List ℕ → A → Type 0) → Type 0
 AllPass {A} opened Texts = (t : List ℕ) (x : A) → Texts t x → Passes opened t
 
--- a word of a table whose words are all plain
+-- each word of a table is plain, if the table's words are
 word_is_plain : {A : Type 0} (words : List (List ℕ × A)) → Each words (λ w _. is_plain_word w ≡ true)
     → (word : List ℕ) (m : A) → IsWord words word m → is_plain_word word ≡ true
 word_is_plain words all word m is = each words (λ w _. is_plain_word w ≡ true) all word m is
@@ -32,20 +32,20 @@ operator_plain : (rank : Rank) (word : List ℕ) (op : Op) → IsWord (operator_
 operator_plain Product = word_is_plain (operator_words Product) (refl also refl also refl also refl also tt)
 operator_plain Sum = word_is_plain (operator_words Sum) (refl also refl also refl also refl also tt)
 
--- a part behind a plain word
+-- a plain word and then a part that passes no limit begin no number and pass no limit
 word_opens : (word t : List ℕ) (opened : ℕ) → opened ≤ 5 → is_plain_word word ≡ true → Passes opened t
     → Opens opened (word ++ t)
 word_opens word t opened few is_plain passes rest end =
     let apart : word ++ (t ++ rest) ≡ (word ++ t) ++ rest = simp append_assoc in
     subst (Ends opened) apart (word_ends word (t ++ rest) opened few is_plain (passes rest end))
 
--- a part before one that begins no number
+-- a part that passes no limit, and then one that begins no number, pass no limit
 then : (t u : List ℕ) (opened : ℕ) → Passes opened t → Opens opened u → Passes opened (t ++ u)
 then t u opened passes opens rest end =
     let apart : t ++ (u ++ rest) ≡ (t ++ u) ++ rest = simp append_assoc in
     subst (Starts opened) apart (passes (u ++ rest) (opens rest end))
 
--- brackets open one more for what stands inside them
+-- brackets around a part that passes no limit one bracket deeper pass no limit
 inside_opens : (t : List ℕ) (opened : ℕ) → suc opened ≤ 5 → Passes (suc opened) t
     → Opens opened (codes "[" ++ (t ++ codes "]"))
 inside_opens t opened few passes rest end =
@@ -65,6 +65,8 @@ chain_passes rank First Operand opened few first operand _ _ (more t word u op l
 
 module _ (Inner : List ℕ → Tree → Type 0) (opened : ℕ) (few : opened ≤ 5)
     (inner : (t : List ℕ) (e : Tree) → Inner t e → (suc opened ≤ 5) × Passes (suc opened) t) where
+  -- The next six: brackets, a variable, an operand, one with a sign and a sum pass no limit, if
+  -- what stands in brackets does not.
   bracket_opens : (t : List ℕ) (e : Tree) → IsBracketed Inner t e → Opens opened t
   bracket_opens _ _ (closed t e is) = let i = inner t e is in inside_opens t opened i.0 i.1
 
@@ -96,7 +98,7 @@ module _ (Inner : List ℕ → Tree → Type 0) (opened : ℕ) (few : opened ≤
       (chain_passes Product (IsSigned Inner) (IsPrim Inner) opened few signed_passes prim_passes)
       (chain_passes Product (IsPrim Inner) (IsPrim Inner) opened few prim_passes prim_passes)
 
--- brackets inside and outside are five together
+-- an expression passes no limit, if its brackets and those around it are at most five together
 levels_pass : (n opened : ℕ) → opened + n ≤ 6 → AllPass opened (IsWithin n)
 levels_pass zero opened few t e is = absurd is
 levels_pass (suc zero) opened few t e is =
@@ -105,19 +107,19 @@ levels_pass (suc (suc n)) opened few t e is =
     sum_passes (IsWithin (suc n)) opened (omega (arith, few))
     (λ t e is. (omega (arith, few), levels_pass (suc n) (suc opened) (omega (arith, few)) t e is)) t e is
 
--- so no expression passes a limit
+-- an expression passes no limit
 expression_passes : AllPass 0 IsExpression
 expression_passes = levels_pass 6 0 (omega arith)
 
--- what stands in the brackets of a statement
+-- what stands in the brackets of a statement passes no limit with one bracket open
 in_brackets : (t : List ℕ) (e : Tree) → IsWithin 5 t e → (1 ≤ 5) × Passes 1 t
 in_brackets t e is = (omega arith, levels_pass 5 1 (omega arith) t e is)
 
--- at the start no bracket is open
+-- before a text no bracket is open, which is few enough
 none_open : 0 ≤ 5
 none_open = omega arith
 
--- a part behind a plain word, where no bracket is open
+-- a plain word and then a part that passes no limit, if no bracket is open
 behind_word : (word t : List ℕ) → is_plain_word word ≡ true → Passes 0 t → Opens 0 (word ++ t)
 behind_word word t is_plain passes = word_opens word t 0 none_open is_plain passes
 
@@ -132,31 +134,31 @@ test_opens _ _ (compares t word u rel left right is_left is_word is_right) =
     subst (Opens 0) apart (inside_opens (t ++ (word ++ u)) 0 (omega arith)
     (then t (word ++ u) 1 (in_brackets t left is_left).1 behind))
 
--- so the target of a GOTO
+-- the target of a GOTO passes no limit
 target_passes : AllPass 0 IsTarget
 target_passes _ _ (line t n is small) = whole_passes t n 0 none_open is
 target_passes _ _ (line_of t v is) = opens_passes 0 t (variable_opens (IsWithin 5) 0 none_open in_brackets t v is)
 target_passes _ _ (line_in t e is) = bracket_passes (IsWithin 5) 0 none_open in_brackets t e is
 
--- and an assignment
+-- an assignment passes no limit
 assignment_passes : (t : List ℕ) (v : Named) (e : Tree) → IsAssignment t v e → Passes 0 t
 assignment_passes _ _ _ (assigns t u v e is_variable is) =
     then t (codes "=" ++ u) 0 (opens_passes 0 t (variable_opens (IsWithin 5) 0 none_open in_brackets t v is_variable))
     (behind_word (codes "=") u refl (expression_passes u e is))
 
--- the number of a loop is digits, and few
+-- the word is digits, and few enough
 abbrev IsShort : List ℕ → ℕ → Type 0
 IsShort word m =
     ◌≡◌ {A = Bool × Bool} (list_all is_ascii_digit word, nat_lt 8 (length (significant word))) (true, false)
 
--- and the number of a loop
+-- the number of a loop passes no limit
 loop_passes : (word : List ℕ) (m : ℕ) → IsWord loop_words word m → Passes 0 word
 loop_passes word m is rest end last quiet =
     let b = each loop_words IsShort (refl also refl also refl also tt) word m is in
     head_digits word rest 0 last none_open (ap (λ q. q.0) b) end.1 (no_digit rest end.0)
     (ap (λ x. cond x (nat_lt 6 (length word)) (nat_lt 8 (length (significant word)))) quiet ∙ ap (λ q. q.1) b)
 
--- a word, a condition, a word and what stands behind it
+-- a word, a condition, a word and what stands after it pass no limit
 behind_test : (word c middle t : List ℕ) (test : Test) → is_plain_word word ≡ true → is_plain_word middle ≡ true
     → IsTest c test → Passes 0 t → Passes 0 (word ++ (c ++ (middle ++ t)))
 behind_test word c middle t test first second is passes =
@@ -164,11 +166,11 @@ behind_test word c middle t test first second is passes =
     (behind_word word (c ++ (middle ++ t)) first
     (then c (middle ++ t) 0 (opens_passes 0 c (test_opens c test is)) (behind_word middle t second passes)))
 
--- a word and what stands behind it
+-- a word and what stands after it pass no limit
 word_passes : (word t : List ℕ) → is_plain_word word ≡ true → Passes 0 t → Passes 0 (word ++ t)
 word_passes word t is_plain passes = opens_passes 0 (word ++ t) (behind_word word t is_plain passes)
 
--- so no statement passes a limit
+-- a statement passes no limit
 statement_passes : AllPass 0 IsStatement
 statement_passes _ _ (assign t v e is) = assignment_passes t v e is
 statement_passes _ _ (goto t aim is) = word_passes (codes "GOTO") t refl (target_passes t aim is)
@@ -181,7 +183,7 @@ statement_passes _ _ (while_do c word test m is_test is) =
 statement_passes _ _ (do_only word m is) = word_passes (codes "DO") word refl (loop_passes word m is)
 statement_passes _ _ (end_loop word m is) = word_passes (codes "END") word refl (loop_passes word m is)
 
--- all of a text, with nothing before and behind it
+-- a text that passes no limit, with nothing before and after it, is within its limits
 alone : (t : List ℕ) → Passes 0 t → IsWithinLimits t
 alone t passes = text_within t (ap (passes_limit 0 0) (sym (append-nil t)) ∙ passes [] (refl, λ last. refl) 0 refl)
 

@@ -1,4 +1,4 @@
--- The lemmas of this crate, each file by its subject.
+-- The lemmas of macro_limits, each file by its subject. No other crate takes any.
 pub mod Scan
 pub mod Numbers
 pub mod Grammar

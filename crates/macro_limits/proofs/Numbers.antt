@@ -1,6 +1,5 @@
--- Words and numbers pass no limit, wherever they stand.
--- A limit is too many digits in a number, or a sixth open bracket.
--- For Grammar.
+-- Words and numbers pass no limit, wherever they stand. A limit is too many digits in a number, or
+-- a sixth open bracket. For Grammar.
 use Rattle.std.proofs.Common.{◌≡◌, ℕ, suc, ◌+◌, ◌-◌, ◌<◌, ◌≤◌, ◌==◌, ◌&&◌, ◌||◌, not, Bool, true, false, cond, ℤ, List, [], ◌∷◌, ◌++◌, length, get_or, take, nat_lt, ◌⊎◌, inl, inr, refl, sym, ◌∙◌, ap, arith, append_assoc}
 use Rattle.std.specs.Char.{is_ascii_digit}
 use Rattle.std.specs.List.{list_all, position_or_len, before_first, after_first}
@@ -23,11 +22,11 @@ Starts opened text = (last : ℕ) → (last == 46) ≡ false → passes_limit op
 abbrev pub Ends : ℕ → List ℕ → Type 0
 Ends opened text = (begins is_number_byte text ≡ false) × ((last : ℕ) → passes_limit opened last text ≡ false)
 
--- a part that passes no limit itself
+-- a part of a text passes no limit itself, before all that may stand after a number
 abbrev pub Passes : ℕ → List ℕ → Type 0
 Passes opened t = (rest : List ℕ) → Ends opened rest → Starts opened (t ++ rest)
 
--- a part that begins no number and passes no limit itself
+-- a part begins no number and passes no limit itself: it too may stand after a number
 abbrev pub Opens : ℕ → List ℕ → Type 0
 Opens opened t = (rest : List ℕ) → Ends opened rest → Ends opened (t ++ rest)
 
@@ -35,11 +34,11 @@ Opens opened t = (rest : List ℕ) → Ends opened rest → Ends opened (t ++ re
 pub opens_passes : (opened : ℕ) (t : List ℕ) → Opens opened t → Passes opened t
 opens_passes opened t opens rest end last quiet = (opens rest end).1 last
 
--- a byte of a word: no digit, no point and no bracket, 91 and 93
+-- whether a byte can stand in a word: no digit, no point and no bracket, 91 and 93
 abbrev pub is_plain : ℕ → Bool
 is_plain b = not (is_number_byte b) && (not (b == 91) && not (b == 93))
 
--- such a byte is part of no number
+-- a plain byte is part of no number
 no_number : (b : ℕ) → is_plain b ≡ true → is_number_byte b ≡ false
 no_number b plain = grind (arith, nat_tests)
 
@@ -48,18 +47,19 @@ pub no_digit : (text : List ℕ) → begins is_number_byte text ≡ false → be
 no_digit [] quiet = refl
 no_digit (b ∷ text) quiet = (or_parts (is_ascii_digit b) (b == 46) quiet).0
 
--- a byte that is no bracket leaves the depth
+-- a byte that is no bracket leaves the number of open brackets
 same_depth : (opened b : ℕ) → (b == 91) ≡ false → (b == 93) ≡ false → open_behind opened b ≡ opened
 same_depth opened b no_open no_close = rw (no_open, no_close) refl
 
--- one byte that is no digit
+-- a byte that is no digit passes no limit, if the text after it does not
 quiet_byte : (opened last b : ℕ) (text : List ℕ) → opened ≤ 5 → is_ascii_digit b ≡ false
     → passes_limit (open_behind opened b) b text ≡ false → passes_limit opened last (b ∷ text) ≡ false
 quiet_byte opened last b text few other further =
     let many = too_many_behind last (run is_ascii_digit (b ∷ text)) in
     or_from _ _ (le-ltb 5 opened few) (or_from _ _ (ap (λ x. x && not (is_ascii_digit last) && many) other) further)
 
--- one digit, which begins no number that is too long
+-- a digit passes no limit, if no number that is too long begins with it and the text after it
+-- passes none
 digit_byte : (opened last b : ℕ) (text : List ℕ) → opened ≤ 5 → is_ascii_digit b ≡ true
     → long_at last (b ∷ text) ≡ false → passes_limit opened b text ≡ false → passes_limit opened last (b ∷ text) ≡ false
 digit_byte opened last b text few digit short further =
@@ -68,11 +68,11 @@ digit_byte opened last b text few digit short further =
     or_from _ _ (le-ltb 5 opened few)
     (or_from _ _ short (ap (λ k. passes_limit k b text) (same_depth opened b no_open no_close) ∙ further))
 
--- a word is plain bytes, and has one
+-- whether a text is plain bytes, at least one
 abbrev pub is_plain_word : List ℕ → Bool
 is_plain_word word = begins is_plain word && list_all is_plain word
 
--- a plain byte, before what passes no limit
+-- a plain byte passes no limit before what passes none
 plain_byte : (b opened last : ℕ) (text : List ℕ) → opened ≤ 5 → is_plain b ≡ true → Starts opened text
     → passes_limit opened last (b ∷ text) ≡ false
 plain_byte b opened last text few plain starts =
@@ -83,7 +83,7 @@ plain_byte b opened last text few plain starts =
     quiet_byte opened last b text few parts.0
     (ap (λ k. passes_limit k b text) (same_depth opened b no_open no_close) ∙ starts b parts.1)
 
--- plain bytes may stand before what passes no limit,
+-- plain bytes may stand before what passes no limit
 word_starts : (word rest : List ℕ) (opened : ℕ) → opened ≤ 5 → list_all is_plain word ≡ true → Starts opened rest
     → Starts opened (word ++ rest)
 word_starts [] rest opened few plain starts last quiet = starts last quiet
@@ -112,7 +112,7 @@ close_ends rest opened few starts =
     let further = ap (λ k. passes_limit k 93 rest) back ∙ starts 93 refl in
     (refl, λ last. quiet_byte (suc opened) last 93 rest few refl further)
 
--- digits behind a digit begin no number
+-- digits after a digit pass no limit: no number begins with them
 tail_digits : (digits rest : List ℕ) (opened last : ℕ) → opened ≤ 5 → list_all is_ascii_digit digits ≡ true
     → ((last : ℕ) → passes_limit opened last rest ≡ false) → is_ascii_digit last ≡ true
     → passes_limit opened last (digits ++ rest) ≡ false
@@ -128,7 +128,7 @@ tail_digits (b ∷ digits) rest opened last few all further digit =
     none true z = refl
     none false z = refl
 
--- digits that are few enough
+-- digits that are few enough pass no limit
 pub head_digits : (digits rest : List ℕ) (opened last : ℕ) → opened ≤ 5 → list_all is_ascii_digit digits ≡ true
     → ((last : ℕ) → passes_limit opened last rest ≡ false) → begins is_ascii_digit rest ≡ false
     → too_many_behind last digits ≡ false → passes_limit opened last (digits ++ rest) ≡ false
@@ -147,7 +147,7 @@ head_digits (b ∷ digits) rest opened last few all further quiet short =
     none true false = refl
     none false y = refl
 
--- a number is its whole part, or that and its point and what stands behind it
+-- a number is its whole part, or that, its point and what stands after it
 two_parts : (t : List ℕ)
     → (t ≡ before_first is_point t) ⊎ (t ≡ before_first is_point t ++ (46 ∷ after_first is_point t))
 two_parts t = go (nat_lt (position_or_len is_point t) (length t)) refl
@@ -163,7 +163,7 @@ two_parts t = go (nat_lt (position_or_len is_point t) (length t)) refl
         let all : take (position_or_len is_point t) t ≡ t = grind (arith, common_steps) in
         inl (sym all)
 
--- a number without a sign is behind its sign
+-- a number without a sign has no sign to take off
 no_sign : (t : List ℕ) → list_all is_number_byte t ≡ true → behind_sign t ≡ t
 no_sign [] bytes = refl
 no_sign (b ∷ t) bytes =
@@ -171,13 +171,13 @@ no_sign (b ∷ t) bytes =
     let none : is_sign b ≡ false = grind (arith, nat_tests) in
     ap (λ x. cond x t (b ∷ t)) none
 
--- what a literal is behind its sign
+-- whether a number without a sign is a literal
 abbrev unsigned_literal : List ℕ → Bool
 unsigned_literal t =
     (list_all is_ascii_digit (before_first is_point t) && list_all is_ascii_digit (after_first is_point t))
     && nat_lt 0 (length (before_first is_point t) + length (after_first is_point t))
 
--- and when it has too many digits: above 8 before the point, or 6 behind it
+-- whether a number without a sign has too many digits: above 8 before the point, or 6 after it
 abbrev unsigned_long : List ℕ → Bool
 unsigned_long t =
     nat_lt 8 (length (significant (before_first is_point t))) || nat_lt 6 (length (after_first is_point t))

@@ -1,6 +1,5 @@
--- One walk over a text sees both limits. Of what stands before a byte it keeps the last one and the
--- brackets' number.
--- For Numbers and Grammar.
+-- One walk over a text sees both limits. Of what stands before a byte it keeps the last byte and
+-- how many brackets are open. For Numbers and Grammar.
 use Rattle.std.proofs.Common.{◌≡◌, ℕ, ◌+◌, ◌-◌, ◌==◌, ◌&&◌, ◌||◌, not, Bool, true, false, cond, List, [], ◌∷◌, ◌++◌, length, slice_index, nat_lt, refl, ◌∙◌, ap, arith, if◌then◌else◌}
 use Rattle.std.specs.Char.{is_ascii_digit}
 use Rattle.std.proofs.lemmas.Bool.{or_parts, or_from, lt-ltb}
@@ -11,7 +10,7 @@ use Rattle.nc_number.specs.Literals.{significant}
 use Rattle.macro_expr.specs.Words.{run, begins}
 use Rattle.macro_expr.specs.Limits.{ends, is_loop_head, begins_long, long_behind, has_long_number, open_behind, too_deep, has_deep_brackets}
 
--- whether the digits behind this byte are more than a number may have: 6 behind a point, 46, else 8
+-- whether the digits after this byte are more than a number may have: 6 after a point (46), else 8
 abbrev pub too_many_behind : ℕ → List ℕ → Bool
 too_many_behind last digits = if last == 46 then nat_lt 6 (length digits) else nat_lt 8 (length (significant digits))
 
@@ -20,18 +19,21 @@ abbrev pub long_at : ℕ → List ℕ → Bool
 long_at last text =
     begins is_ascii_digit text && not (is_ascii_digit last) && too_many_behind last (run is_ascii_digit text)
 
--- whether a limit is passed in the text, which stands behind this byte with so many brackets open
+-- whether a limit is passed in the text, which stands after this byte with so many brackets open
 abbrev pub passes_limit : ℕ → ℕ → List ℕ → Bool
 passes_limit opened last [] = nat_lt MOST_BRACKETS opened
 passes_limit opened last (b ∷ text) =
     nat_lt MOST_BRACKETS opened || (long_at last (b ∷ text) || passes_limit (open_behind opened b) b text)
 
--- the last byte of what stands before, or one that is no digit and no point where nothing does
+-- this is the last byte of what stands before, or, if nothing stands before, a byte that is no
+-- digit and no point
 record IsLast (before : List ℕ) (last : ℕ) : Type 0 where
+  -- both are a digit, or neither is
   digit : ends is_ascii_digit before ≡ is_ascii_digit last
+  -- both are a point, or neither is
   point : ends (λ b. b == 46) before ≡ (last == 46)
 
--- what the last byte of a text is
+-- whether the last byte of a text passes, if that byte was put there
 ends_push : (p : ℕ → Bool) (before : List ℕ) (b : ℕ) → ends p (before ++ b ∷ []) ≡ p b
 ends_push p before b =
     let long : length (before ++ b ∷ []) ≡ length before + 1 = grind (arith, common_steps) in
@@ -44,7 +46,8 @@ ends_push p before b =
 pushed : (before : List ℕ) (b : ℕ) → IsLast (before ++ b ∷ []) b
 pushed before b = record { digit = ends_push is_ascii_digit before b; point = ends_push (λ b. b == 46) before b }
 
--- the digits of a loop are no number: there are fewer long ones
+-- a number that is not too long by a test without loops is not too long by one that leaves out the
+-- digits of a loop
 fewer : (x y z head six eight : Bool) → (x && not y && cond z six eight) ≡ false
     → (x && not y && cond z six (cond head false eight)) ≡ false
 fewer false y z head six eight none = refl
@@ -53,7 +56,7 @@ fewer true false true head six eight none = none
 fewer true false false true six eight none = refl
 fewer true false false false six eight none = none
 
--- no number that is too long begins here, so none is seen by the other test
+-- if by the walk no number that is too long begins here, none does by the definition
 not_long : (before : List ℕ) (last : ℕ) (text : List ℕ) → IsLast before last → long_at last text ≡ false
     → begins_long before text ≡ false
 not_long before last text is none =

@@ -1,6 +1,5 @@
 -- Where the reading of a statement stops its cause stands; where a cause of statements alone
--- stands, it stops for that.
--- For the law of src/refusals.rt.
+-- stands, it stops for that. For the law `reading_stops_for_a_cause` (src/refusals.rt).
 use Rattle.std.proofs.Common.{◌≡◌, ℕ, ◌==◌, nat_lt, Bool, true, false, cond, List, [], ◌∷◌, ◌++◌, length, Some, Ok, Err, pos, refl, sym, ◌∙◌, ap, subst, arith, append_assoc}
 use Rattle.std.specs.Prelude.{codes}
 use Rattle.std.specs.Char.{is_ascii_digit}
@@ -24,7 +23,8 @@ use Rattle.macro_expr.proofs.StatementsSound.{IsAssign, condition-sound}
 use Rattle.macro_limits.specs.Refusals.{Lacks, Never, HasNo, HasNoLoop, LacksCondition, no_if, no_while, LacksLoop, no_do, no_end, no_while_do, IsPast, HasPastTarget, past_goto, past_if, OfStatement}
 use Rattle.macro_limits.proofs.Stopping.{Caused, went, stopped, Stops, after, lasts, joins_stop, word_stop, run_ends, bracket-stops, variable-stops, within-stops}
 
--- what is due of what goes on behind the condition of IF or WHILE
+-- what is shown after a condition, and of a text without one, holds of the step that reads it after
+-- IF or WHILE
 test_step : {B : Type 0} (G : Read B → Type 0) (text : List ℕ) (f : Test × List ℕ → Read B)
     → ((c rest : List ℕ) (test : Test) → IsTest c test → text ≡ c ++ rest → G (f (test, rest)))
     → (HasNo IsTest text → G (Err stop.Condition)) → G (test_at text >>= f)
@@ -38,7 +38,8 @@ test_step {B} G text f next fails = go (condition_at text) refl (condition-sound
         let reads = ap condition_at stands ∙ condition_read t test is rest in
         let no : ⊥ = cc in no)
 
--- the same behind the number of a loop
+-- what is shown after the number of a loop, and of a text without one, holds of the step that reads
+-- it
 loop_step : {B : Type 0} (G : Read B → Type 0) (text : List ℕ) (f : ℕ × List ℕ → Read B)
     → ((m : ℕ) → IsWord loop_words (run is_ascii_digit text) m → G (f (m, behind_run is_ascii_digit text)))
     → (HasNoLoop text → G (Err stop.Loop)) → G (loop_at text >>= f)
@@ -52,7 +53,7 @@ loop_step {B} G text f next fails =
     let known = each loop_words (λ w m. loop_of w ≡ Some m) (refl also refl also refl also tt) digits m is in
     cc)) refl
 
--- the same behind digits that are a target
+-- what is shown after digits, and of reading that stops there, holds of the step that reads them
 digits_step : {B : Type 0} (G : Read B → Type 0) (text : List ℕ) (f : ℕ × List ℕ → Read B)
     → ((n : ℕ) → IsWhole (run is_ascii_digit text) n → G (f (n, behind_run is_ascii_digit text)))
     → G (Err stop.Expression) → G (digits_at text >>= f)
@@ -63,6 +64,8 @@ digits_step {B} G text f next fails =
     fails
 
 module _ (Other : Stop → Type 0) where
+  -- The next three: a target and an assignment stop where a cause stands; for the latter, `0` is an
+  -- expression.
   target-stops : (text : List ℕ) → (IsPast text → Other stop.Sequence) → Caused IsTarget Other text (target_at text)
   unfolding target_at
   target-stops text past = go (begins is_ascii_digit text) (begins (λ b. b == 35) text)
@@ -119,11 +122,11 @@ module _ (Other : Stop → Type 0) where
       (λ u e is. ([], t ++ (codes "=" ++ u), (v, e), simp (append_assoc, append-nil), assigns t u v e is_v is))
       (within-stops Other 6 right)))
 
--- what is due of the reading of a statement
+-- this reading of the statement goes on, or stops where a cause stands
 abbrev Due : List ℕ → Read Sentence → Type 0
 Due text = Caused IsStatement (OfStatement text) text
 
--- an IF
+-- what is read after IF stops where a cause stands
 if-stops : (text at : List ℕ) → text ≡ codes "IF" ++ at → Due text (if_at at)
 unfolding if_at branch_at
 if-stops text at here =
@@ -153,7 +156,7 @@ if-stops text at here =
     (assignment-stops (OfStatement text) body))))
     (λ none. stopped stop.Condition (subst LacksCondition (sym here) (no_if at none)))
 
--- a WHILE
+-- what is read after WHILE stops where a cause stands
 while-stops : (text at : List ℕ) → text ≡ codes "WHILE" ++ at → Due text (while_at at)
 unfolding while_at
 while-stops text at here =
@@ -165,7 +168,7 @@ while-stops text at here =
     (λ none. stopped stop.Loop (subst LacksLoop (sym whole) (no_while_do c digits test is_test none)))))
     (λ none. stopped stop.Condition (subst LacksCondition (sym here) (no_while at none)))
 
--- a GOTO
+-- what is read after GOTO stops where a cause stands
 goto-stops : (text at : List ℕ) → text ≡ codes "GOTO" ++ at → Due text (target_at at >>= λ aim. Ok (Goto aim.0, aim.1))
 goto-stops text at here =
     joins_stop (codes "GOTO") Goto goto here
@@ -204,7 +207,7 @@ statement-stops text = go (begins (λ b. b == 35) text)
         word k is at here)
         (stopped stop.Expression tt)
 
--- reading of all of a text stops where it stops, or before what stands behind
+-- the reading of all of a text stops where its part stops, or because something stands after it
 whole-stops : {A : Type 0} {Is : List ℕ → A → Type 0} {Other : Stop → Type 0} {text : List ℕ} {r : Read A}
     → Caused Is Other text r → (s : Stop) → whole r ≡ Err s → Lacks Is Other text s
 whole-stops {Is} {Other} {text} (stopped s lacks) s' read =
@@ -242,7 +245,7 @@ test_fails u f lacks =
 loop_fails : {B : Type 0} (u : List ℕ) (f : ℕ × List ℕ → Read B) → HasNoLoop u → (loop_at u >>= f) ≡ Err stop.Loop
 loop_fails u f lacks = loop_step (λ r. r ≡ Err stop.Loop) u f (λ m is. absurd (lacks m is)) (λ none. refl)
 
--- what only a statement lacks stops its reading,
+-- a cause that only a statement has stops its reading
 statement_fails : (text : List ℕ) (s : Stop) → OfStatement text s → statement_at text ≡ Err s
 unfolding statement_at keyword if_at while_at branch_at word_at
 statement_fails text stop.Expression never = absurd never

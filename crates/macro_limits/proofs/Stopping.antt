@@ -1,5 +1,4 @@
--- Where the reading of an expression stops its cause stands.
--- For StatementsStopping.
+-- Where the reading of an expression stops its cause stands. For StatementsStopping.
 use Rattle.std.proofs.Common.{◌≡◌, ℕ, zero, suc, ◌+◌, ◌==◌, not, Bool, true, false, cond, List, [], ◌∷◌, ◌++◌, length, drop, None, Some, Ok, Err, refl, sym, ◌∙◌, ap, subst, arith, append_assoc}
 use Rattle.std.specs.Prelude.{codes}
 use Rattle.std.specs.Char.{is_ascii_digit}
@@ -34,11 +33,11 @@ pub data Caused {A : Type 0} (Is : List ℕ → A → Type 0) (Other : Stop → 
 abbrev pub Stops : {A : Type 0} → (Stop → Type 0) → (List ℕ → A → Type 0) → (List ℕ → Read A) → Type 0
 Stops Other Is reader = (text : List ℕ) → Caused Is Other text (reader text)
 
--- what a part makes behind a front, with an ending
+-- a text of one kind, between this front and some ending, is a text of the other kind
 abbrev pub Extended : {B : Type 0} → (List ℕ → B → Type 0) → List ℕ → List ℕ → Type 0
 Extended {B} Is front t = (ending u : List ℕ) × (y : B) × (u ≡ front ++ (t ++ ending)) × Is u y
 
--- where a part stops, the whole stops
+-- what a part lacks where it stops, the whole lacks
 pub carries : {A B : Type 0} {Is : List ℕ → A → Type 0} {Is' : List ℕ → B → Type 0} {Other : Stop → Type 0}
     {text : List ℕ} (front at : List ℕ) → text ≡ front ++ at → ((t : List ℕ) (x : A) → Is t x → Extended Is' front t)
     → (s : Stop) → Lacks Is Other at s → Caused Is' Other text (Err s)
@@ -63,7 +62,7 @@ carries front at here extend stop.Condition other = stopped stop.Condition other
 carries front at here extend stop.Loop other = stopped stop.Loop other
 carries front at here extend stop.Sequence other = stopped stop.Sequence other
 
--- a step, and what follows it
+-- a step that stops where a cause stands, and then one that does, stop where a cause stands
 pub after : {A B : Type 0} {Is : List ℕ → A → Type 0} {Is' : List ℕ → B → Type 0} {Other : Stop → Type 0}
     {at text : List ℕ} {r : Read A} (f : A × List ℕ → Read B) (front : List ℕ) → text ≡ front ++ at
     → ((t : List ℕ) (x : A) → Is t x → Extended Is' front t) → Sound Is at r → Caused Is Other at r
@@ -72,7 +71,7 @@ pub after : {A B : Type 0} {Is : List ℕ → A → Type 0} {Is' : List ℕ → 
 after f front here extend (found t rest x is stands) caused next = next t rest x is stands
 after {at} f front here extend (stops s) (stopped _ lacks) next = carries front at here extend s lacks
 
--- the last step
+-- the last step of a reading stops where a cause stands, if its part does
 pub lasts : {A B : Type 0} {Is : List ℕ → A → Type 0} {Is' : List ℕ → B → Type 0} {Other : Stop → Type 0}
     {text : List ℕ} {r : Read A} (f : A × List ℕ → B × List ℕ) (front at : List ℕ) → text ≡ front ++ at
     → ((t : List ℕ) (x : A) → Is t x → Extended Is' front t) → Caused Is Other at r
@@ -80,7 +79,7 @@ pub lasts : {A B : Type 0} {Is : List ℕ → A → Type 0} {Is' : List ℕ → 
 lasts f front at here extend (went x) = went (f x)
 lasts f front at here extend (stopped s lacks) = carries front at here extend s lacks
 
--- a part behind a front, and what both make
+-- a part after a front stops where a cause stands, and so does the whole that both make
 pub joins_stop : {A B : Type 0} {Is : List ℕ → A → Type 0} {Is' : List ℕ → B → Type 0} {Other : Stop → Type 0}
     {text at : List ℕ} {r : Read A} (front : List ℕ) (mk : A → B)
     → ((t : List ℕ) (x : A) → Is t x → Is' (front ++ t) (mk x)) → text ≡ front ++ at
@@ -88,14 +87,14 @@ pub joins_stop : {A B : Type 0} {Is : List ℕ → A → Type 0} {Is' : List ℕ
 joins_stop {at} front mk make here caused =
     lasts _ front at here (λ t x is. ([], front ++ t, mk x, simp append-nil, make t x is)) caused
 
--- a part that is the whole
+-- a part that is the whole of another kind stops where a cause stands as that kind
 pub turns : {A : Type 0} {Is Is' : List ℕ → A → Type 0} {Other : Stop → Type 0} {text : List ℕ} {r : Read A}
     → ((t : List ℕ) (x : A) → Is t x → Is' t x) → Caused Is Other text r → Caused Is' Other text r
 turns make (went x) = went x
 turns {text} make (stopped s lacks) =
     carries [] text refl (λ t x is. ([], t, x, sym (append-nil t), make t x is)) s lacks
 
--- a word that must stand there
+-- a word that must stand there, and what follows it, stop where a cause stands
 pub word_stop : {B : Type 0} {Is : List ℕ → B → Type 0} {Other : Stop → Type 0} {text : List ℕ} (f : List ℕ → Read B)
     (word at : List ℕ) → ((rest : List ℕ) → at ≡ word ++ rest → Caused Is Other text (f rest))
     → Caused Is Other text (word_at word at >>= f)
@@ -103,7 +102,7 @@ unfolding word_at
 word_stop {Is} {Other} {text} f word at next =
     behind_word (λ o. Caused Is Other text (expected o >>= f)) word at next (stopped stop.Expression tt)
 
--- digits that must stand there
+-- digits that must stand there, and what follows them, stop where a cause stands
 digits_stop : {B : Type 0} {Is : List ℕ → B → Type 0} {Other : Stop → Type 0} {text : List ℕ}
     (f : ℕ × List ℕ → B × List ℕ) (at : List ℕ) → Caused Is Other text (digits_at at >>= λ n. Ok (f n))
 unfolding digits_at
@@ -119,7 +118,7 @@ no_function name none f is =
     let known = each function_words Known (refl also refl also refl also refl also refl also tt) name f is in
     cc
 
--- a run ends where it says
+-- what stands after the longest run of such bytes does not begin with one
 pub run_ends : (p : ℕ → Bool) (text : List ℕ) → begins p (behind_run p text) ≡ false
 run_ends p [] = refl
 run_ends p (b ∷ text) = go (run_ends p text) (p b) refl
@@ -135,9 +134,11 @@ run_ends p (b ∷ text) = go (run_ends p text) (p b) refl
 module _ (Other : Stop → Type 0) (rank : Rank) (First Operand : List ℕ → Tree → Type 0)
     (first operand : List ℕ → Read Tree)
     (operand-sound : Reads Operand operand) (operand-stops : Stops Other Operand operand) where
+  -- a text is a chain of this rank, from its first operand on
   abbrev IsOne : List ℕ → Tree → Type 0
   IsOne = IsChain rank First Operand
 
+  -- The next two: a chain of operators stops where a cause stands, if its operands do.
   chain_stops : (n : ℕ) (text t at : List ℕ) (left : Tree) → text ≡ t ++ at → IsOne t left
       → Caused IsOne Other text (chain (operator rank) operand n left at)
   unfolding chain operator
@@ -194,6 +195,8 @@ module _ (Other : Stop → Type 0) (inner : List ℕ → Read Tree) (Inner : Lis
   plain_prim _ _ (bracket _ _ (closed t e is)) = absurd is
   plain_prim _ _ (function _ _ _ _ is_name (closed t e is)) = absurd is
 
+  -- The next seven: a function, a number, an operand, one with a sign, a product, the first of a
+  -- sum and a sum stop where a cause stands.
   function-stops : (text : List ℕ) → begins is_letter text ≡ true
       → Caused (IsPrim Inner) Other text (function_at inner text)
   unfolding function_at function_of function_word

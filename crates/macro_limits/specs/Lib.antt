@@ -1,3 +1,4 @@
--- The words of the laws: Refused is about the limits, Refusals about where reading stops.
+-- The words of the laws of this crate: Refused is about the limits, Refusals about where reading
+-- stops. block_forms cites Refusals.
 pub mod Refused
 pub mod Refusals

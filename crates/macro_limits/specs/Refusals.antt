@@ -1,5 +1,6 @@
--- Why a text that no limit refuses has no tree, over the grammar: what stands where reading stops.
--- block_forms cites this. The grammar itself is in macro_expr.
+-- Why a text that no limit refuses has no tree, over the grammar of macro_expr: what stands where
+-- reading stops. For the law `reading_stops_for_a_cause` (src/refusals.rt); block_forms cites it in
+-- its own laws.
 use Rattle.std.specs.Prelude.{◌≡◌, ◌<◌, ℕ, true, false, List, ◌++◌, codes}
 use Rattle.std.specs.Char.{is_ascii_digit}
 use Rattle.std.specs.List.{list_all}
@@ -21,22 +22,22 @@ pub record HasUnknown (A : Type 0) (Is : List ℕ → A → Type 0) (text : List
   pub before : List ℕ
   -- the letters
   pub name : List ℕ
-  -- what stands behind them
+  -- what stands after the letters
   pub rest : List ℕ
   -- the text is these three
   pub stands : text ≡ before ++ (name ++ rest)
   -- the name has letters alone
   pub letters : list_all is_letter name ≡ true
-  -- and at least one
+  -- there is at least one letter
   pub some : begins is_letter (name ++ rest) ≡ true
-  -- and is not longer
+  -- no further letter follows
   pub ends : begins is_letter rest ≡ false
   -- no function has this name
   pub unknown : (f : Fun) → IsWord function_words name f → ⊥
   -- any operand without brackets could stand in its place
   pub place : (p : List ℕ) (e : Tree) → IsPlain p e → (ending : List ℕ) × (x : A) × Is (before ++ (p ++ ending)) x
 
--- what stands where reading stops; Other says it of the places that only a statement has
+-- what stands where reading stops for this; Other says it of the stops that only a statement has
 abbrev pub Lacks : {A : Type 0} → (List ℕ → A → Type 0) → (Stop → Type 0) → List ℕ → Stop → Type 0
 Lacks Is Other text stop.Expression = Unit {0}
 Lacks {A} Is Other text stop.Function = HasUnknown A Is text
@@ -44,7 +45,7 @@ Lacks Is Other text stop.Condition = Other stop.Condition
 Lacks Is Other text stop.Loop = Other stop.Loop
 Lacks Is Other text stop.Sequence = Other stop.Sequence
 
--- what only a statement lacks, an expression never lacks
+-- of an expression: it never stops for a condition, a loop or a sequence number
 abbrev pub Never : Stop → Type 0
 Never s = ⊥
 
@@ -52,7 +53,7 @@ Never s = ⊥
 abbrev pub HasNo : {A : Type 0} → (List ℕ → A → Type 0) → List ℕ → Type 0
 HasNo {A} Is text = (t rest : List ℕ) (x : A) → text ≡ t ++ rest → Is t x → ⊥
 
--- IF or WHILE without a condition behind it
+-- the text is IF or WHILE without a condition after it
 pub data LacksCondition : List ℕ → Type 0 where
   -- after IF
   no_if : (u : List ℕ) → HasNo IsTest u → LacksCondition (codes "IF" ++ u)
@@ -63,7 +64,7 @@ pub data LacksCondition : List ℕ → Type 0 where
 abbrev pub HasNoLoop : List ℕ → Type 0
 HasNoLoop u = (m : ℕ) → IsWord loop_words (run is_ascii_digit u) m → ⊥
 
--- DO, END, or a WHILE with its condition and DO, without a loop's number behind it
+-- the text is DO, END, or a WHILE with its condition and DO, without a loop's number after it
 pub data LacksLoop : List ℕ → Type 0 where
   -- after DO
   no_do : (u : List ℕ) → HasNoLoop u → LacksLoop (codes "DO" ++ u)
@@ -77,7 +78,7 @@ pub data LacksLoop : List ℕ → Type 0 where
 pub record IsPast (text : List ℕ) : Type 0 where
   -- the number
   pub digits : List ℕ
-  -- what stands behind it
+  -- what stands after the number
   pub rest : List ℕ
   -- its value
   pub number : ℕ
@@ -90,7 +91,7 @@ pub record IsPast (text : List ℕ) : Type 0 where
   -- sequence numbers go up to 99,999
   pub large : 99999 < number
 
--- GOTO, or an IF with its condition and GOTO, and a target of digits above the range
+-- the text is GOTO, or an IF with its condition and GOTO, and a target of digits above the range
 pub data HasPastTarget : List ℕ → Type 0 where
   -- after GOTO
   past_goto : (u : List ℕ) → IsPast u → HasPastTarget (codes "GOTO" ++ u)
@@ -98,7 +99,7 @@ pub data HasPastTarget : List ℕ → Type 0 where
   past_if : (c u : List ℕ) (test : Test) → IsTest c test → IsPast u
       → HasPastTarget (codes "IF" ++ (c ++ (codes "GOTO" ++ u)))
 
--- what stops the reading of a statement, and of no expression
+-- what stands where the reading of a statement stops for a condition, a loop or a sequence number
 abbrev pub OfStatement : List ℕ → Stop → Type 0
 OfStatement text stop.Expression = ⊥
 OfStatement text stop.Function = ⊥

@@ -1,5 +1,5 @@
--- Bytes past the limit need no count.
--- For Standing: a reader counts no further than it must.
+-- A line may be counted up to one byte more than a tape may have: its refusals are the same.
+-- For Standing, which shows that a reader that counts so reads the text.
 use Rattle.std.proofs.Common.{◌≡◌, ◌==◌, ℕ, ◌+◌, ◌<◌, ◌≤◌, Bool, true, false, cond, ltb, List, [], ◌∷◌, length, Option, Some, None, Result, Ok, Err, refl, sym, ap, ◌∙◌, arith}
 use Rattle.std.proofs.lemmas.Bool.{lt-ltb, le-ltb, ltb-true, ltb-false}
 use Rattle.nc_number.specs.declared.limits.TheConstants.{LONGEST_LINE, LONGEST_TAPE}
@@ -13,11 +13,11 @@ use Rattle.line_text.specs.Said.{line_says}
 use Rattle.nc_text.specs.Tape.{Before, is_past_end, next, percent_refusal, outer_refusal, said_refusal, unless_refused, with_said, after_said, after_percent, after_outer, begun, goes_on, in_leader, in_body, in_rest}
 use Rattle.nc_text.specs.Reading.{counted, kept_of, continued, line_continued}
 
--- bytes may be counted before more come
+-- a length that is counted, and counted again with more bytes, is the whole length counted
 pub counted_more : (len more : ℕ) → counted (counted len + more) ≡ counted (len + more)
 counted_more len more = omega arith
 
--- two numbers on the same side of a bound
+-- two numbers on the same side of a bound compare with it in the same way
 ltb_same : (k a b : ℕ) → (k < b → k < a) → (b ≤ k → a ≤ k) → ltb k a ≡ ltb k b
 ltb_same k a b above below = go (ltb k b) refl
   where
@@ -29,7 +29,7 @@ ltb_same k a b above below = go (ltb k b) refl
 long_counted : (len : ℕ) → ltb LONGEST_LINE (counted len) ≡ ltb LONGEST_LINE len
 long_counted len = ltb_same LONGEST_LINE (counted len) len (λ (h : LONGEST_LINE < len). omega arith) (λ (h : len ≤ LONGEST_LINE). omega arith)
 
--- and passes the end of a tape exactly if the line does
+-- a counted line passes the end of a tape exactly if the line does
 past_counted : (before : Before) (len : ℕ) (ended : Bool) → is_past_end before (counted len) ended ≡ is_past_end before len ended
 past_counted before len true =
     let bytes = before.bytes in
@@ -43,7 +43,8 @@ within_counted : (before : Before) (len : ℕ) (ended : Bool) → is_past_end be
 within_counted before len true e = let bytes = before.bytes in let h = ltb-false LONGEST_TAPE (bytes + (len + 1)) e in omega arith
 within_counted before len false e = let bytes = before.bytes in let h = ltb-false LONGEST_TAPE (bytes + len) e in omega arith
 
--- what stands behind a line, where its length may be counted or not
+-- a line that is within the tape unless it is refused gives the same, whether its length is counted
+-- or not
 unless_counted : (at before : Before) (refusal : ℕ → Option Refusal) (len : ℕ) (ended : Bool) → refusal (counted len) ≡ refusal len → (refusal len ≡ None → is_past_end before len ended ≡ false)
     → unless_refused (refusal (counted len)) (next at (counted len) ended) ≡ unless_refused (refusal len) (next at len ended)
 unless_counted at before refusal len ended same within = ap (λ (r : Option Refusal). unless_refused r (next at (counted len) ended)) same ∙ go (refusal len) within
@@ -52,28 +53,28 @@ unless_counted at before refusal len ended same within = ap (λ (r : Option Refu
     go None fits = ap (λ (n : ℕ). Ok (next at n ended)) (within_counted before len ended (fits refl))
     go (Some r) fits = refl
 
--- a line outside the programs that is not refused is within the tape;
+-- a line outside the programs that is not refused is within the tape
 outer_within : (past : Bool) → ◌≡◌ {A = Option Refusal} (cond past (Some TapeTooLong) None) None → past ≡ false
 outer_within true e = absurd cc
 outer_within false e = refl
 
--- its count is enough
+-- the counted length of a line outside the programs is enough to judge it
 outer_counted : (before : Before) (len : ℕ) (ended : Bool) → after_outer before (counted len) ended ≡ after_outer before len ended
 outer_counted before len ended =
     unless_counted before before (λ n. outer_refusal before n ended) len ended (rw (past_counted before len ended) refl) (outer_within (is_past_end before len ended))
 
--- so is a `%` line;
+-- a `%` line that is not refused is within the tape
 percent_within : (long past : Bool) → ◌≡◌ {A = Option Refusal} (cond long (Some LineTooLong) (cond past (Some TapeTooLong) None)) None → past ≡ false
 percent_within true past e = absurd cc
 percent_within false true e = absurd cc
 percent_within false false e = refl
 
--- its count is enough
+-- the counted length of a `%` line is enough to judge it
 percent_counted : (before : Before) (len : ℕ) (ended : Bool) → after_percent before (counted len) ended ≡ after_percent before len ended
 percent_counted before len ended =
     unless_counted before before (λ n. percent_refusal before n ended) len ended (rw (long_counted len, past_counted before len ended) refl) (percent_within (ltb LONGEST_LINE len) (is_past_end before len ended))
 
--- so is a line of the programs;
+-- a line of the programs that is not refused is within the tape
 said_within : (early long many past range : Bool)
     → ◌≡◌ {A = Option Refusal} (cond early (Some NoProgramNumber) (cond long (Some LineTooLong) (cond many (Some TooManyBlocks) (cond past (Some TapeTooLong) (cond range (Some WordRange) None))))) None → past ≡ false
 said_within true long many past range e = absurd cc
@@ -82,13 +83,13 @@ said_within false false true past range e = absurd cc
 said_within false false false true range e = absurd cc
 said_within false false false false range e = refl
 
--- its count is enough
+-- the counted length of a line of the programs is enough to judge it
 said_counted : (before : Before) (len : ℕ) (ended : Bool) (says : Result Said Refusal) → after_said before (counted len) ended says ≡ after_said before len ended says
 said_counted before len ended (Err refusal) = refl
 said_counted before len ended (Ok says) =
     unless_counted (with_said before says) before (λ n. said_refusal before n ended says) len ended (rw (long_counted len, past_counted before len ended) refl) (said_within _ _ _ (is_past_end before len ended) _)
 
--- what is kept and counted of a line is enough
+-- what is kept and counted of a line gives the same answer as the whole line
 pub line_kept : (skips : ℕ) (stage : Stage) (line : List ℕ) (ended : Bool) (lines : List Line) (before : Before)
     → continued skips stage (record { bytes = line; ended = ended } ∷ lines) before ≡ line_continued skips stage (kept_of stage line) (counted (length line)) ended lines before
 line_kept skips (stages.Refused fault) line ended lines before = refl

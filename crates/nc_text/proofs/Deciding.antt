@@ -1,6 +1,6 @@
--- Where a line has ended and nothing is refused, nothing is decided: two texts that may follow have
--- different answers.
--- For the proof of src/reader.rt: a reader refuses at once.
+-- If a line has ended and nothing is refused, nothing is decided: two texts that may follow have
+-- different answers. So a reader that has refused nothing has missed no refusal.
+-- For the proof of `feed` (src/reader.rt).
 use Rattle.std.proofs.Common.{◌≡◌, ◌==◌, ℕ, ◌+◌, ◌≤◌, Bool, true, false, cond, List, [], ◌∷◌, ◌++◌, length, None, Ok, Err, refl, sym, ap, ◌∙◌, append_assoc, lit≤, arith}
 use Rattle.std.proofs.Math.ListN.{replicate}
 use Rattle.std.specs.Option.{is_none}
@@ -28,19 +28,19 @@ abbrev number_of : Answer → ℕ
 number_of (Ok programs) = 0
 number_of (Err fault) = fault.number
 
--- the byte is no line feed, 10
+-- a byte is no line feed (10)
 abbrev InLine : ℕ → Type 0
 InLine b = (b == 10) ≡ false
 
--- a last line of so many bytes and one; 88 is the letter X
+-- a text of the letter X (88), so many times and once more
 abbrev long : ℕ → List ℕ
 long n = 88 ∷ replicate n 88
 
--- such a line
+-- a last line of the letter X, so many times and once more
 abbrev long_line : ℕ → Line
 long_line n = record { bytes = long n; ended = false }
 
--- that text is one such line
+-- a text of X alone is one line
 long_is : (n : ℕ) → lines_of (long n) ≡ long_line n ∷ []
 long_is n = text_ends 88 (replicate n 88) (All-cons InLine 88 (replicate n 88) refl (All-replicate InLine n 88 refl))
 
@@ -50,11 +50,11 @@ long_past before n above =
     let bytes = before.bytes in
     lt-ltb LONGEST_TAPE (bytes + length (long n)) (omega (arith, length-replicate {A = ℕ} n 88))
 
--- after the tape it is refused for that
+-- after the second `%` line, a line as long as a tape may be is refused as a tape that is too long
 rest_long : (before : Before) (n : ℕ) → LONGEST_TAPE ≤ n → in_rest (lines_of (long n)) before ≡ Err (fault_behind before TapeTooLong)
 rest_long before n above = ap (λ (lines : List Line). in_rest lines before) (long_is n) ∙ rw (long_past before n above) refl
 
--- and before the tape too
+-- before the first `%` line, a line as long as a tape may be is refused as a tape that is too long
 leader_long : (skips : ℕ) (before : Before) (n : ℕ) → LONGEST_TAPE ≤ n → in_leader skips (lines_of (long n)) before ≡ Err (fault_behind before TapeTooLong)
 leader_long skips before n above = ap (λ (lines : List Line). in_leader skips lines before) (long_is n) ∙ rw (long_past before n above) refl
 
@@ -63,21 +63,22 @@ bad_line : (skips : ℕ) → line_says skips (36 ∷ []) false ≡ Err BadCharac
 unfolding line_says signs_of read_head read_block read_words
 bad_line skips = refl
 
--- in the programs it is refused for that
+-- in the programs, a line of a dollar sign is refused as a bad character
 body_bad : (skips : ℕ) (before : Before) → in_body skips (lines_of (36 ∷ [])) before ≡ Err (fault_behind before BadCharacter)
 body_bad skips before = rw (bad_line skips) refl
 
--- the refusal at the end of a tape has another number than 17, a tape that is too long;
+-- the answer at the end of a tape with both `%` lines has another number than 17, a tape that is
+-- too long
 rest_number : (none : Bool) (before : Before) (programs : List Program) → number_of (cond none (Err (no_program before)) (Ok programs)) ≡ 17 → ⊥
 rest_number true before programs e = omega arith
 rest_number false before programs e = omega arith
 
--- and one without its end has another than 10, a bad character
+-- the refusal at the end of a tape without its second `%` line is not 10, a bad character
 body_number : (none : Bool) (before : Before) → number_of (cond none (Err (no_program before)) (Err (record { number = refusal_number NoEnd; line = before.lines }))) ≡ 10 → ⊥
 body_number true before e = omega arith
 body_number false before e = omega arith
 
--- where a line has ended, no refusal is given whatever follows
+-- at a stage that has not refused the text, no refusal is the answer whatever follows
 undecided : (skips : ℕ) (stage : Stage) (before : Before) (fault : TextFault) (n : ℕ) → LONGEST_TAPE ≤ n → refusal_of stage ≡ None
     → ((more : List ℕ) → continued skips stage (lines_of more) before ≡ Err fault) → ⊥
 undecided skips stages.Leader before fault n above open-is decided =
@@ -92,7 +93,7 @@ undecided skips stages.Rest before fault n above open-is decided =
     rest_number (is_none before.current) before (programs_of before) (ap number_of (decided []) ∙ sym long-on)
 undecided skips (stages.Refused other) before fault n above open-is decided = absurd cc
 
--- a line has no line feed
+-- bytes with a line feed are not one line
 no_feed : (given rest line : List ℕ) → IsOneLine line → (given ++ 10 ∷ []) ++ rest ≡ line → ⊥
 no_feed [] rest [] one e = absurd cc
 no_feed [] rest (b ∷ line) one e =
@@ -105,7 +106,7 @@ no_feed (g ∷ given) rest (b ∷ line) one e =
     let later : (given ++ 10 ∷ []) ++ rest ≡ line = cc in
     no_feed given rest line (All-tail InLine b line one) later
 
--- lines that have ended stand before the present line
+-- lines that have ended stand before the present line: they are a front of what precedes it
 stands_before : (given rest front line : List ℕ) → IsOneLine line → (given ++ 10 ∷ []) ++ rest ≡ front ++ line → (more : List ℕ) × (front ≡ (given ++ 10 ∷ []) ++ more)
 stands_before given rest [] line one e = absurd (no_feed given rest line one e)
 stands_before [] rest (b ∷ front) line one e = let first : b ≡ 10 = cc in (front, ap (λ (c : ℕ). c ∷ front) first)
@@ -115,20 +116,20 @@ stands_before (g ∷ given) rest (b ∷ front) line one e =
     let before = stands_before given rest front line one later in
     (before.0, λ i. first i ∷ before.1 i)
 
--- a text is refused in one way
+-- if bytes have a refusal whatever follows, they have only one
 pub one_fault : (skips : ℕ) (bytes : List ℕ) (a b : TextFault) → IsRefused skips bytes a → IsRefused skips bytes b → a ≡ b
 one_fault skips bytes a b first other = let e : ◌≡◌ {A = Answer} (Err a) (Err b) = sym (first []) ∙ other [] in cc
 
--- a refusal stands behind more bytes too
+-- a refusal that bytes have whatever follows, they have with more bytes too
 pub refused_on : (skips : ℕ) (bytes piece : List ℕ) (fault : TextFault) → IsRefused skips bytes fault → IsRefused skips (bytes ++ piece) fault
 refused_on skips bytes piece fault refused = λ more. ap (tape_of skips) (append_assoc bytes piece more) ∙ refused (piece ++ more)
 
--- what the ended lines decide, the text is refused for
+-- a refusal that the ended lines decide is the text's, whatever follows
 pub decided_refused : (skips : ℕ) (bytes : List ℕ) (fault : TextFault) → IsDecided skips bytes fault → IsRefused skips bytes fault
 decided_refused skips bytes fault decided = λ more.
     ap (λ (text : List ℕ). tape_of skips (text ++ more)) decided.bytes_are ∙ refused_on skips (decided.lines ++ 10 ∷ []) decided.rest fault decided.refused more
 
--- a reader that has refused nothing has read no line that decides
+-- the ended lines of a text that a reader has not refused decide no refusal
 pub nothing_decided : (s : ℕ) (stage : Stage) (kept : List ℕ) (len : ℕ) (before : Before) → refusal_of stage ≡ None
     → (skips : ℕ) (bytes : List ℕ) (fault : TextFault) → HasRead (state s stage kept len before) skips bytes → IsDecided skips bytes fault → ⊥
 nothing_decided s stage kept len before open-is skips bytes fault read decided =

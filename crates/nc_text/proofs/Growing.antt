@@ -22,12 +22,12 @@ goes_itself (Some program) = ([], [], ap (λ (blocks : List Block). record progr
 pub follows_itself : (start : Before) → Follows start start
 follows_itself start = ([], sym (append-nil start.done), goes_itself start.current)
 
--- with further programs it still goes on,
+-- a program that goes on in a list of programs goes on in that list with further ones
 goes_further : (start : Option Program) (programs more : List Program) → GoesOn start programs → GoesOn start (programs ++ more)
 goes_further None programs more g = tt
 goes_further (Some program) programs more g = (g.0, g.1 ++ more, ap (λ (all : List Program). all ++ more) g.2)
 
--- a program that begins leaves what was read,
+-- a program that begins leaves what was read
 program_grows : (old : Before) (number : ℕ) → Grows old (with_program old number)
 program_grows old number = λ start follows. (
   follows.0 ++ option_to_list old.current,
@@ -35,7 +35,7 @@ program_grows old number = λ start follows. (
   goes_further start.current (follows.0 ++ option_to_list old.current) _ follows.2,
 )
 
--- a block is added to the program that is being read,
+-- a program still goes on if a block is added to the one that is being read
 goes_block : (start : Option Program) (programs : List Program) (current : Option Program) (block : Block) → GoesOn start (programs ++ option_to_list current) → GoesOn start (programs ++ option_to_list (with_block block current))
 goes_block None programs current block g = tt
 goes_block (Some program) programs None block g = g
@@ -53,11 +53,11 @@ goes_block (Some program) (first ∷ programs) (Some current) block g =
     let is : first ≡ with_blocks program g.0 = let e = g.2 in cc in
     (g.0, programs ++ with_blocks current (block ∷ []) ∷ [], ap (λ (p : Program). p ∷ (programs ++ with_blocks current (block ∷ []) ∷ [])) is)
 
--- and leaves what was read
+-- a block that is added leaves what was read
 block_grows : (old : Before) (block : SaidBlock) → Grows old (with_said old (said.Block block))
 block_grows old block = λ start follows. (follows.0, follows.1, goes_block start.current follows.0 old.current _ follows.2)
 
--- whatever a line says leaves it
+-- whatever a line says leaves what was read
 said_grows : (old : Before) (says : Said) → Grows old (with_said old says)
 said_grows old said.Nothing = λ start follows. follows
 said_grows old (said.Program None) = λ start follows. follows
@@ -68,7 +68,7 @@ said_grows old (said.Block block) = block_grows old block
 pub grows_said : (old new : Before) (says : Said) (len : ℕ) (ended : Bool) → new ≡ next (with_said old says) len ended → Grows old new
 grows_said old new says len ended e = λ start follows. subst (λ (b : Before). Follows start b) (sym e) (said_grows old says start follows)
 
--- the program that was being read, with the blocks that it had then
+-- the first of the later programs, cut to its first blocks, is the program that was being read
 cut_to : (start : Option Program) (programs : List Program) → GoesOn start programs → cut_program (block_count start) (first_of programs) ≡ start
 cut_to None programs g = refl
 cut_to (Some program) programs g =

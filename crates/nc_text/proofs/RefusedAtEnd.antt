@@ -1,5 +1,5 @@
--- What is refused whatever follows is refused where nothing follows.
--- nc_verify and tape_expand take it.
+-- A text that a reader refuses in `feed`, whatever follows, has this refusal as its answer.
+-- nc_verify and tape_expand take it for a text that they read in one piece.
 use Rattle.std.proofs.Common.{ℕ, List, [], ◌++◌, sym, ◌∙◌, ap}
 use Rattle.std.proofs.lemmas.List.{append-nil}
 use Rattle.nc_number.specs.declared.fault.Failing.{Failing}
@@ -9,7 +9,7 @@ use Rattle.nc_text.specs.declared.fault.TextFault.{TextFault}
 use Rattle.nc_text.specs.Reading.{FaultIs, IsRefused}
 use Rattle.nc_text.specs.Tape.{tape_of}
 
--- a text that is refused whatever follows has this refusal as its answer
+-- if a text is refused whatever follows, its answer is that refusal; out of memory claims nothing
 pub refused_at_end : (skips : ℕ) (text : List ℕ) (error : Failing TextFault) → FaultIs error (λ fault. IsRefused skips ([] ++ text) fault)
     → Fails error (tape_of skips text)
 refused_at_end skips text (Fault fault) refused = ap (λ xs. tape_of skips xs) (sym (append-nil text)) ∙ refused []

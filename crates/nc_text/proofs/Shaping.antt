@@ -1,5 +1,5 @@
--- What is read keeps its shape: an invariant of each step.
--- flow_laws takes the lemmas on rising lines and on blocks.
+-- What is read keeps its shape (`IsReadShape`) with each line, and makes a tape of its shape at the
+-- end. For the proofs of src/progress.rt; flow_laws takes the lemmas on rising lines and blocks.
 use Rattle.std.proofs.Common.{◌≡◌, ℕ, ◌+◌, ◌<◌, ◌≤◌, List, [], ◌∷◌, ◌++◌, length, Option, Some, None, refl, ap, sym, subst, ◌∙◌, arith, append_assoc}
 use Rattle.std.specs.Prelude.{All}
 use Rattle.std.specs.Option.{option_to_list}
@@ -33,49 +33,49 @@ pub rise_from : (ns : List ℕ) (low high : ℕ) → RiseTo low ns high → Rise
 rise_from [] low high h = tt
 rise_from (n ∷ ns) low high h = (h.0, rise_from ns n high h.1)
 
--- One program more, and one block more.
+-- One program more, or one block more.
 
--- the lines with one program more
+-- the lines of programs with one program more
 lines_last : (programs : List Program) (program : Program) → lines_in (programs ++ program ∷ []) ≡ lines_in programs ++ lines_of_program program
 lines_last programs program = flat_map-append lines_of_program programs (program ∷ []) ∙ ap (λ (ns : List ℕ). lines_in programs ++ ns) (append-nil (lines_of_program program))
 
--- the blocks with one program more
+-- the blocks of programs with one program more
 pub blocks_last : (programs : List Program) (program : Program) → blocks_in (programs ++ program ∷ []) ≡ blocks_in programs ++ program.blocks
 blocks_last programs program = flat_map-append (λ (p : Program). p.blocks) programs (program ∷ []) ∙ ap (λ (bs : List Block). blocks_in programs ++ bs) (append-nil program.blocks)
 
--- the program with one block more
+-- a program with one block more
 abbrev with_more : Program → Block → Program
 with_more program block = record program { blocks = program.blocks ++ block ∷ [] }
 
--- the lines with one block more
+-- the lines of programs of which the last one has one block more
 lines_more : (programs : List Program) (program : Program) (block : Block) → lines_in (programs ++ with_more program block ∷ []) ≡ lines_in (programs ++ program ∷ []) ++ block.line ∷ []
 lines_more programs program block =
     lines_last programs (with_more program block)
     ∙ ap (λ (ns : List ℕ). lines_in programs ++ (program.line ∷ ns)) (map-append (λ (b : Block). b.line) program.blocks (block ∷ []))
     ∙ sym (append_assoc (lines_in programs) (lines_of_program program) (block.line ∷ [])) ∙ ap (λ (ns : List ℕ). ns ++ block.line ∷ []) (sym (lines_last programs program))
 
--- the blocks with one block more
+-- the blocks of programs of which the last one has one block more
 blocks_more : (programs : List Program) (program : Program) (block : Block) → blocks_in (programs ++ with_more program block ∷ []) ≡ blocks_in (programs ++ program ∷ []) ++ block ∷ []
 blocks_more programs program block =
     blocks_last programs (with_more program block) ∙ sym (append_assoc (blocks_in programs) program.blocks (block ∷ [])) ∙ ap (λ (bs : List Block). bs ++ block ∷ []) (sym (blocks_last programs program))
 
--- the last program replaced by one of the same shape
+-- if the last program is replaced by one of its shape, all still have their shape
 last_other : (programs : List Program) (program other : Program) → (IsProgramShape program → IsProgramShape other) → All IsProgramShape (programs ++ program ∷ []) → All IsProgramShape (programs ++ other ∷ [])
 last_other [] program other same all = All-cons IsProgramShape other [] (same (All-head IsProgramShape program [] all)) (All-nil IsProgramShape)
 last_other (first ∷ programs) program other same all =
     All-cons IsProgramShape first (programs ++ other ∷ []) (All-head IsProgramShape first (programs ++ program ∷ []) all) (last_other programs program other same (All-tail IsProgramShape first (programs ++ program ∷ []) all))
 
--- no programs have the shape of nothing
+-- before the first line, no programs have the shape of what was read
 pub nothing_shaped : (programs : List Program) → programs ≡ [] → IsReadShape 0 0 programs
 nothing_shaped programs e =
     let P : List Program → Type 0 = IsReadShape 0 0 in
     let none : IsReadShape 0 0 [] = record { numbers = All-nil IsProgramShape; rise = omega arith; count = omega arith; shaped = All-nil IsBlockShape } in subst P (sym e) none
 
--- a line more that says nothing
+-- with further lines that say nothing, programs keep their shape
 pub line_shaped : (lines more blocks : ℕ) (programs : List Program) → IsReadShape lines blocks programs → lines ≤ more → IsReadShape more blocks programs
 line_shaped lines more blocks programs is later = record { numbers = is.numbers; rise = rise_on (lines_in programs) 0 lines more is.rise later; count = is.count; shaped = is.shaped }
 
--- a program that begins on the next line
+-- with a program that begins on the next line, programs keep their shape
 program_shaped : (lines blocks number : ℕ) (programs : List Program) → IsReadShape lines blocks programs → IsProgramShape (program_at (lines + 1) number) → IsReadShape (lines + 1) blocks (programs ++ program_at (lines + 1) number ∷ [])
 program_shaped lines blocks number programs is range =
     let new = program_at (lines + 1) number in
@@ -90,7 +90,7 @@ program_shaped lines blocks number programs is range =
       shaped = subst R (sym same) is.shaped;
     }
 
--- a block on the next line
+-- with a block on the next line, programs keep their shape
 block_shaped : (lines blocks : ℕ) (done : List Program) (current : Option Program) (block : Block) → IsReadShape lines blocks (done ++ option_to_list current) → block.line ≡ lines + 1 → IsBlockShape block
     → IsReadShape (lines + 1) (blocks + 1) (done ++ option_to_list (with_block block current))
 block_shaped lines blocks done None block is line shape =
@@ -114,9 +114,10 @@ block_shaped lines blocks done (Some program) block is line shape =
       shaped = subst R (sym (blocks_more done program block)) (All-append IsBlockShape (blocks_in old) (block ∷ []) is.shaped (All-cons IsBlockShape block [] shape (All-nil IsBlockShape)));
     }
 
--- The same of the fields of what is read.
+-- The shape of what is read, of the fields of `Progress`: the programs before, and the one that is
+-- being read.
 
--- nothing changed
+-- if neither field changed, the shape is kept
 pub same_shape : (lines blocks : ℕ) (done new-done : List Program) (current new-current : Option Program) → IsReadShape lines blocks (done ++ option_to_list current) → new-done ≡ done → new-current ≡ current
     → IsReadShape lines blocks (new-done ++ option_to_list new-current)
 same_shape lines blocks done new-done current new-current is d c =
@@ -124,13 +125,13 @@ same_shape lines blocks done new-done current new-current is d c =
     let e : done ++ option_to_list current ≡ new-done ++ option_to_list new-current = ap (λ (ps : List Program). ps ++ option_to_list current) (sym d) ∙ ap (λ (o : Option Program). new-done ++ option_to_list o) (sym c) in
     subst P e is
 
--- a program began
+-- if a program began on the next line, the shape is kept
 pub program_begun : (lines blocks number : ℕ) (done new-done : List Program) (current new-current : Option Program) → IsReadShape lines blocks (done ++ option_to_list current) → (1 ≤ number) × (number ≤ 9999)
     → new-done ≡ done ++ option_to_list current → new-current ≡ Some (program_at (lines + 1) number) → IsReadShape (lines + 1) blocks (new-done ++ option_to_list new-current)
 program_begun lines blocks number done new-done current new-current is range d c =
     same_shape (lines + 1) blocks (done ++ option_to_list current) new-done (Some (program_at (lines + 1) number)) new-current (program_shaped lines blocks number (done ++ option_to_list current) is range) d c
 
--- a block was added
+-- if a block on the next line was added, the shape is kept
 pub block_added : (lines blocks : ℕ) (done new-done : List Program) (current new-current : Option Program) (block : SaidBlock) → IsReadShape lines blocks (done ++ option_to_list current) → IsSaidShape LONGEST_LINE block.sequence block.body
     → new-done ≡ done → new-current ≡ with_block (block_at (lines + 1) block) current → IsReadShape (lines + 1) (blocks + 1) (new-done ++ option_to_list new-current)
 block_added lines blocks done new-done current new-current block is shape d c =

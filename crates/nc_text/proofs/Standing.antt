@@ -1,6 +1,5 @@
--- A reader stands for the bytes that it was given.
--- An invariant of each call: what `HasRead` says holds after each piece.
--- For the proofs of src/feed.rt, src/step.rt and src/reader.rt.
+-- A reader stands for the bytes that it was given: what `HasRead` says holds after each piece, in
+-- whatever pieces they come. For the proofs of src/feed.rt, src/step.rt and src/reader.rt.
 use Rattle.std.proofs.Common.{◌≡◌, ◌==◌, ℕ, ◌+◌, Bool, true, false, List, [], ◌∷◌, ◌++◌, length, take, refl, sym, ap, subst, ◌∙◌, append_assoc, arith}
 use Rattle.std.proofs.Math.Seq.{take-append_seam}
 use Rattle.std.proofs.lemmas.List.{length-append, append-nil, nil_from_length}
@@ -22,7 +21,7 @@ use Rattle.nc_text.proofs.LineEnds.{line_ends, text_ends, kept_none, kept_more}
 abbrev pub state : ℕ → Stage → List ℕ → ℕ → Before → State
 state skips stage kept len before = record { skips = skips; stage = stage; kept = kept; len = len; before = before }
 
--- all stands as before
+-- a state whose fields are all as before is the state before
 pub as_before : (s : ℕ) (stage new-stage : Stage) (kept new-kept : List ℕ) (len new-len : ℕ) (before new-before : Before) → new-stage ≡ stage → new-kept ≡ kept → new-len ≡ len → new-before ≡ before
     → state s new-stage new-kept new-len new-before ≡ state s stage kept len before
 as_before s stage new-stage kept new-kept len new-len before new-before stage-is kept-is len-is before-is = λ i. state s (stage-is i) (kept-is i) (len-is i) (before-is i)
@@ -32,11 +31,11 @@ pub kept_back : (stage : Stage) (kept piece longer shorter : List ℕ) (n : ℕ)
 kept_back stage kept piece longer shorter n n-is longer-is shorter-is =
     shorter-is ∙ ap (λ (k : ℕ). take k longer) n-is ∙ ap (take (length kept)) longer-is ∙ take-append_seam kept (more_kept stage kept piece)
 
--- the line that begins with no bytes
+-- a line of which nothing is kept or counted has no bytes yet
 pub no_bytes : (stage : Stage) (kept : List ℕ) (len : ℕ) → kept ≡ [] → len ≡ 0 → IsOpenLine stage kept len []
 no_bytes stage kept len kept-is len-is = record { one_line = All-nil (λ (x : ℕ). (x == 10) ≡ false); kept_is = kept-is ∙ sym (kept_none stage); len_is = len-is }
 
--- the present line with a piece more
+-- the present line with a piece without a line feed is an open line of all these bytes
 pub line_extended : (stage new-stage : Stage) (kept new-kept : List ℕ) (len new-len : ℕ) (piece line : List ℕ) → IsOneLine piece → new-stage ≡ stage → new-kept ≡ kept ++ more_kept stage kept piece → new-len ≡ counted (len + length piece)
     → IsOpenLine stage kept len line → IsOpenLine new-stage new-kept new-len (line ++ piece)
 line_extended stage new-stage kept new-kept len new-len piece line one stage-is kept-is len-is is =
@@ -46,7 +45,7 @@ line_extended stage new-stage kept new-kept len new-len piece line one stage-is 
       len_is = len-is ∙ ap (λ (n : ℕ). counted (n + length piece)) is.len_is ∙ counted_more (length line) (length piece) ∙ ap counted (sym (length-append line piece));
     }
 
--- a piece of the present line
+-- a reader that goes on with the present line by a piece has read that piece
 pub line_goes_on : (s : ℕ) (stage new-stage : Stage) (kept new-kept : List ℕ) (len new-len : ℕ) (before : Before) (piece : List ℕ) → IsOneLine piece → new-stage ≡ stage → new-kept ≡ kept ++ more_kept stage kept piece → new-len ≡ counted (len + length piece)
     → (skips : ℕ) (bytes : List ℕ) → HasRead (state s stage kept len before) skips bytes → HasRead (state s new-stage new-kept new-len before) skips (bytes ++ piece)
 line_goes_on s stage new-stage kept new-kept len new-len before piece one stage-is kept-is len-is skips bytes read =
@@ -70,18 +69,18 @@ pub piece_taken : {E : Type 0} (r : Result (Unit {0}) E) (s : ℕ) (stage new-st
 piece_taken (Ok x) s stage new-stage kept new-kept len new-len before piece one stage-is kept-is len-is = line_goes_on s stage new-stage kept new-kept len new-len before piece one stage-is kept-is len-is
 piece_taken (Err e) s stage new-stage kept new-kept len new-len before piece one stage-is kept-is len-is = tt
 
--- so a line may be read by what is kept of it
+-- a line may be read by what is kept and counted of it
 line_stands : (s : ℕ) (stage : Stage) (kept : List ℕ) (len : ℕ) (before : Before) (line : List ℕ) (ended : Bool) → kept ≡ kept_of stage line → len ≡ counted (length line)
     → (lines : List Line) → continued s stage (record { bytes = line; ended = ended } ∷ lines) before ≡ line_continued s stage kept len ended lines before
 line_stands s stage kept len before line ended kept-is len-is lines = line_kept s stage line ended lines before ∙ (λ i. line_continued s stage (sym kept-is i) (sym len-is i) ended lines before)
 
--- a line that ended, read by what was kept of it
+-- a step that is right for what was kept of a line is right for the line itself
 line_ended : (s : ℕ) (stage new-stage : Stage) (kept slice : List ℕ) (len : ℕ) (before new-before : Before) (line : List ℕ) (ended : Bool) → IsOpenLine stage kept len line → slice ≡ kept
     → ((lines : List Line) → line_continued s stage slice len ended lines before ≡ continued s new-stage lines new-before)
     → (lines : List Line) → continued s stage (record { bytes = line; ended = ended } ∷ lines) before ≡ continued s new-stage lines new-before
 line_ended s stage new-stage kept slice len before new-before line ended is slice-is step lines = line_stands s stage slice len before line ended (slice-is ∙ is.kept_is) is.len_is lines ∙ step lines
 
--- a line that lies whole in a text
+-- a step that is right for what is kept of a line that lies whole in a text is right for the line
 pub whole_line : {E : Type 0} (r : Result Stage E) (s : ℕ) (stage : Stage) (kept : List ℕ) (len : ℕ) (before new-before : Before) (line : List ℕ) → kept ≡ kept_of stage line → len ≡ counted (0 + length line)
     → IfOk r (λ next. (lines : List Line) → line_continued s stage kept len true lines before ≡ continued s next lines new-before)
     → IfOk r (λ next. (lines : List Line) → continued s stage (record { bytes = line; ended = true } ∷ lines) before ≡ continued s next lines new-before)
@@ -90,7 +89,7 @@ whole_line (Ok next) s stage kept len before new-before line kept-is len-is step
     line_stands s stage kept len before line true kept-is (len-is ∙ ap counted all) lines ∙ step lines
 whole_line (Err e) s stage kept len before new-before line kept-is len-is step = tt
 
--- a line that ends in a text
+-- a step over the first line of a text leads on to the text after that line, and from there on
 pub line_read : (s : ℕ) (stage new-stage : Stage) (before new-before : Before) (text line behind rest : List ℕ) → text ≡ line ++ 10 ∷ behind → IsOneLine line
     → ((lines : List Line) → continued s stage (record { bytes = line; ended = true } ∷ lines) before ≡ continued s new-stage lines new-before) → LeadsTo s new-stage new-before behind new-stage new-before rest
     → LeadsTo s stage before text new-stage new-before rest
@@ -100,13 +99,13 @@ line_read s stage new-stage before new-before text line behind rest cut one step
   λ more. ap (λ (t : List ℕ). continued s stage (lines_of t) before) (append_assoc line (10 ∷ left.0) more) ∙ ap (λ (lines : List Line). continued s stage lines before) (line_ends line (left.0 ++ more) one) ∙ step (lines_of (left.0 ++ more)) ∙ left.2 more,
 )
 
--- of a text that is refused nothing is left
+-- a text that is refused leads on with nothing left of it
 pub nothing_left : (stage : Stage) (fault : TextFault) (text rest : List ℕ) → stage ≡ stages.Refused fault → rest ≡ [] → (skips : ℕ) (before : Before) → LeadsTo skips stage before text stage before rest
 nothing_left stage fault text rest refused none skips before =
     let P : Stage → Type 0 = λ st. LeadsTo skips st before text st before rest in
     subst P (sym refused) (text, sym (append-nil text) ∙ ap (λ (t : List ℕ). text ++ t) (sym none), λ more. refl)
 
--- what leads to a place that leads on leads on
+-- two leads, of which the second begins where the first ends, are one lead
 pub leads_on : (s : ℕ) (a b c : Stage) (x y z : Before) (first second third : List ℕ) → LeadsTo s a x first b y second → LeadsTo s b y second c z third → LeadsTo s a x first c z third
 leads_on s a b c x y z first second third p q = (
   p.0 ++ q.0,
@@ -114,7 +113,7 @@ leads_on s a b c x y z first second third p q = (
   λ more. ap (λ (t : List ℕ). continued s a (lines_of t) x) (append_assoc p.0 q.0 more) ∙ p.2 (q.0 ++ more) ∙ q.2 more,
 )
 
--- the line that was ended, and the line that is begun behind it
+-- the end of the present line and the lines after it lead to the line that has begun last
 pub next_line : (s : ℕ) (stage mid-stage new-stage last-stage : Stage) (kept slice last-kept : List ℕ) (len last-len : ℕ) (before mid-before new-before : Before) (behind rest : List ℕ) → slice ≡ kept
     → ((lines : List Line) → line_continued s stage slice len true lines before ≡ continued s mid-stage lines mid-before)
     → LeadsTo s mid-stage mid-before behind new-stage new-before rest → last-stage ≡ new-stage → IsOpenLine last-stage last-kept last-len rest → (line : List ℕ) → IsOpenLine stage kept len line
@@ -127,7 +126,7 @@ next_line s stage mid-stage new-stage last-stage kept slice last-kept len last-l
       (line_read s stage mid-stage before mid-before (line ++ 10 ∷ behind) line behind behind refl is.one_line (line_ended s stage mid-stage kept slice len before mid-before line true is slice-is step) ([], refl, λ more. refl)) reads),
 )
 
--- a piece that ends the present line
+-- a reader that took a piece with a line feed has read that piece
 pub lines_taken : (s : ℕ) (stage mid-stage new-stage : Stage) (kept mid-kept new-kept : List ℕ) (len mid-len new-len : ℕ) (before new-before : Before) (front behind : List ℕ) → IsOneLine front → mid-stage ≡ stage → mid-kept ≡ kept ++ more_kept stage kept front → mid-len ≡ counted (len + length front)
     → ((line : List ℕ) → IsOpenLine mid-stage mid-kept mid-len line → (rest : List ℕ) × IsOpenLine new-stage new-kept new-len rest × LeadsTo s mid-stage before (line ++ 10 ∷ behind) new-stage new-before rest)
     → (skips : ℕ) (bytes : List ℕ) → HasRead (state s stage kept len before) skips bytes → HasRead (state s new-stage new-kept new-len new-before) skips (bytes ++ (front ++ 10 ∷ behind))
@@ -150,12 +149,12 @@ lines_taken s stage mid-stage new-stage kept mid-kept new-kept len mid-len new-l
       ),
     )
 
--- a reader that was given nothing
+-- a new reader has read no bytes
 pub nothing_given : (s : ℕ) (stage : Stage) (kept : List ℕ) (len : ℕ) (before : Before) → stage ≡ stages.Leader → kept ≡ [] → len ≡ 0 → ((more : List ℕ) → tape_of s more ≡ continued s stages.Leader (lines_of more) before) → HasRead (state s stage kept len before) s []
 nothing_given s stage kept len before stage-is kept-is len-is whole =
     (refl, ([], record { is_line = no_bytes stage kept len kept-is len-is; front = []; bytes_are = refl; whole = λ more. whole more ∙ ap (λ (st : Stage). continued s st (lines_of more) before) (sym stage-is) }))
 
--- a reader with a refusal stands at it
+-- a stage that tells a refusal is the stage of that refusal
 pub refused_at : (stage : Stage) (fault : TextFault) → refusal_of stage ≡ Some fault → stage ≡ stages.Refused fault
 refused_at stages.Leader fault e = absurd cc
 refused_at stages.Body fault e = absurd cc
@@ -166,18 +165,18 @@ refused_at (stages.Refused other) fault e = let same : other ≡ fault = cc in a
 whole_on : (s : ℕ) (stage : Stage) (kept : List ℕ) (len : ℕ) (before : Before) (bytes line : List ℕ) → IsAt (state s stage kept len before) bytes line → (more : List ℕ) → tape_of s (bytes ++ more) ≡ continued s stage (lines_of (line ++ more)) before
 whole_on s stage kept len before bytes line at more = ap (λ (text : List ℕ). tape_of s (text ++ more)) at.bytes_are ∙ ap (tape_of s) (append_assoc at.front line more) ∙ at.whole (line ++ more)
 
--- a refusal stands whatever follows
+-- a reader at a refusal has read bytes that are refused so, whatever follows
 pub refused_by : (s : ℕ) (stage : Stage) (kept : List ℕ) (len : ℕ) (before : Before) (fault : TextFault) → stage ≡ stages.Refused fault
     → (skips : ℕ) (bytes : List ℕ) → HasRead (state s stage kept len before) skips bytes → IsRefused skips bytes fault
 refused_by s stage kept len before fault stage-is skips bytes read = λ more.
     ap (λ (k : ℕ). tape_of k (bytes ++ more)) (sym read.0) ∙ whole_on s stage kept len before bytes read.1.0 read.1.1 more ∙ ap (λ (st : Stage). continued s st (lines_of (read.1.0 ++ more)) before) stage-is
 
--- the answer of the text that was given
+-- the answer of the bytes that were given is what is made of the present line
 whole_is : (s : ℕ) (stage : Stage) (kept : List ℕ) (len : ℕ) (before : Before) (skips : ℕ) (bytes line : List ℕ) → s ≡ skips → IsAt (state s stage kept len before) bytes line → tape_of skips bytes ≡ continued s stage (lines_of line) before
 whole_is s stage kept len before skips bytes line same at =
     ap (λ (k : ℕ). tape_of k bytes) (sym same) ∙ ap (tape_of s) (sym (append-nil bytes)) ∙ whole_on s stage kept len before bytes line at [] ∙ ap (λ (l : List ℕ). continued s stage (lines_of l) before) (append-nil line)
 
--- no line is left
+-- without a present line, what is made of no line is the answer of the text
 pub no_line : (s : ℕ) (stage : Stage) (kept : List ℕ) (len : ℕ) (before : Before) (r : Result (List Program) (Failing TextFault)) → len ≡ 0 → ((k : ℕ) → Gives (λ tape. tape) r (continued k stage [] before))
     → (skips : ℕ) (bytes : List ℕ) → HasRead (state s stage kept len before) skips bytes → Gives (λ tape. tape) r (tape_of skips bytes)
 no_line s stage kept len before r none concluded skips bytes read =
@@ -187,12 +186,12 @@ no_line s stage kept len before r none concluded skips bytes read =
     let line-is : line ≡ [] = nil_from_length line (omega arith) in
     subst (Gives (λ tape. tape) r) (sym (whole_is s stage kept len before skips bytes line read.0 at ∙ ap (λ (l : List ℕ). continued s stage (lines_of l) before) line-is)) (concluded s)
 
--- a line that is left
+-- a text without a line feed that has a byte is one line, which the end of the text ends
 text_left : (line : List ℕ) → IsOneLine line → (length line ≡ 0 → ⊥) → lines_of line ≡ record { bytes = line; ended = false } ∷ []
 text_left [] one long = absurd (long refl)
 text_left (b ∷ line) one long = text_ends b line one
 
--- the last line ends with the text
+-- if the end of the text ends the last line, what is made of that line is the answer of the text
 pub last_line : (s : ℕ) (stage new-stage : Stage) (kept slice : List ℕ) (len : ℕ) (before new-before : Before) (r : Result (List Program) (Failing TextFault)) → (len ≡ 0 → ⊥) → slice ≡ kept
     → ((lines : List Line) → line_continued s stage slice len false lines before ≡ continued s new-stage lines new-before)
     → ((k : ℕ) → Gives (λ tape. tape) r (continued k new-stage [] new-before))

@@ -1,4 +1,4 @@
--- What a reader keeps, as contracts see it.
+-- What a reader keeps, as the contracts of src/feed.rt and src/reader.rt see it: its `State`.
 -- For this crate alone.
 use Rattle.nc_text.specs.declared.feed.Feed.{Feed}
 use Rattle.nc_text.specs.View.{before_of}

@@ -1,10 +1,12 @@
--- A text as lines.
--- open_forms, tape_expand, tape_relation and flow_laws cite this.
+-- A text as lines: how bytes are cut at line feeds. `tape_of` reads these lines; tape_expand,
+-- tape_relation, open_forms and flow_laws cite them too.
 use Rattle.std.specs.Prelude.{◌≡◌, All, ℕ, ◌+◌, Bool, true, false, ◌==◌, List, [], ◌∷◌, if◌then◌else◌}
 
 -- the bytes before a line feed, or before the end of the text
 pub record Line : Type 0 where
+  -- its bytes, without the line feed
   pub bytes : List ℕ
+  -- whether a line feed ends it; only the last line of a text may have none
   pub ended : Bool
 
 -- these lines with one byte more before the first one
@@ -21,11 +23,11 @@ lines_of (b ∷ bs) = if b == 10 then record { bytes = []; ended = true } ∷ li
 abbrev pub IsOneLine : List ℕ → Type 0
 IsOneLine bytes = All (λ b. (b == 10) ≡ false) bytes
 
--- a line that begins with `%`, 37, begins or ends the tape
+-- whether a line begins with `%` (37), and so begins or ends the tape
 abbrev pub is_percent : List ℕ → Bool
 is_percent [] = false
 is_percent (b ∷ bs) = b == 37
 
--- the bytes of a line of this length, with its line feed
+-- the bytes of a line of this length, with its line feed if it has one
 abbrev pub size_of : ℕ → Bool → ℕ
 size_of len ended = if ended then len + 1 else len

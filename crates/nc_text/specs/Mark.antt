@@ -1,5 +1,6 @@
--- What was read up to a mark, and what was read since.
--- Needed to go back when memory runs out. tape_relation cites this.
+-- What was read up to a mark, and what was read since: what it takes to go back when memory runs
+-- out in a piece. The contracts of src/going_back.rt, progress.rt, step.rt and feed.rt speak of it;
+-- tape_relation takes `with_blocks`.
 use Rattle.std.specs.Prelude.{◌≡◌, ℕ, List, [], ◌∷◌, ◌++◌, length, take, Option, Some, None}
 use Rattle.std.specs.Option.{option_to_list}
 use Rattle.nc_text.specs.declared.tape.Block.{Block}
@@ -8,18 +9,25 @@ use Rattle.nc_text.specs.declared.mark.Mark.{Mark}
 use Rattle.nc_text.specs.Tape.{Before}
 use Rattle.nc_text.specs.ReadShape.{IsShaped}
 
--- how many blocks the program that is being read has
+-- how many blocks the program that is being read has, or none if no program is being read
 abbrev pub block_count : Option Program → Option ℕ
 block_count None = None
 block_count (Some program) = Some (length program.blocks)
 
--- the mark tells all that is needed to go back to what was read up to there
+-- The mark has the sizes of what was read at it: all that is needed to go back there. A new field
+-- of `Mark` needs its line here.
 pub record IsMarkOf (mark : Mark) (start : Before) : Type 0 where
+  -- how many lines were read
   pub lines_are : mark.lines ≡ start.lines
+  -- how many bytes they had
   pub bytes_are : mark.bytes ≡ start.bytes
+  -- the number of the first `%` line
   pub percent_is : mark.percent ≡ start.percent
+  -- how many blocks there were, of all programs
   pub blocks_are : mark.blocks ≡ start.blocks
+  -- how many programs stood before the one that was being read
   pub done_are : mark.done ≡ length start.done
+  -- how many blocks that program had, if there was one
   pub current_is : mark.current ≡ block_count start.current
 
 -- the program with so many of its first blocks
@@ -27,7 +35,7 @@ abbrev pub first_blocks : ℕ → Option Program → Option Program
 first_blocks count None = None
 first_blocks count (Some program) = Some (record program { blocks = take count program.blocks })
 
--- the first blocks of a program, or no program
+-- a program with this many of its first blocks; with none given, no program
 abbrev pub cut_program : Option ℕ → Option Program → Option Program
 cut_program None program = None
 cut_program (Some count) program = first_blocks count program
@@ -37,12 +45,12 @@ abbrev pub first_of : List Program → Option Program
 first_of [] = None
 first_of (program ∷ programs) = Some program
 
--- the same program with blocks behind those that it had
+-- a program with further blocks after its own
 abbrev pub with_blocks : Program → List Block → Program
 with_blocks program more = record program { blocks = program.blocks ++ more }
 
--- the program that was being read, if one was, is the first of these, with blocks behind those that
--- it had
+-- the program that was being read, if there was one, is the first of these, with further blocks
+-- after its own or none
 abbrev pub GoesOn : Option Program → List Program → Type 0
 GoesOn None programs = Unit {0}
 GoesOn (Some program) programs = (more : List Block) × (others : List Program) × (programs ≡ with_blocks program more ∷ others)
@@ -52,7 +60,7 @@ GoesOn (Some program) programs = (more : List Block) × (others : List Program) 
 abbrev pub Follows : Before → Before → Type 0
 Follows start now = (programs : List Program) × (now.done ≡ start.done ++ programs) × GoesOn start.current (programs ++ option_to_list now.current)
 
--- what was read at any time before still stands
+-- whatever still stood at the first of two moments still stands at the second
 abbrev pub Grows : Before → Before → Type 0
 Grows old new = (start : Before) → Follows start old → Follows start new
 
@@ -60,6 +68,9 @@ Grows old new = (start : Before) → Follows start old → Follows start new
 pub record StoodAt (mark : Mark) (now : Before) : Type 0 where
   -- what was read at the mark
   pub start : Before
+  -- the mark is of what was read there
   pub mark_is : IsMarkOf mark start
+  -- what was read there still stands
   pub follows : Follows start now
+  -- what was read there had its shape
   pub shaped : IsShaped start

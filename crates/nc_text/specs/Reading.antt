@@ -1,5 +1,6 @@
--- A reader stands for the bytes that it was given, whatever pieces they came in.
--- For this crate alone.
+-- A reader stands for the bytes that it was given, whatever pieces they came in: `HasRead` is what
+-- the contracts of src/reader.rt and src/feed.rt keep, `LeadsTo` what those of src/step.rt add.
+-- RefusedAtEnd carries it to the crates above.
 use Rattle.std.specs.Prelude.{◌≡◌, ℕ, ◌+◌, Bool, true, false, not, ◌&&◌, ◌==◌, List, [], ◌∷◌, ◌++◌, length, take, min, Option, Some, None, Result, Ok, Err, if◌then◌else◌}
 use Rattle.nc_number.specs.declared.fault.Failing.{Failing}
 use Rattle.nc_number.specs.declared.fault.Failing.TheVariants.{Fault, NoMemory}
@@ -19,19 +20,19 @@ pub record State : Type 0 where
   pub stage : Stage
   -- of the present line only what is needed
   pub kept : List ℕ
-  -- how many bytes it has, as they are counted
+  -- how many bytes the present line has, counted up to one more than a tape may have
   pub len : ℕ
   -- what was read before the present line
   pub before : Before
 
--- a reader stands between the two `%` lines
+-- whether a reader stands between the two `%` lines, in the programs
 abbrev pub is_body : Stage → Bool
 is_body stages.Leader = false
 is_body stages.Body = true
 is_body stages.Rest = false
 is_body (stages.Refused fault) = false
 
--- the refusal of the text, where it is refused
+-- the refusal of the text, if a reader at this stage has refused it
 abbrev pub refusal_of : Stage → Option TextFault
 refusal_of stages.Leader = None
 refusal_of stages.Body = None
@@ -42,7 +43,7 @@ refusal_of (stages.Refused fault) = Some fault
 abbrev pub kept_of : Stage → List ℕ → List ℕ
 kept_of stage bytes = if is_body stage && not (is_percent bytes) then bytes else take 1 bytes
 
--- what is kept of these bytes, where this is kept of the line before them
+-- what is kept of these bytes, if this is kept of the bytes of the same line before them
 abbrev pub more_kept : Stage → List ℕ → List ℕ → List ℕ
 more_kept stage [] bytes = kept_of stage bytes
 more_kept stage (b ∷ kept) bytes = if is_body stage && not (b == 37) then bytes else []
@@ -51,20 +52,24 @@ more_kept stage (b ∷ kept) bytes = if is_body stage && not (b == 37) then byte
 abbrev pub counted : ℕ → ℕ
 counted len = min len (LONGEST_TAPE + 1)
 
--- the line that is being read has these bytes
+-- the line that is being read has these bytes, of which this is kept, and is counted so long
 pub record IsOpenLine (stage : Stage) (kept : List ℕ) (len : ℕ) (bytes : List ℕ) : Type 0 where
+  -- none of the bytes is a line feed
   pub one_line : IsOneLine bytes
+  -- of the bytes just what is needed is kept
   pub kept_is : kept ≡ kept_of stage bytes
+  -- they are counted up to one more than a tape may have
   pub len_is : len ≡ counted (length bytes)
 
--- what the lines that are left make of it
+-- the answer of a text of which this was read up to this stage, and of which these lines are left
 abbrev pub continued : ℕ → Stage → List Line → Before → Answer
 continued skips stages.Leader lines before = in_leader skips lines before
 continued skips stages.Body lines before = in_body skips lines before
 continued skips stages.Rest lines before = in_rest lines before
 continued skips (stages.Refused fault) lines before = Err fault
 
--- what is made of a line of this length, of which this is kept, and of the lines behind it
+-- the answer of a text of which this was read up to this stage, and of which a line of this length,
+-- of which this is kept, and then these lines are left
 abbrev pub line_continued : ℕ → Stage → List ℕ → ℕ → Bool → List Line → Before → Answer
 line_continued skips stages.Leader kept len ended lines before =
     if is_percent kept then goes_on before (after_percent before len ended) (λ after. in_body skips lines (begun after))
@@ -75,22 +80,27 @@ line_continued skips stages.Body kept len ended lines before =
 line_continued skips stages.Rest kept len ended lines before = goes_on before (after_outer before len ended) (in_rest lines)
 line_continued skips (stages.Refused fault) kept len ended lines before = Err fault
 
--- So much of a text is read that, whatever follows that, what is made of the text from the first
--- place is made of what follows from the later one. The rest of the text is left.
+-- A front of a text leads from one stage, with what was read before, to a later one: whatever
+-- follows, the answer for that front and what follows is the later stage's answer for what follows
+-- alone. The rest of the text is left.
 abbrev pub LeadsTo : ℕ → Stage → Before → List ℕ → Stage → Before → List ℕ → Type 0
 LeadsTo skips stage before text later-stage later rest =
     (front : List ℕ) × (text ≡ front ++ rest)
     × ((more : List ℕ) → continued skips stage (lines_of (front ++ more)) before ≡ continued skips later-stage (lines_of more) later)
 
--- The text ends with the present line so far, and whatever follows what stands before that line,
--- the answer of the whole text is what is made of what follows.
+-- The bytes end with the present line so far. Whatever follows the bytes before that line, the
+-- answer of the whole text is the state's answer for what follows.
 pub record IsAt (state : State) (bytes : List ℕ) (line : List ℕ) : Type 0 where
+  -- the present line so far, as the state keeps it
   pub is_line : IsOpenLine state.stage state.kept state.len line
+  -- the bytes before the present line
   pub front : List ℕ
+  -- these and the present line are all bytes
   pub bytes_are : bytes ≡ front ++ line
+  -- the state has all that the bytes before the present line say
   pub whole : (more : List ℕ) → tape_of state.skips (front ++ more) ≡ continued state.skips state.stage (lines_of more) state.before
 
--- A reader with these switches was given these bytes. A refusal stays, whatever follows.
+-- a reader with these switches was given these bytes
 abbrev pub HasRead : State → ℕ → List ℕ → Type 0
 HasRead state skips bytes = (state.skips ≡ skips) × ((line : List ℕ) × IsAt state bytes line)
 
@@ -98,16 +108,16 @@ HasRead state skips bytes = (state.skips ≡ skips) × ((line : List ℕ) × IsA
 abbrev pub HasRefused : State → TextFault → Type 0
 HasRefused state fault = state.stage ≡ stages.Refused fault
 
--- whatever follows these bytes, the text is refused so
+-- whatever follows these bytes, the text has this refusal
 abbrev pub IsRefused : ℕ → List ℕ → TextFault → Type 0
 IsRefused skips bytes fault = (more : List ℕ) → tape_of skips (bytes ++ more) ≡ Err fault
 
--- the refusal of a call is so; out of memory says nothing
+-- the refusal that a call answers is one of these; out of memory says nothing
 abbrev pub FaultIs : Failing TextFault → (TextFault → Type 0) → Type 0
 FaultIs (Fault fault) P = P fault
 FaultIs NoMemory P = Unit {0}
 
--- a refusal, where a call gives one
+-- if a call answers a refusal, it is one of these
 abbrev pub IfRefused : {A : Type 0} → Result A (Failing TextFault) → (TextFault → Type 0) → Type 0
 IfRefused (Ok x) P = Unit {0}
 IfRefused (Err error) P = FaultIs error P

@@ -1,5 +1,5 @@
--- The shape of every tape that was read, so that nobody asks again.
--- The layers above cite this: tape_flow, open_order, wait_verify, tape_expand.
+-- The shape of every tape that was read: the type `Tape` (src/tape.rt) keeps it, so nobody asks
+-- again. tape_flow, open_order, wait_verify, tape_expand and flow_laws rest on it.
 use Rattle.std.specs.Prelude.{ℕ, ◌<◌, ◌≤◌, List, ◌∷◌, length, map, All}
 use Rattle.std.specs.List.{flat_map}
 use Rattle.nc_number.specs.declared.limits.TheConstants.{LONGEST_LINE, MOST_BLOCKS}
@@ -20,7 +20,8 @@ lines_in tape = flat_map lines_of_program tape
 abbrev pub blocks_in : List Program → List Block
 blocks_in tape = flat_map (λ program. program.blocks) tape
 
--- a block with a sequence number in range, and with words or a statement of at most one line
+-- a block with a sequence number in range or none, and with words or a statement that fit on a line
+-- of 512 bytes
 abbrev pub IsBlockShape : Block → Type 0
 IsBlockShape block = IsSaidShape LONGEST_LINE block.sequence block.body
 
@@ -32,9 +33,11 @@ IsProgramShape program = (1 ≤ program.number) × (program.number ≤ 9999)
 pub record IsTapeShape (tape : List Program) : Type 0 where
   -- there is at least one program
   pub some : 0 < length tape
+  -- each O number is from 1 to 9,999
   pub numbers : All IsProgramShape tape
-  -- the lines of O numbers and blocks, from the first line of the tape to its last
+  -- the lines of O numbers and blocks rise, in the order of the text
   pub lines : RiseFrom 0 (lines_in tape)
   -- at most 20,000 blocks
   pub few : length (blocks_in tape) ≤ MOST_BLOCKS
+  -- each block has its shape
   pub blocks : All IsBlockShape (blocks_in tape)

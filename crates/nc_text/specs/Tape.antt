@@ -1,7 +1,8 @@
 -- A tape: lines before the first that begins with `%`, that line, the lines of the programs, the
--- next line that begins with `%`, and lines behind it. The answer is the programs, or the fault of
--- least line, and on it of least number.
--- The layers above cite `tape_of`; what a single line says is defined in line_text.
+-- next line that begins with `%`, and lines after it. The answer is the programs, or the fault of
+-- the first line that has one, and there of the least number.
+-- The reader computes `tape_of`, and the layers above cite it: nc_verify, wait_verify, tape_expand.
+-- What a single line says is defined in line_text; tape_relation says the same without a reader.
 use Rattle.std.specs.Prelude.{ℕ, ◌+◌, Bool, true, false, not, ◌&&◌, nat_lt, nat_le, List, [], ◌∷◌, ◌++◌, length, Option, Some, None, Result, Ok, Err, is_some, if◌then◌else◌}
 use Rattle.std.specs.Option.{option_to_list, is_none}
 use Rattle.nc_number.specs.declared.limits.TheConstants.{LONGEST_LINE, LONGEST_TAPE, MOST_BLOCKS}
@@ -21,9 +22,9 @@ use Rattle.line_text.specs.Said.{line_says}
 pub record Before : Type 0 where
   -- how many lines there are
   pub lines : ℕ
-  -- and how many bytes they have, with their line feeds
+  -- how many bytes these lines have, with their line feeds
   pub bytes : ℕ
-  -- the number of the first line that begins with `%`
+  -- the number of the first line that begins with `%`, or 0 before it
   pub percent : ℕ
   -- how many blocks there are, of all programs
   pub blocks : ℕ
@@ -32,7 +33,7 @@ pub record Before : Type 0 where
   -- the program that is being read, if an O number came
   pub current : Option Program
 
--- before the first line
+-- what stands before the first line: nothing
 abbrev pub nothing_read : Before
 nothing_read = record { lines = 0; bytes = 0; percent = 0; blocks = 0; done = []; current = None }
 
@@ -40,11 +41,12 @@ nothing_read = record { lines = 0; bytes = 0; percent = 0; blocks = 0; done = []
 abbrev pub programs_of : Before → List Program
 programs_of before = before.done ++ option_to_list before.current
 
--- a refusal at the line behind
+-- a refusal as the fault of the line after what was read
 abbrev pub fault_behind : Before → Refusal → TextFault
 fault_behind before refusal = record { number = refusal_number refusal; line = before.lines + 1 }
 
--- a line of this length holds the first byte that is too many
+-- whether a line of this length, with its line feed if it has one, makes the text longer than
+-- 4 MiB
 abbrev pub is_past_end : Before → ℕ → Bool → Bool
 is_past_end before len ended = nat_lt LONGEST_TAPE (before.bytes + size_of len ended)
 
@@ -57,17 +59,17 @@ abbrev pub percent_refusal : Before → ℕ → Bool → Option Refusal
 percent_refusal before len ended =
     if nat_lt LONGEST_LINE len then Some LineTooLong else (if is_past_end before len ended then Some TapeTooLong else None)
 
--- the least refusal of a line before the first and behind the second `%` line
+-- the least refusal of a line before the first or after the second `%` line
 abbrev pub outer_refusal : Before → ℕ → Bool → Option Refusal
 outer_refusal before len ended = if is_past_end before len ended then Some TapeTooLong else None
 
--- a line says a block
+-- whether a line says a block
 abbrev pub is_block : Said → Bool
 is_block said.Nothing = false
 is_block (said.Program number) = false
 is_block (said.Block block) = true
 
--- the O number, or each word of the block, is in its range
+-- whether the O number, or each sequence number of the block, is in its range
 abbrev pub is_said_in_range : Said → Bool
 is_said_in_range said.Nothing = true
 is_said_in_range (said.Program number) = is_some number
@@ -83,37 +85,37 @@ said_refusal before len ended said =
     else (if not (is_said_in_range said) then Some WordRange
     else None))))
 
--- a program that begins at this line
+-- a program with this O number that begins at this line and has no blocks yet
 abbrev pub program_at : ℕ → ℕ → Program
 program_at line number = record { number = number; line = line; blocks = [] }
 
--- a block of this line
+-- the block that a line says, with the number of the line
 abbrev pub block_at : ℕ → SaidBlock → Block
 block_at line block = record { line = line; sequence = block.sequence; body = block.body }
 
--- the program that is being read, with one block more
+-- the program that is being read, if there is one, with one block more
 abbrev pub with_block : Block → Option Program → Option Program
 with_block block None = None
 with_block block (Some program) = Some (record program { blocks = program.blocks ++ block ∷ [] })
 
--- what was read, with a program that begins at the next line
+-- what was read, with a program of this number that begins at the next line
 abbrev pub with_program : Before → ℕ → Before
 with_program before number = record before { done = programs_of before; current = Some (program_at (before.lines + 1) number) }
 
--- what was read, with what a line says
+-- what was read, with what the next line says; the line itself is not yet counted
 abbrev pub with_said : Before → Said → Before
 with_said before said.Nothing = before
 with_said before (said.Program None) = before
 with_said before (said.Program (Some number)) = with_program before number
 with_said before (said.Block block) = record before { blocks = before.blocks + 1; current = with_block (block_at (before.lines + 1) block) before.current }
 
--- what was read, if nothing is refused
+-- what was read, or the refusal if there is one
 abbrev pub unless_refused : Option Refusal → Before → Result Before Refusal
 unless_refused None before = Ok before
 unless_refused (Some refusal) before = Err refusal
 
 -- what was read after one line of the programs more, of this length, which says this by itself or
--- is refused
+-- has this refusal by itself; or its least refusal
 abbrev pub after_said : Before → ℕ → Bool → Result Said Refusal → Result Before Refusal
 after_said before len ended (Ok said) = unless_refused (said_refusal before len ended said) (next (with_said before said) len ended)
 after_said before len ended (Err refusal) = Err refusal
@@ -134,52 +136,54 @@ after_outer before len ended = unless_refused (outer_refusal before len ended) (
 abbrev pub Answer : Type 0
 Answer = Result (List Program) TextFault
 
--- a tape without any O number, and behind the second `%` line the tape
+-- the fault of a tape without any O number: told of its first `%` line
 abbrev pub no_program : Before → TextFault
 no_program before = record { number = refusal_number NoProgramNumber; line = before.percent }
 
--- the answer at the end of a tape with both `%` lines
+-- the answer at the end of a tape with both `%` lines: its programs, if it has any
 abbrev pub finished : Before → Answer
 finished before = if is_none before.current then Err (no_program before) else Ok (programs_of before)
 
--- no second `%` line; the line is the last one
+-- the answer at the end of a tape without a second `%` line: it has no O number, or no end, which
+-- is told of its last line
 abbrev pub unfinished : Before → Answer
 unfinished before =
     if is_none before.current then Err (no_program before)
     else Err (record { number = refusal_number NoEnd; line = before.lines })
 
--- no `%` line at all
+-- the answer at the end of a text without any `%` line: told of line 1
 abbrev pub not_begun : Answer
 not_begun = Err (record { number = refusal_number NoProgramNumber; line = 1 })
 
--- a refused line ends the reading, another one lets it go on
+-- the answer after a line: its refusal, or what the rest makes of what was read with it
 abbrev pub goes_on : Before → Result Before Refusal → (Before → Answer) → Answer
 goes_on before (Ok after) rest = rest after
 goes_on before (Err refusal) rest = Err (fault_behind before refusal)
 
--- behind the second `%` line
+-- the answer of a text whose second `%` line has been read, and of which these lines are left
 abbrev pub in_rest : List Line → Before → Answer
 in_rest [] before = finished before
 in_rest (line ∷ lines) before = goes_on before (after_outer before (length line.bytes) line.ended) (in_rest lines)
 
--- behind the first `%` line
+-- the answer of a text whose first `%` line has been read but not the second, and of which these
+-- lines are left
 abbrev pub in_body : ℕ → List Line → Before → Answer
 in_body skips [] before = unfinished before
 in_body skips (line ∷ lines) before =
     if is_percent line.bytes then goes_on before (after_percent before (length line.bytes) line.ended) (in_rest lines)
     else goes_on before (after_line skips before line.bytes line.ended) (in_body skips lines)
 
--- the first `%` line has been passed
+-- what was read, after its last line, the first `%` line
 abbrev pub begun : Before → Before
 begun before = record before { percent = before.lines }
 
--- before the first `%` line
+-- the answer of a text whose first `%` line has not been read, and of which these lines are left
 abbrev pub in_leader : ℕ → List Line → Before → Answer
 in_leader skips [] before = not_begun
 in_leader skips (line ∷ lines) before =
     if is_percent line.bytes then goes_on before (after_percent before (length line.bytes) line.ended) (λ after. in_body skips lines (begun after))
     else goes_on before (after_outer before (length line.bytes) line.ended) (in_leader skips lines)
 
--- the tape of a text, where bit n of skips is switch n
+-- the tape of a text, or its one fault; bit n of skips is switch n
 unfoldable pub tape_of : ℕ → List ℕ → Answer
 tape_of skips text = in_leader skips (lines_of text) nothing_read

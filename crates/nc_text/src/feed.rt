@@ -1,5 +1,5 @@
-//! What a reader keeps from one piece to the next.
-//! A [`Reader`](crate::Reader) is this with a public face; one line at a time is in step.rt.
+//! What a reader keeps from one piece of a tape's text to the next, and what a piece does to it.
+//! [`Reader`](crate::Reader) is this type made public; step.rt reads one line at a time.
 ghost use Rattle.std.specs.Prelude.{◌≡◌, ◌∷◌, [], ◌++◌, List, ℕ, IfOk, OnOk, OnErr};
 ghost use Rattle.nc_number.specs.Answers.{Gives};
 ghost use Rattle.nc_text.specs.Lines.{IsOneLine};
@@ -27,9 +27,9 @@ pub(crate) struct Feed {
     pub buffer: LineBuffer,
     /// Bit n is skip switch n.
     pub skips: u16,
-    /// The present line.
+    /// The present line: the one that has begun and not ended.
     pub line: OpenLine,
-    /// What was read before it.
+    /// What was read before the present line.
     pub progress: Progress,
 }
 
@@ -158,7 +158,7 @@ fn line_behind(
     Ok(next)
 }
 
-/// The tape, or its refusal, if no line is left to read.
+/// The tape, or its refusal, when no line is left to read.
 fn conclude(stage: Stage, progress: Progress) -> Result<Tape, Failing<TextFault>>
     ensures exact { (skips : ℕ) → Gives (λ tape. tape) result (continued skips stage [] (before_of progress)) }
     ensures same { (fault : TextFault) → stage ≡ Stage.Refused fault → result ≡ Err (Failing.Fault fault) }

@@ -1,4 +1,6 @@
-//! Back to what was read at a mark, if memory ran out in a piece. The mark itself is in mark.rt.
+//! Back to what was read at a mark, if memory ran out in a piece: so a piece is taken whole or not
+//! at all. feed.rt calls it. The mark itself is in mark.rt; each of its fields needs its line here
+//! and in specs/Mark.
 ghost use Rattle.std.specs.Prelude.{◌≡◌, ◌++◌, List, Some, length};
 ghost use Rattle.std.specs.Option.{option_to_list};
 ghost use Rattle.nc_text.specs.declared.tape.Program.{Program};
@@ -12,7 +14,7 @@ use crate::progress::Progress;
 use crate::tape::{BlockList, Program};
 
 impl Progress {
-    /// Where to go back to what was read so far.
+    /// A mark of what was read so far.
     pub(crate) fn mark(&self) -> Mark
         ensures mark { IsMarkOf result (before_of self.now) }
         ensures shaped { IsShaped (before_of self.now) }
@@ -42,7 +44,7 @@ impl Progress {
     }
 }
 
-/// How many blocks a mark keeps of the program that is being read.
+/// How many blocks the program that is being read has, or none if no program is being read.
 fn block_count(program: &Option<Program>) -> Option<usize>
     ensures { result ≡ block_count program.now }
 {
@@ -63,7 +65,7 @@ fn reopen(done: &mut Vec<Program>, current: &mut Option<Program>, count: usize)
     }
 }
 
-/// The program with so many of its first blocks.
+/// The program with its first `count` blocks alone.
 fn with_first_blocks(program: Program, count: usize) -> Program
     ensures { Some result ≡ first_blocks count (Some program) }
 {
@@ -81,7 +83,7 @@ fn with_first_blocks(program: Program, count: usize) -> Program
     }
 }
 
-/// Leaves the current program with its first blocks, or leaves no program.
+/// Leaves the current program with this many of its first blocks; with `None`, leaves no program.
 fn cut_program(program: &mut Option<Program>, blocks: Option<usize>)
     ensures { program.new ≡ cut_program blocks program.old }
 {

@@ -1,7 +1,8 @@
 //! The text of a tape, read into blocks.
 //!
 //! `Reader` takes the bytes of a tape in any pieces, and answers with its programs and blocks or
-//! with the one refusal and its line.
+//! with the one refusal and its line. nc_verify and tape_expand read tapes with it; tape_flow,
+//! open_order and cycle_form read what it answers.
 #![tactic(auto)]
 
 mod fault;

@@ -1,5 +1,5 @@
 //! The line that is being read: its length, and of its bytes those that are needed.
-//! For feed.rt and step.rt.
+//! feed.rt keeps one from piece to piece; step.rt counts whole lines in the same way.
 ghost use Rattle.std.specs.Prelude.{◌≡◌, ◌≤◌, ◌<◌, ◌+◌, ◌++◌, [], List, ℕ, length, take, IfOk, OnOk, OnErr};
 ghost use Rattle.nc_number.specs.declared.limits.TheConstants.{LONGEST_TAPE};
 ghost use Rattle.nc_text.specs.Lines.{IsOneLine};
@@ -12,7 +12,8 @@ use std::alloc::Global;
 /// The bytes of a line are counted up to one more than a tape may have.
 const COUNTED: u32 = LONGEST_TAPE as u32 + 1;
 
-/// A line of the programs with more bytes than this is answered as out of memory.
+/// The most bytes that are kept of a line, 2 ^ 32 - 2. A line of the programs with more is answered
+/// as out of memory.
 const KEPT: usize = 4_294_967_294;
 
 /// The line that is being read.
@@ -72,7 +73,7 @@ impl OpenLine {
         Ok(())
     }
 
-    /// Goes back to when so many bytes were kept of a line of this length.
+    /// Goes back to a moment when `kept` bytes were kept and the line was counted as `len` long.
     pub(crate) fn cut_back(&mut self, kept: usize, len: u32)
         requires short { counted kept ≤ len }
         requires fits { len ≤ LONGEST_TAPE + 1 }
@@ -96,7 +97,8 @@ pub(crate) fn longer(len: u32, bytes: &[u8]) -> u32
     }
 }
 
-/// What is kept of a line that lies whole in a text. Too many bytes are answered as out of memory.
+/// What is kept of a line that lies whole in a piece. More than `KEPT` bytes are answered as out of
+/// memory.
 pub(crate) fn kept_whole(stage: Stage, bytes: &[u8]) -> Result<&[u8], NoMemory>
     ensures value { IfOk result (λ kept. kept.now ≡ kept_of stage bytes.now) }
     ensures short { IfOk result (λ kept. length kept.now ≤ 4294967294) }
@@ -126,7 +128,7 @@ fn kept_of(stage: Stage, bytes: &[u8]) -> &[u8]
     }
 }
 
-/// What is kept of these bytes, which follow those of which `kept` is kept.
+/// What is kept of these bytes, which go on a line of which `kept` is kept.
 fn more_kept<'a>(stage: Stage, kept: &[u8], bytes: &'a [u8]) -> &'a [u8]
     ensures value { result.now ≡ more_kept stage kept.now bytes.now }
     ensures short { length result.now ≤ length bytes.now }

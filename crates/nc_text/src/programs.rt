@@ -1,6 +1,6 @@
-//! The programs of a tape while they are read: one more begins, or the last one grows.
+//! The programs of a tape while they are read: one more begins, or the last one gets a block.
 //! The only error is that memory runs out, and then all is as before.
-//! For progress.rt.
+//! progress.rt calls it at an O number and at a block.
 ghost use Rattle.std.specs.Prelude.{◌≡◌, ◌++◌, Some, OnOk, OnErr};
 ghost use Rattle.std.specs.Option.{option_to_list};
 ghost use Rattle.nc_text.specs.Tape.{program_at, block_at, with_block};
@@ -9,7 +9,7 @@ use crate::tape::{Block, BlockList, Program};
 use line_text::SaidBlock;
 use std::alloc::{AllocError, Global};
 
-/// Begins a program, behind the one that is being read.
+/// Begins a program: the one that is being read, if any, is done.
 pub(crate) fn begin_program(
     alloc: Global,
     done: &mut Vec<Program>,
@@ -35,7 +35,7 @@ pub(crate) fn begin_program(
     Ok(())
 }
 
-/// Puts a block behind those of the program that is being read.
+/// Adds a block to the program that is being read, if there is one.
 pub(crate) fn add_block(
     current: &mut Option<Program>,
     line: u32,

@@ -1,5 +1,5 @@
-//! What was read of a tape so far, and what one line more does to it. Going back is in
-//! going_back.rt.
+//! What was read of a tape so far, and what one line more does to it: it is counted, or refused.
+//! step.rt calls it for each line, feed.rt at the end. Going back is in going_back.rt.
 ghost use Rattle.std.specs.Prelude.{◌≡◌, ◌<◌, ◌≤◌, ◌++◌, false, Ok, Err, OnOk, OnErr};
 ghost use Rattle.std.specs.Option.{option_to_list};
 ghost use Rattle.nc_text.specs.Lines.{size_of};
@@ -25,7 +25,7 @@ pub(crate) struct Progress {
     pub lines: u32,
     /// How many bytes they had, with their line feeds; at most 4 MiB.
     pub bytes: u32,
-    /// The number of the first line that begins with `%`.
+    /// The number of the first line that begins with `%`, or 0 before it.
     pub percent: u32,
     /// How many blocks there are, of all programs; at most 20,000.
     pub blocks: u32,
@@ -108,7 +108,7 @@ impl Progress {
         }
     }
 
-    /// Counts a line that says nothing more.
+    /// Counts a line that adds neither a program nor a block.
     fn pass(&mut self, len: u32, ended: bool)
         requires some { 0 < size_of len ended }
         requires fits { is_past_end (before_of self.old) len ended ≡ false }
@@ -217,8 +217,8 @@ impl Progress {
         Ok(())
     }
 
-    /// The refusal of a tape without a second `%` line: 13 if it has no O number, else that its end
-    /// lacks.
+    /// The refusal of a tape without a second `%` line: 13 if it has no O number, else 14, at its
+    /// last line.
     pub(crate) fn unfinished(&self) -> TextFault
         ensures { unfinished (before_of self.now) ≡ Err result }
     {
@@ -265,7 +265,7 @@ fn no_program(percent: u32) -> TextFault
     }
 }
 
-/// The bytes of a line of this length, with its line feed.
+/// The bytes of a line of this length, with its line feed if it has one.
 fn size_of(len: u32, ended: bool) -> u64
     ensures { result ≡ size_of len ended }
 {

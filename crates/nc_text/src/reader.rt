@@ -1,6 +1,5 @@
-//! A reader of tapes that come in pieces.
-//! The only way to a [`Tape`](crate::Tape). Its fields are in feed.rt.
-//! nc_verify and tape_expand read with it.
+//! A reader of tapes that come in pieces: the only way to a [`Tape`](crate::Tape).
+//! nc_verify and tape_expand read tapes with it. What it keeps between pieces is in feed.rt.
 ghost use Rattle.std.specs.Prelude.{◌≡◌, [], ◌++◌, ℕ, List, IfOk, IsOk, OnOk};
 ghost use Rattle.nc_number.specs.Answers.{Gives};
 ghost use Rattle.nc_text.specs.declared.fault.TextFault.{TextFault};
@@ -17,11 +16,11 @@ use std::marker::Model;
 
 /// Reads a tape that comes in pieces.
 ///
-/// What it answers depends on the joined bytes alone. Of them it keeps the tape so far and the
-/// present line; of the lines before the first and behind the second `%` line it keeps nothing.
+/// The answer of `finish` depends on the joined bytes alone. Of them the reader keeps the tape so
+/// far and the present line; of a line outside the two `%` lines it keeps one byte at most.
 #[derive(Debug, Drop)]
 pub struct Reader {
-    /// What it keeps.
+    /// What the reader keeps from piece to piece.
     feed: Feed,
 }
 

@@ -1,5 +1,5 @@
-//! Where in a tape a reader stands.
-//! What a line does at each stage is in step.rt.
+//! Where in a tape a reader stands: before, between or after the two `%` lines, or at a refusal.
+//! feed.rt, open_line.rt and step.rt ask it; what a line does at each stage is in step.rt.
 ghost use Rattle.std.specs.Prelude.{◌≡◌};
 ghost use Rattle.nc_text.specs.Reading.{is_body, refusal_of};
 
@@ -10,11 +10,11 @@ use crate::fault::TextFault;
 pub(crate) enum Stage {
     /// Before the first line that begins with `%`.
     Leader,
-    /// Between the two.
+    /// Between the first and the second line that begin with `%`: the lines of the programs.
     Body,
-    /// Behind the second.
+    /// After the second line that begins with `%`.
     Rest,
-    /// The text is refused.
+    /// The text is refused, whatever follows.
     Refused(TextFault),
 }
 

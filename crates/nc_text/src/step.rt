@@ -1,5 +1,5 @@
-//! One line more, at each stage of a tape.
-//! `len` counts the bytes of a line without its line feed; `ended` says that it has one.
+//! Where the reader stands after one line more, at each stage of a tape. feed.rt reads its lines
+//! with it. `len` counts the bytes of a line without its line feed; `ended` says that it has one.
 ghost use Rattle.std.specs.Prelude.{◌≡◌, ◌∷◌, ◌<◌, ◌-◌, ◌^◌, List, ℕ, true, length, ◌≤◌, IfOk, Ok};
 ghost use Rattle.nc_number.specs.Answers.{Gives};
 ghost use Rattle.nc_text.specs.Lines.{Line, IsOneLine, is_percent, size_of};
@@ -29,7 +29,7 @@ pub(crate) fn is_percent(bytes: &[u8]) -> bool
     }
 }
 
-/// The refusal, by its number, of this line.
+/// A refusal as the fault of the text: its number, told of this line.
 fn fault_at(line: u32, refusal: Refusal) -> TextFault
     ensures { result ≡ record { number = refusal_number refusal; line = line } }
 {
@@ -115,7 +115,7 @@ fn program_line(
 }
 
 /// Where the reader stands after a line of the programs or the second `%` line. The only error is
-/// that memory runs out; so below.
+/// that memory runs out.
 fn body_line(
     progress: &mut Progress,
     buffer: &mut LineBuffer,
@@ -143,7 +143,8 @@ fn body_line(
     }
 }
 
-/// Where the reader stands behind a line of this length, of which this is kept.
+/// Where the reader stands after a line of this length, of which `kept` is kept, at any stage. The
+/// only error is that memory runs out.
 pub(crate) fn behind_line(
     stage: Stage,
     progress: &mut Progress,
@@ -170,7 +171,8 @@ pub(crate) fn behind_line(
     }
 }
 
-/// Where the reader stands behind a line that lies whole in a text.
+/// Where the reader stands after a line that lies whole in a piece and that a line feed ends. The
+/// only error is that memory runs out.
 fn behind_whole_line(
     stage: Stage,
     progress: &mut Progress,
@@ -199,8 +201,8 @@ fn left_to_read(stage: Stage, text: &[u8]) -> &[u8]
     }
 }
 
-/// Where the reader stands behind the lines that end in a text, and what stands behind the last of
-/// them.
+/// Where the reader stands after the lines that end in a text, and what follows the last of them.
+/// The only error is that memory runs out.
 pub(crate) fn behind_lines<'a>(
     stage: Stage,
     progress: &mut Progress,

@@ -1,5 +1,5 @@
-//! A tape: its programs and their blocks.
-//! tape_flow reads what its blocks say.
+//! A tape: its programs and their blocks, as a reader answers them.
+//! tape_flow, open_order and cycle_form read what its blocks say.
 ghost use Rattle.std.specs.Prelude.{◌≡◌};
 
 use line_text::Body;
@@ -11,7 +11,7 @@ use std::marker::Model;
 pub struct Block {
     /// The number of its line, from 1.
     pub line: u32,
-    /// The number of its last N.
+    /// Its sequence number, 0 to 99,999: that of its last N with a literal. A block may have none.
     pub sequence: Option<u32>,
     /// Its words, or its statement.
     pub body: Body,
@@ -20,7 +20,7 @@ pub struct Block {
 /// The blocks of a program, in the order of the text.
 pub type BlockList = ListOf<Block>;
 
-/// A program: what stands behind an O number, up to the next one.
+/// A program: the blocks after an O number, up to the next one.
 #[derive(Debug, Drop)]
 pub struct Program {
     /// The O number, 1 to 9,999.
@@ -57,7 +57,7 @@ impl Model for Tape {
 impl Tape {
     ghost use Rattle.nc_text.specs.Shape.{IsTapeShape};
 
-    /// Only a reader makes a tape, so nobody asks for its shape again.
+    /// A tape of these programs. Only a reader makes one, so nobody asks for its shape again.
     pub(crate) fn of(programs: Vec<Program>) -> Self
         requires { IsTapeShape programs.items }
         ensures { result ≡ programs.items }

@@ -1,4 +1,5 @@
--- The variables of the tests: #0 and #1 are vacant, #2 is 2.5, #3 is 3, #500 is shared.
+-- The variables of the tests: #0 and #1 are vacant, #2 is 2.5, #3 is 3, #500 is shared, and there
+-- is no other. `Sample` (src/values.rt) has this table; its rows count on it.
 use Rattle.std.specs.Prelude.{ℕ, ◌==◌, ◌||◌, Result, Ok, Err, pos, if◌then◌else◌}
 use Rattle.nc_number.specs.declared.value.Var.TheVariants.{Vacant, Is}
 use Rattle.macro_eval.specs.declared.scope.Look.{Look}
@@ -6,6 +7,7 @@ use Rattle.macro_eval.specs.declared.scope.Look.TheVariants as look
 use Rattle.macro_eval.specs.declared.scope.VarFault.{VarFault}
 use Rattle.macro_eval.specs.declared.scope.VarFault.TheVariants.{Range}
 
+-- what is known of each variable, with values in 0.000001
 abbrev pub sample_table : ℕ → Result Look VarFault
 sample_table v =
     if v == 0 || v == 1 then Ok (look.Is Vacant)

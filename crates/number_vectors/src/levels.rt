@@ -1,4 +1,5 @@
-//! Levels of local variables.
+//! Test of local_levels: a call opens a level of local variables, and a return brings back the
+//! locals of the caller.
 use crate::values::holding;
 use local_levels::{LOCALS, Levels};
 use nc_number::Var;

@@ -1,4 +1,5 @@
-//! Rows worked by hand of what literals say, and of how values and lengths are printed.
+//! Tests of nc_number, by rows worked by hand: what literals say, and how values and lengths are
+//! printed. values.rt takes `number`, which reads the numbers of rows.
 
 use nc_number::{Literal, Value, is_literal, length_text, parse_word, text, to_increment};
 
@@ -217,6 +218,7 @@ fn is_count(count: Option<i64>, wanted: &str) -> bool {
     }
 }
 
+/// Whether the literal of the row says what the row wants; none if the row can not be read.
 fn is_read(row: &str) -> Option<bool> {
     let (question, wanted) = row.split_once(" = ")?;
     let (call, digits) = question.split_once(' ')?;
@@ -248,6 +250,7 @@ fn printed(count: i64, unit: &str, room: &mut [u8; 24]) -> Option<usize> {
     Some(text(value?, room))
 }
 
+/// Whether the count of the row is printed as the row wants; none if the row can not be read.
 fn is_printed(row: &str) -> Option<bool> {
     let (question, wanted) = row.split_once(" = ")?;
     let (count, unit) = question.split_once(' ')?;

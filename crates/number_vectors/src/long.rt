@@ -1,5 +1,5 @@
-//! Long texts: a million operators, which take no deep stack, long sums in five brackets, and one
-//! variable too many.
+//! Tests of macro_expr and macro_eval by long texts: a million operators, which take no deep stack,
+//! long sums in five brackets, and one variable too many.
 
 use crate::trees::expression;
 use crate::values::{answer, is_due};

@@ -1,4 +1,5 @@
-//! What the numbers of causes, paths, variables and G codes stand for.
+//! Tests of what numbers stand for: causes and paths (nc_number), variables (common_vars), and G
+//! codes of both systems (code_tables).
 
 use code_tables::{
     ABSOLUTE_GROUP, CodeKind, FEED_GROUP, MOTION_GROUP, NOSE_GROUP, System, WORK_GROUP,
@@ -189,6 +190,7 @@ code B 71 = none
 code B 9 = none
 code B 65535 = none";
 
+/// What a cause of this number stands for: its number and its name, or `none`.
 fn cause_text(alloc: Global, number: u8) -> Result<String, AllocError> {
     match Cause::of_number(number) {
         Some(cause) => format!(in alloc; "{} {}", cause.number(), cause.name()),
@@ -196,6 +198,7 @@ fn cause_text(alloc: Global, number: u8) -> Result<String, AllocError> {
     }
 }
 
+/// What a path of this number stands for: its place, and the number of the other path.
 fn path_text(alloc: Global, number: u8) -> Result<String, AllocError> {
     match Path::of_number(number) {
         Some(path) => {
@@ -205,6 +208,7 @@ fn path_text(alloc: Global, number: u8) -> Result<String, AllocError> {
     }
 }
 
+/// What a variable of this number stands for, and what a block can do with it.
 fn variable_text(alloc: Global, number: u32) -> Result<String, AllocError> {
     match variable_of(number) {
         Some(variable) => {
@@ -220,6 +224,7 @@ fn variable_text(alloc: Global, number: u32) -> Result<String, AllocError> {
     }
 }
 
+/// The G code system of this letter: A, unless it is B.
 fn system_named(letter: &str) -> System {
     if letter == "B" { System::B } else { System::A }
 }
@@ -237,6 +242,7 @@ fn code_text(alloc: Global, words: &str) -> Result<String, AllocError> {
     }
 }
 
+/// What marks a kind of code: that it is refused, an arc or a cycle.
 fn traits(kind: CodeKind) -> &'static str {
     match (kind.is_refused(), kind.is_arc(), kind.is_cycle()) {
         (false, false, false) => "",
@@ -247,6 +253,7 @@ fn traits(kind: CodeKind) -> &'static str {
     }
 }
 
+/// Whether a row is true; none if it can not be read.
 fn holds(alloc: Global, row: &str) -> Option<bool> {
     let (question, wanted) = row.split_once(" = ")?;
     let (noun, number) = question.split_once(' ')?;

@@ -1,4 +1,5 @@
-//! The tree of each text, written with its operators first.
+//! Tests of macro_expr: the tree of each text, written with its operators first, or the number of
+//! its refusal. long.rt takes `expression`.
 
 use macro_expr::{
     Cond, Expr, ExprFault, Fun, Op, Rel, Statement, Target, VarRef, parse_expr, parse_statement,
@@ -169,6 +170,7 @@ fn put(out: &mut String, part: &str) {
     let _ = out.push_str(part);
 }
 
+/// Adds a number in digits.
 fn put_number(out: &mut String, number: i64) {
     let _ = write!(out, "{number}");
 }
@@ -203,6 +205,7 @@ fn show(out: &mut String, tree: &Expr) {
     }
 }
 
+/// Adds a variable: `#` and its number, or `#` and the tree of its number in brackets.
 #[cycle(show)]
 fn show_variable(out: &mut String, variable: &VarRef) {
     match variable {
@@ -218,6 +221,7 @@ fn show_variable(out: &mut String, variable: &VarRef) {
     }
 }
 
+/// Adds a value of so many millionths: whole units if it has no fraction, else millionths.
 fn show_value(out: &mut String, micro: i64) {
     if micro % 1_000_000 == 0 {
         put_number(out, micro / 1_000_000);
@@ -227,6 +231,7 @@ fn show_value(out: &mut String, micro: i64) {
     }
 }
 
+/// The name of a function on a tape.
 fn function_name(function: Fun) -> &'static str {
     match function {
         Fun::Sqrt => "SQRT",
@@ -237,6 +242,7 @@ fn function_name(function: Fun) -> &'static str {
     }
 }
 
+/// The name of an operator on a tape.
 fn operator_name(op: Op) -> &'static str {
     match op {
         Op::Add => "+",
@@ -250,6 +256,7 @@ fn operator_name(op: Op) -> &'static str {
     }
 }
 
+/// The name of a relation on a tape.
 fn relation_name(rel: Rel) -> &'static str {
     match rel {
         Rel::Eq => "EQ",
@@ -261,6 +268,7 @@ fn relation_name(rel: Rel) -> &'static str {
     }
 }
 
+/// Adds the trees of a condition with its relation between them.
 fn show_condition(out: &mut String, condition: &Cond) {
     show(out, &condition.left);
     put(out, " ");
@@ -269,6 +277,7 @@ fn show_condition(out: &mut String, condition: &Cond) {
     show(out, &condition.right);
 }
 
+/// Adds GOTO and the target of a jump.
 fn show_target(out: &mut String, target: &Target) {
     put(out, "GOTO ");
     match target {
@@ -281,17 +290,20 @@ fn show_target(out: &mut String, target: &Target) {
     }
 }
 
+/// Adds a variable and the tree of its value.
 fn show_assignment(out: &mut String, variable: &VarRef, e: &Expr) {
     show_variable(out, variable);
     put(out, " = ");
     show(out, e);
 }
 
+/// Adds the word of a loop and its number.
 fn show_loop(out: &mut String, word: &str, number: u8) {
     put(out, word);
     put_number(out, i64::from(number));
 }
 
+/// Adds a statement with its trees.
 fn show_statement(out: &mut String, statement: &Statement) {
     match statement {
         Statement::Assign(variable, e) => show_assignment(out, variable, e),
@@ -318,6 +330,7 @@ fn show_statement(out: &mut String, statement: &Statement) {
     }
 }
 
+/// Adds the number of a refusal.
 fn show_refusal(out: &mut String, why: &Failing<ExprFault>) {
     match why {
         Failing::Fault(fault) => put_number(out, i64::from(fault.number)),
@@ -335,6 +348,7 @@ pub(crate) fn expression(alloc: Global, text: &str) -> String {
     out
 }
 
+/// The statement with its trees, or the number of its refusal.
 fn statement(alloc: Global, text: &str) -> String {
     let mut out = String::new(alloc);
     match parse_statement(alloc, text.as_bytes()) {
@@ -344,6 +358,7 @@ fn statement(alloc: Global, text: &str) -> String {
     out
 }
 
+/// Whether the text of the row has its tree or its refusal; none if the row can not be read.
 fn has_tree(alloc: Global, row: &str) -> Option<bool> {
     let (text, tree) = row.split_once(" -> ")?;
     Some(expression(alloc, text).as_str() == tree)
@@ -356,6 +371,7 @@ fn each_expression_has_its_tree_or_its_refusal(rt: HostRuntime) {
     }
 }
 
+/// Whether the text of the row has its statement or its refusal; none if the row can not be read.
 fn has_statement(alloc: Global, row: &str) -> Option<bool> {
     let (text, tree) = row.split_once(" -> ")?;
     Some(statement(alloc, text).as_str() == tree)

@@ -1,4 +1,5 @@
-//! The value of each expression, or the variable that it needs, or its alarm.
+//! Tests of macro_eval: the value of each expression, or the variable that it needs, or its alarm.
+//! levels.rt, long.rt and writes.rt take its helpers.
 ghost use Rattle.number_vectors.specs.Sample.{sample_table};
 
 use crate::literals::number;

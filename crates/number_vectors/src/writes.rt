@@ -1,12 +1,14 @@
-//! Writes of common variables.
+//! Tests of common_vars: what a path wrote to its own variables, which variables are shared, and
+//! what a shared one holds at each moment of a run.
 use crate::values::holding;
 use common_vars::{Own, Shared, is_common, is_shared};
 use nc_number::Var;
 use std::test::Fail;
 
+/// How many writes the test of many writes makes.
 const WRITES: u32 = 200_000;
 
-/// The millionths that it holds, 0 standing for vacant.
+/// The value of the variable in 0.000001, or 0 if it is vacant.
 fn micro(variable: Var) -> i64 {
     variable.or_zero().micro()
 }

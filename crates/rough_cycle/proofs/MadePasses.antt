@@ -1,4 +1,5 @@
--- Which passes are made: the loop of `passes` (src/form.rt), which tries at most 1,001.
+-- Which passes are made, and that the loop of `passes` (src/form.rt) makes them all, trying at most
+-- 1,001.
 use Rattle.std.proofs.Common.{◌≡◌, ℕ, zero, suc, ◌+◌, ◌-◌, ◌<◌, ◌≤◌, Bool, true, false, ◌&&◌, List, [], ◌∷◌, ◌++◌, ◌≤ℤ◌, ◌<ℤ◌, refl, ap, sym, ◌∙◌, arith, append_assoc, append-nil, cond, Some, None}
 use Rattle.std.specs.Prelude.{int_lt}
 use Rattle.nc_number.specs.declared.point.Point.{Point}
@@ -24,7 +25,7 @@ none_below r k past = go (int_lt (first_moved r).x (x_of_pass r k))
     go true = rw no refl
     go false = refl
 
--- the rest of the passes by the next one
+-- if pass k is not made, there are no passes from k on
 pub no_further : (r : Rough) (k most : ℕ) → made_at r k ≡ None → passes_from r k most ≡ []
 unfolding passes_from
 no_further r k zero none = refl
@@ -43,12 +44,12 @@ one_further r k most pass some = go (is_made r (pass_of r k)) some
     go true e = let same : pass_of r k ≡ pass = cc in rw same refl
     go false wrong = absurd (let different : None ≡ Some pass = wrong in cc)
 
--- with none left to try there is no pass
+-- if none is left to try, there are no passes
 no_passes : (r : Rough) (k : ℕ) → passes_from r k 0 ≡ []
 unfolding passes_from
 no_passes r k = refl
 
--- the loop over the passes
+-- before the loop, no pass is done and all are to come
 pub at_first : (r : Rough) (done : List Point) → done ≡ [] → done ++ passes_from r 1 (1002 - 1) ≡ passes_from r 1 1001
 at_first r done none = rw none refl
 

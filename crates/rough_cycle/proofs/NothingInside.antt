@@ -1,5 +1,6 @@
 -- No move of G71 or G70 enters the contour: the law `no_move_enters_the_contour` (src/law.rt).
--- First come facts of single points, then of moves, then of passes.
+-- First come facts of single points, then of moves, then of passes. LeastEnd takes the facts on
+-- segments.
 use Rattle.std.proofs.Common.{◌≡◌, ℕ, zero, suc, ◌+◌, ◌*◌, ◌/◌, ◌<◌, ◌≤◌, Bool, true, false, not, ◌&&◌, ◌||◌, List, [], ◌∷◌, ◌++◌, map, ℤ, pos, ◌+ℤ◌, ◌-ℤ◌, ◌*ℤ◌, ◌≤ℤ◌, ◌<ℤ◌, refl, sym, subst, ◌∙◌, arith, cond}
 use Rattle.std.specs.Prelude.{int_lt, int_le}
 use Rattle.std.specs.Ordering.{int_eq}
@@ -19,7 +20,7 @@ use Rattle.rough_cycle.proofs.Orders.{not_le_is, is_le}
 use Rattle.rough_cycle.proofs.Products.{quotient_below, part_below}
 use Rattle.rough_cycle.specs.Moves.{IsOn, after, after_all, IsClear, AreClear}
 
--- a Z at most two others is at most the lesser of them
+-- a number at most two others is at most the lesser of them
 not_before_least : (z a b : ℤ) → z ≤ℤ a → z ≤ℤ b → z ≤ℤ int_min a b
 not_before_least z a b to_a to_b = go (int_lt b a)
   where
@@ -47,21 +48,21 @@ not_below p q at rises right products = go (int_eq p.z q.z)
         let past : distance at.x p.x * distance q.z p.z < distance q.x p.x * distance at.z p.z = grind (arith, ints) in
         omega (arith, past, products)
 
--- right of both ends
+-- a point right of both ends of a segment is not below it (right: of greater X)
 not_below_right : (p q at : Point) → p.x ≤ℤ q.x → q.x ≤ℤ at.x → q.z ≤ℤ at.z → at.z ≤ℤ p.z → is_below p q at ≡ true → ⊥
 not_below_right p q at rises right low high =
     let wide : distance q.x p.x ≤ distance at.x p.x = omega (arith, ints) in
     let deep : distance at.z p.z ≤ distance q.z p.z = omega (arith, ints) in
     not_below p q at rises (omega (arith, ints)) (mul-le-mul wide deep)
 
--- on the segment
+-- a point on a segment is not below it
 not_below_on : (p q at : Point) → p.x ≤ℤ q.x → IsOn p q at → is_below p q at ≡ true → ⊥
 not_below_on p q at rises on =
     let line = on.line in
     not_below p q at rises (omega (arith, ints, on.across)) (omega (arith, line))
 
--- behind the end of a pass: a is how far along, k and m how far across the pass and the point are,
--- of w across and l along
+-- A product for a point past the end of a pass: a is how far along it lies, k and m how far across
+-- the pass and the point are, of w across and l along.
 products_behind : (a l k m w : ℕ) → a ≤ l * k / w → k ≤ m → w * a ≤ m * l
 products_behind a l k m w near right =
     let scaled : a * w ≤ l * k / w * w = mul-le-mul_right w near in
@@ -90,7 +91,7 @@ pub holds_between : (p q : Point) (z : ℤ) → q.z ≤ℤ z → z ≤ℤ p.z �
 unfolding holds
 holds_between p q z low high = rw (is_le q.z z low, is_le z p.z high) refl
 
--- no segment holds what lies past the first point
+-- a Z that a segment holds is at most the first point's: the contour goes down from there
 held_low : (p : Point) (points : List Point) (z : ℤ) → Descends p points → some_holds p points z ≡ true → z ≤ℤ p.z
 held_low p [] z falls e = absurd (let wrong : false ≡ true = e in cc)
 held_low p (q ∷ points) z (rises, falls, later) e = go (holds p q z) refl e (held_low q points z later)
@@ -117,7 +118,7 @@ step p q at points first rest = go (holds p q at.z) refl
 pub not_inside : (p : Point) (points : List Point) (at : Point) → (some_holds p points at.z ≡ true → is_below_each p points at ≡ true → ⊥) → is_inside_from p points at ≡ false
 not_inside p points at contrary = only_false (is_inside_from p points at) (λ e. let parts = both (some_holds p points at.z) (is_below_each p points at) e in contrary parts.0 parts.1)
 
--- X of the last point is the greatest
+-- no point of the contour has a greater X than the last one
 last_is_high : (p : Point) (points : List Point) → Descends p points → p.x ≤ℤ (last_of p points).x
 last_is_high p [] falls = omega (arith, ints)
 last_is_high p (q ∷ points) (rises, falls, later) = let high = last_is_high q points later in omega (arith, ints)
@@ -132,7 +133,7 @@ right_of_all p (q ∷ points) at (rises, falls, later) right =
     (λ h. let z = held p q at.z falls h in not_below_right p q at rises beyond z.0 z.1)
     (λ h. right_of_all q points at later right)
 
--- what lies behind the end of a pass, and not left of it, is not inside
+-- a point whose X is at least a pass's and whose Z is at least that of its end is not inside
 pub behind_end : (x : ℤ) (p : Point) (points : List Point) (at : Point) → Descends p points → p.x ≤ℤ x → x ≤ℤ at.x → end_at x p points ≤ℤ at.z → some_holds p points at.z ≡ true → is_below_each p points at ≡ true → ⊥
 behind_end x p [] at falls above right = λ behind s e. absurd (let wrong : false ≡ true = s in cc)
 behind_end x p (q ∷ points) at (rises, falls, later) above right = go (int_le q.x x) refl (behind_end x q points at later)
@@ -179,25 +180,25 @@ last_moved u w p (q ∷ points) = last_moved u w q points
 
 -- moves
 
--- blocks after blocks
+-- if blocks are clear, and those after them are clear from where the first lead, all are clear
 clear_behind : (p : Point) (points : List Point) (from : Point) (xs ys : List PlainBlock) → AreClear p points from xs → AreClear p points (after_all from xs) ys → AreClear p points from (xs ++ ys)
 clear_behind p points from [] ys first rest = rest
 clear_behind p points from (x ∷ xs) ys (clear, first) rest = (clear, clear_behind p points (after from x) xs ys first rest)
 
--- a move of which each point is right of x and behind the end of a pass there
+-- a move is clear if both its ends lie right of x, and past the end of a pass at x
 move_behind : (x : ℤ) (p : Point) (points : List Point) (from to : Point) → Descends p points → p.x ≤ℤ x → x ≤ℤ from.x → x ≤ℤ to.x → end_at x p points ≤ℤ from.z → end_at x p points ≤ℤ to.z → IsClear p points from to
 move_behind x p points from to falls above right_from right_to behind_from behind_to at on =
     let right : x ≤ℤ at.x = omega (arith, ints, on.across) in
     let behind : end_at x p points ≤ℤ at.z = omega (arith, ints, on.along) in
     not_inside p points at (behind_end x p points at falls above right behind)
 
--- a move of which each point is right of the whole contour
+-- a move is clear if both its ends lie right of the whole contour
 move_right : (p : Point) (points : List Point) (from to : Point) → Descends p points → (last_of p points).x ≤ℤ from.x → (last_of p points).x ≤ℤ to.x → IsClear p points from to
 move_right p points from to falls right_from right_to at on =
     let right : (last_of p points).x ≤ℤ at.x = omega (arith, ints, on.across) in
     not_inside p points at (right_of_all p points at falls right)
 
--- along the contour itself: what is not below a rest of it is not below it
+-- the moves along the contour itself are clear: a point on a segment is not below it
 along_contour : (f : Point) (all : List Point) (p : Point) (points : List Point)
     → ((at : Point) → is_below_each f all at ≡ true → is_below_each p points at ≡ true)
     → Descends p points → AreClear f all p (map (straight_to true) points)
@@ -220,7 +221,7 @@ ends_at_last : (p : Point) (points : List Point) → after_all p (map (straight_
 ends_at_last p [] = refl
 ends_at_last p (q ∷ points) = ends_at_last q points
 
--- what follows the passes, and the whole of G70
+-- the blocks to the contour, along it and back are clear, if the way to its first point is
 contour_clear : (start p : Point) (points : List Point) (from : Point) → Descends p points → (last_of p points).x ≤ℤ start.x → p.x ≤ℤ from.x
     → IsClear p points from (after from (along_to false p)) → AreClear p points from (contour_blocks start p points)
 contour_clear start p points from falls high right rise =
@@ -252,7 +253,7 @@ record MayBegin (r : Rough) (k : ℕ) (from : Point) : Type 0 where
   level : from.z ≡ r.start.z
   -- its X is at least the pass's
   right : x_of_pass r k ≤ℤ from.x
-  -- and at least that of the contour's first point
+  -- its X is at least that of the contour's first point
   of_first : (first_moved r).x ≤ℤ from.x
   -- the move from there along to the first point's Z is clear
   rise : IsClear (first_moved r) (points_moved r) from (after from (along_to false (first_moved r)))
@@ -264,7 +265,7 @@ record IsPast (r : Rough) (k : ℕ) (at : Point) : Type 0 where
   -- its Z is at least that of the pass's end
   behind : (pass_of r k).z ≤ℤ at.z
 
--- the contour with its allowances, its last point left of the start
+-- the contour of a form descends with its allowances
 form_descends : (r : Rough) → IsForm r → Descends (first_moved r) (points_moved r)
 form_descends r form = moved_descends r.across r.along r.first r.points form.descends
 
@@ -276,7 +277,7 @@ form_high r form = rw (last_moved r.across r.along r.first r.points) form.high
 past_clear : (r : Rough) (k : ℕ) (from to : Point) → IsForm r → (first_moved r).x ≤ℤ x_of_pass r k → IsPast r k from → IsPast r k to → IsClear (first_moved r) (points_moved r) from to
 past_clear r k from to form above a b = move_behind (x_of_pass r k) (first_moved r) (points_moved r) from to (form_descends r form) above a.right b.right a.behind b.behind
 
--- the moves of a pass, and that the next may begin after it
+-- the moves of a pass are clear, and the next pass may begin after them
 pass_clear : (r : Rough) (k : ℕ) (from : Point) (rest : List PlainBlock) → IsForm r → MayBegin r k from
     → is_made r (pass_of r k) ≡ true
     → ((next : Point) → MayBegin r (k + 1) next → AreClear (first_moved r) (points_moved r) next rest)
@@ -355,7 +356,7 @@ pass_clear r k from rest form begins made further = (
     next : MayBegin r (k + 1) back
     next = record { level = refl; right = omega (arith, ints); of_first = omega (arith, ints, over, out); rise = past_clear r k back top form over at_back at_top }
 
--- no move of the passes from k on, and of the contour after them, enters it
+-- the moves of the passes from k on, and of the contour after them, are clear
 passes_clear : (r : Rough) (most k : ℕ) (from : Point) → IsForm r → MayBegin r k from
     → AreClear (first_moved r) (points_moved r) from (flat_map (pass_blocks r) (passes_from r k most) ++ contour_blocks r.start (first_moved r) (points_moved r))
 unfolding passes_from

@@ -1,5 +1,5 @@
 -- Products and parts of lengths: they fit the numbers of 64 and 128 bits in which the code keeps
--- them.
+-- them. For the arithmetic of src/contour.rt, and for LeastEnd and NothingInside.
 use Rattle.std.proofs.Common.{◌≡◌, ℕ, suc, ◌*◌, ◌/◌, ◌<◌, ◌≤◌, ℤ, pos, ◌*ℤ◌, refl, ◌∙◌, arith, ◌⊎◌, inl, inr, to_z, of_z, FitsSigned}
 use Rattle.std.specs.Int.{w64, w128}
 use Rattle.std.specs.Prelude.{unsigned_abs, int_lt, ◌-ℤ◌}
@@ -15,7 +15,7 @@ use Rattle.std.proofs.Math.Nat.{mul-le-mul, mul-le-mul_left, mul-le-mul_right}
 pub quotient_below : (n d : ℕ) → n / d * d ≤ n
 quotient_below n d = let split = div-add-mod' n d in omega arith
 
--- a part of l along that goes less than w across is at most l
+-- a share of a length l, k parts in w of it, is at most l
 pub part_below : (l k w : ℕ) → k ≤ w → 0 < w → l * k / w ≤ l
 part_below l k w less some = go (cases_lt l (l * k / w))
   where
@@ -35,21 +35,21 @@ product_bound a b la lb = let le : a * b ≤ 2000000000000 * 2000000000000 = mul
 pub product_fits : (a : ℤ) (b : ℕ) → unsigned_abs a ≤ 2000000000000 → b ≤ 2000000000000 → FitsSigned w128 (a *ℤ pos b)
 product_fits a b la lb = fits_signed_from_abs w128 (a *ℤ pos b) (rw (unsigned_abs-mul a (pos b)) (let le = product_bound (unsigned_abs a) b la lb in omega arith))
 
--- what the code multiplies, as it is stored
+-- the product of two lengths that the code stores in 128 bits is exact
 pub product_is : (a x y : ℤ) (b : ℕ) → unsigned_abs a ≤ 2000000000000 → b ≤ 2000000000000 → x ≡ a → y ≡ pos b → to_z w128 (of_z w128 (to_z w128 (of_z w128 x) *ℤ to_z w128 (of_z w128 y))) ≡ a *ℤ pos b
 product_is a x y b la lb x_is y_is =
     let x_fits : FitsSigned w128 a = fits_signed_from_abs w128 a (omega arith) in
     let y_fits : FitsSigned w128 (pos b) = fits_signed_from_abs w128 (pos b) (omega arith) in
     rw (x_is, y_is, to_z-of_z w128 a x_fits, to_z-of_z w128 (pos b) y_fits) (to_z-of_z w128 (a *ℤ pos b) (product_fits a b la lb))
 
--- such a product fits 128 bits, also of lengths that were stored
+-- the product of two lengths of at most 2,000 km that were stored fits 128 bits
 pub product_fits_stored : (a x y : ℤ) (b : ℕ) → unsigned_abs a ≤ 2000000000000 → b ≤ 2000000000000 → x ≡ a → y ≡ pos b → FitsSigned w128 (to_z w128 (of_z w128 x) *ℤ to_z w128 (of_z w128 y))
 product_fits_stored a x y b la lb x_is y_is =
     let x_fits : FitsSigned w128 a = fits_signed_from_abs w128 a (omega arith) in
     let y_fits : FitsSigned w128 (pos b) = fits_signed_from_abs w128 (pos b) (omega arith) in
     rw (x_is, y_is, to_z-of_z w128 a x_fits, to_z-of_z w128 (pos b) y_fits) (product_fits a b la lb)
 
--- a test of products that are stored
+-- the code's test of two stored products is whether the point is below the line
 pub below_stored : (p q at : Point) (m n : ℤ)
     → m ≡ ((at.x -ℤ p.x) *ℤ pos (distance q.z p.z)) → n ≡ ((q.x -ℤ p.x) *ℤ pos (distance at.z p.z))
     → FitsSigned w128 m → FitsSigned w128 n

@@ -1,5 +1,5 @@
--- Lists that were pushed to, one by one, and the lesser of two numbers: for the blocks of a pass
--- and of a contour.
+-- Lists that were pushed to, one by one, and the lesser of two numbers. For the blocks of a pass
+-- and of a contour (`push_pass`, `push_contour` and `off`, src/form.rt).
 use Rattle.std.proofs.Common.{◌≡◌, ◌<ℤ◌, ◌≤ℤ◌, List, [], ◌∷◌, ◌++◌, ℤ, refl, ap, ◌∙◌, append_assoc}
 use Rattle.std.specs.Int.{int_min}
 use Rattle.rough_cycle.proofs.Orders.{is_lt, is_not_lt}

@@ -1,16 +1,17 @@
 -- A contour of lines: its first point, and the points after it. In 0.001 mm, X a diameter.
+-- Roughing, the laws of src/law.rt and cycle_form cite it.
 use Rattle.std.specs.Prelude.{ℕ, List, [], ◌∷◌, map, pos, ◌+ℤ◌, ◌≤ℤ◌}
 use Rattle.nc_number.specs.declared.point.Point.{Point}
 
--- the contour with the finishing allowance: u in X, w in Z
+-- a point with the finishing allowance: u in X, w in Z
 abbrev pub moved_point : ℕ → ℕ → Point → Point
 moved_point u w p = record { x = p.x +ℤ pos u; z = p.z +ℤ pos w }
 
--- points with the finishing allowance
+-- points with the finishing allowance: u in X, w in Z
 abbrev pub moved : ℕ → ℕ → List Point → List Point
 moved u w points = map (moved_point u w) points
 
--- along the contour X does not fall and Z does not rise
+-- from this first point on, X does not fall and Z does not rise
 abbrev pub Descends : Point → List Point → Type 0
 Descends p [] = Unit {0}
 Descends p (q ∷ points) = (p.x ≤ℤ q.x) × (q.z ≤ℤ p.z) × Descends q points

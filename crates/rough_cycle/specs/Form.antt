@@ -1,10 +1,11 @@
--- A form as the code keeps it, and within which bounds it computes. cycle_form makes forms so.
+-- A form as the code keeps it, and the bounds within which the code computes. The contracts of
+-- src/form.rt ask for them; cycle_form makes only such forms.
 use Rattle.std.specs.Prelude.{◌≤◌, All, unsigned_abs}
 use Rattle.nc_number.specs.declared.point.Point.{Point}
 use Rattle.rough_cycle.specs.declared.form.RoughForm.{RoughForm}
 use Rattle.rough_cycle.specs.Roughing.{Rough}
 
--- what the form says
+-- what a form of the code says
 abbrev pub rough_of : RoughForm → Rough
 rough_of form = record {
   start = form.start;
@@ -16,11 +17,11 @@ rough_of form = record {
   points = form.points.items;
 }
 
--- a length that a literal can write
+-- both lengths of a point are such that a literal can write them: at most 100 km
 abbrev pub IsWritten : Point → Type 0
 IsWritten p = (unsigned_abs p.x ≤ 100000000000) × (unsigned_abs p.z ≤ 100000000000)
 
--- all lengths are those that a literal can write
+-- all lengths of a form are such that a literal can write them
 pub record IsNearForm (r : Rough) : Type 0 where
   -- where the cycle starts
   pub start : IsWritten r.start
@@ -37,6 +38,7 @@ pub record IsNearForm (r : Rough) : Type 0 where
   -- the points after it
   pub points : All IsWritten r.points
 
--- the end of a pass is near enough that the code's sums fit 64 bits
+-- the end of a pass is near enough that the code's sums fit 64 bits: X within 400,000 km, Z within
+-- 4,000 km
 abbrev pub IsNearPass : Point → Type 0
 IsNearPass pass = (unsigned_abs pass.x ≤ 400000000000000) × (unsigned_abs pass.z ≤ 4000000000000)

@@ -1,5 +1,6 @@
--- The passes of G71, and the blocks that G71 and G70 stand for. cycle_form says which forms there
--- are; it and tape_expand write these blocks.
+-- The passes of G71, and the blocks that G71 and G70 stand for. src/form.rt makes these blocks;
+-- cycle_form says which forms there are, and tape_expand writes the blocks. Lengths are in 0.001
+-- mm, X is a diameter.
 use Rattle.std.specs.Prelude.{◌≡◌, ℕ, zero, suc, ◌+◌, ◌*◌, ◌/◌, ◌≤◌, Bool, true, false, ◌&&◌, List, [], ◌∷◌, ◌++◌, map, ℤ, pos, ◌+ℤ◌, ◌-ℤ◌, ◌≤ℤ◌, int_lt, int_le, Option, Some, None, if◌then◌else◌}
 use Rattle.std.specs.List.{flat_map}
 use Rattle.std.specs.Int.{int_min}
@@ -8,7 +9,7 @@ use Rattle.rough_cycle.specs.declared.block.PlainBlock.{PlainBlock}
 use Rattle.rough_cycle.specs.Contour.{Descends, last_of, moved_point, moved}
 use Rattle.nc_number.specs.Distances.{distance}
 
--- the least Z at which the contour has X at most x, rounded up to a whole number
+-- the end of a pass: the least Z at which the contour has X at most x, rounded up to a whole number
 abbrev pub end_at : ℤ → Point → List Point → ℤ
 end_at x p [] = p.z
 end_at x p (q ∷ points) =
@@ -24,7 +25,7 @@ pub record Rough : Type 0 where
   pub depth : ℕ
   -- how far a pass is left
   pub retreat : ℕ
-  -- the finishing allowance in X
+  -- the finishing allowance in X, a diameter
   pub across : ℕ
   -- the finishing allowance in Z
   pub along : ℕ
@@ -33,7 +34,7 @@ pub record Rough : Type 0 where
   -- the points after it
   pub points : List Point
 
--- the first point of the contour with its allowance, and those after it
+-- the first point of the contour with its allowances
 abbrev pub first_moved : Rough → Point
 first_moved r = moved_point r.across r.along r.first
 
@@ -41,7 +42,7 @@ first_moved r = moved_point r.across r.along r.first
 abbrev pub points_moved : Rough → List Point
 points_moved r = moved r.across r.along r.points
 
--- a form that may be written out
+-- a form that may be written out: no pass or contour of it cuts too deep
 pub record IsForm (r : Rough) : Type 0 where
   -- a cut has a depth
   pub deep : 1 ≤ r.depth
@@ -52,24 +53,23 @@ pub record IsForm (r : Rough) : Type 0 where
   -- the start's X is at least that of the contour's end and the allowance
   pub high : ((last_of r.first r.points).x +ℤ pos r.across) ≤ℤ r.start.x
 
--- the X of a pass: a depth is a radius, so each pass is two depths lower. A pass is the point at
--- its end.
+-- the X of pass k: a depth is a radius, so each pass is two depths lower
 abbrev pub x_of_pass : Rough → ℕ → ℤ
 x_of_pass r k = r.start.x -ℤ pos (2 * r.depth * k)
 
--- the pass k: its X, and the end at which the contour comes to it
+-- pass k as the point at its end: its X, and the Z at which the contour comes to it
 abbrev pub pass_of : Rough → ℕ → Point
 pass_of r k = record { x = x_of_pass r k; z = end_at (x_of_pass r k) (first_moved r) (points_moved r) }
 
--- a pass is made above the contour's first point, where it leads down from the start
+-- whether a pass is made: it lies above the contour's first point, and leads down from the start
 abbrev pub is_made : Rough → Point → Bool
 is_made r pass = int_lt (first_moved r).x pass.x && int_lt pass.z r.start.z
 
--- the pass k, if it is made
+-- pass k, if it is made
 abbrev pub made_at : Rough → ℕ → Option Point
 made_at r k = if is_made r (pass_of r k) then Some (pass_of r k) else None
 
--- the passes from k on, at most so many
+-- the passes from k on, at most so many, up to the first that is not made
 unfoldable pub passes_from : Rough → ℕ → ℕ → List Point
 passes_from r k zero = []
 passes_from r k (suc most) =
@@ -87,11 +87,12 @@ along_to cuts p = record { cuts = cuts; x = None; z = Some p.z }
 abbrev pub straight_to : Bool → Point → PlainBlock
 straight_to cuts p = record { cuts = cuts; x = Some p.x; z = Some p.z }
 
--- off the cut of a pass, and along as far as the start
+-- where a pass is left to: the retreat off its cut in both axes, but along no farther than the
+-- start
 abbrev pub off_pass : Rough → Point → Point
 off_pass r pass = record { x = pass.x +ℤ pos (2 * r.retreat); z = int_min (pass.z +ℤ pos r.retreat) r.start.z }
 
--- in, along, off, and back
+-- the four blocks of a pass: in, along, off, and back
 abbrev pub pass_blocks : Rough → Point → List PlainBlock
 pass_blocks r pass =
     across_to false pass
@@ -100,14 +101,14 @@ pass_blocks r pass =
     ∷ along_to false r.start
     ∷ []
 
--- to the contour's first point, along it, off, and back
+-- the blocks of a contour: to its first point, along it, off, and back to the start
 abbrev pub contour_blocks : Point → Point → List Point → List PlainBlock
 contour_blocks start p points =
     along_to false p
     ∷ across_to false p
     ∷ (map (straight_to true) points ++ across_to true start ∷ along_to false start ∷ [])
 
--- the blocks of G71 with at most so many passes
+-- the blocks of G71: at most so many passes, and then the contour with its allowances
 abbrev pub rough_blocks : Rough → ℕ → List PlainBlock
 rough_blocks r most =
     flat_map (pass_blocks r) (passes_from r 1 most) ++ contour_blocks r.start (first_moved r) (points_moved r)
@@ -116,7 +117,7 @@ rough_blocks r most =
 abbrev pub finish_blocks : Rough → Point → List PlainBlock
 finish_blocks r start = contour_blocks start r.first r.points
 
--- a start from which G70 enters nothing
+-- a start from which G70 enters no contour
 pub record IsFinishStart (r : Rough) (start : Point) : Type 0 where
   -- its X is at least that of the contour's end
   pub high : (last_of r.first r.points).x ≤ℤ start.x

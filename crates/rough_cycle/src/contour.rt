@@ -1,4 +1,5 @@
 //! What lies inside a contour of lines, and where a pass ends at it; in 0.001 mm, X a diameter.
+//! form.rt calls `end_at` for each pass; `inside` is for tests (expand_vectors).
 ghost use Rattle.std.specs.Prelude.{◌≡◌, ◌≤ℤ◌, ◌<ℤ◌, ◌<◌, ◌≤◌, ◌*◌, ◌/◌, ◌-ℤ◌, ◌*ℤ◌, pos, unsigned_abs, All};
 ghost use Rattle.nc_number.specs.Distances.{distance};
 ghost use Rattle.rough_cycle.specs.Inside.{holds, is_below, is_below_line, some_holds, is_below_each, is_inside, IsNear};
@@ -92,7 +93,8 @@ fn product(across: i64, along: u64) -> i128
     i128::from(across) * i128::from(along)
 }
 
-/// The least Z, rounded up, at which a contour that descends has X at most `x`.
+/// The end of a pass at `x`: the least Z, rounded up, at which a contour that descends has X at
+/// most `x`.
 pub(crate) fn end_at(x: i64, first: &Point, points: &[Point]) -> i64
     requires x { first.now.x ≤ℤ x }
     requires first { IsNear first.now }

@@ -1,4 +1,5 @@
-//! G71 and G70 along lines as plain blocks: the passes, and then the contour.
+//! G71 and G70 along lines as plain blocks: the passes, and then the contour. cycle_form makes a
+//! `RoughForm` of the blocks of a tape and asks for its blocks.
 ghost use Rattle.std.specs.Prelude.{◌≡◌, ◌≤◌, ◌++◌, IfOk, IfSome, OnOk, unsigned_abs, All, true, map, [], ◌∷◌};
 ghost use Rattle.std.specs.List.{flat_map};
 ghost use Rattle.rough_cycle.specs.Contour.{moved_point, moved};
@@ -11,7 +12,7 @@ use crate::contour::end_at;
 use nc_number::Point;
 use std::alloc::{AllocError, Global};
 
-/// One pass more than a form may have.
+/// One pass more than a form may have: cycle_form takes no form with so many.
 const TRIED: u32 = 1_001;
 
 /// What a G71 form says; lengths are in 0.001 mm.
@@ -21,7 +22,7 @@ pub struct RoughForm {
     pub start: Point,
     /// The depth of a cut, as a radius.
     pub depth: u64,
-    /// How far a pass is left.
+    /// How far a pass is left off its cut, as a radius in X and along Z.
     pub retreat: u64,
     /// The finishing allowance in X, a diameter.
     pub across: u64,
@@ -34,7 +35,7 @@ pub struct RoughForm {
 }
 
 impl RoughForm {
-    /// The blocks of the G71 part.
+    /// The blocks of the G71 part: the passes, and then the contour with its allowances.
     pub fn rough_blocks(&self, alloc: Global) -> Result<Vec<PlainBlock>, AllocError>
         requires { IsNearForm (rough_of self.now) }
         ensures { IfOk result (λ v. v.items ≡ rough_blocks (rough_of self.now) 1001) }
@@ -48,7 +49,7 @@ impl RoughForm {
         Ok(blocks)
     }
 
-    /// The blocks of the G70 part from a start.
+    /// The blocks of the G70 part from a start: to the contour, along it, and back.
     pub fn finish_blocks(&self, alloc: Global, start: &Point) -> Result<Vec<PlainBlock>, AllocError>
         ensures { IfOk result (λ v. v.items ≡ finish_blocks (rough_of self.now) start.now) }
     {
@@ -82,7 +83,8 @@ impl RoughForm {
         Ok(passes)
     }
 
-    /// The end of pass k. One at or below the contour's first point, or that cuts nothing, is none.
+    /// The end of pass k, if it is made: above the contour's first point, and leading down from the
+    /// start's Z.
     fn pass_at(&self, first: &Point, points: &[Point], k: u32) -> Option<Point>
         requires near { IsNearForm (rough_of self.now) }
         requires first { first.now ≡ first_moved (rough_of self.now) }
@@ -190,7 +192,7 @@ fn moved(alloc: Global, across: u64, along: u64, points: &[Point]) -> Result<Vec
     Ok(out)
 }
 
-/// Puts the blocks to the contour, along it, and back to the start.
+/// Puts the blocks to the contour's first point, along it, off it, and back to the start.
 fn push_contour(
     start: &Point,
     first: &Point,
@@ -217,7 +219,7 @@ fn push_lines(points: &[Point], blocks: &mut Vec<PlainBlock>) -> Result<(), Allo
     Ok(())
 }
 
-/// A block that moves across alone.
+/// A block that moves across alone, in X.
 fn across_to(cuts: bool, point: &Point) -> PlainBlock
     ensures { result ≡ across_to cuts point.now }
 {
@@ -228,7 +230,7 @@ fn across_to(cuts: bool, point: &Point) -> PlainBlock
     }
 }
 
-/// A block that moves along alone.
+/// A block that moves along alone, in Z.
 fn along_to(cuts: bool, point: &Point) -> PlainBlock
     ensures { result ≡ along_to cuts point.now }
 {
@@ -239,7 +241,7 @@ fn along_to(cuts: bool, point: &Point) -> PlainBlock
     }
 }
 
-/// A block that moves both ways.
+/// A block that moves in X and in Z.
 fn straight_to(cuts: bool, point: &Point) -> PlainBlock
     ensures { result ≡ straight_to cuts point.now }
 {

@@ -1,4 +1,4 @@
-//! Laws of the passes; none of these calls does anything. cycle_form takes the first,
+//! Laws of the passes and of the moves of G71 and G70. cycle_form takes the first for its parts;
 //! docs/GUARANTEES.md names both.
 ghost use Rattle.std.specs.Prelude.{◌≡◌, ℕ, List, ◌∷◌, true, false, ℤ, ◌≤ℤ◌, ◌<ℤ◌};
 ghost use Rattle.rough_cycle.specs.Contour.{Descends};
@@ -7,8 +7,8 @@ ghost use Rattle.nc_number.specs.declared.point.Point.{Point};
 ghost use Rattle.rough_cycle.specs.Roughing.{end_at, Rough, IsForm, IsFinishStart, first_moved, points_moved, rough_blocks, finish_blocks};
 ghost use Rattle.rough_cycle.specs.Moves.{AreClear};
 
-/// No whole point on a move of the G71 part lies inside the contour with its allowances, and none
-/// on a move of the G70 part inside the contour.
+/// A law: no whole point on a move of the G71 part lies inside the contour with its allowances, and
+/// none on a move of the G70 part inside the contour.
 pub fn no_move_enters_the_contour()
     ensures rough { (r : Rough) (most : ℕ) → IsForm r
         → AreClear (first_moved r) (points_moved r) r.start (rough_blocks r most) }
@@ -16,8 +16,9 @@ pub fn no_move_enters_the_contour()
         → AreClear r.first r.points start (finish_blocks r start) }
 {}
 
-/// The end of a pass is the least whole Z of the contour at which the contour has X at most the
-/// pass's.
+/// A law: the end of a pass is the least whole Z at which the contour has X at most the pass's. It
+/// is a Z of the contour (`held`), a point there is not inside (`reached`), and a point before it
+/// is below each segment (`least`).
 #[tactic(auto, using(crate::proofs::LeastEnd::least, crate::proofs::LeastEnd::reached, crate::proofs::LeastEnd::at_the_end))]
 pub fn an_end_is_the_least()
     ensures held { (x : ℤ) (first second : Point) (points : List Point) → Descends first (second ∷ points)

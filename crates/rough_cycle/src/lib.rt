@@ -1,5 +1,6 @@
-//! G71 and G70 over a line contour, as plain blocks. Which texts are such a form is in cycle_form.
-//! Its callers lean on the law that no move enters the contour.
+//! G71 and G70 over a line contour, as plain blocks. Which blocks of a tape are such a form is in
+//! cycle_form, which rests on the law that no move enters the contour; tape_expand writes the
+//! blocks.
 #![tactic(auto)]
 
 mod block;

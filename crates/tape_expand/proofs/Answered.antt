@@ -1,4 +1,5 @@
--- What a call answers, as the definition has it.
+-- What a call answers is what the definition in specs/Expansion answers. For the proofs of
+-- src/expand.rt.
 use Rattle.std.proofs.Common.{◌≡◌, ℕ, Bool, List, All, Result, Ok, Err, ap, sym, ◌∙◌, subst}
 use Rattle.std.proofs.lemmas.List.Elements.{All-weaker}
 use Rattle.nc_number.specs.declared.fault.Failing.{Failing}
@@ -14,31 +15,31 @@ use Rattle.tape_expand.specs.declared.fault.ExpandFault.{ExpandFault}
 use Rattle.tape_expand.specs.declared.fault.ExpandFault.TheVariants.{Unreadable, Cycle}
 use Rattle.tape_expand.specs.Expansion.{sized_by, sized_parts, of_cycles, of_tape, parts_in, written_out, AreClearParts}
 
--- a text that is no tape fails for that,
+-- a text that is no tape fails for its refusal as a text
 pub text_fails : (error : Failing TextFault) (fault : TextFault) (text : List ℕ) (tape : Result (List Program) TextFault) → error ≡ Fault fault → Fails error tape
     → of_tape text tape ≡ Err (Unreadable fault)
 text_fails error fault text tape is fails = ap (of_tape text) (subst (λ e. Fails e tape) is fails)
 
--- and one with a bad cycle for the cycle
+-- a tape with a bad cycle fails for the refusal of that cycle
 pub cycle_fails : (error : Failing CycleFault) (fault : CycleFault) (parts : Result (List PartView) CycleFault) → error ≡ Fault fault → Fails error parts
     → of_cycles parts ≡ Err (Cycle fault)
 cycle_fails error fault parts is fails = ap of_cycles (subst (λ e. Fails e parts) is fails)
 
--- parts that can't be had fail, whatever their size
+-- if the parts of a tape fail, so do its parts with their size judged
 pub parts_fail : (n : ℕ) (due : Result (List PartView) CycleFault) (error : Failing CycleFault) → Fails error due → Fails error (sized_by n due)
 parts_fail n due (Fault f) e = ap (sized_by n) e
 parts_fail n due NoMemory e = tt
 
--- the marks of the text
+-- the parts by the marks that the code has are those by the marks of the text
 pub marked : (text : List ℕ) (marks items : List Bool) (tape : List Program) → marks ≡ items → items ≡ marks_of text
     → of_cycles (sized_parts marks tape) ≡ of_cycles (sized_parts (marks_of text) tape)
 marked text marks items tape is items_is = ap (λ m. of_cycles (sized_parts m tape)) (is ∙ items_is)
 
--- what fails for one reason fails for the same reason said otherwise
+-- a call that fails as due fails as is due by another name for the same
 pub same_fails : (error : Failing ExpandFault) (due other : Result (List PartView) ExpandFault) → due ≡ other → Fails error due → Fails error other
 same_fails error due other is fails = subst (λ d. Fails error d) is fails
 
--- the text reads as this tape
+-- if a text reads as this tape, its parts are those of the tape
 pub of_text : (text : List ℕ) (tape slice : List Program) → slice ≡ tape → tape_of 0 text ≡ Ok tape → parts_in text ≡ of_cycles (sized_parts (marks_of text) slice)
 unfolding parts_in
 of_text text tape slice is e = ap (of_tape text) e ∙ ap (λ t. of_cycles (sized_parts (marks_of text) t)) (sym is)
@@ -48,7 +49,7 @@ pub of_no_tape : (text : List ℕ) (error : Failing ExpandFault) → Fails error
 unfolding parts_in
 of_no_tape text error fails = fails
 
--- without parts nothing is written out
+-- if the parts of a text fail, so does its expansion
 pub nothing_written : (text : List ℕ) (due : Result (List PartView) ExpandFault) (error : Failing ExpandFault) → Fails error due → Fails error (written_out text due)
 nothing_written text due (Fault f) e = ap (written_out text) e
 nothing_written text due NoMemory e = tt

@@ -1,4 +1,5 @@
--- A text with edits, byte by byte, is the same line by line.
+-- A text with edits, byte by byte, is the same line by line. For `edited` (src/edits.rt), which
+-- works byte by byte.
 use Rattle.std.proofs.Common.{◌≡◌, ℕ, ◌+◌, Bool, true, false, ◌==◌, List, [], ◌∷◌, ◌++◌, drop, refl, ap, sym, ◌∙◌, arith}
 use Rattle.std.proofs.lemmas.Bool.Decides.{nat_tests}
 use Rattle.nc_text.specs.Lines.{Line, lines_of, onto_line}
@@ -6,7 +7,7 @@ use Rattle.tape_expand.specs.declared.edits.Edit.{Edit}
 use Rattle.tape_expand.specs.Splice.{edited, spliced, is_due, first_new}
 use Rattle.tape_expand.proofs.Splicing.{none, replaced, dropped}
 
--- a byte of a line, if an edit names the line or none does
+-- a byte of a line that an edit names leaves no trace
 left_out : (n : ℕ) (edits : List Edit) (b : ℕ) (lines : List Line) → is_due n edits ≡ true → edited n edits (onto_line b lines) ≡ edited n edits lines
 left_out n edits b [] due = rw due refl
 left_out n edits b (line ∷ lines) due = rw due refl
@@ -20,37 +21,37 @@ kept n edits b (line ∷ lines) due = rw due refl
 line_feed : (b : ℕ) → (b == 10) ≡ true → b ≡ 10
 line_feed b end = grind (arith, nat_tests)
 
--- a line feed ends an empty line,
+-- a line feed at the head of a text ends an empty line
 end_is : (b : ℕ) (bs : List ℕ) → (b == 10) ≡ true → lines_of (b ∷ bs) ≡ record { bytes = []; ended = true } ∷ lines_of bs
 end_is b bs end = rw end refl
 
--- and another byte goes onto the line
+-- a byte that is no line feed goes onto the first line
 byte_is : (b : ℕ) (bs : List ℕ) → (b == 10) ≡ false → lines_of (b ∷ bs) ≡ onto_line b (lines_of bs)
 byte_is b bs other = rw other refl
 
--- a line that an edit names gives way to the edit's bytes,
+-- an empty line that an edit names gives way to the edit's bytes
 named_end : (n : ℕ) (edits : List Edit) (lines : List Line) → is_due n edits ≡ true
     → edited n edits (record { bytes = []; ended = true } ∷ lines) ≡ first_new edits ++ edited (n + 1) (drop 1 edits) lines
 named_end n edits lines due = rw due refl
 
--- and any other keeps its line feed
+-- an empty line that no edit names keeps its line feed
 other_end : (n : ℕ) (edits : List Edit) (lines : List Line) → is_due n edits ≡ false
     → edited n edits (record { bytes = []; ended = true } ∷ lines) ≡ 10 ∷ edited (n + 1) edits lines
 other_end n edits lines due = rw due refl
 
--- byte by byte as well,
+-- byte by byte, a line feed of a line that no edit names stays, and the next line follows
 other_feed : (n : ℕ) (edits : List Edit) (b : ℕ) (bs : List ℕ) → is_due n edits ≡ false → (b == 10) ≡ true
     → spliced n edits (b ∷ bs) ≡ b ∷ spliced (n + 1) edits bs
 unfolding spliced
 other_feed n edits b bs due end = rw (due, end) refl
 
--- also within the line
+-- byte by byte, a byte within a line that no edit names stays
 other_byte : (n : ℕ) (edits : List Edit) (b : ℕ) (bs : List ℕ) → is_due n edits ≡ false → (b == 10) ≡ false
     → spliced n edits (b ∷ bs) ≡ b ∷ spliced n edits bs
 unfolding spliced
 other_byte n edits b bs due other = rw (due, other) refl
 
--- so one byte more is the same both ways,
+-- with one byte more in front, a text is the same both ways, if the rest is
 one_byte : (n : ℕ) (edits : List Edit) (b : ℕ) (bs : List ℕ) (is_named is_end : Bool) → is_due n edits ≡ is_named → (b == 10) ≡ is_end
     → spliced n edits bs ≡ edited n edits (lines_of bs)
     → spliced (n + 1) edits bs ≡ edited (n + 1) edits (lines_of bs)
@@ -67,7 +68,7 @@ one_byte n edits b bs false true due end here next behind =
 one_byte n edits b bs false false due end here next behind =
     other_byte n edits b bs due end ∙ ap (λ l. b ∷ l) here ∙ sym (kept n edits b (lines_of bs) due) ∙ ap (edited n edits) (sym (byte_is b bs end))
 
--- and so is the whole text
+-- any text is the same both ways, from any line on
 of_text : (text : List ℕ) (n : ℕ) (edits : List Edit) → spliced n edits text ≡ edited n edits (lines_of text)
 of_text [] n edits = none n edits
 of_text (b ∷ bs) n edits = one_byte n edits b bs (is_due n edits) (b == 10) refl refl (of_text bs n edits) (of_text bs (n + 1) edits) (of_text bs (n + 1) (drop 1 edits))

@@ -1,4 +1,4 @@
--- The lemmas of this crate, each file by its subject.
+-- The lemmas of tape_expand, each file by its subject. No other crate takes any.
 pub mod Answered
 pub mod ByLines
 pub mod Counting

@@ -1,25 +1,26 @@
--- One byte more of a text with edits.
+-- One byte more of a text with edits. For the loop of `splice` (src/edits.rt), and for ByLines. The
+-- lemmas in `at_` speak of the byte at a place of the text.
 use Rattle.std.proofs.Common.{◌≡◌, ℕ, ◌+◌, ◌<◌, ◌≤◌, Bool, true, false, cond, arith, ◌==◌, List, [], ◌∷◌, ◌++◌, drop, length, get_or, refl, ap, sym, ◌∙◌, append_assoc, append-nil}
 use Rattle.std.proofs.lemmas.List.{drop_more}
 use Rattle.tape_expand.specs.declared.edits.Edit.{Edit}
 use Rattle.tape_expand.specs.Splice.{spliced, is_due, first_new, line_behind}
 
--- no byte is left
+-- with no byte left nothing is written
 pub none : (n : ℕ) (edits : List Edit) → spliced n edits [] ≡ []
 unfolding spliced
 none n edits = refl
 
--- the line feed of a line that an edit names gives way to the edit's bytes,
+-- the line feed of a line that an edit names gives way to the edit's bytes
 pub replaced : (n : ℕ) (edits : List Edit) (b : ℕ) (bytes : List ℕ) → is_due n edits ≡ true → (b == 10) ≡ true → spliced n edits (b ∷ bytes) ≡ first_new edits ++ spliced (n + 1) (drop 1 edits) bytes
 unfolding spliced
 replaced n edits b bytes due end = rw (due, end) refl
 
--- and its other bytes go
+-- any other byte of a line that an edit names goes
 pub dropped : (n : ℕ) (edits : List Edit) (b : ℕ) (bytes : List ℕ) → is_due n edits ≡ true → (b == 10) ≡ false → spliced n edits (b ∷ bytes) ≡ spliced n edits bytes
 unfolding spliced
 dropped n edits b bytes due end = rw (due, end) refl
 
--- a byte of any other line stays
+-- a byte of a line that no edit names stays
 kept : (n : ℕ) (edits : List Edit) (b : ℕ) (bytes : List ℕ) → is_due n edits ≡ false → spliced n edits (b ∷ bytes) ≡ b ∷ spliced (line_behind n b) edits bytes
 unfolding spliced
 kept n edits b bytes due = rw due refl
@@ -28,22 +29,22 @@ kept n edits b bytes due = rw due refl
 rest_is : (text : List ℕ) (i b : ℕ) → b ≡ get_or text i 0 → i < length text → drop i text ≡ b ∷ drop (i + 1) text
 rest_is text i b is before = drop_more text i 0 before ∙ ap (λ c. c ∷ drop (i + 1) text) (sym is)
 
--- at the end of the text all is written,
+-- at the end of the text, what is written is the text with its edits
 pub at_end : (out all : List ℕ) (n : ℕ) (edits : List Edit) (rest : List ℕ) → rest ≡ [] → out ++ spliced n edits rest ≡ all → out ≡ all
 at_end out all n edits rest empty so_far = sym (append-nil out) ∙ ap (λ l. out ++ l) (sym (none n edits)) ∙ ap (λ l. out ++ spliced n edits l) (sym empty) ∙ so_far
 
--- at a line feed that gives way it goes on with the next edit,
+-- at a line feed that gives way, the edit's bytes are written, and it goes on with the next edit
 pub at_line_end : (out new all : List ℕ) (n : ℕ) (edits : List Edit) (text : List ℕ) (i b : ℕ) → b ≡ get_or text i 0 → i < length text → out ++ spliced n edits (drop i text) ≡ all → is_due n edits ≡ true → (b == 10) ≡ true → new ≡ out ++ first_new edits → new ++ spliced (n + 1) (drop 1 edits) (drop (i + 1) text) ≡ all
 at_line_end out new all n edits text i b is before so_far due end new_is =
     ap (λ l. l ++ spliced (n + 1) (drop 1 edits) (drop (i + 1) text)) new_is ∙ append_assoc out (first_new edits) (spliced (n + 1) (drop 1 edits) (drop (i + 1) text))
     ∙ ap (λ l. out ++ l) (sym (replaced n edits b (drop (i + 1) text) due end)) ∙ ap (λ l. out ++ spliced n edits l) (sym (rest_is text i b is before)) ∙ so_far
 
--- at a byte that goes nothing is written,
+-- at a byte that goes, nothing is written
 pub at_dropped : (out all : List ℕ) (n : ℕ) (edits : List Edit) (text : List ℕ) (i b : ℕ) → b ≡ get_or text i 0 → i < length text → out ++ spliced n edits (drop i text) ≡ all → is_due n edits ≡ true → (b == 10) ≡ false → out ++ spliced n edits (drop (i + 1) text) ≡ all
 at_dropped out all n edits text i b is before so_far due end =
     ap (λ l. out ++ l) (sym (dropped n edits b (drop (i + 1) text) due end)) ∙ ap (λ l. out ++ spliced n edits l) (sym (rest_is text i b is before)) ∙ so_far
 
--- and at any other the byte is
+-- at a byte that stays, the byte is written
 pub at_kept : (out new all : List ℕ) (n : ℕ) (edits : List Edit) (text : List ℕ) (i b : ℕ) → b ≡ get_or text i 0 → i < length text → out ++ spliced n edits (drop i text) ≡ all → is_due n edits ≡ false → new ≡ out ++ b ∷ [] → new ++ spliced (line_behind n b) edits (drop (i + 1) text) ≡ all
 at_kept out new all n edits text i b is before so_far due new_is =
     ap (λ l. l ++ spliced (line_behind n b) edits (drop (i + 1) text)) new_is ∙ append_assoc out (b ∷ []) (spliced (line_behind n b) edits (drop (i + 1) text))

@@ -1,6 +1,5 @@
--- How a block and the blocks of a part are printed.
--- Bytes: 10 is the line feed, 32 the space, 70 the letter F, 88 X, 90 Z.
--- For this crate alone.
+-- How a block and the blocks of a part are printed. src/part_text.rt computes it; Replaced puts it
+-- in place of lines. Bytes: 10 is the line feed, 32 the space, 70 the letter F, 88 X, 90 Z.
 use Rattle.std.specs.Prelude.{ℕ, Bool, List, [], ◌∷◌, ◌++◌, ℤ, Option, Some, None, codes, if◌then◌else◌}
 use Rattle.std.specs.List.{flat_map}
 use Rattle.nc_number.specs.Printed.{length_text, value_text}
@@ -11,16 +10,16 @@ use Rattle.cycle_form.specs.Parts.{PartView, part_blocks}
 abbrev pub code_text : Bool → List ℕ
 code_text cuts = if cuts then codes "G01" else codes "G00"
 
--- a word of an axis after a blank, with three decimals
+-- a blank and the word of an axis in mm with three decimals, if the block moves it
 abbrev pub axis_text : ℕ → Option ℤ → List ℕ
 axis_text letter None = []
 axis_text letter (Some at) = 32 ∷ letter ∷ length_text at
 
--- a cut has its feed
+-- a blank and the word of the feed, if the block cuts
 abbrev pub feed_text : Bool → ℤ → List ℕ
 feed_text cuts feed = if cuts then 32 ∷ 70 ∷ value_text feed else []
 
--- a block with one blank between its words, as a line
+-- a block as a line, with one blank between its words
 unfoldable pub block_text : ℤ → PlainBlock → List ℕ
 block_text feed block =
     code_text block.cuts ++ (axis_text 88 block.x ++ (axis_text 90 block.z ++ (feed_text block.cuts feed ++ 10 ∷ [])))

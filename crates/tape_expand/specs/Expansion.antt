@@ -1,5 +1,5 @@
--- The tape of a text with its roughing cycles written out.
--- lathe_looks takes `AreClearParts`, `expansion_of` and `parts_in`.
+-- The tape of a text with its roughing cycles written out: the contract of `expand_tape`
+-- (src/expand.rt). lathe_looks takes `AreClearParts`, `expansion_of` and `parts_in`.
 use Rattle.std.specs.Prelude.{ℕ, ⊤, Bool, List, length, All, Result, Ok, Err}
 use Rattle.std.specs.List.{flat_map}
 use Rattle.nc_text.specs.declared.fault.TextFault.{TextFault}
@@ -17,17 +17,18 @@ use Rattle.tape_expand.specs.declared.fault.ExpandFault.TheVariants.{Unreadable,
 use Rattle.tape_expand.specs.Replaced.{edits_of}
 use Rattle.tape_expand.specs.Splice.{edited}
 
--- the parts, if their tape is not too long
+-- these parts, if the judgement on their size is that they fit
 abbrev pub fitting : List PartView → Result ⊤ CycleFault → Result (List PartView) CycleFault
 fitting parts (Ok done) = Ok parts
 fitting parts (Err fault) = Err fault
 
--- so it is judged for parts that could be had
+-- the parts, if there are some and a tape of so many blocks has at most 20,000 with them written
+-- out
 abbrev pub sized_by : ℕ → Result (List PartView) CycleFault → Result (List PartView) CycleFault
 sized_by blocks (Ok parts) = fitting parts (sized blocks parts)
 sized_by blocks (Err fault) = Err fault
 
--- the parts of a tape, if it has no more blocks than it may with them written out
+-- the parts of a tape, if it has at most 20,000 blocks with them written out
 abbrev pub sized_parts : List Bool → List Program → Result (List PartView) CycleFault
 sized_parts marks tape = sized_by (length (blocks_in tape)) (parts_of marks tape)
 
@@ -36,7 +37,7 @@ abbrev pub of_cycles : Result (List PartView) CycleFault → Result (List PartVi
 of_cycles (Ok parts) = Ok parts
 of_cycles (Err fault) = Err (Cycle fault)
 
--- the parts of a tape, or the refusal of a text that is none
+-- the parts of a text that reads as this tape, or the refusal of a text that is no tape
 abbrev pub of_tape : List ℕ → Result (List Program) TextFault → Result (List PartView) ExpandFault
 of_tape text (Ok tape) = of_cycles (sized_parts (marks_of text) tape)
 of_tape text (Err fault) = Err (Unreadable fault)

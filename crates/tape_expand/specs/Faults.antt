@@ -1,16 +1,16 @@
--- The refusals of a tape that is to be written out.
--- lathe_looks takes `expand_line` and `expand_number` and lathe_top `expand_number`.
+-- The refusals of a tape that is to be written out, as src/fault.rt has them. lathe_looks takes
+-- `expand_line` and `expand_number`, and lathe_top `expand_number`.
 use Rattle.std.specs.Prelude.{ℕ}
 use Rattle.cycle_form.specs.Faults.{fault_number, fault_line}
 use Rattle.tape_expand.specs.declared.fault.ExpandFault.{ExpandFault}
 use Rattle.tape_expand.specs.declared.fault.ExpandFault.TheVariants.{Unreadable, Cycle}
 
--- the number of the refusal
+-- the number under which the refusal is printed
 abbrev pub expand_number : ExpandFault → ℕ
 expand_number (Unreadable fault) = fault.number
 expand_number (Cycle fault) = fault_number fault
 
--- the line of the tape that is refused
+-- the line that the refusal is about, from 1
 abbrev pub expand_line : ExpandFault → ℕ
 expand_line (Unreadable fault) = fault.line
 expand_line (Cycle fault) = fault_line fault

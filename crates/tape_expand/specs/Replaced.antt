@@ -1,11 +1,11 @@
--- Which lines of a text give way to the parts of a tape.
--- For this crate alone.
+-- Which lines of a text give way to the parts of a tape: the edits that src/part_text.rt makes.
+-- Expansion cites it; Splice says what edits do to a text.
 use Rattle.std.specs.Prelude.{ℕ, List, [], ◌∷◌, map}
 use Rattle.cycle_form.specs.Parts.{PartView}
 use Rattle.tape_expand.specs.declared.edits.Edit.{Edit}
 use Rattle.tape_expand.specs.BlockText.{part_text}
 
--- a line that goes
+-- the edit by which a line goes, with its line feed
 abbrev pub removed : ℕ → Edit
 removed line = record { line = line; new = [] }
 

@@ -1,16 +1,15 @@
--- A text in which some lines are replaced.
--- Byte 10 is the line feed.
--- For this crate alone.
+-- A text in which some lines are replaced: line by line (`edited`), and byte by byte as
+-- src/edits.rt does it (`spliced`). Expansion cites `edited`. Byte 10 is the line feed.
 use Rattle.std.specs.Prelude.{ℕ, ◌+◌, Bool, false, ◌==◌, List, [], ◌∷◌, ◌++◌, drop, if◌then◌else◌}
 use Rattle.nc_text.specs.Lines.{Line}
 use Rattle.tape_expand.specs.declared.edits.Edit.{Edit}
 
--- whether the first of the edits is of this line
+-- whether the first of the edits, if there is one, is of this line
 abbrev pub is_due : ℕ → List Edit → Bool
 is_due n [] = false
 is_due n (edit ∷ edits) = n == edit.line
 
--- what the first of the edits puts in
+-- the bytes that the first of the edits puts in, if there is one
 abbrev pub first_new : List Edit → List ℕ
 first_new [] = []
 first_new (edit ∷ edits) = edit.new
@@ -32,11 +31,11 @@ edited n edits (line ∷ lines) =
     then new_for edits line ++ edited (n + 1) (drop 1 edits) lines
     else bytes_of line ++ edited (n + 1) edits lines
 
--- the line behind a byte: the next one behind a line feed, byte 10
+-- the line after a byte that stands in line n: the next one after a line feed (10)
 abbrev pub line_behind : ℕ → ℕ → ℕ
 line_behind n b = if b == 10 then n + 1 else n
 
--- the same byte by byte, from a place in line n on
+-- the bytes of a text with edits, byte by byte, from a place in line n on
 unfoldable pub spliced : ℕ → List Edit → List ℕ → List ℕ
 spliced n edits [] = []
 spliced n edits (b ∷ bytes) =

@@ -1,5 +1,5 @@
-//! A text in which some lines give way to others. Which lines those are, part_text.rt says.
-//! For this crate alone.
+//! A text in which some lines give way to others. part_text.rt says which lines those are, and
+//! expand.rt calls `edited`.
 ghost use Rattle.std.specs.Prelude.{◌≡◌, ◌<◌, ◌^◌, ◌++◌, ◌∷◌, [], IfOk, OnOk, drop};
 ghost use Rattle.nc_text.specs.Lines.{lines_of};
 ghost use Rattle.tape_expand.specs.Splice.{edited, spliced, is_due, first_new, line_behind};
@@ -12,7 +12,7 @@ use std::alloc::{AllocError, Global};
 pub struct Edit {
     /// The line, from 1.
     pub line: u32,
-    /// The bytes that stand in its place, with a line feed; none where the line goes.
+    /// The bytes that stand in place of the line and its line feed; none if the line goes.
     pub new: ByteList,
 }
 
@@ -24,7 +24,8 @@ pub(crate) fn edited(alloc: Global, text: &[u8], edits: &[Edit]) -> Result<Vec<u
     Ok(bytes)
 }
 
-/// The same, byte by byte.
+/// The text with edits, byte by byte: the bytes of a line that an edit names go, and its line feed
+/// gives way to the edit's bytes.
 fn splice(alloc: Global, text: &[u8], edits: &[Edit]) -> Result<Vec<u8>, AllocError>
     ensures { IfOk result (λ v. v.items ≡ spliced 1 edits.now text.now) }
 {
@@ -47,7 +48,7 @@ fn splice(alloc: Global, text: &[u8], edits: &[Edit]) -> Result<Vec<u8>, AllocEr
     Ok(out)
 }
 
-/// A byte that stands.
+/// Puts a byte that stays after those so far.
 fn push_byte(out: &mut Vec<u8>, b: u8) -> Result<(), AllocError>
     ensures ok { OnOk result (out.new.items ≡ out.old.items ++ b ∷ []) }
 {
@@ -55,7 +56,8 @@ fn push_byte(out: &mut Vec<u8>, b: u8) -> Result<(), AllocError>
     Ok(())
 }
 
-/// Edits are in the order of their lines, so only the first can be due.
+/// Whether the first of the edits is of this line. They are in the order of their lines, so only
+/// the first can be.
 fn is_due(line: u128, edits: &[Edit]) -> bool
     ensures { result ≡ is_due line edits.now }
 {
@@ -65,7 +67,7 @@ fn is_due(line: u128, edits: &[Edit]) -> bool
     }
 }
 
-/// A line feed ends its line.
+/// The line after this byte: the next one after a line feed, else the same.
 fn line_behind(line: u128, b: u8) -> u128
     requires { line < 2 ^ 127 }
     ensures { result ≡ line_behind line b }
@@ -73,14 +75,14 @@ fn line_behind(line: u128, b: u8) -> u128
     if b == b'\n' { line + 1 } else { line }
 }
 
-/// The edits that are not done yet.
+/// The edits after the first.
 fn behind_first(edits: &[Edit]) -> &[Edit]
     ensures { result.now ≡ drop 1 edits.now }
 {
     edits.get(1..).unwrap_or(edits)
 }
 
-/// What stands in place of the line.
+/// Puts what the first of the edits has in place of its line.
 fn push_first(out: &mut Vec<u8>, edits: &[Edit]) -> Result<(), AllocError>
     ensures ok { OnOk result (out.new.items ≡ out.old.items ++ first_new edits.now) }
 {
@@ -90,7 +92,7 @@ fn push_first(out: &mut Vec<u8>, edits: &[Edit]) -> Result<(), AllocError>
     }
 }
 
-/// Bytes behind those of the text so far.
+/// Puts bytes after those of the text so far.
 pub(crate) fn push_all(out: &mut Vec<u8>, bytes: &[u8]) -> Result<(), AllocError>
     ensures ok { OnOk result (out.new.items ≡ out.old.items ++ bytes.now) }
 {

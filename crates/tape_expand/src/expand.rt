@@ -1,6 +1,5 @@
-//! A tape with its cycles written out, or why it is refused: read, cut into parts (cycle_form),
-//! sized, and put together.
-//! lathe_looks and tests use it.
+//! A tape with its cycles written out, or why it is refused: read (nc_text), cut into parts and
+//! sized (cycle_form), and put together. lathe_looks calls `expand_tape` for the command `expand`.
 ghost use Rattle.std.specs.Prelude.{◌≡◌, ◌≤◌, ℕ, List, Result, IfOk, All, length};
 ghost use Rattle.std.specs.List.{flat_map};
 ghost use Rattle.nc_number.specs.Answers.{Fails, Gives};
@@ -26,7 +25,8 @@ use nc_number::Failing;
 use nc_text::{Program, Reader, Tape, TextFault};
 use std::alloc::{AllocError, Global};
 
-/// No block is skipped: a form may not depend on a switch.
+/// The tape of the text. No switch is set, so no block is skipped: a form may not depend on a
+/// switch.
 fn read_tape(alloc: Global, text: &[u8]) -> Result<Tape, Failing<TextFault>>
     ensures { Gives (λ tape. tape) result (tape_of 0 text.now) }
 {
@@ -50,7 +50,7 @@ fn count_blocks(tape: &[Program]) -> usize
     count
 }
 
-/// A text that is no tape has no cycles.
+/// The refusal of a text that is no tape, as that of the expansion.
 fn unread(fault: Failing<TextFault>) -> Failing<ExpandFault>
     ensures { (text : List ℕ) (tape : Result (List Program) TextFault)
         → Fails fault tape → Fails result (of_tape text tape) }
@@ -61,7 +61,7 @@ fn unread(fault: Failing<TextFault>) -> Failing<ExpandFault>
     }
 }
 
-/// The refusal of a cycle, as that of the text.
+/// The refusal of a cycle, as that of the expansion.
 fn bad_cycle(fault: Failing<CycleFault>) -> Failing<ExpandFault>
     ensures { (parts : Result (List PartView) CycleFault) → Fails fault parts → Fails result (of_cycles parts) }
 {
@@ -71,7 +71,7 @@ fn bad_cycle(fault: Failing<CycleFault>) -> Failing<ExpandFault>
     }
 }
 
-/// These parts, if a tape of so many blocks has no more than it may with them written out.
+/// These parts, if a tape of so many blocks has at most 20,000 with them written out.
 fn sized(alloc: Global, blocks: usize, parts: Vec<Part>) -> Result<Vec<Part>, Failing<CycleFault>>
     requires few { blocks ≤ MOST_BLOCKS }
     requires sound { All IsSoundPart parts.items }
@@ -84,7 +84,7 @@ fn sized(alloc: Global, blocks: usize, parts: Vec<Part>) -> Result<Vec<Part>, Fa
     }
 }
 
-/// The parts of a tape, if it has no more blocks than it may with them written out.
+/// The parts of a tape, if it has at most 20,000 blocks with them written out.
 fn sized_parts(
     alloc: Global,
     marks: &[bool],
@@ -100,7 +100,7 @@ fn sized_parts(
     }
 }
 
-/// The parts of a tape that was read from this text.
+/// The parts of a tape that was read from this text, or the refusal of a cycle.
 fn cycles_in(
     alloc: Global,
     text: &[u8],

@@ -1,5 +1,5 @@
-//! Why a tape is not written out: it is no tape, or a cycle has a fault.
-//! lathe_looks, lathe_top and tests use it.
+//! Why a tape is not written out: it is no tape, or a cycle has a fault. lathe_looks prints it, and
+//! proofs of lathe_top rest on its number.
 use cycle_form::CycleFault;
 use nc_text::TextFault;
 use thiserror::Error;

@@ -1,8 +1,8 @@
 //! A tape with its roughing cycles written out as plain blocks.
 //!
-//! `expand` answers the text of the tape in which each part (`cycle_form`) gives way to its blocks,
-//! byte for byte the same in every other line. The blocks that it prints never enter the contour of
-//! their part.
+//! `expand_tape` answers the text of the tape in which each part (`cycle_form`) gives way to its
+//! blocks, byte for byte the same in every other line. The blocks that it prints never enter the
+//! contour of their part. lathe_looks calls it.
 #![tactic(auto)]
 
 mod edits;

@@ -1,5 +1,5 @@
-//! The text of the plain blocks of a part, and the lines that it replaces.
-//! For this crate alone.
+//! The text of the plain blocks of a part, and the lines that it replaces. expand.rt takes the
+//! edits of all parts from here.
 ghost use Rattle.std.specs.Prelude.{◌≡◌, ◌++◌, ◌∷◌, [], Some, IfOk, OnOk, map};
 ghost use Rattle.std.specs.List.{flat_map};
 ghost use Rattle.tape_expand.specs.BlockText.{code_text, axis_text, feed_text, block_text, blocks_text, part_text};
@@ -11,14 +11,15 @@ use nc_number::{ByteList, Value, length_text, text};
 use rough_cycle::PlainBlock;
 use std::alloc::{AllocError, Global};
 
-/// Each block names its own code, so no block depends on the one before it.
+/// The code of a block: G01 if it cuts, else G00. Each block names its own code, so no block
+/// depends on the one before it.
 fn code_text(cuts: bool) -> &'static [u8]
     ensures { result.now ≡ code_text cuts }
 {
     if cuts { b"G01" } else { b"G00" }
 }
 
-/// An axis that a block leaves where it is does not stand in it.
+/// Puts the word of an axis, if the block moves it.
 fn push_axis(out: &mut Vec<u8>, letter: u8, at: Option<i64>) -> Result<(), AllocError>
     ensures ok { OnOk result (out.new.items ≡ out.old.items ++ axis_text letter at) }
 {
@@ -28,7 +29,8 @@ fn push_axis(out: &mut Vec<u8>, letter: u8, at: Option<i64>) -> Result<(), Alloc
     }
 }
 
-/// Lengths are printed with a point and three digits at most, so they read back the same.
+/// Puts a blank, the letter of an axis and a length in mm with three decimals, so that it reads
+/// back as the same length.
 fn push_length(out: &mut Vec<u8>, letter: u8, at: i64) -> Result<(), AllocError>
     ensures ok { OnOk result (out.new.items ≡ out.old.items ++ axis_text letter (Some at)) }
 {
@@ -39,7 +41,7 @@ fn push_length(out: &mut Vec<u8>, letter: u8, at: i64) -> Result<(), AllocError>
     Ok(())
 }
 
-/// A feed stands in each block that cuts.
+/// Puts the feed, if the block cuts.
 fn push_feed(out: &mut Vec<u8>, cuts: bool, feed: Value) -> Result<(), AllocError>
     ensures ok { OnOk result (out.new.items ≡ out.old.items ++ feed_text cuts feed) }
 {
@@ -53,7 +55,7 @@ fn push_feed(out: &mut Vec<u8>, cuts: bool, feed: Value) -> Result<(), AllocErro
     Ok(())
 }
 
-/// A block and its line feed.
+/// Puts a block and its line feed.
 #[tactic(auto, unfolding(crate::specs::BlockText::block_text))]
 fn push_block(out: &mut Vec<u8>, feed: Value, block: &PlainBlock) -> Result<(), AllocError>
     ensures ok { OnOk result (out.new.items ≡ out.old.items ++ block_text feed block.now) }
@@ -77,7 +79,7 @@ fn blocks_text(alloc: Global, feed: Value, blocks: &[PlainBlock]) -> Result<Vec<
     Ok(out)
 }
 
-/// A part as plain blocks.
+/// The text of a part: its plain blocks, a line each.
 fn part_text(alloc: Global, part: &Part) -> Result<Vec<u8>, AllocError>
     ensures { IfOk result (λ text. text.items ≡ part_text part.now) }
 {
@@ -86,7 +88,7 @@ fn part_text(alloc: Global, part: &Part) -> Result<Vec<u8>, AllocError>
     Ok(text)
 }
 
-/// One edit more; edits come in the order of their lines.
+/// Puts one edit more; edits come in the order of their lines.
 fn push(edits: &mut Vec<Edit>, line: u32, new: Vec<u8>) -> Result<(), AllocError>
     ensures ok { OnOk result (edits.new.items ≡ edits.old.items ++ record { line = line; new = new.items } ∷ []) }
 {
@@ -95,7 +97,7 @@ fn push(edits: &mut Vec<Edit>, line: u32, new: Vec<u8>) -> Result<(), AllocError
     Ok(())
 }
 
-/// Lines that go.
+/// Puts an edit without bytes for each of these lines: they go.
 fn push_removed(alloc: Global, edits: &mut Vec<Edit>, lines: &[u32]) -> Result<(), AllocError>
     ensures ok { OnOk result (edits.new.items ≡ edits.old.items ++ map removed lines.now) }
 {
@@ -119,7 +121,7 @@ fn push_edits(alloc: Global, edits: &mut Vec<Edit>, part: &Part) -> Result<(), A
     Ok(())
 }
 
-/// The edits of these parts.
+/// The edits of all these parts, in the order of their lines.
 pub(crate) fn edits_of(alloc: Global, parts: &[Part]) -> Result<Vec<Edit>, AllocError>
     ensures { IfOk result (λ edits. edits.items ≡ flat_map edits_of parts.now) }
 {

@@ -1,4 +1,5 @@
--- The reader's definition and the relation agree.
+-- nc_text's definition of reading and the relation agree: a text has the tape or the fault that the
+-- relation says. For the law `the_reader_reads_the_relation` (src/law.rt).
 use Rattle.std.proofs.Common.{◌≡◌, ℕ, ◌+◌, Bool, true, false, cond, ◌||◌, List, [], ◌∷◌, ◌++◌, length, Ok, Err, ◌⊎◌, inl, inr, refl, ap, sym, subst, ◌∙◌, arith}
 use Rattle.std.specs.List.{list_all, list_any}
 use Rattle.std.proofs.lemmas.List.Folds.{list_all-append}
@@ -22,20 +23,25 @@ use Rattle.tape_relation.proofs.FirstFault.{body_end, leader_end, text_comes, Co
 use Rattle.tape_relation.proofs.Ends.{ranges, IsBehind, ended_by, Begins, SaysNone, starts}
 use Rattle.tape_relation.proofs.OneAnswer.{one_tape, one_fault, not_both, body_said}
 
--- the parts of a text that has a `%` line, and what was read up to its programs
+-- the parts of lines of which one begins with `%`, and what was read when the lines of the programs
+-- begin
 record Opened (skips : ℕ) (lines : List Line) (before : Before) : Type 0 where
+  -- the first line that begins with `%`
   opening : Line
+  -- what was read up to that line, and with it
   there : Before
   lines_are : lines ≡ (before_percent lines ++ opening ∷ []) ++ behind_percent lines
   is_percent : begins_percent opening ≡ true
   leader_is : has_percent (before_percent lines) ≡ false
+  -- the answer from the first line on is the answer from the body on
   ends : leader_end skips lines before ≡ body_end skips (behind_percent lines) there
   count : there.lines ≡ before.lines + length (before_percent lines) + 1
   percent_is : there.percent ≡ there.lines
   current_is : there.current ≡ before.current
   done_is : there.done ≡ before.done
 
--- at the first `%` line the leader ends and the body begins,
+-- If the lines after one more leader line are opened, so are all; and if that line begins with `%`,
+-- the body begins after it.
 opened_first : (test : Bool) (skips : ℕ) (line : Line) (lines : List Line) (before : Before) → begins_percent line ≡ test → (test || has_percent lines) ≡ true
     → (has_percent lines ≡ true → Opened skips lines (next before (length line.bytes) line.ended)) → Opened skips (line ∷ lines) before
 opened_first true skips line lines before t e later = record {
@@ -64,28 +70,29 @@ opened_first false skips line lines before t e later =
       done_is = h.done_is;
     }
 
--- and so it does wherever that line stands
+-- lines of which one begins with `%` have these parts
 opened : (skips : ℕ) (lines : List Line) (before : Before) → has_percent lines ≡ true → Opened skips lines before
 opened skips [] before e = absurd cc
 opened skips (line ∷ lines) before e = opened_first (begins_percent line) skips line lines before refl e (opened skips lines (next before (length line.bytes) line.ended))
 
--- a line of the leader begins no body,
+-- before lines without a `%` line, one more line of the leader leaves the answer that no tape has
+-- begun
 closed_first : (test : Bool) (skips : ℕ) (line : Line) (lines : List Line) (before : Before) → (test || has_percent lines) ≡ false → (has_percent lines ≡ false → leader_end skips lines (next before (length line.bytes) line.ended) ≡ not_begun)
     → cond test (body_end skips lines (begun (next before (length line.bytes) line.ended))) (leader_end skips lines (next before (length line.bytes) line.ended)) ≡ not_begun
 closed_first true skips line lines before e later = absurd cc
 closed_first false skips line lines before e later = later e
 
--- and without a `%` line none begins
+-- lines without a `%` line have the answer that no tape has begun
 no_opening : (skips : ℕ) (lines : List Line) (before : Before) → has_percent lines ≡ false → leader_end skips lines before ≡ not_begun
 no_opening skips [] before e = refl
 no_opening skips (line ∷ lines) before e = closed_first (begins_percent line) skips line lines before e (no_opening skips lines (next before (length line.bytes) line.ended))
 
--- the answer is the one that the relation gives
+-- the answer is the tape or the fault that the relation gives these lines
 abbrev Due : ℕ → List Line → Answer → Type 0
 Due skips lines (Ok tape) = IsTapeOf skips lines tape
 Due skips lines (Err fault) = IsFaultOf skips lines fault
 
--- lines at which no condition holds have the answer of the reader,
+-- if no condition holds at any line, the reader's answer is the one that is due
 due : (skips : ℕ) (lines : List Line) (answer : Answer) → NoneHolds skips [] lines → answer ≡ leader_end skips lines nothing_read → Due skips lines answer
 due skips lines answer none e = at_percent (has_percent lines) refl
   where
@@ -157,7 +164,7 @@ due skips lines answer none e = at_percent (has_percent lines) refl
                 in
                 subst P (sym (e ∙ o.ends ∙ b.ends ∙ end)) is
 
--- and so have lines with a first fault
+-- the reader's answer is due whether or not the lines have a first fault
 comes : (skips : ℕ) (lines : List Line) (answer : Answer) → Comes skips [] lines answer (leader_end skips lines nothing_read) → Due skips lines answer
 comes skips lines answer (inl (none, e)) = due skips lines answer none e
 comes skips lines answer (inr (fault, first, e)) = let P : Answer → Type 0 = Due skips lines in let is : IsFaultOf skips lines fault = inl first in subst P (sym e) is
@@ -167,36 +174,36 @@ reads : (skips : ℕ) (text : List ℕ) → Due skips (lines_of text) (tape_of s
 unfolding tape_of
 reads skips text = comes skips (lines_of text) (in_leader skips (lines_of text) nothing_read) (text_comes skips (lines_of text))
 
--- a tape that the reader gives is the tape of the relation,
+-- a tape that the reader gives is the tape of the relation
 pub is_tape : (skips : ℕ) (text : List ℕ) (tape : List Program) → tape_of skips text ≡ Ok tape → IsTape skips text tape
 is_tape skips text tape e = let P : Answer → Type 0 = Due skips (lines_of text) in (lines_of text, own_lines text, subst P e (reads skips text))
 
--- and a fault that it gives is the fault of the relation
+-- a fault that the reader gives is the fault of the relation
 pub is_fault : (skips : ℕ) (text : List ℕ) (fault : TextFault) → tape_of skips text ≡ Err fault → IsFault skips text fault
 is_fault skips text fault e = let P : Answer → Type 0 = Due skips (lines_of text) in (lines_of text, own_lines text, subst P e (reads skips text))
 
--- the lines of a text are its own
+-- if the relation says that a text is a tape, it says so of the text's own lines
 tape_due : (skips : ℕ) (text : List ℕ) (tape : List Program) → IsTape skips text tape → IsTapeOf skips (lines_of text) tape
 tape_due skips text tape (lines, are, is) = let P : List Line → Type 0 = λ ls. IsTapeOf skips ls tape in subst P (sym (lines_are text lines are)) is
 
--- the fault of a text is that of its lines
+-- if the relation says that a text has a fault, it says so of the text's own lines
 fault_due : (skips : ℕ) (text : List ℕ) (fault : TextFault) → IsFault skips text fault → IsFaultOf skips (lines_of text) fault
 fault_due skips text fault (lines, are, is) = let P : List Line → Type 0 = λ ls. IsFaultOf skips ls fault in subst P (sym (lines_are text lines are)) is
 
--- the tape of the relation is what is due,
+-- if the relation says that lines are a tape, the answer that is due is that tape
 tape_only : (skips : ℕ) (lines : List Line) (answer : Answer) (tape : List Program) → Due skips lines answer → IsTapeOf skips lines tape → answer ≡ Ok tape
 tape_only skips lines (Ok other) tape given is = ap Ok (one_tape skips lines other tape given is)
 tape_only skips lines (Err fault) tape given is = absurd (not_both skips lines tape fault is given)
 
--- and so is its fault
+-- if the relation says that lines have a fault, the answer that is due is that fault
 fault_only : (skips : ℕ) (lines : List Line) (answer : Answer) (fault : TextFault) → Due skips lines answer → IsFaultOf skips lines fault → answer ≡ Err fault
 fault_only skips lines (Ok tape) fault given is = absurd (not_both skips lines tape fault given is)
 fault_only skips lines (Err other) fault given is = ap Err (one_fault skips lines other fault given is)
 
--- the reader gives each tape of the relation,
+-- a tape of the relation is what the reader gives
 pub tape_is : (skips : ℕ) (text : List ℕ) (tape : List Program) → IsTape skips text tape → tape_of skips text ≡ Ok tape
 tape_is skips text tape is = tape_only skips (lines_of text) (tape_of skips text) tape (reads skips text) (tape_due skips text tape is)
 
--- and each fault
+-- a fault of the relation is what the reader gives
 pub fault_is : (skips : ℕ) (text : List ℕ) (fault : TextFault) → IsFault skips text fault → tape_of skips text ≡ Err fault
 fault_is skips text fault is = fault_only skips (lines_of text) (tape_of skips text) fault (reads skips text) (fault_due skips text fault is)

@@ -1,4 +1,5 @@
--- A blank put into a line changes nothing but the places of words.
+-- A blank put into a line changes nothing but the places of words: without its blanks the line is
+-- the same. For the law `a_blank_changes_only_places` (src/edits.rt).
 use Rattle.std.proofs.Common.{◌≡◌, ◌==◌, ℕ, ◌<◌, ◌≤◌, Bool, true, false, cond, not, List, [], ◌∷◌, ◌++◌, length, refl, sym, ap, ◌∙◌, append-nil, append_assoc, length-append, arith}
 use Rattle.std.specs.Prelude.{All}
 use Rattle.std.proofs.lemmas.Bool.{le-ltb}
@@ -18,7 +19,7 @@ use Rattle.tape_relation.proofs.Placeless.{same_text_says}
 use Rattle.tape_relation.proofs.LineByLine.{SayAlike, changed_says}
 use Rattle.tape_relation.proofs.OneLine.{line_in_place, last_in_place}
 
--- a blank is taken out with the others
+-- a line without its blanks is the same, whether or not one more blank stood in it
 packed_blank : (b : ℕ) (left right : List ℕ) → is_blank b ≡ true → packed (left ++ b ∷ right) ≡ packed (left ++ right)
 packed_blank b left right blank =
     filter-append (λ x. not (is_blank x)) left (b ∷ right) ∙ ap (λ (t : Bool). packed left ++ cond (not t) (b ∷ packed right) (packed right)) blank
@@ -39,7 +40,8 @@ last_of : (b : ℕ) (bs : List ℕ) → Last (b ∷ bs)
 last_of b [] = record { front = []; byte = b; is = refl }
 last_of b (c ∷ bs) = let behind = last_of c bs in record { front = b ∷ behind.front; byte = behind.byte; is = ap (λ (l : List ℕ). b ∷ l) behind.is }
 
--- the last byte is no blank that was put in
+-- a line in which a blank is put before the last byte is the same without its blanks, after a
+-- carriage return at its end was taken off
 last_stays : (b : ℕ) (left front : List ℕ) (x : ℕ) → is_blank b ≡ true → packed (without_last 13 (left ++ b ∷ (front ++ x ∷ []))) ≡ packed (without_last 13 (left ++ (front ++ x ∷ [])))
 last_stays b left front x blank =
     ap (λ (l : List ℕ). packed (without_last 13 l)) (sym (append_assoc left (b ∷ front) (x ∷ []))) ∙ ap packed (last_pushed 13 (left ++ b ∷ front) x)
@@ -50,7 +52,8 @@ last_stays b left front x blank =
     ∙ sym (either_packed (x == 13) (left ++ front) ((left ++ front) ++ x ∷ [])) ∙ ap packed (sym (last_pushed 13 (left ++ front) x))
     ∙ ap (λ (l : List ℕ). packed (without_last 13 l)) (append_assoc left front (x ∷ []))
 
--- a carriage return at the end stays at the end
+-- the same line with and without one more blank is the same without its blanks, after a carriage
+-- return at its end was taken off, if the blank does not stand after that return
 return_blank : (b : ℕ) (left right : List ℕ) → is_blank b ≡ true → (right ≡ [] → without_last 13 left ≡ left) → packed (without_last 13 (left ++ b ∷ right)) ≡ packed (without_last 13 (left ++ right))
 return_blank b left [] blank last =
     ap packed (last_pushed 13 left b) ∙ ap (λ (t : Bool). packed (cond t left (left ++ b ∷ []))) (no_return b blank) ∙ packed_blank b left [] blank
@@ -59,16 +62,16 @@ return_blank b left (c ∷ right) blank last =
     let end = last_of c right in
     ap (λ (l : List ℕ). packed (without_last 13 (left ++ b ∷ l))) end.is ∙ last_stays b left end.front end.byte blank ∙ ap (λ (l : List ℕ). packed (without_last 13 (left ++ l))) (sym end.is)
 
--- without blanks the lines with and without it are the same
+-- lines with and without one more blank are the same without their blanks
 blank_packed : (b : ℕ) (left right : List ℕ) (ended : Bool) → is_blank b ≡ true → (right ≡ [] → without_last 13 left ≡ left) → packed (without_return (left ++ b ∷ right) ended) ≡ packed (without_return (left ++ right) ended)
 blank_packed b left right true blank last = return_blank b left right blank last
 blank_packed b left right false blank last = packed_blank b left right blank
 
--- the same text read the other way round
+-- lines with the same text have it in either order
 same_back : (a b : Scan) → IsSameText a b → IsSameText b a
 same_back a b same = record { bytes = sym same.bytes; unclosed = sym same.unclosed }
 
--- so both lines say the same, but for the places of words
+-- lines with and without one more blank say the same, but for the places of words
 blank_says : (skips b : ℕ) (left right : List ℕ) (ended : Bool) → is_blank b ≡ true → (right ≡ [] → without_last 13 left ≡ left)
     → changed_says without_place (line_says skips (left ++ b ∷ right) ended) ≡ changed_says without_place (line_says skips (left ++ right) ended)
 unfolding line_says
@@ -80,12 +83,12 @@ blank_says skips b left right ended blank last =
 no_percent : (b : ℕ) → is_blank b ≡ true → (b == 37) ≡ false
 no_percent b blank = grind (arith, nat_tests)
 
--- and both lines begin with `%`, or neither does
+-- both lines, with and without the blank, begin with `%`, or neither does
 blank_percent : (b : ℕ) (left right : List ℕ) → is_blank b ≡ true → (left ≡ [] → is_percent right ≡ false) → is_percent (left ++ b ∷ right) ≡ is_percent (left ++ right)
 blank_percent b [] right blank first = no_percent b blank ∙ sym (first refl)
 blank_percent b (c ∷ left) right blank first = refl
 
--- so they are alike, places aside
+-- lines with and without a blank where it may stand are alike, but for the places of words
 blank_alike : (skips b : ℕ) (left right : List ℕ) (ended : Bool) → is_blank b ≡ true → MayHaveBlank left right → length (left ++ b ∷ right) ≤ 512
     → SayAlike skips without_place (record { bytes = left ++ b ∷ right; ended = ended }) (record { bytes = left ++ right; ended = ended })
 blank_alike skips b left right ended blank may short =
@@ -110,7 +113,7 @@ blank_put skips b front left right back blank may is =
     omega (arith, length-append front ((left ++ right) ++ 10 ∷ back), length-append (left ++ right) (10 ∷ back), length-append left right, length-append front ((left ++ b ∷ right) ++ 10 ∷ back), length-append (left ++ b ∷ right) (10 ∷ back), length-append left (b ∷ right)) in
     line_in_place skips without_place front (left ++ b ∷ right) (left ++ right) back is.whole is.one_line (without (λ (x : ℕ). (x == 10) ≡ false) b left right is.one_line) (blank_alike skips b left right true blank may is.short) fits shorter
 
--- nor does one in the last line
+-- a blank in the last line changes nothing but the places of words
 pub blank_put_last : (skips blank : ℕ) (front left right : List ℕ) → is_blank blank ≡ true → MayHaveBlank left right → IsLastLine front (left ++ blank ∷ right) → 0 < length (left ++ right)
     → forget_places (tape_of skips (front ++ (left ++ blank ∷ right))) ≡ forget_places (tape_of skips (front ++ (left ++ right)))
 blank_put_last skips b front left right blank may is some =

@@ -1,4 +1,5 @@
--- Blanks and comments.
+-- When two lines have the same text, places aside: a blank counts for nothing; and a line of closed
+-- comments says nothing. For Blanked, Packed, Placeless and Removed.
 use Rattle.std.proofs.Common.{◌≡◌, ◌==◌, ℕ, suc, ◌+◌, Bool, true, false, cond, not, ◌&&◌, List, [], ◌∷◌, drop, Ok, refl, ap, ◌∙◌, arith}
 use Rattle.std.specs.Char.{to_ascii_uppercase}
 use Rattle.std.specs.List.{list_all, prefix_len}
@@ -11,17 +12,21 @@ use Rattle.line_text.specs.Pieces.{is_comment, bytes_of}
 use Rattle.line_text.specs.Front.{behind_comments, switch_of}
 use Rattle.line_text.specs.Said.{judged, is_skipped, read_head, line_says}
 
--- the same bytes count, and both lines end inside a comment or neither does
+-- two scans of lines with the same signs but for their places; both lines end inside a comment or
+-- neither does
 pub record IsSameText (a b : Scan) : Type 0 where
+  -- the same bytes count
   pub bytes : bytes_of a.list ≡ bytes_of b.list
+  -- both end inside a comment, or neither does
   pub unclosed : a.unclosed ≡ b.unclosed
 
--- one sign more in both
+-- lines with the same text have the same text with one more byte in front
 pub added : (test : Bool) (p q b : ℕ) (x y : Scan) → IsSameText x y → IsSameText (add_sign test p b x) (add_sign test q b y)
 added true p q b x y same = record { bytes = ap (λ (bytes : List ℕ). to_ascii_uppercase b ∷ bytes) same.bytes; unclosed = same.unclosed }
 added false p q b x y same = same
 
--- the same text as the same text is the same text
+-- if a line has the text of a second, and that the text of a third, the first has the text of the
+-- third
 pub same_chain : (x y z : Scan) → IsSameText x y → IsSameText y z → IsSameText x z
 same_chain x y z p q = record { bytes = p.bytes ∙ q.bytes; unclosed = p.unclosed ∙ q.unclosed }
 
@@ -43,7 +48,7 @@ blank_here b back false place blank =
     let behind : inside_behind false b ≡ false = (is_no_bracket b blank).0 in
     rw (blank, behind) (moved back false (place + 1) place)
 
--- a comment may stand anywhere
+-- the sign of a comment is an allowed byte
 allowed_comment : (b : ℕ) → b ≡ 40 → is_allowed b ≡ true
 allowed_comment b e = rw e refl
 
@@ -54,7 +59,7 @@ comments_allowed (sign ∷ signs) all =
     let parts = and_parts (is_comment sign) (list_all is_comment signs) all in
     ap (λ (t : Bool). t && are_allowed signs) (allowed_comment sign.byte (eqb-true _ _ parts.0)) ∙ comments_allowed signs parts.1
 
--- behind nothing but comments nothing stands
+-- after signs that are all comments nothing is left
 none_behind : (signs : List Sign) → list_all is_comment signs ≡ true → behind_comments signs ≡ []
 none_behind [] all = refl
 none_behind (sign ∷ signs) all =

@@ -1,4 +1,6 @@
--- The reader's cut of a line is the words that it spells.
+-- The words into which the reader cuts a line are the words that the grammar says it spells, and
+-- the other way round. For the law `a_line_is_cut_into_its_words` (src/law.rt), and for the files
+-- on sentences and numbers (Heads, Found, Sentences, Statements, LongNumbers).
 use Rattle.std.proofs.Common.{◌≡◌, ℕ, zero, suc, ◌+◌, ◌-◌, ◌<◌, ◌==◌, Bool, true, false, cond, not, ◌&&◌, ◌||◌, List, [], ◌∷◌, ◌++◌, length, take, drop, map, refl, ap, sym, subst, ◌∙◌, arith, append_assoc}
 use Rattle.std.specs.Char.{is_ascii_digit, is_ascii_uppercase}
 use Rattle.std.specs.List.{list_all, list_any, position_or_len}
@@ -25,14 +27,16 @@ use Rattle.tape_relation.proofs.LiteralBytes.{digits_pass, literal_pass}
 abbrev is_plain : ℕ → Bool
 is_plain b = not (is_ascii_uppercase b) && (not (b == 91) && not (b == 93))
 
--- a cut that goes on behind these signs
+-- a cut with these signs more before its first word
 abbrev pub onto : List Sign → Cut → Cut
 onto value cut = record { lead = value ++ cut.lead; groups = cut.groups }
 
--- the signs are passed without a word
+-- a cut of these signs and a rest is the cut of the rest, with the signs before its first word
 abbrev Passes : List Sign → List Sign → Type 0
 Passes value rest = cut_at (value ++ rest) 0 ≡ onto value (cut_at rest 0)
 
+-- The lemmas in `pass_` say of which signs no word begins: plain bytes, what stands in brackets,
+-- variables and expressions with a sign or without.
 pass_one : (sign : Sign) (value rest : List Sign) → is_plain sign.byte ≡ true → Passes value rest → Passes (sign ∷ value) rest
 pass_one sign value rest plain later =
     let p = both (not (is_ascii_uppercase sign.byte)) (not (sign.byte == 91) && not (sign.byte == 93)) plain in
@@ -76,6 +80,7 @@ pass_bracket sign value rest e h =
     let here : add_to_cut false sign (cut_at (value ++ rest) 1) ≡ onto (sign ∷ value) (cut_at rest 0) = ap (add_to_cut false sign) (pass_closing value rest 1 (omega arith) h) in
     subst P (sym e) here
 
+-- These four: digits, signs and the point are plain.
 digit_plain : (b : ℕ) → is_ascii_digit b ≡ true → is_plain b ≡ true
 digit_plain b digit = grind (arith, nat_tests)
 
@@ -116,7 +121,7 @@ pass_signed (sign ∷ value) rest e = go (is_sign sign.byte) refl e
 
 -- A value as a whole.
 
--- a value is passed without a letter in it, up to what stands behind it
+-- the signs of a value begin no word
 pub pass_value : (value rest : List Sign) → is_value (bytes_of value) ≡ true → Passes value rest
 pass_value value rest e = go (is_literal (bytes_of value)) refl e
   where
@@ -126,7 +131,7 @@ pass_value value rest e = go (is_literal (bytes_of value)) refl e
 
 -- Comments and letters.
 
--- so are comments
+-- comments begin no word
 pub pass_comments : (comments rest : List Sign) → list_all is_comment comments ≡ true → Passes comments rest
 pass_comments [] rest e = refl
 pass_comments (sign ∷ comments) rest e =
@@ -138,7 +143,7 @@ pass_comments (sign ∷ comments) rest e =
 pub at_letter : (letter : Sign) (rest : List Sign) → is_ascii_uppercase letter.byte ≡ true → cut_at (letter ∷ rest) 0 ≡ add_to_cut true letter (cut_at rest 0)
 at_letter letter rest is = rw (depth_stays letter.byte is, is) refl
 
--- what stands before the first comment is the value
+-- in a value with comments after it, the first comment stands after the value
 before_comments : (value comments : List Sign) → list_any is_comment value ≡ false → list_all is_comment comments ≡ true → position_or_len is_comment (value ++ comments) ≡ length value
 before_comments [] [] none all = refl
 before_comments [] (sign ∷ comments) none all = rw (both (is_comment sign) (list_all is_comment comments) all).0 refl
@@ -150,24 +155,25 @@ before_comments (sign ∷ value) comments none all =
 value_before : (value comments : List Sign) → list_any is_comment value ≡ false → list_all is_comment comments ≡ true → value_part (value ++ comments) ≡ value
 value_before value comments none all = ap (λ (n : ℕ). take n (value ++ comments)) (before_comments value comments none all) ∙ take-append_seam value comments
 
--- behind the value the comments are left
+-- after the value, its comments are left
 pub drop_seam : (value comments : List Sign) → drop (length value) (value ++ comments) ≡ comments
 drop_seam [] comments = refl
 drop_seam (sign ∷ value) comments = drop_seam value comments
 
--- the word of this letter with this value
+-- the piece of this letter with the first signs as its value, if these signs stand after it
 abbrev piece_with : Sign → List Sign → List Sign → Piece
 piece_with letter value part = record { letter = letter.byte; start = letter.place + 1; end = end_of (letter.place + 1) part; text = bytes_of part; whole = list_all is_comment (drop (length part) value) }
 
--- a letter and its value as a word
+-- a letter and its whole value as a piece
 abbrev word_cut : Sign → List Sign → Piece
 word_cut letter value = record { letter = letter.byte; start = letter.place + 1; end = end_of (letter.place + 1) value; text = bytes_of value; whole = true }
 
+-- a value ends after its last sign
 end_last : (place : ℕ) (front : List Sign) (last : Sign) → end_of place (front ++ last ∷ []) ≡ last.place + 1
 end_last place [] last = refl
 end_last place (sign ∷ front) last = end_last (sign.place + 1) front last
 
--- a word of the grammar is the one that the reader cuts,
+-- a word of the grammar is the piece that the reader cuts
 word_same : (letter : Sign) (value : List Sign) (word : Piece) → IsWord letter value word → word ≡ word_cut letter value
 word_same letter value word is =
     let end : is.last.place + 1 ≡ end_of (letter.place + 1) value = sym (ap (end_of (letter.place + 1)) is.value_is ∙ end_last (letter.place + 1) is.front is.last) in
@@ -181,7 +187,7 @@ has_end : (sign : Sign) (value : List Sign) → HasEnd (sign ∷ value)
 has_end sign [] = ([], sign, refl)
 has_end sign (next ∷ value) = let (front, last, is) = has_end next value in (sign ∷ front, last, ap (λ (ss : List Sign). sign ∷ ss) is)
 
--- and a value that the reader takes makes a word of the grammar
+-- a value that the reader takes makes a word of the grammar
 is_word : (letter : Sign) (value : List Sign) → is_value (bytes_of value) ≡ true → IsWord letter value (word_cut letter value)
 is_word letter [] e = absurd cc
 is_word letter (sign ∷ value) e =
@@ -193,7 +199,7 @@ is_word letter (sign ∷ value) e =
       word_is = ap (λ (n : ℕ). record { letter = letter.byte; start = letter.place + 1; end = n; text = bytes_of (sign ∷ value); whole = true }) end;
     }
 
--- a group is its word, whatever comments stand behind it
+-- a group is the piece of its letter and value, whatever comments stand after the value
 pub piece_is : (letter : Sign) (value comments : List Sign) → list_any is_comment value ≡ false → list_all is_comment comments ≡ true → piece_of (record { letter = letter; value = value ++ comments }) ≡ word_cut letter value
 piece_is letter value comments none all =
     ap (piece_with letter (value ++ comments)) (value_before value comments none all)
@@ -201,13 +207,17 @@ piece_is letter value comments none all =
 
 -- From the grammar to the cut.
 
--- the words, and then what the rest is cut into
+-- signs that spell words, with a tail after them: they are cut into these words, and then as the
+-- tail is
 pub record Spelled (signs tail : List Sign) (words : List Piece) : Type 0 where
+  -- nothing stands before the first word
   pub lead_is : (cut_at (signs ++ tail) 0).lead ≡ []
+  -- the words, and then those of the tail
   pub words_are : map piece_of (cut_at (signs ++ tail) 0).groups ≡ words ++ map piece_of (cut_at tail 0).groups
+  -- each of the words has a whole value
   pub whole : list_all is_sound words ≡ true
 
--- words of the grammar are cut into these groups
+-- signs that spell words by the grammar are cut into these words, if the tail begins with a word
 pub spelled : (words : List Piece) (signs tail : List Sign) → AreWords signs words → (cut_at tail 0).lead ≡ [] → Spelled signs tail words
 spelled [] signs tail are none = record { lead_is = ap (λ (ss : List Sign). (cut_at (ss ++ tail) 0).lead) are ∙ none; words_are = ap (λ (ss : List Sign). map piece_of (cut_at (ss ++ tail) 0).groups) are; whole = refl }
 spelled (word ∷ words) signs tail (letter, value, comments, others, is, up, val, none, all, word-is, rest) no_lead =
@@ -237,12 +247,12 @@ abbrev pub flat : List Group → List Sign
 flat [] = []
 flat (group ∷ groups) = group.letter ∷ (group.value ++ flat groups)
 
--- each group begins at a letter
+-- each of the groups begins with a capital letter
 abbrev pub Letters : List Group → Type 0
 Letters [] = Unit {0}
 Letters (group ∷ groups) = (is_ascii_uppercase group.letter.byte ≡ true) × Letters groups
 
--- each group begins with a letter
+-- each group of a cut begins with a capital letter
 pub cut_letters : (signs : List Sign) (depth : ℕ) → Letters (cut_at signs depth).groups
 cut_letters [] depth = tt
 cut_letters (sign ∷ signs) depth = go (begins_word depth sign.byte) refl (cut_letters signs (depth_behind depth sign.byte))
@@ -251,7 +261,7 @@ cut_letters (sign ∷ signs) depth = go (begins_word depth sign.byte) refl (cut_
     go true e later = ((both (depth == 0) (is_ascii_uppercase sign.byte) e).1, later)
     go false e later = later
 
--- one sign more in front
+-- a cut with one sign more in front still leaves out no sign
 added_flat : (t : Bool) (sign : Sign) (signs : List Sign) (cut : Cut) → signs ≡ cut.lead ++ flat cut.groups → sign ∷ signs ≡ (add_to_cut t sign cut).lead ++ flat (add_to_cut t sign cut).groups
 added_flat true sign signs cut e = ap (λ (ss : List Sign). sign ∷ ss) e
 added_flat false sign signs cut e = ap (λ (ss : List Sign). sign ∷ ss) e
@@ -267,6 +277,8 @@ split_at zero value = refl
 split_at (suc n) [] = refl
 split_at (suc n) (sign ∷ value) = ap (λ (ss : List Sign). sign ∷ ss) (split_at n value)
 
+-- The next two: no comment stands in a value up to its first comment, and what is dropped after the
+-- first signs is what stands after them.
 no_comment : (value : List Sign) → list_any is_comment (value_part value) ≡ false
 no_comment [] = refl
 no_comment (sign ∷ value) = go (position_or_len is_comment value) (is_comment sign) refl (no_comment value)
@@ -305,7 +317,7 @@ spells (group ∷ groups) letters sound =
       spells groups letters.1 p.1,
     )
 
--- the length of what stands before the first letter
+-- the reader counts as many signs before the first letter as the cut has there
 pub lead_len : (signs : List Sign) (depth : ℕ) → value_len signs depth ≡ length (cut_at signs depth).lead
 lead_len [] depth = refl
 lead_len (sign ∷ signs) depth = go (begins_word depth sign.byte) (lead_len signs (depth_behind depth sign.byte))
@@ -315,14 +327,14 @@ lead_len (sign ∷ signs) depth = go (begins_word depth sign.byte) (lead_len sig
     go true later = refl
     go false later = omega arith
 
--- the words that a line spells are those into which it is cut,
+-- words that a line spells are those into which the reader cuts it
 pub words_cut : (signs : List Sign) (words : List Piece) → AreWords signs words → IsCut signs words
 words_cut signs words are =
     let s = spelled words signs [] are refl in
     let signs-are : signs ≡ signs ++ [] = sym (append-nil signs) in
     record { at_letter = lead_len signs 0 ∙ ap (λ (ss : List Sign). length (cut_at ss 0).lead) signs-are ∙ ap length s.lead_is; words_are = ap pieces_of signs-are ∙ s.words_are ∙ append-nil words; whole = s.whole }
 
--- and the other way round
+-- words into which the reader cuts a line are words that it spells
 pub cut_words : (signs : List Sign) (words : List Piece) → IsCut signs words → AreWords signs words
 cut_words signs words is =
     let lead : (cut_at signs 0).lead ≡ [] = nil_from_length (cut_at signs 0).lead (sym (lead_len signs 0) ∙ is.at_letter) in

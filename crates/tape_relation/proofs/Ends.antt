@@ -1,5 +1,5 @@
--- Lines at which no condition holds are the programs of the relation, or lack a program or their
--- end.
+-- Lines at which no condition holds are the programs of the relation, or they lack a program or
+-- their end. For Agrees, from the first `%` line on.
 use Rattle.std.proofs.Common.{◌≡◌, ℕ, ◌+◌, ◌<◌, Bool, true, false, ◌&&◌, ◌||◌, List, [], ◌∷◌, ◌++◌, length, Option, Some, None, Ok, Err, ◌⊎◌, inl, inr, refl, ap, sym, subst, ◌∙◌, arith, append_assoc}
 use Rattle.std.specs.Option.{option_to_list}
 use Rattle.std.specs.List.{list_any, list_all}
@@ -24,19 +24,22 @@ use Rattle.tape_relation.proofs.Fronts.{has_more, has_last, behind_more}
 use Rattle.tape_relation.proofs.Places.{none_here, none_behind}
 use Rattle.tape_relation.proofs.FirstFault.{body_end}
 
--- the line behind stands between the `%` lines
+-- the line after these stands between the `%` lines: one of them begins with `%`, and only one
 pub record IsBehind (front : List Line) : Type 0 where
+  -- one of the lines begins with `%`
   pub opened : has_percent front ≡ true
+  -- no second one does
   pub not_closed : is_closed front ≡ false
 
--- behind a line that begins with no `%` the next one still stands between the `%` lines
+-- after a line that does not begin with `%`, the next one still stands between the `%` lines
 behind_next : (front : List Line) (line : Line) → IsBehind front → begins_percent line ≡ false → IsBehind (front ++ line ∷ [])
 behind_next front line is other = record {
   opened = has_more front (line ∷ []) is.opened;
   not_closed = ap has_percent (behind_more front (line ∷ []) is.opened) ∙ has_last (behind_percent front) line is.not_closed ∙ ap (λ (b : Bool). b || false) other;
 }
 
--- a tape that has its end, or lacks it at this line
+-- the answer to these programs: themselves if the tape has its end, else that the end lacks, told
+-- of this line
 abbrev pub ended_by : Bool → List Program → ℕ → Answer
 ended_by true tape last = Ok tape
 ended_by false tape last = Err (fault_at NoEnd last)
@@ -46,38 +49,56 @@ ended_same : (closed : Bool) (a b : List Program) (m n : ℕ) → a ≡ b → m 
 ended_same closed a b m n e f = ap (λ (ps : List Program). ended_by closed ps m) e ∙ ap (ended_by closed b) f
 
 module _ (skips : ℕ) where
-  -- what these lines behind a program's first blocks add to it, and the programs behind it
+  -- lines after the first blocks of a program: its own further lines, the programs after it, and
+  -- the answer they make
   record GoesOn (lines : List Line) (before : Before) (program : Program) : Type 0 where
+    -- the lines of the program that goes on, up to the next O number
     own : List Line
+    -- the lines from the next O number on
     others : List Line
+    -- the programs of those lines
     programs : List Program
     body_is : before_percent lines ≡ own ++ others
     own_is : list_any (says_program skips) own ≡ false
     are : SayPrograms skips (before.lines + length own) others programs
+    -- the answer is all these programs, with an end or without
     ends : body_end skips lines before ≡ ended_by (has_percent lines) (before.done ++ (with_blocks program (blocks_on skips before.lines own) ∷ programs)) (before.lines + length lines)
 
-  -- the first lines say nothing, and then the programs are these
+  -- lines before any program: some say nothing, then come programs, and the answer is these
   pub record Begins (lines : List Line) (before : Before) : Type 0 where
+    -- the lines before the first O number
     pub quiet : List Line
+    -- the lines from the first O number on
     pub others : List Line
+    -- the programs of those lines
     pub programs : List Program
+    -- there is at least one program
     pub some : 0 < length programs
+    -- both are the lines of the body
     pub body_is : before_percent lines ≡ quiet ++ others
+    -- the lines before the first O number say nothing
     pub quiet_is : list_any (says_something skips) quiet ≡ false
+    -- the other lines say these programs
     pub are : SayPrograms skips (before.lines + length quiet) others programs
+    -- the answer is these programs, with an end or without
     pub ends : body_end skips lines before ≡ ended_by (has_percent lines) (before.done ++ programs) (before.lines + length lines)
 
-  -- or there is no program
+  -- lines before any program that say nothing at all: the answer is that no program is there
   pub record SaysNone (lines : List Line) (before : Before) : Type 0 where
+    -- no line of the body says anything
     pub body_is : list_any (says_something skips) (before_percent lines) ≡ false
+    -- the answer is that the tape has no program
     pub ends : body_end skips lines before ≡ Err (fault_at NoProgramNumber before.percent)
 
+  -- what was read with one line of the body more
   abbrev after : Before → Line → Before
   after before line = next (with_said before (says skips line)) (length line.bytes) line.ended
 
+  -- a program with no further blocks is itself
   no_blocks : (program : Program) → program ≡ with_blocks program []
   no_blocks program = ap (λ (blocks : List Block). record program { blocks = blocks }) (sym (append-nil program.blocks))
 
+  -- a line of the body at which no condition holds has its numbers in range
   in_range : (front : List Line) (line : Line) → IsBehind front → begins_percent line ≡ false → ((r : Refusal) → Holds skips front line r → ⊥) → is_said_in_range (says skips line) ≡ true
   in_range front line is other none = go (is_said_in_range (says skips line)) refl
     where
@@ -96,13 +117,15 @@ module _ (skips : ℕ) where
           let here : says_in_range skips line ≡ true = in_range front line is e (none_here skips front lines line none) in
           rw e (ap (λ (b : Bool). b && list_all (says_in_range skips) (before_percent lines)) here ∙ later e)
 
+  -- a line that does not begin with `%` goes with the lines of the body after it
   rest_is : (line : Line) (lines own others : List Line) → begins_percent line ≡ false → before_percent lines ≡ own ++ others → before_percent (line ∷ lines) ≡ line ∷ (own ++ others)
   rest_is line lines own others other e = rw other (ap (λ (ls : List Line). line ∷ ls) e)
 
-  -- what the line says is known
+  -- `GoesOn` may be said of what was read with the line, if it is known what the line says
   known : (lines : List Line) (line : Line) (before : Before) (program : Program) (s : Said) → says skips line ≡ s → GoesOn lines (after before line) program → GoesOn lines (next (with_said before s) (length line.bytes) line.ended) program
   known lines line before program s is g = let P : Said → Type 0 = λ t. GoesOn lines (next (with_said before t) (length line.bytes) line.ended) program in subst P is g
 
+  -- the answer from a line of the body on is that from the next line on
   end_is : (lines : List Line) (line : Line) (before : Before) (s : Said) (tape : List Program) → says skips line ≡ s → begins_percent line ≡ false
       → body_end skips lines (next (with_said before s) (length line.bytes) line.ended) ≡ ended_by (has_percent lines) tape ((before.lines + 1) + length lines)
       → body_end skips (line ∷ lines) before ≡ ended_by (has_percent (line ∷ lines)) tape (before.lines + length (line ∷ lines))
@@ -110,6 +133,8 @@ module _ (skips : ℕ) where
       let last : (before.lines + 1) + length lines ≡ before.lines + length (line ∷ lines) = omega arith in
       rw (other, is) (e ∙ ap (ended_by (has_percent lines) tape) last)
 
+  -- The lemmas in `goes_` say that a program goes on at a line: a line that says nothing, a block,
+  -- or the O number of the next program.
   goes_nothing : (lines : List Line) (line : Line) (before : Before) (program : Program) → says skips line ≡ said.Nothing → begins_percent line ≡ false → GoesOn lines (after before line) program → GoesOn (line ∷ lines) before program
   goes_nothing lines line before program is other g =
       let h = known lines line before program said.Nothing is g in
@@ -143,7 +168,7 @@ module _ (skips : ℕ) where
             (ap (λ (p : Program). before.done ++ (p ∷ h.programs)) more) refl));
       }
 
-  -- a program begins at this line
+  -- the programs from a line with an O number on: the one that begins there, and those after it
   begun_at : (lines : List Line) (line : Line) (before : Before) (number : ℕ) (own others : List Line) (programs : List Program) → says skips line ≡ said.Program (Some number) → list_any (says_program skips) own ≡ false
       → SayPrograms skips ((before.lines + 1) + length own) others programs
       → SayPrograms skips (before.lines + 0) (line ∷ (own ++ others)) (with_blocks (program_at (before.lines + 1) number) (blocks_on skips (before.lines + 1) own) ∷ programs)
@@ -189,6 +214,7 @@ module _ (skips : ℕ) where
       goes_block lines line before program block at t
       (later t (with_blocks program (block_at (before.lines + 1) block ∷ [])) (ap (λ (w : Said). (with_said before w).current) at ∙ ap (λ (o : Option Program). (with_said (record before { current = o }) (said.Block block)).current) e))
 
+  -- from any line of the body on, the program that is being read goes on to the end
   goes_on : (lines front : List Line) (before : Before) (program : Program) → IsBehind front → NoneHolds skips front lines → before.current ≡ Some program → GoesOn lines before program
   goes_on [] front before program is none e = record {
     own = [];
@@ -203,6 +229,7 @@ module _ (skips : ℕ) where
       goes_first (begins_percent line) lines front line before program refl is none e (says skips line) refl
       (λ other p current. goes_on lines (front ++ line ∷ []) (after before line) p (behind_next front line is other) (none_behind skips front (line ∷ []) lines none) current)
 
+  -- The next two: before any program, a line that says nothing, or the first O number.
   begins_nothing : (lines : List Line) (line : Line) (before : Before) → says skips line ≡ said.Nothing → begins_percent line ≡ false → Begins lines (after before line) ⊎ SaysNone lines (after before line) → Begins (line ∷ lines) before ⊎ SaysNone (line ∷ lines) before
   begins_nothing lines line before is other (inl b) =
       let P : Said → Type 0 = λ t. Begins lines (next (with_said before t) (length line.bytes) line.ended) in
@@ -257,7 +284,7 @@ module _ (skips : ℕ) where
   starts_first false lines front line before t is none e nothing (said.Block block) at later =
       absurd (none_here skips front lines line none NoProgramNumber (((has_more front (line ∷ []) is.opened, is.not_closed), t), block_found skips line (ap is_block at), silent_found skips (behind_percent front) nothing))
 
-  -- the programs that the reader finds from a line on are those that the lines say
+  -- before any program, the lines of the body begin programs, or say nothing at all
   pub starts : (lines front : List Line) (before : Before) → IsBehind front → NoneHolds skips front lines → before.current ≡ None → list_any (says_something skips) (behind_percent front) ≡ false → Begins lines before ⊎ SaysNone lines before
   starts [] front before is none e nothing = inr (record { body_is = refl; ends = rw e refl })
   starts (line ∷ lines) front before is none e nothing =

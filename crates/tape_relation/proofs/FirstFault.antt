@@ -1,5 +1,5 @@
--- The reader's definition comes to the first fault of the lines, or to what it makes of lines at
--- which no condition holds.
+-- The reader comes to the first fault that the relation says, or, if no condition holds at any
+-- line, to the answer that the lines make. For Agrees; Ends says what that answer is.
 use Rattle.std.proofs.Common.{◌≡◌, ℕ, ◌+◌, ◌≤◌, Bool, true, false, cond, not, ◌||◌, ltb, List, [], ◌∷◌, ◌++◌, length, filter, Option, Some, None, Err, ◌⊎◌, inl, inr, refl, ap, sym, ◌∙◌, arith}
 use Rattle.std.specs.Option.{is_none}
 use Rattle.std.specs.List.{list_any}
@@ -26,14 +26,14 @@ use Rattle.tape_relation.proofs.LeastNumber.{order, first_of, Tells, tells_least
 use Rattle.tape_relation.proofs.Places.{none_left, none_more, fault_here, fault_later}
 use Rattle.tape_relation.proofs.Steps.{Stands, Inside, outer_test, outer_tells, percent_test, percent_tells, body_test, body_tells, body_step, counts_here}
 
--- what a line says changes neither the number of lines
+-- what a line says does not change the number of lines that were read
 said_lines : (before : Before) (s : Said) → (with_said before s).lines ≡ before.lines
 said_lines before said.Nothing = refl
 said_lines before (said.Program None) = refl
 said_lines before (said.Program (Some number)) = refl
 said_lines before (said.Block block) = refl
 
--- nor that of bytes
+-- what a line says does not change the number of bytes that were read
 said_bytes : (before : Before) (s : Said) → (with_said before s).bytes ≡ before.bytes
 said_bytes before said.Nothing = refl
 said_bytes before (said.Program None) = refl
@@ -41,12 +41,12 @@ said_bytes before (said.Program (Some number)) = refl
 said_bytes before (said.Block block) = refl
 
 module _ (skips : ℕ) where
-  -- what is made of the lines where nothing is refused
+  -- the answer from a line of the body on, if no line is refused
   abbrev pub body_end : List Line → Before → Answer
   body_end [] before = unfinished before
   body_end (line ∷ lines) before = cond (begins_percent line) (finished before) (body_end lines (next (with_said before (says skips line)) (length line.bytes) line.ended))
 
-  -- what the reader answers from a line before the first `%` line on
+  -- the answer from a line before the first `%` line on, if no line is refused
   abbrev pub leader_end : List Line → Before → Answer
   leader_end [] before = not_begun
   leader_end (line ∷ lines) before =
@@ -56,10 +56,13 @@ module _ (skips : ℕ) where
   abbrev pub Comes : List Line → List Line → Answer → Answer → Type 0
   Comes front lines answer due = (NoneHolds skips front lines × (answer ≡ due)) ⊎ ((fault : TextFault) × IsFirstFault skips front lines fault × (answer ≡ Err fault))
 
+  -- if no condition holds at a line, the first fault of the lines after it is that of all
   comes_later : (front lines : List Line) (line : Line) (answer due : Answer) → ((r : Refusal) → Holds skips front line r → ⊥) → Comes (front ++ line ∷ []) lines answer due → Comes front (line ∷ lines) answer due
   comes_later front lines line answer due here (inl is) = inl (none_more skips front lines line here is.0, is.1)
   comes_later front lines line answer due here (inr (fault, is, e)) = inr (fault, fault_later skips front lines line fault here is, e)
 
+  -- at one line, the least refusal that the test finds is the first fault; if it finds none, the
+  -- rest decides
   one_step : (front lines : List Line) (line : Line) (before after : Before) (test : Refusal → Bool) (rest : Before → Answer) (due : Answer) → before.lines ≡ length front → Tells skips front line test
       → (found : Option Refusal) → first_of test order ≡ found → (found ≡ None → Comes (front ++ line ∷ []) lines (rest after) due)
       → Comes front (line ∷ lines) (goes_on before (unless_refused found after) rest) due
@@ -67,7 +70,7 @@ module _ (skips : ℕ) where
   one_step front lines line before after test rest due at tells (Some r) e later =
       inr (fault_behind before r, fault_here skips front lines line r (fault_behind before r) (tells_least skips front line test r tells e) (ap (λ (n : ℕ). record { number = refusal_number r; line = n + 1 }) at), refl)
 
-  -- a line more stands before the next one
+  -- after a line that is not past the longest tape, the counts of lines and bytes still fit
   stands_next : (front : List Line) (line : Line) (before after : Before) → Stands front before → after.lines ≡ before.lines → after.bytes ≡ before.bytes → (Holds skips front line TapeTooLong → ⊥)
       → Stands (front ++ line ∷ []) (next after (length line.bytes) line.ended)
   stands_next front line before after stands lines-are bytes-are fits = record {
@@ -83,6 +86,8 @@ module _ (skips : ℕ) where
           not_less : (n m : ℕ) → ltb n m ≡ false → m ≤ n
           not_less n m off = grind arith
 
+  -- The next two: lines with both `%` lines have them with more lines too, and no line after them
+  -- counts.
   closed_more : (front more : List Line) → is_closed front ≡ true → is_closed (front ++ more) ≡ true
   closed_more front more e = go (has_percent front) refl
     where
@@ -93,7 +98,7 @@ module _ (skips : ℕ) where
   not_in_rest : (front : List Line) (line : Line) → is_closed front ≡ true → Counts front line → ⊥
   not_in_rest front line e counts = let bad : true ≡ false = sym e ∙ counts.1 in absurd cc
 
-  -- behind the second `%` line
+  -- after the second `%` line the reader comes to the first fault, or to the end of the tape
   rest_comes : (lines front : List Line) (before : Before) → Stands front before → is_closed front ≡ true → Comes front lines (in_rest lines before) (finished before)
   rest_comes [] front before stands closed = inl (none_left skips front, refl)
   rest_comes (line ∷ lines) front before stands closed =
@@ -102,7 +107,7 @@ module _ (skips : ℕ) where
       (λ none. rest_comes lines (front ++ line ∷ []) (next before (length line.bytes) line.ended)
       (stands_next front line before before stands refl refl (tells_none skips front line (outer_test before line) tells none TapeTooLong)) (closed_more front (line ∷ []) closed))
 
-  -- what was said is remembered
+  -- after a line of the body, the counts of blocks and programs still fit what was said
   said_next : (front : List Line) (line : Line) (before : Before) (s : Said) → says skips line ≡ s → Inside skips front before → (is_block s ≡ true → is_none before.current ≡ false) → is_said_in_range s ≡ true
       → ((with_said before s).blocks ≡ length (filter (says_block skips) (behind_percent front ++ line ∷ [])))
       × (is_none (with_said before s).current ≡ not (list_any (says_something skips) (behind_percent front ++ line ∷ [])))
@@ -122,6 +127,8 @@ module _ (skips : ℕ) where
       go (said.Block block) None e p r = let bad : true ≡ false = p refl in absurd cc
       go (said.Block block) (Some program) e p r = let b = inside.blocks_are in (omega arith, ap not (sym (or_true (list_any (says_something skips) body))))
 
+  -- after a line of the body at which no condition holds, the next one stands in the body with what
+  -- was said
   inside_next : (front : List Line) (line : Line) (before : Before) → Inside skips front before → begins_percent line ≡ false → ((r : Refusal) → body_test skips before line r ≡ true → ⊥)
       → Inside skips (front ++ line ∷ []) (next (with_said before (says skips line)) (length line.bytes) line.ended)
   inside_next front line before inside other none =
@@ -141,6 +148,8 @@ module _ (skips : ℕ) where
       range true e = e
       range false e = absurd (none WordRange (rw e refl))
 
+  -- The next two: in the body the reader comes to the first fault, or to the answer that the lines
+  -- make.
   body_first : (test : Bool) (lines front : List Line) (line : Line) (before : Before) → begins_percent line ≡ test → Stands front before → Inside skips front before
       → (Stands (front ++ line ∷ []) (next (with_said before (says skips line)) (length line.bytes) line.ended) → Inside skips (front ++ line ∷ []) (next (with_said before (says skips line)) (length line.bytes) line.ended)
       → Comes (front ++ line ∷ []) lines (in_body skips lines (next (with_said before (says skips line)) (length line.bytes) line.ended)) (body_end lines (next (with_said before (says skips line)) (length line.bytes) line.ended)))
@@ -165,7 +174,7 @@ module _ (skips : ℕ) where
   body_comes (line ∷ lines) front before stands inside =
       body_first (begins_percent line) lines front line before refl stands inside (body_comes lines (front ++ line ∷ []) (next (with_said before (says skips line)) (length line.bytes) line.ended))
 
-  -- before the first `%` line
+  -- the step before the first `%` line, whether or not this line is it
   leader_first : (test : Bool) (lines front : List Line) (line : Line) (before : Before) → begins_percent line ≡ test → Stands front before → has_percent front ≡ false → before.blocks ≡ 0 → before.current ≡ None
       → (Stands (front ++ line ∷ []) (next before (length line.bytes) line.ended) → has_percent (front ++ line ∷ []) ≡ false
       → Comes (front ++ line ∷ []) lines (in_leader skips lines (next before (length line.bytes) line.ended)) (leader_end lines (next before (length line.bytes) line.ended)))
@@ -194,13 +203,15 @@ module _ (skips : ℕ) where
       one_step front lines line before after (outer_test before line) (in_leader skips lines) (leader_end lines after) stands.lines_are tells (first_of (outer_test before line) order) refl
       (λ none. later (stands_next front line before before stands refl refl (tells_none skips front line (outer_test before line) tells none TapeTooLong)) leader)
 
-  -- it answers the first fault of these lines, or what it makes of them without one
+  -- before the first `%` line the reader comes to the first fault, or to the answer that the lines
+  -- make
   pub leader_comes : (lines front : List Line) (before : Before) → Stands front before → has_percent front ≡ false → before.blocks ≡ 0 → before.current ≡ None → Comes front lines (in_leader skips lines before) (leader_end lines before)
   leader_comes [] front before stands closed no_blocks no_program = inl (none_left skips front, refl)
   leader_comes (line ∷ lines) front before stands closed no_blocks no_program =
       leader_first (begins_percent line) lines front line before refl stands closed no_blocks no_program
       (λ s c. leader_comes lines (front ++ line ∷ []) (next before (length line.bytes) line.ended) s c no_blocks no_program)
 
-  -- from the first line on
+  -- from the first line of a text on, the reader comes to the first fault, or to the answer that
+  -- the lines make
   pub text_comes : (lines : List Line) → Comes [] lines (in_leader skips lines nothing_read) (leader_end lines nothing_read)
   text_comes lines = leader_comes lines [] nothing_read (record { lines_are = refl; bytes_are = refl; few = omega arith }) refl refl refl

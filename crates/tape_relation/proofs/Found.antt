@@ -1,5 +1,5 @@
--- A line that the reader takes is a sentence of the grammar.
--- Each lemma in `_found` makes the sentence of the grammar from one stage of the reader.
+-- A line that the reader takes is a sentence of the grammar. Each lemma in `_found` makes the
+-- sentence from one stage of the reader. For LineSays; LongNumbers takes `digit_is`.
 use Rattle.std.proofs.Common.{◌≡◌, ◌==◌, ℕ, suc, ◌+◌, ◌-◌, ◌<◌, ◌≤◌, Bool, true, false, cond, not, ◌&&◌, ◌||◌, List, [], ◌∷◌, ◌++◌, length, Option, Some, None, refl, sym, subst, append-nil, arith}
 use Rattle.std.specs.Prelude.{nat_lt, nat_le, is_some}
 use Rattle.std.specs.List.{list_all, prefix_len}
@@ -21,11 +21,11 @@ use Rattle.tape_relation.proofs.Statements.{statement_found}
 use Rattle.tape_relation.proofs.Heads.{behind_first, comments_before, comments_split, comments_all}
 use Rattle.tape_relation.proofs.Sentences.{all_prefix}
 
--- the signs are some sentence by this grammar
+-- by this grammar, the signs are some sentence
 abbrev Found : (List Sign → Sentence → Type 0) → List Sign → Type 0
 Found Is signs = (sentence : Sentence) × Is signs sentence
 
--- a numbered statement is a block of the grammar,
+-- a statement with a sequence number is a block of the grammar
 numbered_found : (skip : Option ℕ) (signs : List Sign) → is_numbered signs ≡ true → Found (IsBlock skip) signs
 numbered_found skip [] e = absurd cc
 numbered_found skip (letter ∷ signs) e =
@@ -36,7 +36,8 @@ numbered_found skip (letter ∷ signs) e =
     let P : List Sign → Type 0 = λ ss. IsBlock skip (letter ∷ ss) sentence in
     (sentence, subst P (sym all) (numbered skip letter (number_part signs) (behind_number signs) q.0 (literal_found (bytes_of (number_part signs)) q.1) (statement_found (text_of (behind_number signs)) p.1)))
 
--- an O word has none beside it, and no skip sign
+-- if the words have an O word and it stands alone, it is the only one and no skip sign stands
+-- before it
 o_word : (slash : Bool) (words : List Piece) → stands_alone slash words ≡ true → has_program_word words ≡ true → (slash ≡ false) × ((word : Piece) × (words ≡ word ∷ []) × ((word.letter == 79) ≡ true))
 o_word slash [] is-alone has = absurd cc
 o_word slash (word ∷ []) is-alone has = go slash (word.letter == 79) refl is-alone has
@@ -50,11 +51,12 @@ o_word slash (word ∷ (other ∷ words)) is-alone has = let bad : (not true || 
     several : (s : Bool) (n : ℕ) → (not s && (suc (suc n) == 1)) ≡ true → ⊥
     several s n h = let e : suc (suc n) ≡ 1 = eqb-true (suc (suc n)) 1 (both (not s) (suc (suc n) == 1) h).1 in absurd (omega arith)
 
+-- a switch that is not given is none
 no_skip : (skip : Option ℕ) → is_some skip ≡ false → skip ≡ None
 no_skip None e = refl
 no_skip (Some n) e = absurd cc
 
--- so are words,
+-- words that the reader takes are a block of the grammar
 words_found : (skip : Option ℕ) (signs : List Sign) (words : List Piece) → AreWords signs words → stands_alone (is_some skip) words ≡ true → Found (IsBlock skip) signs
 words_found skip signs words are is-alone = go (has_program_word words) refl
   where
@@ -71,7 +73,7 @@ words_found skip signs words are is-alone = go (has_program_word words) refl
         literal word are o true lit = (ProgramNumber word.text, program signs word are o (literal_found word.text lit))
         literal word are o false lit = (WordBlock (word ∷ []), computed signs word are o (no_literal_found word.text lit))
 
--- what is cut into whole words,
+-- signs that the reader cuts into whole words are a block of the grammar
 cut_found : (skip : Option ℕ) (signs : List Sign) → (cond (value_len signs 0 == 0) (read_pieces (is_some skip) (pieces_of signs)) unreadable).broken ≡ false → Found (IsBlock skip) signs
 cut_found skip signs e = go (value_len signs 0 == 0) refl e
   where
@@ -82,7 +84,7 @@ cut_found skip signs e = go (value_len signs 0 == 0) refl e
         words_found skip signs (pieces_of signs) (cut_words signs (pieces_of signs) cut) (not_false (stands_alone (is_some skip) (pieces_of signs)) p.1)
     go false z h = absurd cc
 
--- and each block that the reader takes
+-- each block that the reader takes is a block of the grammar
 block_found : (skip : Option ℕ) (signs : List Sign) → (read_block (is_some skip) signs).broken ≡ false → Found (IsBlock skip) signs
 unfolding read_block read_words
 block_found skip signs e = go (is_numbered signs) refl (is_statement (sentence_of signs)) refl e
@@ -94,11 +96,11 @@ block_found skip signs e = go (is_numbered signs) refl (is_statement (sentence_o
 
 -- With what stands before the block.
 
--- signs are some sentence behind a skip sign or none
+-- the signs are some sentence, behind a skip sign or none
 abbrev pub IsFound : List Sign → Type 0
 IsFound signs = (skip : Option ℕ) × (sentence : Sentence) × IsSentence signs skip sentence
 
--- a block behind comments and a skip sign is a sentence
+-- comments, a skip sign or none, and a block that the reader takes are a sentence
 behind_head : (before head signs : List Sign) (skip : Option ℕ) → list_all is_comment before ≡ true → IsSkip head skip → 0 < length (head ++ behind_comments signs) → (read_block (is_some skip) (behind_comments signs)).broken ≡ false → IsFound (before ++ (head ++ signs))
 behind_head before head signs skip all is-skip some e =
     let found = block_found skip (behind_comments signs) e in
@@ -118,7 +120,7 @@ digit_is b is =
     to : nat_le b 57 ≡ true → b ≤ 57
     to h = grind (arith, nat_tests)
 
--- so is what stands behind comments
+-- comments and then signs that the reader takes are a sentence
 found_behind : (before behind : List Sign) → list_all is_comment before ≡ true → ((sign : Sign) (rest : List Sign) → behind ≡ sign ∷ rest → is_comment sign ≡ false) → (read_head behind).broken ≡ false → IsFound (before ++ behind)
 unfolding read_head
 found_behind before [] all first e = let P : List Sign → Type 0 = λ ss. IsSentence ss None NoBlock in (None, NoBlock, subst P (sym (append-nil before)) (blank before all))
@@ -139,7 +141,7 @@ found_behind before (sign ∷ rest) all first e = go (sign.byte == 47) refl e
             at true f h = let p = digit_is d.byte f in behind_head before (sign ∷ (d ∷ [])) more (Some (d.byte - 48)) all (named sign d (d.byte - 48) (eqb-true sign.byte 47 s) p.0 p.1.0 p.1.1) (omega arith) h
             at false f h = behind_head before (sign ∷ []) (d ∷ more) (Some 1) all (alone sign (eqb-true sign.byte 47 s)) (omega arith) h
 
--- what the reader takes for a sentence is one
+-- signs that the reader takes are a sentence of the grammar
 pub sentence_found : (signs : List Sign) → (read_head (behind_comments signs)).broken ≡ false → IsFound signs
 sentence_found signs e =
     let P : List Sign → Type 0 = IsFound in

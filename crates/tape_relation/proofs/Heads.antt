@@ -1,4 +1,5 @@
--- The head of a block: comments, and N with a literal before a statement.
+-- The head of a block, as the reader and the grammar see it: comments, and N with a literal before
+-- a statement. For Found, Sentences and LongNumbers.
 use Rattle.std.proofs.Common.{◌≡◌, ◌==◌, ℕ, suc, ◌+◌, Bool, true, false, cond, ◌&&◌, ◌||◌, List, [], ◌∷◌, ◌++◌, length, take, drop, refl, sym, ap, subst, ◌∙◌, append-nil, append_assoc, arith}
 use Rattle.std.specs.Char.{is_ascii_digit, is_ascii_uppercase}
 use Rattle.std.specs.List.{list_all, prefix_len}
@@ -21,15 +22,15 @@ use Rattle.tape_relation.proofs.Statements.{first_is, no_statement, words_before
 
 -- Comments.
 
--- a comment is passed,
+-- a comment at the front is passed
 pub behind_comment : (sign : Sign) (signs : List Sign) → is_comment sign ≡ true → behind_comments (sign ∷ signs) ≡ behind_comments signs
 behind_comment sign signs is = let one : 1 + prefix_len is_comment signs ≡ suc (prefix_len is_comment signs) = omega arith in rw (is, one) refl
 
--- another sign is not
+-- a sign that is no comment is not passed
 pub behind_other : (sign : Sign) (signs : List Sign) → is_comment sign ≡ false → behind_comments (sign ∷ signs) ≡ sign ∷ signs
 behind_other sign signs is = rw is refl
 
--- and several comments are
+-- several comments at the front are passed
 pub behind_more : (comments signs : List Sign) → list_all is_comment comments ≡ true → behind_comments (comments ++ signs) ≡ behind_comments signs
 behind_more [] signs all = refl
 behind_more (sign ∷ comments) signs all = let p = both (is_comment sign) (list_all is_comment comments) all in behind_comment sign (comments ++ signs) p.0 ∙ behind_more comments signs p.1
@@ -38,11 +39,11 @@ behind_more (sign ∷ comments) signs all = let p = both (is_comment sign) (list
 abbrev pub comments_before : List Sign → List Sign
 comments_before signs = take (prefix_len is_comment signs) signs
 
--- signs are the comments before, and what stands behind them
+-- signs are their first comments, and what stands after these
 pub comments_split : (signs : List Sign) → signs ≡ comments_before signs ++ behind_comments signs
 comments_split signs = split_at (prefix_len is_comment signs) signs
 
--- what stands before are comments
+-- what stands before the first other sign are comments
 pub comments_all : (signs : List Sign) → list_all is_comment (comments_before signs) ≡ true
 comments_all [] = refl
 comments_all (sign ∷ signs) = go (is_comment sign) refl (comments_all signs)
@@ -51,7 +52,7 @@ comments_all (sign ∷ signs) = go (is_comment sign) refl (comments_all signs)
     go true e later = let one : 1 + prefix_len is_comment signs ≡ suc (prefix_len is_comment signs) = omega arith in rw one (rw e later)
     go false e later = refl
 
--- and what stands behind begins with none
+-- what stands after the first comments begins with no comment
 pub behind_first : (signs : List Sign) (sign : Sign) (rest : List Sign) → behind_comments signs ≡ sign ∷ rest → is_comment sign ≡ false
 behind_first [] sign rest e = absurd cc
 behind_first (s ∷ signs) sign rest e = go (is_comment s) refl (behind_first signs sign rest)
@@ -65,16 +66,17 @@ pub sentence_comments : (comments signs : List Sign) → list_all is_comment com
 sentence_comments [] signs all = refl
 sentence_comments (sign ∷ comments) signs all = let p = both (is_comment sign) (list_all is_comment comments) all in rw p.0 (sentence_comments comments signs p.1)
 
--- so it is read behind them
+-- the text of signs is that of what stands after their first comments
 pub sentence_behind : (signs : List Sign) → sentence_of (behind_comments signs) ≡ sentence_of signs
 sentence_behind signs = sym (ap sentence_of (comments_split signs) ∙ sentence_comments (comments_before signs) (behind_comments signs) (comments_all signs))
 
 -- What goes on a number, and what ends it.
 
--- the byte may stand in a literal: a digit, the point or a sign
+-- whether a byte may stand in a literal: a digit, the point or a sign
 abbrev pub number_byte : ℕ → Bool
 number_byte b = is_ascii_digit b || b == 46 || b == 43 || b == 45
 
+-- These three: digits, the point and the signs may stand in a literal.
 digit_byte : (b : ℕ) → is_ascii_digit b ≡ true → number_byte b ≡ true
 digit_byte b is = rw is refl
 
@@ -88,15 +90,17 @@ sign_byte b is = grind (arith, nat_tests)
 pub literal_bytes : (text : List ℕ) → is_literal text ≡ true → list_all number_byte text ≡ true
 literal_bytes text is = literal_pass number_byte digit_byte point_byte sign_byte text is
 
+-- signs whose bytes may all stand in a literal are signs that may
 all_signs : (number : List Sign) → list_all number_byte (bytes_of number) ≡ true → list_all is_number_sign number ≡ true
 all_signs [] all = refl
 all_signs (sign ∷ number) all = let p = both (number_byte sign.byte) (list_all number_byte (bytes_of number)) all in rw p.0 (all_signs number p.1)
 
--- no number goes on into these signs
+-- the signs begin with none that could go on a literal
 abbrev pub Stops : List Sign → Type 0
 Stops [] = Unit {0}
 Stops (sign ∷ signs) = is_number_sign sign ≡ false
 
+-- such signs, before one that may not, are as many as the reader counts
 number_len : (number signs : List Sign) → list_all is_number_sign number ≡ true → Stops signs → prefix_len is_number_sign (number ++ signs) ≡ length number
 number_len [] [] all stops = refl
 number_len [] (sign ∷ signs) all stops = rw stops refl
@@ -105,15 +109,15 @@ number_len (digit ∷ number) signs all stops =
     let later = number_len number signs p.1 stops in
     rw p.0 (let z : 1 + prefix_len is_number_sign (number ++ signs) ≡ length (digit ∷ number) = omega arith in z)
 
--- the literal behind N is all up to the first sign that can't go on it,
+-- before signs that cannot go on it, the literal after N is what the reader takes for it
 pub part_is : (number signs : List Sign) → list_all is_number_sign number ≡ true → Stops signs → number_part (number ++ signs) ≡ number
 part_is number signs all stops = ap (λ (n : ℕ). take n (number ++ signs)) (number_len number signs all stops) ∙ take-append_seam number signs
 
--- and what stands behind it is the rest
+-- before signs that cannot go on it, the reader goes on right after the literal
 pub behind_is : (number signs : List Sign) → list_all is_number_sign number ≡ true → Stops signs → behind_number (number ++ signs) ≡ signs
 behind_is number signs all stops = ap (λ (n : ℕ). drop n (number ++ signs)) (number_len number signs all stops) ∙ drop_seam number signs
 
--- the signs of a literal may all stand in one
+-- each sign of a literal may stand in one
 pub literal_signs : (number : List Sign) → is_literal (bytes_of number) ≡ true → list_all is_number_sign number ≡ true
 literal_signs number is = all_signs number (literal_bytes (bytes_of number) is)
 
@@ -121,11 +125,11 @@ literal_signs number is = all_signs number (literal_bytes (bytes_of number) is)
 pub comment_stops : (sign : Sign) → is_comment sign ≡ true → is_number_sign sign ≡ false
 comment_stops sign is = let P : ℕ → Type 0 = λ b. number_byte b ≡ false in subst P (sym (eqb-true sign.byte 40 is)) refl
 
--- so does a letter
+-- a letter ends a literal
 pub letter_byte : (b : ℕ) → is_ascii_uppercase b ≡ true → number_byte b ≡ false
 letter_byte b is = grind (arith, nat_tests)
 
--- so does a statement,
+-- a statement ends a literal
 pub statement_stops : (signs : List Sign) → IsStatement (text_of signs) → Stops signs
 statement_stops [] is = absurd (no_statement is)
 statement_stops (sign ∷ signs) is = go (is_comment sign) refl
@@ -137,7 +141,7 @@ statement_stops (sign ∷ signs) is = go (is_comment sign) refl
         let text : text_of (sign ∷ signs) ≡ sign.byte ∷ text_of signs = rw e refl in
         let N : ℕ → Type 0 = λ b. number_byte b ≡ false in first_is N sign.byte (text_of signs) refl refl refl refl refl refl (subst P text is)
 
--- and so do words behind comments
+-- comments, words and signs that end a literal end a literal
 pub words_stop : (comments signs tail : List Sign) (words : List Piece) → list_all is_comment comments ≡ true → AreWords signs words → Stops tail → Stops (comments ++ (signs ++ tail))
 words_stop [] signs tail [] all is stops = let P : List Sign → Type 0 = λ ss. Stops (ss ++ tail) in subst P (sym is) stops
 words_stop [] signs tail (word ∷ words) all (letter, value, more, others, is, up, val, none, every, word-is, rest) stops = let P : List Sign → Type 0 = λ ss. Stops (ss ++ tail) in subst P (sym is) (letter_byte letter.byte up)
@@ -145,6 +149,7 @@ words_stop (sign ∷ comments) signs tail words all are stops = comment_stops si
 
 -- Words are no numbered statement.
 
+-- a variable or an expression begins with a byte that no literal has
 reference_byte : (b : ℕ) (text : List ℕ) → is_reference (b ∷ text) ≡ true → number_byte b ≡ false
 reference_byte b text e = go (b == 35) refl e
   where
@@ -152,7 +157,7 @@ reference_byte b text e = go (b == 35) refl e
     go true is h = let P : ℕ → Type 0 = λ c. number_byte c ≡ false in subst P (sym (eqb-true b 35 is)) refl
     go false is h = let P : ℕ → Type 0 = λ c. number_byte c ≡ false in subst P (sym (eqb-true b 91 (both (b == 91) (closes text 1) h).0)) refl
 
--- a variable or an expression is no literal
+-- the front of a variable or an expression with a sign or without is no literal
 reference_part : (value signs : List Sign) → is_reference (behind_sign (bytes_of value)) ≡ true → is_literal (bytes_of (number_part (value ++ signs))) ≡ false
 reference_part [] signs e = absurd cc
 reference_part (sign ∷ value) signs e = go (is_sign sign.byte) refl e
@@ -165,11 +170,13 @@ reference_part (sign ∷ value) signs e = go (is_sign sign.byte) refl e
         after (next ∷ more) h = rw (sign_byte sign.byte is, reference_byte next.byte (bytes_of more) h) (rw is refl)
     go false is h = rw (reference_byte sign.byte (bytes_of value) h) refl
 
+-- if one of two holds and the first does not, the second does
 or_right_true : (a b : Bool) → a ≡ false → (a || b) ≡ true → b ≡ true
 or_right_true true b e h = absurd cc
 or_right_true false b e h = h
 
--- words before what is no statement and goes on no number
+-- words before signs that are no statement and go on no number are no statement with a sequence
+-- number
 pub numbered_before : (signs tail : List Sign) (word : Piece) (words : List Piece) → AreWords signs (word ∷ words) → is_statement (sentence_of tail) ≡ false → Stops tail → is_numbered (signs ++ tail) ≡ false
 numbered_before signs tail word words (letter, value, comments, others, is, up, val, none, all, word-is, rest) off stops = ap is_numbered whole ∙ go (is_literal (bytes_of value)) refl
   where
@@ -186,18 +193,18 @@ numbered_before signs tail word words (letter, value, comments, others, is, up, 
         ap (λ (t : Bool). t && is_statement (sentence_of (behind_number (value ++ (comments ++ (others ++ tail))))))
         (and_false (letter.byte == 78) (is_literal (bytes_of (number_part (value ++ (comments ++ (others ++ tail)))))) (reference_part value (comments ++ (others ++ tail)) reference))
 
--- words are no numbered statement
+-- words are no statement with a sequence number
 pub numbered_unlike : (signs : List Sign) (words : List Piece) → AreWords signs words → is_numbered signs ≡ false
 numbered_unlike signs [] is = ap is_numbered is
 numbered_unlike signs (word ∷ words) are = ap is_numbered (sym (append-nil signs)) ∙ numbered_before signs [] word words are refl tt
 
--- N, a literal and a statement are one
+-- N, a literal and a statement are a statement with a sequence number to the reader
 pub numbered_read : (letter : Sign) (number signs : List Sign) → (letter.byte == 78) ≡ true → is_literal (bytes_of number) ≡ true → IsStatement (text_of signs) → is_numbered (letter ∷ (number ++ signs)) ≡ true
 numbered_read letter number signs n lit is =
     let all = literal_signs number lit in
     let stops = statement_stops signs is in rw (part_is number signs all stops, behind_is number signs all stops, n, lit) (statement_read (text_of signs) is)
 
--- a statement has no N before it
+-- a statement of the grammar has no sequence number to the reader
 pub stated_read : (signs : List Sign) → IsStatement (text_of signs) → is_numbered (behind_comments signs) ≡ false
 stated_read signs is = go (behind_comments signs) refl
   where

@@ -1,4 +1,6 @@
--- What is read of a line are its bytes without those that are ignored.
+-- What the reader takes off the end of a line (blanks, one `;`, the carriage return) is just what
+-- the relation ignores. For Remarks, which compares the signs; Packed, Blanked and SkippedLines
+-- take the lemmas on last bytes.
 use Rattle.std.proofs.Common.{◌≡◌, ◌==◌, ℕ, ◌+◌, ◌-◌, Bool, true, false, cond, not, ◌&&◌, ◌||◌, List, [], ◌∷◌, ◌++◌, length, take, get_or, ◌⊎◌, inl, inr, refl, sym, ap, subst, ◌∙◌, append-nil, append_assoc, arith}
 use Rattle.std.specs.List.{list_all, prefix_len, suffix_len}
 use Rattle.std.proofs.lemmas.Bool.{eqb-true}
@@ -7,7 +9,8 @@ use Rattle.nc_number.proofs.Bools.{both, either}
 use Rattle.line_text.specs.Signs.{Scan, is_blank, inside_behind, add_sign, scan_of, without_last, without_blanks, signs_of}
 use Rattle.tape_relation.specs.Characters.{is_space, is_return, are_spaces, is_ignored}
 
--- the signs of bytes of which the first stands in a comment or not, and has this place
+-- the signs of bytes by the relation's `is_ignored`; the flags: the line has a line feed, the first
+-- byte stands in a comment
 abbrev pub signs_on : Bool → List ℕ → Bool → ℕ → Scan
 signs_on ended [] inside place = record { list = []; unclosed = inside }
 signs_on ended (b ∷ bytes) inside place = add_sign (not inside && not (is_ignored ended b bytes)) place b (signs_on ended bytes (inside_behind inside b) (place + 1))
@@ -25,28 +28,29 @@ last_pushed k xs x =
     ∙ ap (λ (b : ℕ). cond (b == k) (take (length xs) (xs ++ x ∷ [])) (xs ++ x ∷ [])) (get_or_push xs x 0 (length xs) refl)
     ∙ ap (λ (l : List ℕ). cond (x == k) l (xs ++ x ∷ [])) (take_at xs (x ∷ []) (length xs) refl)
 
--- one blank more at the end
+-- how many blanks a text with one more byte ends with
 suffix_pushed : (xs : List ℕ) (x : ℕ) → suffix_len is_blank (xs ++ x ∷ []) ≡ cond (is_blank x) (1 + suffix_len is_blank xs) 0
 suffix_pushed xs x = ap (prefix_len is_blank) (reverse-append xs (x ∷ []))
 
--- a blank at the end is trimmed,
+-- a blank at the end is taken off
 pub trimmed_blank : (xs : List ℕ) (x : ℕ) → is_blank x ≡ true → without_blanks (xs ++ x ∷ []) ≡ without_blanks xs
 trimmed_blank xs x blank =
     let count : suffix_len is_blank (xs ++ x ∷ []) ≡ 1 + suffix_len is_blank xs = suffix_pushed xs x ∙ ap (λ (t : Bool). cond t (1 + suffix_len is_blank xs) 0) blank in
     let long : length (xs ++ x ∷ []) - suffix_len is_blank (xs ++ x ∷ []) ≡ length xs - suffix_len is_blank xs = omega (arith, length_push xs x) in
     ap (λ (n : ℕ). take n (xs ++ x ∷ [])) long ∙ take-append-le (length xs - suffix_len is_blank xs) xs (x ∷ []) (omega arith)
 
--- another byte is not
+-- a byte at the end that is no blank is not taken off
 pub trimmed_other : (xs : List ℕ) (x : ℕ) → is_blank x ≡ false → without_blanks (xs ++ x ∷ []) ≡ xs ++ x ∷ []
 trimmed_other xs x other =
     let count : suffix_len is_blank (xs ++ x ∷ []) ≡ 0 = suffix_pushed xs x ∙ ap (λ (t : Bool). cond t (1 + suffix_len is_blank xs) 0) other in
     let long : length (xs ++ x ∷ []) - suffix_len is_blank (xs ++ x ∷ []) ≡ length (xs ++ x ∷ []) = omega arith in
     ap (λ (n : ℕ). take n (xs ++ x ∷ [])) long ∙ take_all (length (xs ++ x ∷ [])) (xs ++ x ∷ []) (omega arith)
 
--- the last byte fails the test
+-- if the text has a last byte, that byte fails the test
 abbrev EndsOther : (ℕ → Bool) → List ℕ → Type 0
 EndsOther test xs = (front : List ℕ) (x : ℕ) → xs ≡ front ++ x ∷ [] → test x ≡ false
 
+-- The next three: texts with the same last byte, and texts whose last byte fails a test.
 last_is : (front others : List ℕ) (x y : ℕ) → front ++ x ∷ [] ≡ others ++ y ∷ [] → x ≡ y
 last_is [] [] x y e = cc
 last_is [] (o ∷ []) x y e = absurd cc
@@ -62,10 +66,11 @@ no_last : (test : ℕ → Bool) → EndsOther test []
 no_last test [] x e = absurd cc
 no_last test (f ∷ front) x e = absurd cc
 
--- a text without its last byte, if that is k
+-- what is left of a text, and its last byte k if it was taken off
 abbrev LastLeft : ℕ → List ℕ → Type 0
 LastLeft k xs = ((without_last k xs ≡ xs) × EndsOther (λ b. b == k) xs) ⊎ (xs ≡ without_last k xs ++ k ∷ [])
 
+-- a text without its last byte, if that is k, and that byte, are the text
 last_left : (k : ℕ) → (0 == k) ≡ false → (xs : List ℕ) → LastLeft k xs
 last_left k other xs = by_last (LastLeft k) (λ front x before. go front x (x == k) refl) xs [] (inl (rw other refl, no_last (λ b. b == k)))
   where
@@ -73,14 +78,16 @@ last_left k other xs = by_last (LastLeft k) (λ front x before. go front x (x ==
     go front x true e = inr (ap (λ (b : ℕ). front ++ b ∷ []) (eqb-true x k e) ∙ ap (λ (l : List ℕ). l ++ k ∷ []) (sym (last_pushed k front x ∙ ap (λ (t : Bool). cond t front (front ++ x ∷ [])) e)))
     go front x false e = inl (last_pushed k front x ∙ ap (λ (t : Bool). cond t front (front ++ x ∷ [])) e, ends_other (λ b. b == k) front x e)
 
--- a text without the blanks at its end
+-- what is left of a text without the blanks at its end, and these blanks
 abbrev BlanksLeft : List ℕ → Type 0
 BlanksLeft xs = (blanks : List ℕ) × (xs ≡ without_blanks xs ++ blanks) × (list_all is_blank blanks ≡ true) × EndsOther is_blank (without_blanks xs)
 
+-- one blank more after blanks are blanks
 all_pushed : (blanks : List ℕ) (x : ℕ) → list_all is_blank blanks ≡ true → is_blank x ≡ true → list_all is_blank (blanks ++ x ∷ []) ≡ true
 all_pushed [] x all is = rw is refl
 all_pushed (b ∷ blanks) x all is = let p = both (is_blank b) (list_all is_blank blanks) all in rw p.0 (all_pushed blanks x p.1 is)
 
+-- a text without the blanks at its end, and these blanks, are the text
 blanks_left : (xs : List ℕ) → BlanksLeft xs
 blanks_left xs = by_last BlanksLeft (λ front x before. go front x before (is_blank x) refl) xs [] ([], refl, refl, no_last is_blank)
   where
@@ -108,7 +115,7 @@ at_end false = []
 abbrev Ends : Bool → Bool → Type 0
 Ends ended last = last ≡ true → ended ≡ true
 
--- behind the end of a block stand only blanks
+-- after the `;` of a block stand only blanks and a carriage return before the line feed
 spaces_end : (ended last : Bool) (blanks : List ℕ) → Ends ended last → list_all is_blank blanks ≡ true → are_spaces ended (blanks ++ at_end last) ≡ true
 spaces_end ended false [] ends all = refl
 spaces_end ended true [] ends all = rw (ends refl) refl
@@ -119,6 +126,7 @@ passed : (ended : Bool) (b : ℕ) (bytes : List ℕ) (inside : Bool) (place : �
 passed ended b bytes true place is same = rw same refl
 passed ended b bytes false place is same = rw (is, same) refl
 
+-- These three: a blank, a `;` and a carriage return neither open nor close a comment.
 blank_inside : (b : ℕ) (inside : Bool) → is_blank b ≡ true → inside_behind inside b ≡ inside
 blank_inside b inside is = go (b == 32) refl (b == 9) refl is
   where
@@ -151,11 +159,12 @@ nothing_on ended last (b ∷ blanks) inside place ends all =
     let p = both (is_blank b) (list_all is_blank blanks) all in
     passed ended b (blanks ++ at_end last) inside place (rw p.0 refl) (blank_inside b inside p.0) ∙ nothing_on ended last blanks inside (place + 1) ends p.1
 
--- a `;`, blanks and a carriage return
+-- the end of a line that is taken off: a `;` or none, blanks, and a carriage return or none
 abbrev tail_of : Bool → List ℕ → Bool → List ℕ
 tail_of true blanks last = 59 ∷ (blanks ++ at_end last)
 tail_of false blanks last = blanks ++ at_end last
 
+-- the end of a line that is taken off gives no sign
 tail_on : (ended stop last : Bool) (blanks : List ℕ) (inside : Bool) (place : ℕ) → Ends ended last → list_all is_blank blanks ≡ true → signs_on ended (tail_of stop blanks last) inside place ≡ record { list = []; unclosed = inside }
 tail_on ended true last blanks inside place ends all =
     passed ended 59 (blanks ++ at_end last) inside place (spaces_end ended last blanks ends all) (semicolon_inside inside) ∙ nothing_on ended last blanks inside (place + 1) ends all
@@ -163,17 +172,20 @@ tail_on ended false last blanks inside place ends all = nothing_on ended last bl
 
 -- What stands before it is ignored only where it is a blank.
 
--- the signs of a line are those of what is left of it
+-- if in the content only blanks are ignored and the tail gives no sign, the signs of a line are
+-- those of its content
 content_on : (ended : Bool) (tail : List ℕ) → ((inside : Bool) (place : ℕ) → signs_on ended tail inside place ≡ record { list = []; unclosed = inside }) → (content : List ℕ)
     → ((front : List ℕ) (b : ℕ) (back : List ℕ) → content ≡ front ++ b ∷ back → is_ignored ended b (back ++ tail) ≡ is_blank b) → (inside : Bool) (place : ℕ) → signs_on ended (content ++ tail) inside place ≡ scan_of content inside place
 content_on ended tail none [] same inside place = none inside place
 content_on ended tail none (b ∷ content) same inside place =
     rw (same [] b content refl) (ap (add_sign (not inside && not (is_blank b)) place b) (content_on ended tail none content (λ front c back e. same (b ∷ front) c back (ap (λ (l : List ℕ). b ∷ l) e)) (inside_behind inside b) (place + 1)))
 
+-- what stands behind spaces that a line ends with are such spaces
 spaces_behind : (ended : Bool) (front back : List ℕ) → are_spaces ended (front ++ back) ≡ true → are_spaces ended back ≡ true
 spaces_behind ended [] back e = e
 spaces_behind ended (b ∷ front) back e = spaces_behind ended front back (both (is_space b || is_return ended b (front ++ back)) (are_spaces ended (front ++ back)) e).1
 
+-- These two are about `or`: a second part that adds nothing, and two parts that are both false.
 or_else : (a b : Bool) → (a ≡ false → b ≡ false) → (a || b) ≡ a
 or_else true b f = refl
 or_else false b f = f refl
@@ -190,26 +202,34 @@ HasLast xs = (xs ≡ []) ⊎ ((front : List ℕ) × (x : ℕ) × (xs ≡ front +
 has_last : (xs : List ℕ) → HasLast xs
 has_last xs = by_last HasLast (λ front x before. inr (front, x, refl)) xs [] (inl refl)
 
--- a carriage return that is none at the end
+-- a carriage return that is ignored is the last byte of a line with a line feed
 not_return : (ended : Bool) (b : ℕ) (behind : List ℕ) → is_return ended b behind ≡ true → (b ≡ 13) × (ended ≡ true) × (behind ≡ [])
 not_return ended b behind e =
     let p = both (b == 13) (ended && length behind == 0) e in
     let q = both ended (length behind == 0) p.1 in
     (eqb-true b 13 p.0, q.0, nil_from_length behind (eqb-true (length behind) 0 q.1))
 
+-- if two texts together are nothing, each is
 none_left : (xs ys : List ℕ) → xs ++ ys ≡ [] → (xs ≡ []) × (ys ≡ [])
 none_left [] ys e = (refl, e)
 none_left (x ∷ xs) ys e = absurd cc
 
 module _ (ended stop last : Bool) (content blanks : List ℕ) where
-  -- the content ends where something is left that is not ignored
+  -- The content is what is left of a line: it ends with no blank if no `;` was taken off, with no
+  -- `;` then either, and a carriage return was taken off if there was one.
   pub record IsContent : Type 0 where
+    -- a carriage return was taken off only before a line feed
     pub ends : Ends ended last
+    -- what was taken off after the `;` are blanks
     pub blank : list_all is_blank blanks ≡ true
+    -- without a `;`, the content ends with no blank
     pub no_blank : stop ≡ false → EndsOther is_blank content
+    -- without a `;` taken off, the content ends with none
     pub no_stop : stop ≡ false → EndsOther (λ b. b == 59) content
+    -- if no carriage return was taken off before a line feed, the line ends with none
     pub no_return : last ≡ false → ended ≡ true → EndsOther (λ b. b == 13) (content ++ tail_of stop blanks last)
 
+  -- in the content only blanks are ignored
   only_blanks : IsContent → (front : List ℕ) (b : ℕ) (back : List ℕ) → content ≡ front ++ b ∷ back → is_ignored ended b (back ++ tail_of stop blanks last) ≡ is_blank b
   only_blanks is front b back e = or_else (is_blank b) (is_return ended b behind || (b == 59 && are_spaces ended behind)) (λ other. neither (is_return ended b behind) (b == 59 && are_spaces ended behind) return semicolon)
     where
@@ -265,7 +285,7 @@ module _ (ended stop last : Bool) (content blanks : List ℕ) where
   pub content_signs : IsContent → signs_on ended (content ++ tail_of stop blanks last) false 0 ≡ scan_of content false 0
   content_signs is = content_on ended (tail_of stop blanks last) (λ inside place. tail_on ended stop last blanks inside place is.ends is.blank) content (only_blanks is) false 0
 
--- so they are when a `;` or a carriage return ends it
+-- the signs of a line are those of what the reader leaves of it, if its end is known
 signs_before : (ended last : Bool) (bytes line : List ℕ) → bytes ≡ line ++ at_end last → Ends ended last → (last ≡ false → ended ≡ true → EndsOther (λ b. b == 13) bytes)
     → signs_on ended bytes false 0 ≡ scan_of (without_last 59 (without_blanks line)) false 0
 signs_before ended last bytes line is ends no_return = go (blanks_left line) (last_left 59 refl (without_blanks line))
@@ -286,7 +306,7 @@ signs_before ended last bytes line is ends no_return = go (blanks_left line) (la
         let content : IsContent ended true last c blanks = record { ends = ends; blank = all; no_blank = λ s. absurd cc; no_stop = λ s. absurd cc; no_return = λ l e. subst P whole (no_return l e) } in
         ap (λ (l : List ℕ). signs_on ended l false 0) whole ∙ content_signs ended true last c blanks content
 
--- what is read of a line are the signs of its bytes that count
+-- the signs by the relation's `is_ignored` are the signs that the reader has
 pub signs_are : (ended : Bool) (bytes : List ℕ) → signs_on ended bytes false 0 ≡ signs_of bytes ended
 unfolding signs_of
 signs_are false bytes = signs_before false false bytes bytes (sym (append-nil bytes)) (λ bad. absurd cc) (λ l bad. absurd cc)

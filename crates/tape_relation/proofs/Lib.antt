@@ -1,4 +1,5 @@
--- The lemmas of this crate, each file by its subject. No other crate takes any.
+-- The lemmas of tape_relation, each file after those that it uses. Up to Agrees they serve the laws
+-- of src/law.rt, from Mapped on the laws of edits (src/edits.rt). No other crate takes any.
 pub mod LiteralParts
 pub mod Values
 pub mod LiteralBytes

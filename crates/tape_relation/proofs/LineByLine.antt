@@ -1,5 +1,6 @@
--- Two texts of which the lines say the same, but for lines of the second that say nothing, have the
--- same answer as far as it is looked at.
+-- Two texts whose lines say the same, but for lines of the second that say nothing, have the same
+-- answer, as far as it is looked at: line numbers and words may be changed by maps f, g and w. For
+-- the laws of edits (src/edits.rt), by way of OneLine.
 use Rattle.std.proofs.Common.{◌≡◌, ℕ, ◌+◌, ◌≤◌, Bool, true, false, cond, ltb, List, [], ◌∷◌, ◌++◌, length, map, Option, Some, None, Result, Ok, Err, refl, sym, ap, ◌∙◌, arith}
 use Rattle.std.specs.Option.{option_map, option_to_list, is_none}
 use Rattle.std.proofs.lemmas.Bool.{le-ltb}
@@ -18,9 +19,11 @@ use Rattle.line_text.specs.Said.{line_says}
 use Rattle.tape_relation.specs.Changed.{changed, changed_body, changed_block, changed_program}
 use Rattle.nc_text.specs.Tape.{Before, Answer, next, programs_of, is_past_end, is_block, is_said_in_range, said_refusal, block_at, program_at, with_block, with_said, unless_refused, after_said, finished, unfinished, goes_on, in_rest, in_body, in_leader, begun, nothing_read}
 
--- a line of both texts, or one of the second alone
+-- a line of both texts, or a line of the second text alone
 pub data Row : Type 0 where
+  -- a line of the first text, and the line of the second that says the same
   Both : Line → Line → Row
+  -- a line of the second text that says nothing
   Alone : Line → Row
 
 -- the lines of the first text
@@ -50,23 +53,31 @@ changed_said w said.Nothing = said.Nothing
 changed_said w (said.Program number) = said.Program number
 changed_said w (said.Block block) = said.Block (record block { body = changed_body w block.body })
 
--- the same of a line that may be refused
+-- what a line says or its refusal, with the words changed
 abbrev pub changed_says : (Word → Word) → Result Said Refusal → Result Said Refusal
 changed_says w (Ok says) = Ok (changed_said w says)
 changed_says w (Err refusal) = Err refusal
 
--- the lines say the same, but for what w changes
+-- the two lines say the same, if words are changed by w; both begin with `%` or neither does; both
+-- are too long or neither is
 pub record SayAlike (skips : ℕ) (w : Word → Word) (a b : Line) : Type 0 where
+  -- a line that does not begin with `%` says the same, words changed by w
   pub says : is_percent a.bytes ≡ false → changed_says w (line_says skips a.bytes a.ended) ≡ changed_says w (line_says skips b.bytes b.ended)
+  -- both begin with `%`, or neither does
   pub percent : is_percent a.bytes ≡ is_percent b.bytes
+  -- both are longer than 512 bytes, or neither is
   pub long : ltb 512 (length a.bytes) ≡ ltb 512 (length b.bytes)
 
--- the line says nothing
+-- the line says nothing, does not begin with `%` and is not too long
 pub record SaysNothing (skips : ℕ) (b : Line) : Type 0 where
+  -- it can be read, and says nothing
   pub says : line_says skips b.bytes b.ended ≡ Ok said.Nothing
+  -- it does not begin with `%`
   pub percent : is_percent b.bytes ≡ false
+  -- it has at most 512 bytes
   pub long : ltb 512 (length b.bytes) ≡ false
 
+-- These three are small facts on maps of options and on sizes.
 none_same : {A B : Type 0} (h : A → B) (o : Option A) → is_none (option_map h o) ≡ is_none o
 none_same h None = refl
 none_same h (Some x) = refl
@@ -78,11 +89,13 @@ list_same h (Some x) = refl
 within : (n m more : ℕ) → n + (m + more) ≤ 4194304 → ltb 4194304 (n + m) ≡ false
 within n m more fits = le-ltb 4194304 (n + m) (omega arith)
 
--- a block more in the program that is being read
+-- a block more in the program that is being read, with all changed, is the changed block more
 block_put : (f : ℕ → ℕ) (w : Word → Word) (block : Block) (o : Option Program) → option_map (changed_program f w) (with_block block o) ≡ with_block (changed_block f w block) (option_map (changed_program f w) o)
 block_put f w block None = refl
 block_put f w block (Some p) = ap (λ (blocks : List Block). Some (record (changed_program f w p) { blocks = blocks })) (map-append (changed_block f w) p.blocks (block ∷ []))
 
+-- The next two: changing the words of what a line says keeps whether it is a block, and whether its
+-- numbers are in range.
 block_same : (w : Word → Word) (s : Said) → is_block (changed_said w s) ≡ is_block s
 block_same w said.Nothing = refl
 block_same w (said.Program number) = refl
@@ -101,34 +114,36 @@ refused number line = Err (record { number = number; line = line })
 abbrev taped : List Program → Answer
 taped programs = Ok programs
 
--- the text is not too long up to here
+-- within a text that fits, no line is past the longest tape
 not_past : (b : Before) (d : ℕ) (y : Line) (ys : List Line) → b.bytes ≡ d → d + (line_size y + size_all ys) ≤ 4194304 → is_past_end b (length y.bytes) y.ended ≡ false
 not_past b d y ys e fits = ap (λ (k : ℕ). ltb 4194304 (k + line_size y)) e ∙ within d (line_size y) (size_all ys) fits
 
--- what is read of a line that says nothing
+-- a line that says nothing leaves the answer after the second `%` line
 rest_alone : (b : Before) (y : Line) (ys : List Line) → is_past_end b (length y.bytes) y.ended ≡ false → in_rest (y ∷ ys) b ≡ in_rest ys (next b (length y.bytes) y.ended)
 rest_alone b y ys past = rw past refl
 
--- a line of the second text that says nothing leaves the body as it is,
+-- a line of the second text that says nothing leaves the answer between the `%` lines
 body_alone : (skips : ℕ) (b : Before) (y : Line) (ys : List Line) → SaysNothing skips y → is_past_end b (length y.bytes) y.ended ≡ false → in_body skips (y ∷ ys) b ≡ in_body skips ys (next b (length y.bytes) y.ended)
 body_alone skips b y ys nothing past = rw (nothing.percent, nothing.says, nothing.long, past) refl
 
--- and so does one before the first `%` line
+-- a line of the second text that says nothing leaves the answer before the first `%` line
 leader_alone : (skips : ℕ) (b : Before) (y : Line) (ys : List Line) → SaysNothing skips y → is_past_end b (length y.bytes) y.ended ≡ false → in_leader skips (y ∷ ys) b ≡ in_leader skips ys (next b (length y.bytes) y.ended)
 leader_alone skips b y ys nothing past = rw (nothing.percent, past) refl
 
 module _ (skips : ℕ) (f g : ℕ → ℕ) (w : Word → Word) where
-  -- the rows say the same, where m and n lines stand before them
+  -- the rows say the same, if m lines of the first text and n of the second stand before them; the
+  -- maps of line numbers agree
   abbrev pub Rows : ℕ → ℕ → List Row → Type 0
   Rows m n [] = f m ≡ g n
   Rows m n (Both x y ∷ rows) = (f (m + 1) ≡ g (n + 1)) × SayAlike skips w x y × Rows (m + 1) (n + 1) rows
   Rows m n (Alone y ∷ rows) = SaysNothing skips y × Rows m (n + 1) rows
 
-  -- what is looked at of what was read, but for its lines and bytes
+  -- what is looked at of what was read: not its lines and bytes, and the rest with its changes
   abbrev seen : (ℕ → ℕ) → Before → Before
   seen h b = record { lines = 0; bytes = 0; percent = h b.percent; blocks = b.blocks; done = map (changed_program h w) b.done; current = option_map (changed_program h w) b.current }
 
-  -- behind m lines of c bytes, and behind n lines of d bytes, the same has been read
+  -- after m lines of c bytes of the first text, and n lines of d bytes of the second, the same has
+  -- been read
   record Agree (m n c d : ℕ) (a b : Before) : Type 0 where
     lines_a : a.lines ≡ m
     lines_b : b.lines ≡ n
@@ -136,16 +151,19 @@ module _ (skips : ℕ) (f g : ℕ → ℕ) (w : Word → Word) where
     bytes_b : b.bytes ≡ d
     same : seen f a ≡ seen g b
 
-  -- both answers look the same
+  -- both answers look the same with their changes
   abbrev pub Looks : Answer → Answer → Type 0
   Looks p q = changed f w p ≡ changed g w q
 
+  -- a program of the first text with its changes
   abbrev F : Program → Program
   F program = changed_program f w program
 
+  -- a program of the second text with its changes
   abbrev G : Program → Program
   G program = changed_program g w program
 
+  -- The next three: answers look the same if their parts do: a choice, a refusal, programs.
   chosen : (t u : Bool) (p q r s : Answer) → t ≡ u → Looks p q → (t ≡ false → Looks r s) → Looks (cond t p r) (cond u q s)
   chosen true true p q r s e begins other = begins
   chosen true false p q r s e begins other = absurd cc
@@ -158,6 +176,8 @@ module _ (skips : ℕ) (f g : ℕ → ℕ) (w : Word → Word) where
   taped_same : (ps qs : List Program) → map F ps ≡ map G qs → Looks (Ok ps) (Ok qs)
   taped_same ps qs e = ap taped e
 
+  -- The next three: what was read still agrees after a row of both, a row of the second alone, and
+  -- the first `%` line.
   next_agree : (m n c d : ℕ) (a b : Before) (agree : Agree m n c d a b) (x y : Line) → Agree (m + 1) (n + 1) (c + line_size x) (d + line_size y) (next a (length x.bytes) x.ended) (next b (length y.bytes) y.ended)
   next_agree m n c d a b agree x y = record {
     lines_a = λ i. agree.lines_a i + 1;
@@ -264,7 +284,8 @@ module _ (skips : ℕ) (f g : ℕ → ℕ) (w : Word → Word) where
           let same : p ≡ q = cc in
           λ i. refused (refusal_number (same i)) (number_here i)
 
-  -- behind the second `%` line, between both, and before the first
+  -- The next three: rows that say the same give answers that look the same, after the second `%`
+  -- line, between both, and before the first.
   rests_look_same : (rows : List Row) (m n c d : ℕ) (a b : Before) → Agree m n c d a b → Rows m n rows → c + size_all (firsts rows) ≤ 4194304 → d + size_all (seconds rows) ≤ 4194304 → Looks (in_rest (firsts rows) a) (in_rest (seconds rows) b)
   rests_look_same [] m n c d a b agree alike_rows p q = finished_agree m n c d a b agree
   rests_look_same (Both x y ∷ rows) m n c d a b agree alike_rows p q =
@@ -307,7 +328,7 @@ module _ (skips : ℕ) (f g : ℕ → ℕ) (w : Word → Word) where
       let past_b = not_past b d y (seconds rows) agree.bytes_b q in
       leaders_look_same first_line rows m (n + 1) c (d + line_size y) a _ (alone_agree m n c d a b agree y) alike_rows.1 p (omega arith) ∙ sym (ap (changed g w) (leader_alone skips b y (seconds rows) alike_rows.0 past_b))
 
-  -- the two texts have the same answer, as far as it is looked at
+  -- two texts whose rows say the same have answers that look the same, if both have at most 4 MiB
   pub same_answer : (rows : List Row) → f 0 ≡ g 0 → f 1 ≡ g 1 → Rows 0 0 rows → size_all (firsts rows) ≤ 4194304 → size_all (seconds rows) ≤ 4194304 → Looks (in_leader skips (firsts rows) nothing_read) (in_leader skips (seconds rows) nothing_read)
   same_answer rows start first_line alike_rows p q =
       leaders_look_same first_line rows 0 0 0 0 nothing_read nothing_read (record { lines_a = refl; lines_b = refl; bytes_a = refl; bytes_b = refl; same = λ i. record nothing_read { percent = start i } }) alike_rows (omega arith) (omega arith)

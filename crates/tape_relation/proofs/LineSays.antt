@@ -1,6 +1,6 @@
--- What a line says by the grammar is what the reader takes from it.
--- Lemmas in `_read` go from the relation to the reader, those in `_found` from the reader to the
--- relation.
+-- What a line says by the grammar is what the reader takes from it. Lemmas in `_read` go from the
+-- relation to the reader, those in `_found` from the reader to the relation. For Steps, Ends,
+-- ProgramsSay and OneAnswer, which go through the lines.
 use Rattle.std.proofs.Common.{◌≡◌, ◌==◌, ℕ, Bool, true, false, not, ◌&&◌, ◌||◌, List, [], ◌∷◌, ◌++◌, length, filter, Option, Some, None, ◌⊎◌, inl, inr, refl, sym, ap, subst, ◌∙◌, arith}
 use Rattle.std.specs.Prelude.{All, is_some}
 use Rattle.std.specs.List.{list_all, list_any}
@@ -30,7 +30,7 @@ use Rattle.tape_relation.proofs.LineRead.{scan, reading, is_off, says, says_bloc
 
 -- A line that is a sentence is read as it, and a line that is read is one.
 
--- a switch is set by the reader as by the relation
+-- whether a switch is set is the same to the reader and to the relation
 pub same_off : (skips : ℕ) (skip : Option ℕ) → is_skipped skips skip ≡ own.is_off skips skip
 same_off skips None = refl
 same_off skips (Some switch) = refl
@@ -44,7 +44,7 @@ line_read line skip sentence (signs, are, is) =
 line_found : (line : Line) → (reading line).broken ≡ false → (skip : Option ℕ) × (sentence : Sentence) × IsLine line skip sentence
 line_found line e = let found = sentence_found (scan line).list e in (found.0, found.1, ((scan line).list, the_signs line, found.2))
 
--- a line without a sentence is broken for the reader,
+-- a line that is no sentence is broken to the reader
 pub broken_read : (line : Line) → IsBroken line → (reading line).broken ≡ true
 broken_read line broken = go (reading line).broken refl
   where
@@ -52,7 +52,7 @@ broken_read line broken = go (reading line).broken refl
     go true e = e
     go false e = let found = line_found line e in absurd (broken found.0 found.1 found.2)
 
--- and the other way round
+-- a line that is broken to the reader is no sentence
 pub broken_found : (line : Line) → (reading line).broken ≡ true → IsBroken line
 broken_found line e skip sentence is = let bad : true ≡ false = sym e ∙ (line_read line skip sentence is).reads.sound in absurd cc
 
@@ -67,7 +67,7 @@ says_read skips line sentence (skip, is, on) =
 abbrev pub Told : ℕ → Line → Type 0
 Told skips line = (says skips line ≡ said.Nothing) ⊎ ((sentence : Sentence) × Says skips line sentence)
 
--- each line does the one or the other
+-- each line says nothing to the reader, or says a sentence by the relation
 pub told : (skips : ℕ) (line : Line) → Told skips line
 told skips line = go (is_off skips line) refl (reading line).broken refl
   where
@@ -85,6 +85,7 @@ says_literals skips line sentence (skip, (signs, are, is), on) = sentence_litera
 
 -- A block, an O number, or one of both.
 
+-- a sentence is a block exactly if the reader says so
 same_block : (sentence : Sentence) → tape.is_block (said_of sentence) ≡ is_block sentence
 same_block NoBlock = refl
 same_block (ProgramNumber text) = refl
@@ -92,11 +93,11 @@ same_block (WordBlock words) = refl
 same_block (StatementBlock None text) = refl
 same_block (StatementBlock (Some number) text) = refl
 
--- a line that says a block says one to the reader,
+-- a line that says a block by the relation says one to the reader
 pub block_read : (skips : ℕ) (line : Line) → SaysBlock skips line → says_block skips line ≡ true
 block_read skips line (sentence, is, e) = ap tape.is_block (says_read skips line sentence is) ∙ same_block sentence ∙ e
 
--- and the other way round
+-- a line that says a block to the reader says one by the relation
 pub block_found : (skips : ℕ) (line : Line) → says_block skips line ≡ true → SaysBlock skips line
 block_found skips line e = go (told skips line)
   where
@@ -104,11 +105,11 @@ block_found skips line e = go (told skips line)
     go (inl none) = let bad : true ≡ false = sym e ∙ ap tape.is_block none in absurd cc
     go (inr (sentence, is)) = (sentence, is, sym (same_block sentence) ∙ sym (ap tape.is_block (says_read skips line sentence is)) ∙ e)
 
--- so it is with an O number,
+-- a line that says an O number by the relation says one to the reader
 pub program_read : (skips : ℕ) (line : Line) → SaysProgram skips line → says_program skips line ≡ true
 program_read skips line (text, is) = ap is_program (says_read skips line (ProgramNumber text) is)
 
--- and the other way round
+-- a line that says an O number to the reader says one by the relation
 pub program_found : (skips : ℕ) (line : Line) → says_program skips line ≡ true → SaysProgram skips line
 program_found skips line e = go (told skips line)
   where
@@ -123,6 +124,8 @@ program_found skips line e = go (told skips line)
         by (StatementBlock None text) is h = absurd cc
         by (StatementBlock (Some number) text) is h = absurd cc
 
+-- The next three: a line says a block or an O number to the reader exactly if it does by the
+-- relation.
 something_of : (s : Said) → is_something s ≡ (tape.is_block s || is_program s)
 something_of said.Nothing = refl
 something_of (said.Program number) = refl
@@ -146,6 +149,7 @@ something_found skips line e = go (says_block skips line) refl (says_program ski
 
 -- Of none of some lines it is so.
 
+-- The next two: of no line of a list it is so, by a test or by a statement.
 none_of : (P : Line → Type 0) (test : Line → Bool) → ((line : Line) → test line ≡ true → P line) → (lines : List Line) → All (λ line. P line → ⊥) lines → list_any test lines ≡ false
 none_of P test found [] all = refl
 none_of P test found (line ∷ lines) all =
@@ -163,22 +167,23 @@ of_none P test read (line ∷ lines) e =
     let p = or_parts (test line) (list_any test lines) e in
     All-cons (λ (l : Line). P l → ⊥) line lines (λ is. let bad : true ≡ false = sym (read line is) ∙ p.0 in absurd cc) (of_none P test read lines p.1)
 
--- lines that say nothing say nothing to the reader,
+-- lines that say nothing by the relation say nothing to the reader
 pub silent_read : (skips : ℕ) (lines : List Line) → SayNothing skips lines → list_any (says_something skips) lines ≡ false
 silent_read skips lines all = none_of (SaysSomething skips) (says_something skips) (something_found skips) lines all
 
--- and the other way round
+-- lines that say nothing to the reader say nothing by the relation
 pub silent_found : (skips : ℕ) (lines : List Line) → list_any (says_something skips) lines ≡ false → SayNothing skips lines
 silent_found skips lines e = of_none (SaysSomething skips) (says_something skips) (something_read skips) lines e
 
--- lines without an O number have none for the reader,
+-- lines without an O number by the relation have none to the reader
 pub no_program_read : (skips : ℕ) (lines : List Line) → All (λ line. SaysProgram skips line → ⊥) lines → list_any (says_program skips) lines ≡ false
 no_program_read skips lines all = none_of (SaysProgram skips) (says_program skips) (program_found skips) lines all
 
--- and the other way round
+-- lines without an O number to the reader have none by the relation
 pub no_program_found : (skips : ℕ) (lines : List Line) → list_any (says_program skips) lines ≡ false → All (λ line. SaysProgram skips line → ⊥) lines
 no_program_found skips lines e = of_none (SaysProgram skips) (says_program skips) (program_read skips) lines e
 
+-- The next two: a line says no block to the reader exactly if it says none by the relation.
 no_block : (skips : ℕ) (line : Line) → says_block skips line ≡ false → SaysBlock skips line → ⊥
 no_block skips line e is = let bad : true ≡ false = sym (block_read skips line is) ∙ e in absurd cc
 
@@ -189,13 +194,13 @@ not_block skips line out = go (says_block skips line) refl
     go true e = absurd (out (block_found skips line e))
     go false e = e
 
--- the number of blocks is the reader's,
+-- as many lines say a block to the reader as by the relation
 pub blocks_read : (skips : ℕ) (lines : List Line) (n : ℕ) → SayBlocks skips lines n → n ≡ length (filter (says_block skips) lines)
 blocks_read skips [] n e = e
 blocks_read skips (line ∷ lines) n (inl (is, (m, e, later))) = let count = blocks_read skips lines m later in rw (block_read skips line is) (omega arith)
 blocks_read skips (line ∷ lines) n (inr (out, later)) = rw (not_block skips line out) (blocks_read skips lines n later)
 
--- and the other way round
+-- the relation counts as many blocks as the reader
 pub blocks_found : (skips : ℕ) (lines : List Line) → SayBlocks skips lines (length (filter (says_block skips) lines))
 blocks_found skips [] = refl
 blocks_found skips (line ∷ lines) = go (says_block skips line) refl (blocks_found skips lines)
@@ -206,14 +211,16 @@ blocks_found skips (line ∷ lines) = go (says_block skips line) refl (blocks_fo
 
 -- The ranges.
 
--- a word that is a sequence number is one for the reader,
+-- a word that is a sequence number by the relation is one to the reader
 pub numbering_read : (word : Piece) → IsNumbering word → is_sequence word ≡ true
 numbering_read word (n, lit) = rw (eq-eqb word.letter 78 n, literal_read word.text lit) refl
 
--- and the other way round
+-- a word that is a sequence number to the reader is one by the relation
 pub numbering_found : (word : Piece) → is_sequence word ≡ true → IsNumbering word
 numbering_found word e = let p = both (word.letter == 78) (is_literal word.text) e in (eqb-true word.letter 78 p.0, literal_found word.text p.1)
 
+-- The next four: a sentence has a number out of its range to the reader exactly if it has one by
+-- the relation; the first two speak of words.
 lacks_word : (words : List Piece) → list_all is_in_range words ≡ false → LeavesRange (WordBlock words)
 lacks_word [] e = absurd cc
 lacks_word (word ∷ words) e = go (is_sequence word) refl (is_some (number_in 0 99999 word.text)) refl e (lacks_word words)
@@ -245,11 +252,11 @@ leaves_found (WordBlock words) e = lacks_word words e
 leaves_found (StatementBlock None text) e = absurd cc
 leaves_found (StatementBlock (Some number) text) e = λ n is. lacks_found 0 99999 number e n (sequence_number number n is)
 
--- a line with a number out of its range is refused for it,
+-- a line with a number out of its range by the relation is out of range to the reader
 pub range_read : (skips : ℕ) (line : Line) → IsOutOfRange skips line → says_in_range skips line ≡ false
 range_read skips line (sentence, is, leaves) = ap tape.is_said_in_range (says_read skips line sentence is) ∙ leaves_read sentence (says_literals skips line sentence is) leaves
 
--- and the other way round
+-- a line that is out of range to the reader has a number out of its range by the relation
 pub range_found : (skips : ℕ) (line : Line) → says_in_range skips line ≡ false → IsOutOfRange skips line
 range_found skips line e = go (told skips line)
   where

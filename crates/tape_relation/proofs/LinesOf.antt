@@ -1,4 +1,5 @@
--- The lines of a text are those that, written one behind the other, are the text.
+-- The lines of a text are those that, written one after the other, are the text. For the part
+-- `lines` of the law `the_reader_reads_the_relation` (src/law.rt), and for Agrees.
 use Rattle.std.proofs.Common.{◌≡◌, ℕ, ◌<◌, ◌==◌, Bool, true, false, cond, List, [], ◌∷◌, ◌++◌, length, refl, ap, sym, ◌∙◌, subst, arith, append_assoc}
 use Rattle.std.specs.List.{All, flat_map}
 use Rattle.std.proofs.lemmas.Bool.{true≢false, eqb-true}
@@ -14,6 +15,7 @@ IsOne line = IsOneLine line.bytes
 
 -- From the lines to the text.
 
+-- The next two are the steps of `lines_written`: the last line, and a line with others after it.
 last_line : (bytes : List ℕ) (ended : Bool) → IsOneLine bytes → (ended ≡ false → 0 < length bytes) → lines_of (written (record { bytes = bytes; ended = ended }) ++ []) ≡ record { bytes = bytes; ended = ended } ∷ []
 last_line bytes true one some = ap lines_of (append-nil (bytes ++ 10 ∷ [])) ∙ line_ends bytes [] one
 last_line [] false one some = let none : 0 < 0 = some refl in absurd (omega arith)
@@ -53,6 +55,7 @@ line_first bs lines is = record {
     ends [] e = λ no_feed. absurd (true≢false no_feed)
     ends (next ∷ others) e = (refl, e)
 
+-- a byte put onto the first line leaves each line but the last with its line feed
 longer : (b : ℕ) (line : Line) (lines : List Line) → AreEnded (line ∷ lines) → AreEnded (onto_line b (line ∷ lines))
 longer b line [] e = λ no_feed. omega arith
 longer b line (next ∷ lines) e = e
@@ -70,6 +73,7 @@ byte_first b bs (line ∷ lines) e is = record {
   ended = longer b line lines is.ended;
 }
 
+-- one byte more in front of a text, whether or not it is a line feed
 next_byte : (test : Bool) (b : ℕ) (bs : List ℕ) (lines : List Line) → (b == 10) ≡ test → AreLines bs lines → AreLines (b ∷ bs) (cond test (empty_line ∷ lines) (onto_line b lines))
 next_byte true b bs lines e is =
     let same : b ≡ 10 = eqb-true b 10 e in
@@ -77,11 +81,11 @@ next_byte true b bs lines e is =
     subst P (sym same) (line_first bs lines is)
 next_byte false b bs lines e is = byte_first b bs lines e is
 
--- the reader's lines are lines of the text,
+-- the lines that the reader has are lines of the text by the relation
 pub own_lines : (text : List ℕ) → AreLines text (lines_of text)
 own_lines [] = record { text_is = refl; one_line = All-nil IsOne; ended = tt }
 own_lines (b ∷ bs) = next_byte (b == 10) b bs (lines_of bs) refl (own_lines bs)
 
--- and so are lines that are the same
+-- lines that are the reader's are lines of the text by the relation
 pub are_lines : (text : List ℕ) (lines : List Line) → lines_of text ≡ lines → AreLines text lines
 are_lines text lines e = let P : List Line → Type 0 = AreLines text in subst P e (own_lines text)

@@ -1,4 +1,5 @@
--- What a literal is made of.
+-- What holds of digits, the point and the signs holds of each byte of a literal. For Cuts and
+-- Heads.
 use Rattle.std.proofs.Common.{◌≡◌, ℕ, suc, ◌+◌, Bool, true, false, cond, not, ◌&&◌, List, [], ◌∷◌, take, drop, refl, arith}
 use Rattle.std.specs.Char.{is_ascii_digit}
 use Rattle.std.specs.List.{list_all, position_or_len, before_first, after_first}
@@ -12,6 +13,8 @@ module _ (test : ℕ → Bool) (digit : (b : ℕ) → is_ascii_digit b ≡ true 
   digits_pass [] e = refl
   digits_pass (b ∷ text) e = let p = both (is_ascii_digit b) (list_all is_ascii_digit text) e in rw (digit b p.0) (digits_pass text p.1)
 
+  -- The next two: a test that the digits of both parts pass, the text of digits and a point passes;
+  -- and a sign in front passes too.
   parts_pass : (text : List ℕ) → list_all is_ascii_digit (before_first is_point text) ≡ true → list_all is_ascii_digit (after_first is_point text) ≡ true → list_all test text ≡ true
   parts_pass [] p q = refl
   parts_pass (b ∷ text) p q = go (position_or_len is_point text) (is_point b) refl p q (parts_pass text)
@@ -35,7 +38,7 @@ module _ (test : ℕ → Bool) (digit : (b : ℕ) → is_ascii_digit b ≡ true 
       go true is h = rw (sign b is) h
       go false is h = h
 
-  -- and what holds also of signs and points holds of a literal
+  -- a test that digits, points and signs pass, each byte of a literal passes
   pub literal_pass : (text : List ℕ) → is_literal text ≡ true → list_all test text ≡ true
   literal_pass text e =
       let p = both (list_all is_ascii_digit (whole_part text) && list_all is_ascii_digit (fraction_part text)) _ e in

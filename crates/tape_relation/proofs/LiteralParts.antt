@@ -1,4 +1,5 @@
--- The parts of a literal, and what too many digits are.
+-- The parts of a literal, and what too many digits are, by the grammar and to the reader. For
+-- Values, Ranges, LongFronts and the files on sentences.
 use Rattle.std.proofs.Common.{◌≡◌, ◌==◌, ℕ, suc, ◌+◌, ◌<◌, ◌≤◌, Bool, true, false, not, ◌&&◌, ◌||◌, List, [], ◌∷◌, ◌++◌, length, ◌⊎◌, inl, inr, refl, sym, ap, subst, ◌∙◌, arith}
 use Rattle.std.specs.Prelude.{nat_lt}
 use Rattle.std.specs.Char.{is_ascii_digit}
@@ -18,28 +19,28 @@ use Rattle.tape_relation.specs.Numbers.{IsSign, IsWritten, IsLiteral, HasTooMany
 pub point_no_digit : (b : ℕ) → is_point b ≡ true → is_ascii_digit b ≡ false
 point_no_digit b is = grind (arith, nat_tests)
 
--- the digits before the point and those behind it
+-- the text has these digits before its point and these after it
 abbrev pub Parts : List ℕ → List ℕ → List ℕ → Type 0
 Parts text whole fraction = (before_first is_point text ≡ whole) × (after_first is_point text ≡ fraction)
 
--- one byte more in front
+-- a byte more in front that is no point is one more digit before the point
 pub parts_on : (b : ℕ) (text whole fraction : List ℕ) → is_point b ≡ false → Parts text whole fraction → Parts (b ∷ text) (b ∷ whole) fraction
 parts_on b text whole fraction off (w, f) =
     let one : 1 + position_or_len is_point text ≡ suc (position_or_len is_point text) = omega arith in
     let two : suc (position_or_len is_point text) + 1 ≡ suc (position_or_len is_point text + 1) = omega arith in
     (rw (off, one) (ap (λ (bs : List ℕ). b ∷ bs) w), rw (off, one) (rw two f))
 
--- digits alone have no fraction
+-- digits without a point are all before it
 pub parts_digits : (whole : List ℕ) → list_all is_ascii_digit whole ≡ true → Parts whole whole []
 parts_digits [] all = (refl, refl)
 parts_digits (b ∷ whole) all = let p = both (is_ascii_digit b) (list_all is_ascii_digit whole) all in parts_on b whole whole [] (digit_no_point b p.0) (parts_digits whole p.1)
 
--- with a point the rest is the fraction
+-- digits, a point and a rest have the rest after the point
 pub parts_point : (b : ℕ) (whole fraction : List ℕ) → is_point b ≡ true → list_all is_ascii_digit whole ≡ true → Parts (whole ++ b ∷ fraction) whole fraction
 parts_point b [] fraction is all = (rw is refl, rw is refl)
 parts_point b (d ∷ whole) fraction is all = let p = both (is_ascii_digit d) (list_all is_ascii_digit whole) all in parts_on d (whole ++ b ∷ fraction) whole fraction (digit_no_point d p.0) (parts_point b whole fraction is p.1)
 
--- a text is its digits, or digits, a point and what stands behind
+-- a text without a point, or a text before its first point, the point and the rest
 abbrev pub Split : List ℕ → Type 0
 Split text = ((before_first is_point text ≡ text) × (after_first is_point text ≡ [])) ⊎ ((b : ℕ) × (is_point b ≡ true) × (text ≡ before_first is_point text ++ b ∷ after_first is_point text))
 
@@ -55,7 +56,7 @@ split (b ∷ text) = go (is_point b) refl (split text)
         let p = parts_on b text (before_first is_point text) (after_first is_point text) e (refl, refl) in
         inr (c, is, ap (λ (bs : List ℕ). b ∷ bs) all ∙ ap (λ (bs : List ℕ). (b ∷ before_first is_point text) ++ c ∷ bs) (sym p.1) ∙ ap (λ (bs : List ℕ). bs ++ c ∷ after_first is_point (b ∷ text)) (sym p.0))
 
--- a text is its sign and what stands behind it
+-- a text with one sign or none in front, and the rest
 abbrev pub HasSign : List ℕ → Type 0
 HasSign text = (sign : List ℕ) × (text ≡ sign ++ behind_sign text) × IsSign sign
 
@@ -71,16 +72,17 @@ signed (b ∷ text) = go (b == 43) refl (b == 45) refl
 
 -- The parts that the grammar says.
 
--- the sign is a minus
+-- whether the sign is a minus
 abbrev pub is_minus : List ℕ → Bool
 is_minus [] = false
 is_minus (b ∷ text) = b == 45
 
--- the text begins with no sign
+-- the text does not begin with a sign
 abbrev NoSign : List ℕ → Type 0
 NoSign [] = Unit {0}
 NoSign (b ∷ text) = is_sign b ≡ false
 
+-- The next three: what the reader finds after a sign, and that digits or a point are no sign.
 behind_written : (sign text : List ℕ) → IsSign sign → NoSign text → (behind_sign (sign ++ text) ≡ text) × (has_minus (sign ++ text) ≡ is_minus sign)
 behind_written sign text (inl is) off = let P : List ℕ → Type 0 = λ s. (behind_sign (s ++ text) ≡ text) × (has_minus (s ++ text) ≡ is_minus s) in subst P (sym is) (alone text off)
   where
@@ -98,10 +100,13 @@ point_no_sign : (whole fraction : List ℕ) → list_all is_ascii_digit whole �
 point_no_sign [] fraction all = refl
 point_no_sign (d ∷ whole) fraction all = digit_no_sign d (both (is_ascii_digit d) (list_all is_ascii_digit whole) all).0
 
--- what the definitions of literals make of a text
+-- to nc_number's definitions, the text has these whole digits, these fraction digits and this sign
 pub record HasParts (text sign whole fraction : List ℕ) : Type 0 where
+  -- the digits before the point
   pub whole_is : whole_part text ≡ whole
+  -- the digits after the point
   pub fraction_is : fraction_part text ≡ fraction
+  -- it has a minus exactly if the sign is one
   pub minus_is : has_minus text ≡ is_minus sign
 
 -- a literal as it is written has these parts for the reader
@@ -120,6 +125,7 @@ written_parts text sign whole fraction w = go w.text_is
         let p = parts_point 46 whole fraction refl w.whole_are in
         record { whole_is = ap (before_first is_point) behind ∙ p.0; fraction_is = ap (after_first is_point) behind ∙ p.1; minus_is = ap has_minus is ∙ b.1 }
 
+-- These two: that there is a digit, as a test and as a fact.
 some_digit : (n : ℕ) → 0 < n → nat_lt 0 n ≡ true
 some_digit n some = grind (arith, nat_tests)
 
@@ -131,7 +137,7 @@ pub literal_read : (text : List ℕ) → IsLiteral text → is_literal text ≡ 
 literal_read text (sign, whole, fraction, w) =
     let p = written_parts text sign whole fraction w in rw (p.whole_is, p.fraction_is, w.whole_are, w.fraction_are, some_digit (length whole + length fraction) w.some) refl
 
--- a literal for the reader is written of its parts,
+-- a literal to the reader is written of the parts that the reader finds
 pub written : (text : List ℕ) → is_literal text ≡ true → (sign : List ℕ) × IsWritten text sign (whole_part text) (fraction_part text)
 written text is =
     let p = both (list_all is_ascii_digit (whole_part text) && list_all is_ascii_digit (fraction_part text)) (nat_lt 0 (length (whole_part text) + length (fraction_part text))) is in
@@ -143,11 +149,11 @@ written text is =
     go sign is (inl (w, f)) = inl (is ∙ ap (λ (bs : List ℕ). sign ++ bs) (sym w), f)
     go sign is (inr (b, point, all)) = inr (is ∙ ap (λ (bs : List ℕ). sign ++ bs) all ∙ ap (λ (k : ℕ). sign ++ (whole_part text ++ k ∷ fraction_part text)) (eqb-true b 46 point))
 
--- so it is one of the grammar
+-- a literal to the reader is a literal of the grammar
 pub literal_found : (text : List ℕ) → is_literal text ≡ true → IsLiteral text
 literal_found text is = let w = written text is in (w.0, whole_part text, fraction_part text, w.1)
 
--- what is no literal is none for the reader,
+-- a text that is no literal by the grammar is none to the reader
 pub no_literal_read : (text : List ℕ) → (IsLiteral text → ⊥) → is_literal text ≡ false
 no_literal_read text out = go (is_literal text) refl
   where
@@ -155,13 +161,13 @@ no_literal_read text out = go (is_literal text) refl
     go true e = absurd (out (literal_found text e))
     go false e = e
 
--- and the other way round
+-- a text that is no literal to the reader is none by the grammar
 pub no_literal_found : (text : List ℕ) → is_literal text ≡ false → IsLiteral text → ⊥
 no_literal_found text e is = let bad : true ≡ false = sym (literal_read text is) ∙ e in absurd cc
 
 -- Too many digits.
 
--- more digits have no fewer that count
+-- with more digits behind them, whole digits have no fewer that count
 pub significant_more : (whole more : List ℕ) → length (significant whole) ≤ length (significant (whole ++ more))
 significant_more [] more = omega arith
 significant_more (d ∷ whole) more = go (d == 48) refl (significant_more whole more)
@@ -173,10 +179,12 @@ significant_more (d ∷ whole) more = go (d == 48) refl (significant_more whole 
         rw (e, one, two) later
     go false e later = rw e (omega (arith, length-append whole more))
 
--- a digit that is not 0, and so many behind it
+-- the digits have one that is not 0, and so many or more after it
 abbrev HasDigits : List ℕ → ℕ → Type 0
 HasDigits whole n = (front : List ℕ) × (digit : ℕ) × (rest : List ℕ) × (whole ≡ front ++ digit ∷ rest) × ((digit == 48) ≡ false) × (n ≤ length rest)
 
+-- The next three: digits count from the first one on that is not 0, as the grammar says it and as
+-- the reader counts.
 significant_rest : (front : List ℕ) (digit : ℕ) (rest : List ℕ) → (digit == 48) ≡ false → length rest < length (significant (front ++ digit ∷ rest))
 significant_rest [] digit rest other = rw other (omega arith)
 significant_rest (d ∷ front) digit rest other = go (d == 48) refl (significant_rest front digit rest other)
@@ -198,7 +206,7 @@ rest_significant (d ∷ whole) n long = go (d == 48) refl long (rest_significant
         digit_before d whole n (later (rw (e, one) at h))
     go false e h later = let all : n < length (d ∷ whole) = rw e at h in ([], d, whole, refl, e, omega arith)
 
--- a literal of too many digits has too many for the reader,
+-- a literal of too many digits by the grammar has too many to the reader
 pub many_read : (text sign whole fraction : List ℕ) → IsWritten text sign whole fraction → HasTooMany whole fraction → has_too_many_digits text ≡ true
 many_read text sign whole fraction w many = let p = written_parts text sign whole fraction w in rw (p.whole_is, p.fraction_is) (go many)
   where
@@ -213,7 +221,7 @@ many_read text sign whole fraction w many = let p = written_parts text sign whol
         rw (lt_true 8 (length (significant whole)) (omega arith)) refl
     go (inr more) = right (nat_lt 8 (length (significant whole))) (nat_lt 6 (length fraction)) (lt_true 6 (length fraction) more)
 
--- and the other way round
+-- a literal of too many digits to the reader has too many by the grammar
 pub many_found : (text : List ℕ) → has_too_many_digits text ≡ true → HasTooMany (whole_part text) (fraction_part text)
 many_found text e = go (nat_lt 8 (length (significant (whole_part text)))) refl (nat_lt 6 (length (fraction_part text))) refl e
   where

@@ -1,5 +1,5 @@
--- A text begins with a literal of too many digits exactly where the longest literal that it begins
--- with has too many.
+-- A text begins with a literal of too many digits exactly if the longest literal that it begins
+-- with has too many: the grammar says the first, the reader asks the second. For LongNumbers.
 use Rattle.std.proofs.Common.{◌≡◌, ◌==◌, ℕ, zero, suc, ◌+◌, ◌≤◌, Bool, true, false, cond, ◌&&◌, ◌||◌, List, [], ◌∷◌, ◌++◌, length, take, drop, inl, inr, refl, sym, ap, subst, ◌∙◌, append-nil, append_assoc, arith}
 use Rattle.std.specs.Prelude.{nat_lt}
 use Rattle.std.specs.Char.{is_ascii_digit}
@@ -12,14 +12,16 @@ use Rattle.line_text.specs.Values.{digits_len, fraction_len, sign_len, unsigned_
 use Rattle.tape_relation.specs.Numbers.{BeginsLong}
 use Rattle.tape_relation.proofs.LiteralParts.{point_no_digit, Parts, parts_digits, parts_point, Split, split, significant_more, written, literal_read, many_read, many_found}
 
--- the digits that a text begins with, and what stands behind them
+-- the digits that a text begins with
 abbrev digits_of : List ℕ → List ℕ
 digits_of text = take (digits_len text) text
 
--- what stands behind the digits at the head
+-- what stands after the digits that a text begins with
 abbrev behind_digits : List ℕ → List ℕ
 behind_digits text = drop (digits_len text) text
 
+-- The next five are on the digits that a text begins with: a digit more in front, another byte, and
+-- digits alone.
 digit_on : (b : ℕ) (text : List ℕ) → is_ascii_digit b ≡ true → (digits_of (b ∷ text) ≡ b ∷ digits_of text) × (behind_digits (b ∷ text) ≡ behind_digits text)
 digit_on b text is = let one : 1 + digits_len text ≡ suc (digits_len text) = omega arith in (rw (is, one) refl, rw (is, one) refl)
 
@@ -46,16 +48,17 @@ only_digits digits all =
     let p = digits_front digits [] all in
     let none = append-nil digits in (sym (ap digits_of none) ∙ p.0 ∙ none, sym (ap behind_digits none) ∙ p.1)
 
--- the point and the digits that a text begins with
+-- the point that a text begins with and the digits after it, or nothing
 abbrev point_part : List ℕ → List ℕ
 point_part [] = []
 point_part (b ∷ text) = cond (b == 46) (b ∷ digits_of text) []
 
--- the digits behind a point at the head
+-- the digits after the point that a text begins with
 abbrev fraction_of : List ℕ → List ℕ
 fraction_of [] = []
 fraction_of (b ∷ text) = cond (b == 46) (digits_of text) []
 
+-- The next two: the front of a text taken in two parts, and a point with its digits taken.
 take_both : (m n : ℕ) (text : List ℕ) → take (m + n) text ≡ take m text ++ take n (drop m text)
 take_both zero n text = let none : zero + n ≡ n = omega arith in ap (λ (k : ℕ). take k text) none
 take_both (suc m) n [] = let more : suc m + n ≡ suc (m + n) = omega arith in ap (λ (k : ℕ). take k []) more ∙ sym (nothing n)
@@ -73,10 +76,11 @@ point_taken (b ∷ text) = go (b == 46) refl
     go true e = let one : 1 + digits_len text ≡ suc (digits_len text) = omega arith in rw e (ap (λ (k : ℕ). take k (b ∷ text)) one)
     go false e = rw e refl
 
--- a number without a sign that a text begins with
+-- the longest number without a sign that a text begins with
 abbrev unsigned_of : List ℕ → List ℕ
 unsigned_of text = take (unsigned_len text) text
 
+-- The next two: that number is digits, a point and digits, and its parts are these.
 unsigned_parts : (text : List ℕ) → unsigned_of text ≡ digits_of text ++ point_part (behind_digits text)
 unsigned_parts text = take_both (digits_len text) (fraction_len (behind_digits text)) text ∙ ap (λ (bs : List ℕ). digits_of text ++ bs) (point_taken (behind_digits text))
 
@@ -91,14 +95,16 @@ parts_of text = go (behind_digits text)
         at true e = parts_point b (digits_of text) (digits_of behind) e (digits_all text)
         at false e = let P : List ℕ → Type 0 = λ bs. Parts bs (digits_of text) [] in subst P (sym (append-nil (digits_of text))) (parts_digits (digits_of text) (digits_all text))
 
--- a literal, and one of too many digits, by its parts
+-- whether whole digits and fraction digits make a literal
 abbrev lit : List ℕ → List ℕ → Bool
 lit whole fraction = (list_all is_ascii_digit whole && list_all is_ascii_digit fraction) && nat_lt 0 (length whole + length fraction)
 
--- there are too many digits: more than 8 that count, or more than 6 behind the point
+-- whether digits are too many: more than 8 whole ones, zeros in front not counted, or more than 6
+-- of the fraction
 abbrev big : List ℕ → List ℕ → Bool
 big whole fraction = nat_lt 8 (length (significant whole)) || nat_lt 6 (length fraction)
 
+-- The next two: with more digits it is still a literal, and still too long.
 some_more : (whole fraction w f : List ℕ) → length whole ≤ length w → length fraction ≤ length f → list_all is_ascii_digit w ≡ true → list_all is_ascii_digit f ≡ true → lit whole fraction ≡ true → lit w f ≡ true
 some_more whole fraction w f p q dw df is =
     let some : nat_lt 0 (length whole + length fraction) ≡ true = (both (list_all is_ascii_digit whole && list_all is_ascii_digit fraction) (nat_lt 0 (length whole + length fraction)) is).1 in
@@ -123,10 +129,12 @@ big_more whole fraction w f p q is = go (nat_lt 8 (length (significant whole))) 
     go false x true y h = right (nat_lt 8 (length (significant w))) (nat_lt 6 (length f)) (grown 6 (length fraction) (length f) q y)
     go false x false y h = absurd cc
 
--- the parts of the longest number that a text begins with
+-- the longest number that a text begins with has at least the digits of a number at its front
 abbrev IsGrown : List ℕ → List ℕ → Type 0
 IsGrown number text = (length (before_first is_point number) ≤ length (digits_of text)) × ((length (significant (before_first is_point number)) ≤ length (significant (digits_of text))) × (length (after_first is_point number) ≤ length (fraction_of (behind_digits text))))
 
+-- The next three: the longest number has all digits of any number at the front, so it has too many
+-- if that one has.
 fraction_digits : (text : List ℕ) → list_all is_ascii_digit (fraction_of text) ≡ true
 fraction_digits [] = refl
 fraction_digits (b ∷ text) = go (b == 46)
@@ -178,6 +186,7 @@ unsigned_long number more is over =
 
 -- With a sign, or none.
 
+-- The next four: a text with a sign or none, and the longest number that it begins with.
 cut_at : (n : ℕ) (text : List ℕ) → text ≡ take n text ++ drop n text
 cut_at zero text = refl
 cut_at (suc n) [] = refl
@@ -203,7 +212,7 @@ sign_before (b ∷ number) rest is-lit = go (is_sign b) refl
     go true e = rw e refl
     go false e = rw e refl
 
--- a text that begins with a literal of too many digits has a long front for the reader,
+-- a text that begins with a literal of too many digits has a long front to the reader
 pub front_read : (text : List ℕ) → BeginsLong text → has_long_front text ≡ true
 front_read text (number, rest, is, (sign, w, f, number-is, many)) =
     let lit-is : is_literal number ≡ true = literal_read number (sign, w, f, number-is) in
@@ -211,12 +220,13 @@ front_read text (number, rest, is, (sign, w, f, number-is, many)) =
     let u : behind_sign (number_front text) ≡ unsigned_of (behind_sign number ++ rest) = front_unsigned text ∙ ap (λ (bs : List ℕ). unsigned_of (behind_sign bs)) is ∙ ap unsigned_of (sign_before number rest lit-is) in
     ap (λ (bs : List ℕ). lit (before_first is_point bs) (after_first is_point bs) && big (before_first is_point bs) (after_first is_point bs)) u ∙ unsigned_long (behind_sign number) rest lit-is over
 
--- and the other way round
+-- a text with a long front to the reader begins with a literal of too many digits
 pub front_found : (text : List ℕ) → has_long_front text ≡ true → BeginsLong text
 front_found text e =
     let n : ℕ = sign_len text + unsigned_len (drop (sign_len text) text) in
     let p = both (is_literal (number_front text)) (has_too_many_digits (number_front text)) e in let w = written (number_front text) p.0 in (take n text, drop n text, cut_at n text, (w.0, whole_part (number_front text), fraction_part (number_front text), w.1, many_found (number_front text) p.1))
 
+-- a literal without a sign is the longest number that it begins with
 whole_unsigned : (text : List ℕ) → lit (before_first is_point text) (after_first is_point text) ≡ true → unsigned_of text ≡ text
 whole_unsigned text is = go (split text)
   where
@@ -238,7 +248,7 @@ whole_unsigned text is = go (split text)
         let tail : point_part (behind_digits text) ≡ b ∷ f = ap point_part behind ∙ rw point (ap (λ (bs : List ℕ). b ∷ bs) (only_digits f digits.1).0) in
         unsigned_parts text ∙ ap (λ (bs : List ℕ). bs ++ point_part (behind_digits text)) first ∙ ap (λ (bs : List ℕ). w ++ bs) tail ∙ sym all
 
--- a literal that begins with one of too many digits has too many
+-- a literal that begins with one of too many digits has too many itself
 pub literal_long : (text : List ℕ) → is_literal text ≡ true → BeginsLong text → has_too_many_digits text ≡ true
 literal_long text lit-text (number, rest, is, (sign, w, f, number-is, many)) =
     let lit-is : is_literal number ≡ true = literal_read number (sign, w, f, number-is) in

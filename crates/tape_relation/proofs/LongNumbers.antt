@@ -1,6 +1,6 @@
--- A number of too many digits by the grammar is one for the reader.
--- Lemmas in `_read` go from the grammar to the reader, those in `_found` from the reader to the
--- grammar.
+-- A line has a sequence number or an O number of too many digits by the grammar exactly if it has
+-- one to the reader. Lemmas in `_read` go from the grammar to the reader, those in `_found` from
+-- the reader to the grammar. For Steps, the condition of refusal 5.
 use Rattle.std.proofs.Common.{◌≡◌, ◌==◌, ℕ, suc, ◌+◌, ◌-◌, Bool, true, false, cond, ◌&&◌, ◌||◌, List, [], ◌∷◌, ◌++◌, length, map, take, drop, Option, Some, None, ◌⊎◌, inl, inr, refl, sym, ap, subst, ◌∙◌, append-nil, append_assoc, arith}
 use Rattle.std.specs.Prelude.{is_some}
 use Rattle.std.specs.Char.{is_ascii_uppercase}
@@ -35,6 +35,7 @@ use Rattle.tape_relation.proofs.LineRead.{scan, reading, is_off}
 
 -- A number does not go on where none can.
 
+-- the bytes of two lists of signs, one after the other
 bytes_both : (a b : List Sign) → bytes_of (a ++ b) ≡ bytes_of a ++ bytes_of b
 bytes_both [] b = refl
 bytes_both (sign ∷ a) b = ap (λ (bs : List ℕ). sign.byte ∷ bs) (bytes_both a b)
@@ -52,6 +53,8 @@ number_in_front (sign ∷ front) tail (n ∷ number) rest is all stops =
     let later = number_in_front front tail number rest behind (both (number_byte n) (list_all number_byte number) all).1 stops in
     (later.0, ap (λ (b : ℕ). b ∷ bytes_of front) same ∙ ap (λ (bs : List ℕ). n ∷ bs) later.1)
 
+-- The next five: a number of too many digits stands whole before signs that no literal goes on
+-- into, and words and comments are such signs.
 long_in_front : (front tail : List Sign) → Stops tail → BeginsLong (bytes_of (front ++ tail)) → BeginsLong (bytes_of front)
 long_in_front front tail stops (number, rest, is, (sign, whole, fraction, written, many)) =
     let p = number_in_front front tail number rest (sym (bytes_both front tail) ∙ is) (literal_bytes number (literal_read number (sign, whole, fraction, written))) stops in
@@ -82,10 +85,11 @@ number_run (sign ∷ signs) = go (is_number_sign sign) refl (number_run signs)
 
 -- From the grammar to the reader.
 
--- N or O
+-- the letter is N (78) or O (79)
 abbrev IsNumbering : ℕ → Type 0
 IsNumbering b = (b ≡ 78) ⊎ (b ≡ 79)
 
+-- The next two: what holds of N and of O holds of such a letter, and no statement begins with one.
 numbering_is : (P : ℕ → Type 0) (b : ℕ) → P 78 → P 79 → IsNumbering b → P b
 numbering_is P b n o (inl e) = subst P (sym e) n
 numbering_is P b n o (inr e) = subst P (sym e) o
@@ -100,10 +104,12 @@ no_statement_here letter rest is =
     ap is_statement text ∙ not_statement (letter.byte ∷ sentence_of rest)
     (λ s. let wrong : true ≡ false = sym (numbering_is O letter.byte refl refl is) ∙ first_is N letter.byte (sentence_of rest) refl refl refl refl refl refl s in absurd cc)
 
--- one of the words up to the first broken one has too many digits
+-- whether one of the words, up to and with the first broken one, is a number of too many digits
 abbrev long_pieces : List Piece → Bool
 long_pieces pieces = list_any is_long (take (prefix_len is_sound pieces + 1) pieces)
 
+-- The next four: an N or O with too many digits after words makes the pieces, the words and the
+-- block long to the reader; `stops_behind` says that N or O ends a literal.
 long_behind : (words : List Piece) (piece : Piece) (others : List Piece) → list_all is_sound words ≡ true → is_long piece ≡ true → long_pieces (words ++ piece ∷ others) ≡ true
 long_behind [] piece others all long = go (prefix_len is_sound (piece ∷ others))
   where
@@ -161,13 +167,14 @@ block_long slash front [] letter rest are is begins =
         rw e (literal_long (bytes_of (number_part rest)) lit number)
     go false e = rw (e, no_statement_here letter rest is) (pieces_long slash [] [] letter rest refl is begins)
 
--- the first sign behind the comments is a letter
+-- the first sign of words, or of the letter if there are none, is a capital letter
 front_first : (front : List Sign) (words : List Piece) (letter : Sign) (rest : List Sign) → AreWords front words → IsNumbering letter.byte → (first : Sign) × (more : List Sign) × (front ++ letter ∷ rest ≡ first ∷ more) × (is_ascii_uppercase first.byte ≡ true)
 front_first front [] letter rest are is =
     let U : ℕ → Type 0 = λ b. is_ascii_uppercase b ≡ true in (letter, rest, ap (λ (ss : List Sign). ss ++ letter ∷ rest) are, numbering_is U letter.byte refl refl is)
 front_first front (word ∷ words) letter rest (first, value, comments, others, front-is, up, val, no_remark, all, word-is, more) is =
     (first, (value ++ (comments ++ others)) ++ letter ∷ rest, ap (λ (ss : List Sign). ss ++ letter ∷ rest) front-is, up)
 
+-- signs with such a number are long to the reader, and their block is not skipped
 long_signs : (skips : ℕ) (signs : List Sign) → IsLong skips signs → ((read_head (behind_comments signs)).long ≡ true) × (is_skipped skips (switch_of (behind_comments signs)) ≡ false)
 long_signs skips signs l =
     let block : List Sign = l.front ++ l.letter ∷ l.rest in
@@ -182,7 +189,7 @@ long_signs skips signs l =
       ap (λ (ss : List Sign). is_skipped skips (switch_of ss)) whole ∙ ap (is_skipped skips) p.0 ∙ same_off skips l.skip ∙ l.on,
     )
 
--- a line with such a number is long for the reader, and not skipped,
+-- a line with such a number by the grammar is long to the reader, and its block is not skipped
 pub long_read : (skips : ℕ) (line : Line) → HasLongNumber skips line → ((reading line).long ≡ true) × (is_off skips line ≡ false)
 long_read skips line (signs, are, is) =
     let P : List Sign → Type 0 = λ ss. ((read_head (behind_comments ss)).long ≡ true) × (is_skipped skips (switch_of (behind_comments ss)) ≡ false) in
@@ -190,14 +197,16 @@ long_read skips line (signs, are, is) =
 
 -- From the reader to the grammar.
 
--- behind words stands a long number
+-- words, and then N or O with a literal of too many digits
 abbrev LongBehind : List Sign → Type 0
 LongBehind signs = (front : List Sign) × (letter : Sign) × (rest : List Sign) × (words : List Piece) × (signs ≡ front ++ letter ∷ rest) × AreWords front words × IsNumbering letter.byte × BeginsLong (bytes_of rest)
 
--- groups that are words, and then one with a long number
+-- groups that are whole words, and then one with a number of too many digits
 abbrev LongGroup : List Group → Type 0
 LongGroup groups = (front : List Group) × (group : Group) × (back : List Group) × (groups ≡ front ++ group ∷ back) × (list_all is_sound (map piece_of front) ≡ true) × (is_long (piece_of group) ≡ true)
 
+-- The lemmas from here on go back: pieces, words and blocks that are long to the reader have such a
+-- number after words.
 long_group : (groups : List Group) → long_pieces (map piece_of groups) ≡ true → LongGroup groups
 long_group [] e = absurd cc
 long_group (group ∷ groups) e = go (is_sound (piece_of group)) refl e (long_group groups)
@@ -324,7 +333,7 @@ long_behind_comments skips before (sign ∷ rest) all e on = go (sign.byte == 47
             at true f h on = let p = digit_is d.byte f in behind_head skips before (sign ∷ (d ∷ [])) more (Some (d.byte - 48)) all (named sign d (d.byte - 48) (eqb-true sign.byte 47 s) p.0 p.1.0 p.1.1) on h
             at false f h on = behind_head skips before (sign ∷ []) (d ∷ more) (Some 1) all (alone sign (eqb-true sign.byte 47 s)) on h
 
--- and the other way round
+-- a line that is long to the reader and not skipped has such a number by the grammar
 pub long_found : (skips : ℕ) (line : Line) → (reading line).long ≡ true → is_off skips line ≡ false → HasLongNumber skips line
 long_found skips line e on =
     let signs : List Sign = (scan line).list in

@@ -1,4 +1,5 @@
--- What one line of a text changes.
+-- What changes in the answer of a text if one of its lines is replaced or taken out. For the laws
+-- of edits (src/edits.rt), by way of Removed, Returns and Blanked.
 use Rattle.std.proofs.Common.{◌≡◌, ℕ, ◌+◌, ◌-◌, ◌≤◌, ◌<◌, Bool, true, false, cond, List, [], ◌∷◌, ◌++◌, length, map, Ok, Err, refl, sym, ap, ◌∙◌, append-nil, length-append, arith}
 use Rattle.std.proofs.lemmas.Bool.{lt-ltb, le-ltb}
 use Rattle.std.specs.List.{AllZip}
@@ -24,6 +25,7 @@ same_line line = line
 abbrev same_word : Word → Word
 same_word word = word
 
+-- The next three: a body, blocks and programs of which nothing is changed.
 body_unchanged : (body : Body) → changed_body same_word body ≡ body
 body_unchanged (Words words) = ap Words (map-id words)
 body_unchanged (Statement text) = refl
@@ -36,27 +38,28 @@ programs_unchanged : (programs : List Program) → map (changed_program same_lin
 programs_unchanged [] = refl
 programs_unchanged (program ∷ programs) = λ i. record program { blocks = blocks_unchanged program.blocks i } ∷ programs_unchanged programs i
 
--- an answer with these programs
+-- the answer with these programs
 abbrev taped : List Program → Answer
 taped programs = Ok programs
 
--- an answer of which nothing is changed
+-- an answer of which nothing is changed is itself
 pub unchanged : (answer : Answer) → changed same_line same_word answer ≡ answer
 unchanged (Ok programs) = ap taped (programs_unchanged programs)
 unchanged (Err fault) = refl
 
--- texts of which the lines are alike
+-- lines of two texts, one by one, as rows
 abbrev zip_rows : List Line → List Line → List Row
 zip_rows [] ys = []
 zip_rows (x ∷ xs) [] = []
 zip_rows (x ∷ xs) (y ∷ ys) = Both x y ∷ zip_rows xs ys
 
--- two lists of lines as one list of rows
+-- two lists of lines that say the same one by one, as rows
 record AreZipped (skips : ℕ) (xs ys : List Line) : Type 0 where
   firsts_are : firsts (zip_rows xs ys) ≡ xs
   seconds_are : seconds (zip_rows xs ys) ≡ ys
   rows : (m : ℕ) → Rows skips same_line same_line same_word m m (zip_rows xs ys)
 
+-- The next two: lines that are alike say the same, and so do all rows of them.
 say_alike : (skips : ℕ) (x y : Line) → IsAlike skips x y → SayAlike skips same_word x y
 say_alike skips x y alike = record { says = λ other. ap (changed_says same_word) (alike.says other); percent = alike.percent; long = alike.long }
 
@@ -72,7 +75,7 @@ zipped skips (x ∷ xs) (y ∷ ys) alike =
       rows = λ m. (refl, say_alike skips x y alike.0, later.rows (m + 1));
     }
 
--- the answers to texts, from their lines
+-- two texts whose rows say the same have the same answer, as far as it is looked at
 texts_alike : (skips : ℕ) (f g : ℕ → ℕ) (w : Word → Word) (a b : List ℕ) (rows : List Row) → firsts rows ≡ lines_of a → seconds rows ≡ lines_of b → f 0 ≡ g 0 → f 1 ≡ g 1 → Rows skips f g w 0 0 rows → Fits a → Fits b
     → changed f w (tape_of skips a) ≡ changed g w (tape_of skips b)
 unfolding tape_of
@@ -88,11 +91,12 @@ lines_alike skips a b fits_a fits_b alike =
     let z = zipped skips (lines_of a) (lines_of b) alike in
     sym (unchanged (tape_of skips a)) ∙ texts_alike skips same_line same_line same_word a b (zip_rows (lines_of a) (lines_of b)) z.firsts_are z.seconds_are refl refl (z.rows 0) fits_a fits_b ∙ unchanged (tape_of skips b)
 
--- the same lines in both texts, before these rows
+-- rows with the same lines of both texts in front
 abbrev same_front : List Line → List Row → List Row
 same_front [] rows = rows
 same_front (line ∷ lines) rows = Both line line ∷ same_front lines rows
 
+-- The next three: the lines of rows with the same lines in front, and that such rows say the same.
 firsts_front : (lines : List Line) (rows : List Row) → firsts (same_front lines rows) ≡ lines ++ firsts rows
 firsts_front [] rows = refl
 firsts_front (line ∷ lines) rows = ap (λ (ls : List Line). line ∷ ls) (firsts_front lines rows)
@@ -114,7 +118,7 @@ rows_front skips f g w (line ∷ lines) m n rows numbers behind = (
 abbrev ended : List ℕ → Line
 ended line = record { bytes = line; ended = true }
 
--- a line without one
+-- a line without a line feed
 abbrev last : List ℕ → Line
 last line = record { bytes = line; ended = false }
 
@@ -122,6 +126,7 @@ last line = record { bytes = line; ended = false }
 around_is : (front line back : List ℕ) → are_whole front ≡ true → IsOneLine line → lines_of front ++ (ended line ∷ (lines_of back ++ [])) ≡ lines_of (front ++ (line ++ 10 ∷ back))
 around_is front line back whole one = ap (λ (ls : List Line). lines_of front ++ (ended line ∷ ls)) (append-nil (lines_of back)) ∙ sym (lines_around front line back whole one)
 
+-- The next three: numbers of lines after one is taken out, and that a text with a byte has a line.
 lower_same : (before line : ℕ) → line ≤ before → line ≡ lower before line
 lower_same before line h = ap (λ (t : Bool). cond t (line - 1) line) (sym (le-ltb before line h))
 
@@ -138,7 +143,8 @@ some_lines text some = go (lines_of text) (size_of_lines text)
     go [] e = absurd (omega arith)
     go (line ∷ lines) e = omega arith
 
--- one line is put in another's place
+-- if a line is replaced by one that says the same but for its words, the answer is the same but for
+-- them
 pub line_in_place : (skips : ℕ) (w : Word → Word) (front x y back : List ℕ) → are_whole front ≡ true → IsOneLine x → IsOneLine y → SayAlike skips w (record { bytes = x; ended = true }) (record { bytes = y; ended = true })
     → Fits (front ++ (x ++ 10 ∷ back)) → Fits (front ++ (y ++ 10 ∷ back)) → changed same_line w (tape_of skips (front ++ (x ++ 10 ∷ back))) ≡ changed same_line w (tape_of skips (front ++ (y ++ 10 ∷ back)))
 line_in_place skips w front x y back whole one_x one_y alike fits_x fits_y =
@@ -152,14 +158,15 @@ line_in_place skips w front x y back whole one_x one_y alike fits_x fits_y =
     (λ i j p q. (ap (λ (n : ℕ). n + 1) (p ∙ sym q), alike, rows_front skips same_line same_line w (lines_of back) (i + 1) (j + 1) [] (λ m n k small s t. omega arith) (λ m n s t. omega arith))))
     fits_x fits_y
 
--- a line in place of one that is alike leaves the answer
+-- if a line is replaced by one that is alike, the answer is the same
 pub alike_in_place : (skips : ℕ) (front x y back : List ℕ) → are_whole front ≡ true → IsOneLine x → IsOneLine y → IsAlike skips (record { bytes = x; ended = true }) (record { bytes = y; ended = true })
     → Fits (front ++ (x ++ 10 ∷ back)) → Fits (front ++ (y ++ 10 ∷ back)) → tape_of skips (front ++ (x ++ 10 ∷ back)) ≡ tape_of skips (front ++ (y ++ 10 ∷ back))
 alike_in_place skips front x y back whole one_x one_y alike fits_x fits_y =
     sym (unchanged (tape_of skips (front ++ (x ++ 10 ∷ back)))) ∙ line_in_place skips same_word front x y back whole one_x one_y (say_alike skips (ended x) (ended y) alike) fits_x fits_y
     ∙ unchanged (tape_of skips (front ++ (y ++ 10 ∷ back)))
 
--- the last line without a line feed is put in another's place
+-- if the last line, without a line feed, is replaced by one that says the same but for its words,
+-- the answer is the same but for them
 pub last_in_place : (skips : ℕ) (w : Word → Word) (front x y : List ℕ) → are_whole front ≡ true → IsOneLine x → IsOneLine y → 0 < length x → 0 < length y → SayAlike skips w (record { bytes = x; ended = false }) (record { bytes = y; ended = false })
     → Fits (front ++ x) → Fits (front ++ y) → changed same_line w (tape_of skips (front ++ x)) ≡ changed same_line w (tape_of skips (front ++ y))
 last_in_place skips w front x y whole one_x one_y some_x some_y alike fits_x fits_y =
@@ -170,7 +177,8 @@ last_in_place skips w front x y whole one_x one_y some_x some_y alike fits_x fit
     (rows_front skips same_line same_line w (lines_of front) 0 0 rows (λ i j k small p q. p ∙ sym q) (λ i j p q. let e : i + 1 ≡ j + 1 = omega arith in (e, alike, e)))
     fits_x fits_y
 
--- a line that says nothing is taken out
+-- a line that says nothing may be taken out, if lines stand before it: the later ones are numbered
+-- one less
 pub line_taken_out : (skips : ℕ) (front line back : List ℕ) → are_whole front ≡ true → 0 < length front → IsOneLine line → SaysNothing skips (record { bytes = line; ended = true })
     → Fits (front ++ (line ++ 10 ∷ back)) → tape_of skips (front ++ back) ≡ lowered (length (lines_of front)) (tape_of skips (front ++ (line ++ 10 ∷ back)))
 line_taken_out skips front line back whole some one nothing fits =
@@ -188,7 +196,7 @@ line_taken_out skips front line back whole some one nothing fits =
     (λ i j p q. (nothing, rows_front skips same_line (lower before) same_word (lines_of back) i (j + 1) [] (λ m n k small s t. lower_more before m n (omega arith) (omega arith)) (λ m n s t. lower_more before m n (omega arith) (omega arith)))))
     shorter fits
 
--- a last line that says nothing may be taken out
+-- a last line that says nothing may be taken out, if lines stand before it
 pub last_taken_out : (skips : ℕ) (front line : List ℕ) → are_whole front ≡ true → 0 < length front → IsOneLine line → 0 < length line → SaysNothing skips (record { bytes = line; ended = false })
     → Fits (front ++ line) → tape_of skips front ≡ lowered (length (lines_of front)) (tape_of skips (front ++ line))
 last_taken_out skips front line whole some one some_line nothing fits =

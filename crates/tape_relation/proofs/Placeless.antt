@@ -1,7 +1,6 @@
--- What a line says depends on the bytes of its signs; only the places of its words depend on
--- theirs.
--- Each lemma whose name ends in `_bare` says that one step of the reader gives the same with signs
--- or words whose places are 0.
+-- What a line says depends on the bytes of its signs; only the places of its words depend on the
+-- places of signs. Each lemma in `_bare` says that one step of the reader gives the same with signs
+-- or words whose places are 0. For Blanked.
 use Rattle.std.proofs.Common.{◌≡◌, ◌==◌, ℕ, ◌+◌, Bool, true, false, cond, not, ◌&&◌, List, [], ◌∷◌, length, map, take, drop, Option, None, refl, sym, ap, ◌∙◌}
 use Rattle.std.specs.Prelude.{filter}
 use Rattle.std.specs.Option.{is_some}
@@ -28,26 +27,27 @@ use Rattle.tape_relation.proofs.LineByLine.{changed_said, changed_says}
 use Rattle.line_text.proofs.Judged.{least}
 use Rattle.tape_relation.proofs.Mapped.{either_map, prefix_same, any_same, filter_same}
 
--- a sign, a word and a reading without places
+-- a sign with the place 0
 abbrev unplaced : Sign → Sign
 unplaced sign = record { place = 0; byte = sign.byte }
 
--- signs without their places
+-- signs with the place 0
 abbrev bare : List Sign → List Sign
 bare signs = map unplaced signs
 
--- a word without its place
+-- a word with the places 0
 abbrev bare_piece : Piece → Piece
 bare_piece piece = record piece { start = 0; end = 0 }
 
--- what was read, without the places of words
+-- a reading whose words have the places 0
 abbrev bare_reading : Reading → Reading
 bare_reading reading = record reading { said = changed_said without_place reading.said }
 
 bytes_bare : (signs : List Sign) → bytes_of (bare signs) ≡ bytes_of signs
 bytes_bare signs = map-map (λ (sign : Sign). sign.byte) unplaced signs
 
--- the head of a block
+-- The head of a block: comments, the skip sign, N and its literal, and statements with it or
+-- without.
 comments_bare : (signs : List Sign) → behind_comments (bare signs) ≡ bare (behind_comments signs)
 comments_bare signs = ap (λ (n : ℕ). drop n (bare signs)) (prefix_same unplaced is_comment (λ x. refl) signs) ∙ drop-map unplaced (prefix_len is_comment signs) signs
 
@@ -96,14 +96,15 @@ read_statement_bare : (signs : List Sign) → bare_reading (read_statement (bare
 unfolding read_statement
 read_statement_bare signs = rw (sentence_bare signs) refl
 
--- words
+-- a letter and the signs after it, with the place 0
 abbrev bare_group : Group → Group
 bare_group group = record { letter = unplaced group.letter; value = bare group.value }
 
--- a cut into words without their places
+-- a cut whose signs have the place 0
 abbrev bare_cut : Cut → Cut
 bare_cut cut = record { lead = bare cut.lead; groups = map bare_group cut.groups }
 
+-- From here to `read_words_bare`: how words are cut, and what they say.
 add_bare : (begins : Bool) (sign : Sign) (cut : Cut) → add_to_cut begins (unplaced sign) (bare_cut cut) ≡ bare_cut (add_to_cut begins sign cut)
 add_bare true sign cut = refl
 add_bare false sign cut = refl
@@ -183,7 +184,7 @@ read_words_bare slash signs =
     either true = sym (read_pieces_bare slash (pieces_of (bare signs))) ∙ ap (read_pieces slash) (pieces_bare signs) ∙ read_pieces_bare slash (pieces_of signs)
     either false = refl
 
--- a block
+-- a choice of three readings is the same without places if each reading is
 choice : (t u : Bool) (a b c d e f : Reading) → bare_reading a ≡ bare_reading d → bare_reading b ≡ bare_reading e → bare_reading c ≡ bare_reading f → bare_reading (cond t a (cond u b c)) ≡ bare_reading (cond t d (cond u e f))
 choice true u a b c d e f p q r = p
 choice false true a b c d e f p q r = q
@@ -202,7 +203,7 @@ read_head_bare (sign ∷ signs) =
     let behind = ap behind_comments (behind_switch_bare (sign ∷ signs)) ∙ comments_bare (behind_switch (sign ∷ signs)) in
     (λ i. bare_reading (read_block (is_some (switch_bare (sign ∷ signs) i)) (behind i))) ∙ read_block_bare (is_some (switch_of (sign ∷ signs))) (behind_comments (behind_switch (sign ∷ signs)))
 
--- a line
+-- From here: a whole line.
 least_bare : (t u v w x : Bool) (what : Said) → changed_says without_place (least t u v w x what) ≡ least t u v w x (changed_said without_place what)
 least_bare true u v w x what = refl
 least_bare false true v w x what = refl
@@ -231,7 +232,7 @@ bare_from_bytes xs ys e = sym (map-map at_start (λ (sign : Sign). sign.byte) xs
     at_start : ℕ → Sign
     at_start b = record { place = 0; byte = b }
 
--- lines with the same text say the same but for places
+-- lines with the same text say the same, or have the same refusal, but for the places of words
 pub same_text_says : (skips : ℕ) (a b : Scan) → IsSameText a b → changed_says without_place (judged_signs skips a) ≡ changed_says without_place (judged_signs skips b)
 same_text_says skips a b same =
     signs_bare skips a.list a.unclosed

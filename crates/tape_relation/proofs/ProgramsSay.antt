@@ -1,6 +1,6 @@
--- The programs of the relation are those that the reader's lines say.
--- Lemmas in `_read` go from the relation to the reader, those in `_found` from the reader to the
--- relation.
+-- The programs of the relation are those that the reader's lines say. Lemmas in `_read` go from the
+-- relation to the reader, those in `_found` from the reader to the relation. For Agrees and
+-- OneAnswer.
 use Rattle.std.proofs.Common.{◌≡◌, ◌==◌, ℕ, ◌+◌, Bool, true, false, cond, List, [], ◌∷◌, ◌++◌, length, Option, Some, None, ◌⊎◌, inl, inr, refl, sym, ap, subst, ◌∙◌}
 use Rattle.std.specs.Prelude.{is_some}
 use Rattle.std.specs.List.{list_all, list_any}
@@ -33,6 +33,7 @@ use Rattle.tape_relation.proofs.LineSays.{numbering_read, numbering_found, says_
 
 -- The sequence number of a block.
 
+-- These two: a word is no sequence number to the reader exactly if it is none by the relation.
 no_numbering : (word : Piece) → is_sequence word ≡ false → IsNumbering word → ⊥
 no_numbering word e is = let bad : true ≡ false = sym (numbering_read word is) ∙ e in absurd cc
 
@@ -43,18 +44,19 @@ not_numbering word out = go (is_sequence word) refl
     go true e = absurd (out (numbering_found word e))
     go false e = e
 
--- words without a sequence number have none for the reader,
+-- words without a sequence number by the relation have none to the reader
 no_number_read : (words : List Piece) → HasNoNumber words → list_any is_sequence words ≡ false
 no_number_read [] all = refl
 no_number_read (word ∷ words) all =
     rw (not_numbering word (All-head (λ (w : Piece). IsNumbering w → ⊥) word words all)) (no_number_read words (All-tail (λ (w : Piece). IsNumbering w → ⊥) word words all))
 
--- and the other way round
+-- words without a sequence number to the reader have none by the relation
 no_number_found : (words : List Piece) → list_any is_sequence words ≡ false → HasNoNumber words
 no_number_found [] off = All-nil (λ (w : Piece). IsNumbering w → ⊥)
 no_number_found (word ∷ words) off =
     let p = or_parts (is_sequence word) (list_any is_sequence words) off in All-cons (λ (w : Piece). IsNumbering w → ⊥) word words (no_numbering word p.0) (no_number_found words p.1)
 
+-- The next two: the last sequence number of a front and a rest, and of words without one.
 sequence_front : (front rest : List Piece) (before : Option ℕ) → sequence_from before (front ++ rest) ≡ sequence_from (sequence_from before front) rest
 sequence_front [] rest before = refl
 sequence_front (word ∷ front) rest before = sequence_front front rest (cond (is_sequence word) (number_in 0 99999 word.text) before)
@@ -63,14 +65,15 @@ sequence_none : (words : List Piece) (before : Option ℕ) → list_any is_seque
 sequence_none [] before off = refl
 sequence_none (word ∷ words) before off = let p = or_parts (is_sequence word) (list_any is_sequence words) off in rw p.0 (sequence_none words before p.1)
 
--- the last sequence number is the one that the reader takes,
+-- the last sequence number by the relation is the one that the reader takes
 sequence_read : (words : List Piece) (number : Option (List ℕ)) (sequence : Option ℕ) → IsLastNumber words number → IsSequence number sequence → sequence_from None words ≡ sequence
 sequence_read words None sequence off is = sequence_none words None (no_number_read words off) ∙ sym is
 sequence_read words (Some text) sequence (front, word, back, is, numbering, text-is, off) (n, sequence-is, number) =
     let last : sequence_from (cond (is_sequence word) (number_in 0 99999 word.text) (sequence_from None front)) back ≡ number_in 0 99999 word.text = rw (numbering_read word numbering) (sequence_none back (number_in 0 99999 word.text) (no_number_read back off)) in
     ap (sequence_from None) is ∙ sequence_front front (word ∷ back) None ∙ last ∙ ap (number_in 0 99999) (sym text-is) ∙ number_read 0 99999 text n (sequence_number text n number) ∙ sym sequence-is
 
--- the words of a block, without its sequence numbers
+-- The next two: the words of a block without its sequence numbers are the same by the relation and
+-- to the reader.
 others_read : (words : List Piece) (others : List Word) → AreOthers words others → others ≡ words_of words
 others_read [] others is = is
 others_read (word ∷ words) others (inl (numbering, rest)) = rw (numbering_read word numbering) (others_read words others rest)
@@ -84,11 +87,13 @@ others_found (word ∷ words) = go (is_sequence word) refl (others_found words)
     go true e later = inl (numbering_found word e, rw e later)
     go false e later = inr (no_numbering word e, (words_of words, rw e refl, later))
 
--- the last sequence number, or the one from before where there is none
+-- the last sequence number of words whose numbers are in range, or the one from before if there is
+-- none
 abbrev LastOr : Option ℕ → List Piece → Type 0
 LastOr before words = ((list_any is_sequence words ≡ false) × (sequence_from before words ≡ before))
     ⊎ ((front : List Piece) × (word : Piece) × (back : List Piece) × (words ≡ front ++ word ∷ back) × (is_sequence word ≡ true) × (list_any is_sequence back ≡ false) × ((n : ℕ) × (sequence_from before words ≡ Some n) × IsSequenceNumber word.text n))
 
+-- each list of words whose numbers are in range has such a number
 last_or : (words : List Piece) (before : Option ℕ) → list_all is_in_range words ≡ true → LastOr before words
 last_or [] before all = inl (refl, refl)
 last_or (word ∷ words) before all =
@@ -102,7 +107,7 @@ last_or (word ∷ words) before all =
         let inside : is_some (number_in 0 99999 word.text) ≡ true = rw e at range in
         let found = has_found 0 99999 word.text (both (word.letter == 78) (is_literal word.text) e).1 inside in inr ([], word, words, refl, e, off, (found.0, same ∙ rw e found.1, (found.2.0, found.2.2)))
 
--- and the other way round
+-- the sequence number that the reader takes is the last one by the relation, if all are in range
 sequence_found : (words : List Piece) → list_all is_in_range words ≡ true → (number : Option (List ℕ)) × IsLastNumber words number × IsSequence number (sequence_from None words)
 sequence_found words all = go (last_or words None all)
   where
@@ -112,10 +117,12 @@ sequence_found words all = go (last_or words None all)
 
 -- The block of a line.
 
--- what is said is a block
+-- what is said is a block with this sequence number and this body
 abbrev SaidAs : Said → Block → Type 0
 SaidAs s block = (in_range : Bool) × (s ≡ said.Block (record { sequence = block.sequence; in_range = in_range; body = block.body }))
 
+-- The next three: a sentence that is a block by the relation is what the reader takes; a line
+-- without a block has none.
 body_read : (sentence : Sentence) (block : Block) → HasBody sentence block.sequence block.body → SaidAs (said_of sentence) block
 body_read NoBlock block has = absurd has
 body_read (ProgramNumber text) block has = absurd has
@@ -149,17 +156,18 @@ no_block_on skips number line out = go (says skips line) refl
     go (said.Program n) e = refl
     go (said.Block block) e = absurd (out (block_found skips line (ap tape.is_block e)))
 
--- the blocks of lines are those that the reader has,
+-- the blocks of lines by the relation are those that the reader has
 blocks_are : (skips before : ℕ) (lines : List Line) (blocks : List Block) → AreBlocks skips before lines blocks → blocks ≡ blocks_on skips before lines
 blocks_are skips before [] blocks is = is
 blocks_are skips before (line ∷ lines) blocks (inl (block, later, is, here, rest)) =
     rw (block_on_read skips (before + 1) line block here) (is ∙ ap (λ (bs : List Block). block ∷ bs) (blocks_are skips (before + 1) lines later rest))
 blocks_are skips before (line ∷ lines) blocks (inr (out, rest)) = rw (no_block_on skips (before + 1) line out) (blocks_are skips (before + 1) lines blocks rest)
 
--- the blocks that a line says, by the relation
+-- by the relation, the line says the one block of this list, or the list is empty and it says none
 abbrev Here : ℕ → ℕ → Line → List Block → Type 0
 Here skips number line blocks = ((block : Block) × (blocks ≡ block ∷ []) × IsBlockOn skips number line block) ⊎ ((SaysBlock skips line → ⊥) × (blocks ≡ []))
 
+-- The next two: each line says its block, or none, by the relation.
 nothing_here : (skips number : ℕ) (line : Line) (s : Said) → says skips line ≡ s → tape.is_block s ≡ false → SaysBlock skips line → ⊥
 nothing_here skips number line s e off is = let bad : true ≡ false = sym (block_read skips line is) ∙ ap tape.is_block e ∙ off in absurd cc
 
@@ -181,7 +189,7 @@ here_found skips number line range = go (told skips line)
             let found = has_found 0 99999 digits lit inside in
             inl (record { line = number; sequence = number_in 0 99999 digits; body = Statement text }, ap (block_on number) e, (StatementBlock (Some digits) text, is, ((found.0, found.1, (found.2.0, found.2.2)), refl), refl))
 
--- and the other way round
+-- the blocks that the reader has are those of the lines by the relation
 blocks_made : (skips before : ℕ) (lines : List Line) → list_all (says_in_range skips) lines ≡ true → AreBlocks skips before lines (blocks_on skips before lines)
 blocks_made skips before [] all = refl
 blocks_made skips before (line ∷ lines) all =
@@ -193,6 +201,7 @@ blocks_made skips before (line ∷ lines) all =
 
 -- The programs.
 
+-- The next two: a line says this O number to the reader exactly if it does by the relation.
 number_said : (skips : ℕ) (line : Line) (n : ℕ) → SaysNumber skips line n → says skips line ≡ said.Program (Some n)
 number_said skips line n (text, is, number) = says_read skips line (ProgramNumber text) is ∙ ap said.Program (number_read 1 9999 text n number)
 
@@ -210,13 +219,14 @@ number_says skips line n e = go (told skips line)
         by (StatementBlock None text) is lit h = absurd cc
         by (StatementBlock (Some digits) text) is lit h = absurd cc
 
--- programs of the relation are what the lines say to the reader,
+-- programs of the relation are what the lines say to the reader
 pub programs_read : (skips before : ℕ) (lines : List Line) (programs : List Program) → ArePrograms skips before lines programs → SayPrograms skips before lines programs
 programs_read skips before lines [] is = is
 programs_read skips before lines (program ∷ programs) (head, own, others, is, number, line-is, off, blocks, rest) =
     (head, own, others, is, number_said skips head program.number number, line-is, no_program_read skips own off, blocks_are skips (before + 1) own program.blocks blocks, programs_read skips (before + 1 + length own) others programs rest)
 
--- and the other way round
+-- programs that the lines say to the reader are programs of the relation, if all numbers are in
+-- range
 pub programs_found : (skips before : ℕ) (lines : List Line) (programs : List Program) → list_all (says_in_range skips) lines ≡ true → SayPrograms skips before lines programs → ArePrograms skips before lines programs
 programs_found skips before lines [] range is = is
 programs_found skips before lines (program ∷ programs) range (head, own, others, is, number, line-is, off, blocks, rest) =

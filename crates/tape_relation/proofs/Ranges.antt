@@ -1,4 +1,5 @@
--- The numbers that the reader takes are those of the relation.
+-- The sequence numbers and O numbers that the reader takes are those of the relation. For LineSays
+-- and ProgramsSay.
 use Rattle.std.proofs.Common.{◌≡◌, ◌==◌, ℕ, zero, suc, ◌+◌, ◌-◌, ◌*◌, ◌^◌, ◌<◌, ◌≤◌, Bool, true, false, cond, ◌&&◌, List, [], ◌∷◌, length, Option, Some, None, Result, Ok, Err, ℤ, pos, negsuc, inl, inr, refl, sym, ap, subst, ◌∙◌, arith}
 use Rattle.std.specs.Prelude.{nat_le, nat_lt, is_some, unsigned_abs, int_rem, int_div, neg_ℤ, ◌+ℤ◌, ◌*ℤ◌}
 use Rattle.std.specs.Char.{is_ascii_digit, digit_value}
@@ -21,6 +22,8 @@ use Rattle.tape_relation.specs.Numbers.{IsSign, IsWritten, HasTooMany, Writes, I
 use Rattle.tape_relation.specs.LineAlone.{LacksSequenceNumber}
 use Rattle.tape_relation.proofs.LiteralParts.{is_minus, written, written_parts, many_read, many_found}
 
+-- The next six are on values in millionths: when one is a whole number, and when a number is in a
+-- range.
 none_over : (z : ℤ) → z ≡ pos 0 → is_zero z ≡ true
 none_over z e = ap is_zero e
 
@@ -59,10 +62,11 @@ in_range_read low high n p q = rw (within low high n p q) refl
 
 -- What a literal writes.
 
--- a literal of the relation is one of this value
+-- the literal is not too long, and its value is this whole number, in millionths
 abbrev Valued : List ℕ → ℕ → Type 0
 Valued text n = (literal : Literal) × (word_literal text ≡ Ok literal) × (literal.value ≡ pos (n * 1000000))
 
+-- a literal with not too many digits by the grammar has not too many to the reader
 few_read : (text sign whole fraction : List ℕ) → IsWritten text sign whole fraction → (HasTooMany whole fraction → ⊥) → has_too_many_digits text ≡ false
 few_read text sign whole fraction w few = go (has_too_many_digits text) refl
   where
@@ -73,7 +77,7 @@ few_read text sign whole fraction w few = go (has_too_many_digits text) refl
         absurd (few (subst Q (written_parts text sign whole fraction w).fraction_is (subst P (written_parts text sign whole fraction w).whole_is (many_found text e))))
     go false e = e
 
--- a literal that writes a whole number has it as its value,
+-- a literal that writes a whole number by the relation has it as its value
 pub writes_read : (text : List ℕ) (n : ℕ) → Writes text n → Valued text n
 writes_read text n w =
     let few = few_read text w.sign w.whole w.fraction w.written w.few in
@@ -122,11 +126,12 @@ digits_of_nothing (d ∷ digits) n all e =
 unit_parts : (whole f n : ℕ) → f < 1000000 → whole * 1000000 + f ≡ n * 1000000 → (n ≡ whole) × (f ≡ 0)
 unit_parts whole f n below e = (omega arith, omega arith)
 
+-- a product that is 0 has a factor 0
 none_scaled : (f k : ℕ) → 0 < k → f * k ≡ 0 → f ≡ 0
 none_scaled zero k some e = refl
 none_scaled (suc f) k some e = let more : suc f * k ≡ k + f * k = omega arith in absurd (omega arith)
 
--- and the other way round
+-- a literal whose value is a whole number writes that number by the relation
 pub writes_found : (text : List ℕ) (n : ℕ) → is_literal text ≡ true → Valued text n → Writes text n
 writes_found text n is (literal, read, value) = go (has_too_many_digits text) refl read
   where
@@ -177,17 +182,18 @@ writes_found text n is (literal, read, value) = go (has_too_many_digits text) re
 
 -- The ranges.
 
--- a literal writes this whole number, which lies between the two
+-- the literal writes this whole number, which is from low to high
 abbrev pub IsNumber : ℕ → ℕ → List ℕ → ℕ → Type 0
 IsNumber low high text n = Writes text n × (low ≤ n) × (n ≤ high)
 
--- a number in its range is the one that the reader takes,
+-- a literal that writes a number of the range is read as that number
 pub number_read : (low high : ℕ) (text : List ℕ) (n : ℕ) → IsNumber low high text n → number_in low high text ≡ Some n
 unfolding number_in
 number_read low high text n (writes, from, to) =
     let (literal, is, value) = writes_read text n writes in
     ap (range_of low high) is ∙ ap (λ (v : ℤ). in_range low high (whole_of v)) value ∙ ap (in_range low high) (whole_number n) ∙ in_range_read low high n from to
 
+-- a whole number that the reader finds in the range is that number, and lies in it
 in_range_found : (low high : ℕ) (whole : Option ℤ) (n : ℕ) → in_range low high whole ≡ Some n → (whole ≡ Some (pos n)) × ((low ≤ n) × (n ≤ high))
 in_range_found low high None n e = absurd cc
 in_range_found low high (Some (negsuc m)) n e = absurd cc
@@ -204,7 +210,7 @@ in_range_found low high (Some (pos m)) n e = go (nat_le low m) refl (nat_le m hi
     go true p false q h = absurd cc
     go false p b q h = absurd cc
 
--- and the other way round
+-- a number of the range that the reader takes is what the literal writes
 pub number_found : (low high : ℕ) (text : List ℕ) (n : ℕ) → is_literal text ≡ true → number_in low high text ≡ Some n → IsNumber low high text n
 unfolding number_in
 number_found low high text n lit e = go (word_literal text) refl e
@@ -213,7 +219,7 @@ number_found low high text n lit e = go (word_literal text) refl e
     go (Ok literal) is h = let p = in_range_found low high (whole_of literal.value) n h in (writes_found text n lit (literal, is, whole_only literal.value n p.0), p.1.0, p.1.1)
     go (Err fault) is h = absurd cc
 
--- no number is in the range
+-- if a literal writes no number of the range, the reader takes none
 pub lacks_read : (low high : ℕ) (text : List ℕ) → is_literal text ≡ true → ((n : ℕ) → IsNumber low high text n → ⊥) → is_some (number_in low high text) ≡ false
 lacks_read low high text lit lacks = go (number_in low high text) refl
   where
@@ -221,11 +227,11 @@ lacks_read low high text lit lacks = go (number_in low high text) refl
     go (Some n) e = absurd (lacks n (number_found low high text n lit e))
     go None e = ap is_some e
 
--- if the reader takes none there is none,
+-- if the reader takes no number of the range, the literal writes none
 pub lacks_found : (low high : ℕ) (text : List ℕ) → is_some (number_in low high text) ≡ false → (n : ℕ) → IsNumber low high text n → ⊥
 lacks_found low high text e n is = let bad : true ≡ false = sym (ap is_some (number_read low high text n is)) ∙ e in absurd cc
 
--- and if it takes one there is one
+-- if the reader takes a number of the range, the literal writes one, and it is that
 pub has_found : (low high : ℕ) (text : List ℕ) → is_literal text ≡ true → is_some (number_in low high text) ≡ true → (n : ℕ) × (number_in low high text ≡ Some n) × IsNumber low high text n
 has_found low high text lit e = go (number_in low high text) refl e
   where
@@ -239,6 +245,6 @@ has_found low high text lit e = go (number_in low high text) refl e
 pub sequence_number : (text : List ℕ) (n : ℕ) → IsSequenceNumber text n → IsNumber 0 99999 text n
 sequence_number text n (writes, to) = (writes, omega arith, to)
 
--- and what is none is no such number
+-- a literal that is no sequence number writes no number from 0 to 99,999
 pub lacks_sequence : (text : List ℕ) → LacksSequenceNumber text → (n : ℕ) → IsNumber 0 99999 text n → ⊥
 lacks_sequence text lacks n (writes, from, to) = lacks n (writes, to)

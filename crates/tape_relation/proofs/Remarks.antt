@@ -1,4 +1,5 @@
--- The signs of a line, which of them are no characters, and whether the line ends in a comment.
+-- The signs of a line by the grammar are those that the reader has; so are bad characters and open
+-- comments. For LineSays, LongNumbers and Steps.
 use Rattle.std.proofs.Common.{◌≡◌, ◌==◌, ℕ, ◌+◌, Bool, true, false, not, ◌&&◌, ◌||◌, List, [], ◌∷◌, ◌++◌, length, ◌⊎◌, inl, inr, refl, sym, ap, subst, ◌∙◌, append_assoc, arith}
 use Rattle.std.specs.Char.{is_ascii_digit, is_ascii_uppercase, to_ascii_uppercase}
 use Rattle.std.specs.List.{list_any}
@@ -10,7 +11,7 @@ use Rattle.tape_relation.specs.Characters.{is_ignored, is_character, IsRemark, I
 use Rattle.tape_relation.proofs.Ignored.{signs_on, signs_are}
 
 module _ (ended : Bool) where
-  -- in a comment each byte but `)` is passed
+  -- The next two: in a comment each byte is passed, up to its `)` or to the end.
   in_remark : (text rest : List ℕ) (place : ℕ) → IsRemark text → signs_on ended (text ++ 41 ∷ rest) true place ≡ signs_on ended rest false (place + (length text + 1))
   in_remark [] rest place is = refl
   in_remark (b ∷ text) rest place is =
@@ -24,7 +25,7 @@ module _ (ended : Bool) where
 
   -- The signs of a line are those that the grammar says.
 
-  -- signs of the relation are those that the reader has,
+  -- signs by the grammar are those that the reader has
   pub signs_read : (place : ℕ) (bytes : List ℕ) (signs : List Sign) → AreSigns ended place bytes signs → (signs_on ended bytes false place).list ≡ signs
   signs_read _ _ _ (nothing place) = refl
   signs_read _ _ _ (ignored place b bytes signs is rest) = rw is (go (b == 40) refl (signs_read (place + 1) bytes signs rest))
@@ -46,13 +47,18 @@ module _ (ended : Bool) where
       go true e = let P : ℕ → Type 0 = λ c. is_ignored ended c bytes ≡ true in let bad : false ≡ true = subst P (eqb-true b 40 e) is in absurd cc
       go false e = e
 
-  -- the signs behind, where the first byte stands in a comment
+  -- the signs of bytes of which the first stands in a comment: none if the comment stays open, else
+  -- those after its `)`
   abbrev Closes : ℕ → List ℕ → List Sign → Type 0
   Closes place bytes signs = (IsRemark bytes × (signs ≡ [])) ⊎ ((text : List ℕ) × (rest : List ℕ) × (bytes ≡ text ++ 41 ∷ rest) × IsRemark text × AreSigns ended (place + (length text + 1)) rest signs)
 
+  -- bytes of which the first stands outside comments, or in one, have by the grammar the signs that
+  -- the reader has
   abbrev Reads : List ℕ → Type 0
   Reads bytes = ((place : ℕ) → AreSigns ended place bytes (signs_on ended bytes false place).list) × ((place : ℕ) → Closes place bytes (signs_on ended bytes true place).list)
 
+  -- The next three show `Reads`: a byte more outside comments, one more in a comment, and so all
+  -- bytes.
   outside_reads : (b : ℕ) (bytes : List ℕ) → Reads bytes → (place : ℕ) → AreSigns ended place (b ∷ bytes) (signs_on ended (b ∷ bytes) false place).list
   outside_reads b bytes later place = go (is_ignored ended b bytes) refl (b == 40) refl
     where
@@ -87,16 +93,17 @@ module _ (ended : Bool) where
   reads [] = (λ place. nothing place, λ place. inl (refl, refl))
   reads (b ∷ bytes) = let later = reads bytes in (outside_reads b bytes later, within_reads b bytes later)
 
-  -- and the other way round
+  -- the signs that the reader has are signs by the grammar
   pub signs_found : (bytes : List ℕ) (place : ℕ) → AreSigns ended place bytes (signs_on ended bytes false place).list
   signs_found bytes = (reads bytes).0
 
   -- What stands outside comments.
 
-  -- behind bytes in which no comment is left open this holds
+  -- this holds of what stands after some bytes in which no comment is left open
   abbrev Behind : (List ℕ → Type 0) → List ℕ → Type 0
   Behind P bytes = (front : List ℕ) × (back : List ℕ) × (bytes ≡ front ++ back) × IsOutside front × P back
 
+  -- The next three: it holds after no bytes, after one byte more, and after one comment more.
   behind_here : (P : List ℕ → Type 0) (bytes : List ℕ) → P bytes → Behind P bytes
   behind_here P bytes p = ([], bytes, refl, nothing, p)
 
@@ -107,11 +114,13 @@ module _ (ended : Bool) where
   behind_remark P text rest r (front, back, is, out, p) =
       (40 ∷ (text ++ 41 ∷ front), back, ap (λ (l : List ℕ). 40 ∷ (text ++ 41 ∷ l)) is ∙ ap (λ (l : List ℕ). 40 ∷ l) (sym (append_assoc text (41 ∷ front) back)), comment text front r out, p)
 
-  -- what is found outside, and what is found behind a comment
+  -- If the reader finds something in the signs, it is found by the grammar: outside comments, or
+  -- after the comment in which the first byte stands.
   abbrev Finds : (List ℕ → Type 0) → (Scan → Type 0) → List ℕ → Type 0
   Finds P T bytes = ((place : ℕ) → T (signs_on ended bytes false place) → Behind P bytes)
       × ((place : ℕ) → T (signs_on ended bytes true place) → (IsRemark bytes × T (record { list = []; unclosed = true })) ⊎ ((text : List ℕ) × (rest : List ℕ) × (bytes ≡ text ++ 41 ∷ rest) × IsRemark text × Behind P rest))
 
+  -- the step of `Finds` for a byte in a comment
   within_finds : (P : List ℕ → Type 0) (T : Scan → Type 0) (b : ℕ) (bytes : List ℕ) → Finds P T bytes → (place : ℕ) → T (signs_on ended (b ∷ bytes) true place)
       → (IsRemark (b ∷ bytes) × T (record { list = []; unclosed = true })) ⊎ ((text : List ℕ) × (rest : List ℕ) × (b ∷ bytes ≡ text ++ 41 ∷ rest) × IsRemark text × Behind P rest)
   within_finds P T b bytes later place t = go (b == 41) refl t
@@ -125,18 +134,23 @@ module _ (ended : Bool) where
           more (inl (is, left)) = inl (rw e is, left)
           more (inr (text, rest, is, r, found)) = inr (b ∷ text, rest, ap (λ (l : List ℕ). b ∷ l) is, rw e r, found)
 
+  -- here stands a byte that counts and is no character
   abbrev IsBadHere : List ℕ → Type 0
   IsBadHere back = (b : ℕ) × (behind : List ℕ) × (back ≡ b ∷ behind) × (is_character (to_ascii_uppercase b) ≡ false) × (is_ignored ended b behind ≡ false)
 
+  -- here begins a comment that is not closed
   abbrev IsOpenHere : List ℕ → Type 0
   IsOpenHere back = (text : List ℕ) × (back ≡ 40 ∷ text) × IsRemark text
 
+  -- a sign is refused
   abbrev HasBad : Scan → Type 0
   HasBad scan = are_allowed scan.list ≡ false
 
+  -- the line ends in a comment
   abbrev IsLate : Scan → Type 0
   IsLate scan = scan.unclosed ≡ true
 
+  -- The next two: the relation's characters are the bytes that the reader allows.
   or_chain : (a b c d e f g h i j k l m : Bool) → (a || (b || (c || (d || (e || (f || (g || (h || (i || (j || (k || (l || (m || false))))))))))))) ≡ (a || b || c || d || e || f || g || h || i || j || k || l || m)
   or_chain true b c d e f g h i j k l m = refl
   or_chain false true c d e f g h i j k l m = refl
@@ -156,6 +170,8 @@ module _ (ended : Bool) where
   character_allowed : (b : ℕ) → is_character b ≡ is_allowed b
   character_allowed b = or_chain (is_ascii_uppercase b) (is_ascii_digit b) (b == 46) (b == 43) (b == 45) (b == 47) (b == 40) (b == 41) (b == 35) (b == 91) (b == 93) (b == 61) (b == 42)
 
+  -- The next four: a bad character, and an open comment, that the reader finds are found by the
+  -- grammar.
   outside_bad : (b : ℕ) (bytes : List ℕ) → Finds IsBadHere HasBad bytes → (place : ℕ) → HasBad (signs_on ended (b ∷ bytes) false place) → Behind IsBadHere (b ∷ bytes)
   outside_bad b bytes later place bad = go (is_ignored ended b bytes) refl (b == 40) refl bad
     where
@@ -200,7 +216,7 @@ module _ (ended : Bool) where
   finds_open [] = (λ place h. absurd cc, λ place h. inl (refl, refl))
   finds_open (b ∷ bytes) = let later = finds_open bytes in (outside_open b bytes later, within_finds IsOpenHere IsLate b bytes later)
 
-  -- what holds behind bytes in which no comment is left open holds of the whole
+  -- what the reader finds after bytes in which no comment is left open, it finds in the whole
   stays : (T : Scan → Type 0) → ((a : Bool) (place b : ℕ) (scan : Scan) → T scan → T (add_sign a place b scan)) → (front : List ℕ) → IsOutside front → (back : List ℕ) → ((place : ℕ) → T (signs_on ended back false place)) → (place : ℕ) → T (signs_on ended (front ++ back) false place)
   stays T keeps _ nothing back here place = here place
   stays T keeps _ (byte b bytes other out) back here place =
@@ -235,37 +251,37 @@ not_bracket b h = go (b == 40) refl
 
 -- A line has a bad character where the reader finds one, and ends in a comment where it finds that.
 
--- a line with a byte that is no character has a sign that is refused,
+-- a line with a byte that is no character has a sign that the reader refuses
 pub bad_read : (line : Line) → HasBadCharacter line → are_allowed (signs_of line.bytes line.ended).list ≡ false
 bad_read line (front, b, back, is, out, other, counts) =
     let here : (place : ℕ) → are_allowed (signs_on line.ended (b ∷ back) false place).list ≡ false = λ place. rw (counts, not_bracket b other, sym (character_allowed line.ended (to_ascii_uppercase b)), other) refl in
     sym (ap (λ (s : Scan). are_allowed s.list) (signs_are line.ended line.bytes)) ∙ ap (λ (l : List ℕ). are_allowed (signs_on line.ended l false 0).list) is
     ∙ stays line.ended (λ s. are_allowed s.list ≡ false) bad_kept front out (b ∷ back) here 0
 
--- and the other way round
+-- a line with a sign that the reader refuses has a byte that is no character
 pub bad_found : (line : Line) → are_allowed (signs_of line.bytes line.ended).list ≡ false → HasBadCharacter line
 bad_found line h = go ((finds_bad line.ended line.bytes).0 0 (ap (λ (s : Scan). are_allowed s.list) (signs_are line.ended line.bytes) ∙ h))
   where
     go : Behind line.ended (IsBadHere line.ended) line.bytes → HasBadCharacter line
     go (front, back, is, out, (b, behind, back-is, other, counts)) = (front, b, behind, is ∙ ap (λ (l : List ℕ). front ++ l) back-is, out, other, counts)
 
--- a line that ends in a comment ends in one for the reader,
+-- a line that ends in a comment by the grammar ends in one to the reader
 pub open_read : (line : Line) → EndsInComment line → (signs_of line.bytes line.ended).unclosed ≡ true
 open_read line (front, text, is, out, r) =
     sym (ap (λ (s : Scan). s.unclosed) (signs_are line.ended line.bytes)) ∙ ap (λ (l : List ℕ). (signs_on line.ended l false 0).unclosed) is
     ∙ stays line.ended (λ s. s.unclosed ≡ true) late_kept front out (40 ∷ text) (λ place. ap (λ (s : Scan). s.unclosed) (open_remark line.ended text (place + 1) r)) 0
 
--- and the other way round
+-- a line that ends in a comment to the reader ends in one by the grammar
 pub open_found : (line : Line) → (signs_of line.bytes line.ended).unclosed ≡ true → EndsInComment line
 open_found line h = go ((finds_open line.ended line.bytes).0 0 (ap (λ (s : Scan). s.unclosed) (signs_are line.ended line.bytes) ∙ h))
   where
     go : Behind line.ended (IsOpenHere line.ended) line.bytes → EndsInComment line
     go (front, back, is, out, (text, back-is, r)) = (front, text, is ∙ ap (λ (l : List ℕ). front ++ l) back-is, out, r)
 
--- the reader's signs are the signs of the line,
+-- the reader's signs of a line are its signs by the grammar
 pub the_signs : (line : Line) → AreSigns line.ended 0 line.bytes (signs_of line.bytes line.ended).list
 the_signs line = let P : Scan → Type 0 = λ s. AreSigns line.ended 0 line.bytes s.list in subst P (signs_are line.ended line.bytes) (signs_found line.ended line.bytes 0)
 
--- and there are no others
+-- a line has no other signs by the grammar than those that the reader has
 pub signs_same : (line : Line) (signs : List Sign) → AreSigns line.ended 0 line.bytes signs → (signs_of line.bytes line.ended).list ≡ signs
 signs_same line signs are = sym (ap (λ (s : Scan). s.list) (signs_are line.ended line.bytes)) ∙ signs_read line.ended 0 line.bytes signs are

@@ -1,4 +1,5 @@
--- A line that says nothing may be emptied or taken out.
+-- A line that says nothing may be emptied or taken out. For the laws of lines of comments, skipped
+-- blocks and empty lines (src/edits.rt).
 use Rattle.std.proofs.Common.{◌≡◌, ◌==◌, ℕ, suc, ◌-◌, ◌<◌, ◌≤◌, Bool, true, false, cond, List, [], ◌∷◌, ◌++◌, length, take, get_or, Result, Ok, refl, sym, ap, ◌∙◌, length-append, arith}
 use Rattle.std.specs.List.{list_all}
 use Rattle.std.proofs.lemmas.Bool.{eqb-true, le-ltb}
@@ -28,6 +29,8 @@ use Rattle.tape_relation.proofs.OneLine.{alike_in_place, line_taken_out, last_ta
 abbrev Begins : List ℕ → Type 0
 Begins line = (rest : List ℕ) × (line ≡ 37 ∷ rest)
 
+-- These three: a line that begins with `%` keeps it when its end is taken off, and has a sign that
+-- is refused.
 first_kept : (k : ℕ) (bs : List ℕ) → (37 == k) ≡ false → Begins (without_last k (37 ∷ bs))
 first_kept k [] other = ([], ap (λ (t : Bool). cond t [] (37 ∷ [])) other)
 first_kept k (b ∷ bs) other = go (get_or (37 ∷ b ∷ bs) (length (37 ∷ b ∷ bs) - 1) 0 == k)
@@ -70,10 +73,11 @@ not_percent skips (b ∷ bs) ended says e = go (b == 37) refl
     go true is = absurd (percent_refused skips bs ended says (ap (λ (x : ℕ). line_says skips (x ∷ bs) ended) (sym (eqb-true b 37 is)) ∙ e))
     go false is = is
 
--- a line that is read as nothing says nothing
+-- a line of at most 512 bytes that reads as nothing says nothing
 nothing : (skips : ℕ) (line : List ℕ) (ended : Bool) → length line ≤ 512 → line_says skips line ended ≡ Ok said.Nothing → SaysNothing skips (record { bytes = line; ended = ended })
 nothing skips line ended short says = record { says = says; percent = not_percent skips line ended said.Nothing says; long = le-ltb 512 (length line) short }
 
+-- The next two: the empty line says nothing, and has no line feed in it.
 no_line_says_nothing : (skips : ℕ) → line_says skips [] true ≡ Ok said.Nothing
 unfolding signs_of
 no_line_says_nothing skips = only_comments skips [] true refl refl
@@ -89,21 +93,22 @@ emptied skips front line back is says =
     let shorter : Fits (with_line front [] back) = omega (arith, length-append front (10 ∷ back), length-append front (line ++ 10 ∷ back), length-append line (10 ∷ back)) in
     alike_in_place skips front line [] back is.whole is.one_line no_feed (record { says = λ other. says ∙ sym (no_line_says_nothing skips); percent = here.percent; long = here.long }) fits shorter
 
--- it may be taken out
+-- a line that says nothing may be taken out, if lines stand before it: the later ones are numbered
+-- one less
 pub taken_out : (skips : ℕ) (front line back : List ℕ) → IsLine front line back → 0 < length front → line_says skips line true ≡ Ok said.Nothing → tape_of skips (front ++ back) ≡ lowered (length (lines_of front)) (tape_of skips (with_line front line back))
 taken_out skips front line back is some says = line_taken_out skips front line back is.whole some is.one_line (nothing skips line true is.short says) is.fits
 
--- so may the last line, where it has no line feed
+-- a last line without a line feed that says nothing may be taken out, if lines stand before it
 pub last_out : (skips : ℕ) (front line : List ℕ) → IsLastLine front line → 0 < length front → line_says skips line false ≡ Ok said.Nothing → tape_of skips front ≡ lowered (length (lines_of front)) (tape_of skips (front ++ line))
 last_out skips front line is some says = last_taken_out skips front line is.whole some is.one_line is.some (nothing skips line false is.short says) is.fits
 
--- an empty line behind others may be taken out: the later lines have a number less
+-- an empty line after others may be taken out: the later lines are numbered one less
 pub empty_taken_out : (skips : ℕ) (front back : List ℕ) → are_whole front ≡ true → 0 < length front → Fits (front ++ 10 ∷ back) → tape_of skips (front ++ back) ≡ lowered (length (lines_of front)) (tape_of skips (front ++ 10 ∷ back))
 empty_taken_out skips front back whole some fits =
     let short : 0 ≤ 512 = omega arith in
     taken_out skips front [] back (record { whole = whole; one_line = no_feed; short = short; fits = fits }) some (no_line_says_nothing skips)
 
--- the line can be read, and says this
+-- the result of a line that can be read and says this
 abbrev readable : Said → Result Said Refusal
 readable says = Ok says
 
@@ -111,6 +116,6 @@ readable says = Ok says
 pub skipped_says : (skips : ℕ) (line : List ℕ) (ended : Bool) → IsSkipped skips line ended → line_says skips line ended ≡ Ok said.Nothing
 skipped_says skips line ended skip = skip.readable ∙ ap readable (skipped skips line ended skip.says skip.switch skip.readable)
 
--- nor does a line of comments
+-- a line of closed comments says nothing
 pub comments_say : (skips : ℕ) (line : List ℕ) (ended : Bool) → HasOnlyComments line ended → line_says skips line ended ≡ Ok said.Nothing
 comments_say skips line ended only = only_comments skips line ended only.comments only.closed

@@ -1,5 +1,6 @@
--- A carriage return before each line feed changes nothing.
--- Byte 13 is the carriage return.
+-- A carriage return before each line feed changes nothing; nor does one before the line feed of one
+-- line. Byte 13 is the carriage return. For the law `a_carriage_return_changes_nothing`
+-- (src/edits.rt).
 use Rattle.std.proofs.Common.{◌≡◌, ◌==◌, ℕ, ◌+◌, ◌-◌, ◌<◌, ◌≤◌, Bool, true, false, cond, List, [], ◌∷◌, ◌++◌, length, map, take, refl, sym, ap, ◌∙◌, length-append, arith}
 use Rattle.std.specs.Prelude.{All}
 use Rattle.std.specs.List.{AllZip}
@@ -16,10 +17,11 @@ use Rattle.nc_text.specs.Tape.{tape_of}
 use Rattle.tape_relation.proofs.SkippedLines.{return_ignored}
 use Rattle.tape_relation.proofs.OneLine.{lines_alike, alike_in_place}
 
--- a line with a carriage return before its line feed
+-- a line with a carriage return before its line feed, if it has one
 abbrev returned : Line → Line
 returned line = record { bytes = cond line.ended (line.bytes ++ 13 ∷ []) line.bytes; ended = line.ended }
 
+-- a byte put onto the first line commutes with the carriage returns
 onto_returned : (b : ℕ) (lines : List Line) → onto_line b (map returned lines) ≡ map returned (onto_line b lines)
 onto_returned b [] = refl
 onto_returned b (line ∷ lines) = go line.ended
@@ -28,7 +30,7 @@ onto_returned b (line ∷ lines) = go line.ended
     go true = refl
     go false = refl
 
--- the lines of the text with carriage returns
+-- the lines of a text with carriage returns are its lines with carriage returns
 lines_returned : (text : List ℕ) → lines_of (with_returns text) ≡ map returned (lines_of text)
 lines_returned [] = refl
 lines_returned (b ∷ text) = go (b == 10) refl (lines_returned text)
@@ -37,10 +39,11 @@ lines_returned (b ∷ text) = go (b == 10) refl (lines_returned text)
     go true e later = rw e (ap (λ (ls : List Line). record { bytes = 13 ∷ []; ended = true } ∷ ls) later)
     go false e later = rw e (rw e (ap (onto_line b) later ∙ onto_returned b (lines_of text)))
 
--- what holds of each byte of a text holds of each byte of its lines
+-- each byte of each line has this
 abbrev Each : (ℕ → Type 0) → List Line → Type 0
 Each P lines = All (λ (line : Line). All P line.bytes) lines
 
+-- The next three: what each byte of a text has, each byte of its lines has.
 each_onto : (P : ℕ → Type 0) (b : ℕ) (lines : List Line) → P b → Each P lines → Each P (onto_line b lines)
 each_onto P b [] here each = All-cons (λ (line : Line). All P line.bytes) (record { bytes = b ∷ []; ended = false }) [] (All-cons P b [] here (All-nil P)) each
 each_onto P b (line ∷ lines) here each =
@@ -54,6 +57,8 @@ each_line : (P : ℕ → Type 0) (text : List ℕ) → All P text → Each P (li
 each_line P [] all = All-nil (λ (line : Line). All P line.bytes)
 each_line P (b ∷ text) all = each_either (b == 10) P b (lines_of text) (All-head P b text all) (each_line P text (All-tail P b text all))
 
+-- The next three: a line without a carriage return does not end with one; such a line says the same
+-- with a line feed and without; and a carriage return at the end does not change how it begins.
 no_return_last : (line : List ℕ) → HasNoReturn line → EndsWithoutReturn line
 no_return_last [] none = refl
 no_return_last (b ∷ bs) none =
@@ -68,7 +73,7 @@ percent_returned : (line : List ℕ) → is_percent (line ++ 13 ∷ []) ≡ is_p
 percent_returned [] = refl
 percent_returned (b ∷ bs) = refl
 
--- a line with it is like one without it
+-- a line with a carriage return before its line feed is alike to the one without
 line_alike : (skips : ℕ) (ended : Bool) (line : List ℕ) → EndsWithoutReturn line → length line < 512 → IsAlike skips (record { bytes = cond ended (line ++ 13 ∷ []) line; ended = ended }) (record { bytes = line; ended = ended })
 line_alike skips true line other room =
     let longer : length (line ++ 13 ∷ []) ≤ 512 = omega (arith, length-append line (13 ∷ [])) in
@@ -76,7 +81,7 @@ line_alike skips true line other room =
     record { says = λ _. return_ignored skips line ∙ unreturned_says skips line other; percent = percent_returned line; long = le-ltb 512 (length (line ++ 13 ∷ [])) longer ∙ sym (le-ltb 512 (length line) short) }
 line_alike skips false line other room = record { says = λ _. refl; percent = refl; long = refl }
 
--- and so are all lines
+-- lines with carriage returns before their line feeds are alike to those without, one by one
 all_alike : (skips : ℕ) (lines : List Line) → Each (λ (b : ℕ). (b == 13) ≡ false) lines → All (λ (line : Line). length line.bytes < 512) lines → AllZip (IsAlike skips) (map returned lines) lines
 all_alike skips [] none room = tt
 all_alike skips (line ∷ lines) none room = (
@@ -84,6 +89,7 @@ all_alike skips (line ∷ lines) none room = (
   all_alike skips lines (All-tail (λ (x : Line). HasNoReturn x.bytes) line lines none) (All-tail (λ (x : Line). length x.bytes < 512) line lines room),
 )
 
+-- a text with carriage returns is at least as long
 longer : (text : List ℕ) → length text ≤ length (with_returns text)
 longer [] = omega arith
 longer (b ∷ text) = go (b == 10) (longer text)
@@ -92,14 +98,14 @@ longer (b ∷ text) = go (b == 10) (longer text)
     go true later = omega arith
     go false later = omega arith
 
--- so the tape is the same
+-- a text without carriage returns has the same answer with one before each line feed
 pub returns_ignored : (skips : ℕ) (text : List ℕ) → HasNoReturn text → HaveRoom text → Fits (with_returns text) → tape_of skips (with_returns text) ≡ tape_of skips text
 returns_ignored skips text none room fits =
     let shorter : Fits text = omega (arith, longer text) in
     lines_alike skips (with_returns text) text fits shorter
     (rw (lines_returned text) (all_alike skips (lines_of text) (each_line (λ (b : ℕ). (b == 13) ≡ false) text none) room))
 
--- one carriage return
+-- one carriage return before the line feed of a line leaves the answer
 pub return_put : (skips : ℕ) (front line back : List ℕ) → EndsWithoutReturn line → IsLine front (line ++ 13 ∷ []) back → tape_of skips (with_line front (line ++ 13 ∷ []) back) ≡ tape_of skips (with_line front line back)
 return_put skips front line back other is =
     let long : length (line ++ 13 ∷ []) ≡ length line + 1 = length-append line (13 ∷ []) in

@@ -1,4 +1,5 @@
--- The reader finds the sentence of the grammar, and finds none where there is none.
+-- A sentence of the grammar is read as what it is: the reader finds its switch, no fault, and what
+-- it says. For LineSays, Found, LongNumbers and ProgramsSay.
 use Rattle.std.proofs.Common.{◌≡◌, ◌==◌, ℕ, suc, ◌+◌, ◌-◌, ◌<◌, ◌≤◌, Bool, true, false, cond, not, ◌&&◌, List, [], ◌∷◌, ◌++◌, length, Option, Some, None, refl, sym, ap, subst, ◌∙◌, append-nil, arith}
 use Rattle.std.specs.Prelude.{nat_lt, is_some}
 use Rattle.std.specs.Char.{is_ascii_uppercase}
@@ -25,7 +26,7 @@ use Rattle.tape_relation.proofs.Cuts.{words_cut}
 use Rattle.tape_relation.proofs.Statements.{first_is, no_statement, letter_no_comment, words_unlike, statement_read}
 use Rattle.tape_relation.proofs.Heads.{behind_other, behind_more, behind_first, sentence_behind, part_is, behind_is, literal_signs, statement_stops, numbered_unlike, numbered_read, stated_read}
 
--- what the reader makes of a sentence
+-- what the reader says of a sentence
 abbrev pub said_of : Sentence → Said
 said_of NoBlock = said.Nothing
 said_of (ProgramNumber text) = said.Program (number_in 1 9999 text)
@@ -33,20 +34,23 @@ said_of (WordBlock words) = said.Block (record { sequence = sequence_from None w
 said_of (StatementBlock None text) = said.Block (record { sequence = None; in_range = true; body = Statement text })
 said_of (StatementBlock (Some number) text) = said.Block (record { sequence = number_in 0 99999 number; in_range = is_some (number_in 0 99999 number); body = Statement text })
 
--- what is read is sound, and says this sentence
+-- the reading is not broken, and says this sentence
 pub record ReadsAs (reading : Reading) (sentence : Sentence) : Type 0 where
+  -- nothing stands where no word can
   pub sound : reading.broken ≡ false
+  -- it says what the sentence says
   pub says : reading.said ≡ said_of sentence
 
 -- Words.
 
+-- if all words are sound, as many are sound at the front as there are
 prefix_all : (words : List Piece) → list_all is_sound words ≡ true → prefix_len is_sound words ≡ length words
 prefix_all [] all = refl
 prefix_all (word ∷ words) all =
     let p = both (is_sound word) (list_all is_sound words) all in
     let later = prefix_all words p.1 in rw p.0 (let z : 1 + prefix_len is_sound words ≡ length (word ∷ words) = omega arith in z)
 
--- if no word comes behind the first broken one all are sound
+-- if no word stands behind the first broken one, all are sound
 pub all_prefix : (words : List Piece) → nat_lt (prefix_len is_sound words) (length words) ≡ false → list_all is_sound words ≡ true
 all_prefix [] e = refl
 all_prefix (word ∷ words) e = go (is_sound word) refl e (all_prefix words)
@@ -61,6 +65,9 @@ all_prefix (word ∷ words) e = go (is_sound word) refl e (all_prefix words)
         some : (m : ℕ) → nat_lt 0 (suc m) ≡ true
         some m = grind (arith, nat_tests)
 
+-- that equal numbers are not less is a small fact. The lemmas after it are on words: they have no
+-- comment in front, are read as the words that they spell, are not broken if each is sound, and are
+-- no O number without an O.
 not_less : (n m : ℕ) → n ≡ m → nat_lt n m ≡ false
 not_less n m e = grind (arith, nat_tests)
 
@@ -89,6 +96,7 @@ no_program slash (word ∷ words) off =
 
 -- A block.
 
+-- a block of the grammar is read as what it says
 block_read : (skip : Option ℕ) (signs : List Sign) (sentence : Sentence) → IsBlock skip signs sentence → ReadsAs (read_block (is_some skip) (behind_comments signs)) sentence
 unfolding read_block read_numbered read_statement
 block_read _ _ _ (program signs word are o lit) =
@@ -126,15 +134,22 @@ block_read _ _ _ (numbered skip letter number signs n lit is) =
     let here : ReadsAs (read_numbered (letter ∷ (number ++ signs))) (StatementBlock (Some (bytes_of number)) (text_of signs)) = record { sound = refl; says = rw (part_is number signs all stops, behind_is number signs all stops) refl } in
     subst Q (sym body) here
 
--- The first sign of a block is no part of a skip sign.
+-- the signs begin with one that is no slash, no digit from 1 to 9 and no comment
 pub record First (signs : List Sign) : Type 0 where
+  -- the first sign
   pub sign : Sign
+  -- the signs after it
   pub rest : List Sign
+  -- the signs are the first and those after it
   pub signs_are : signs ≡ sign ∷ rest
+  -- it is no slash (47)
   pub no_slash : (sign.byte == 47) ≡ false
+  -- it is no digit from 1 to 9
   pub no_switch : is_switch sign.byte ≡ false
+  -- it is no comment (40)
   pub no_comment : (sign.byte == 40) ≡ false
 
+-- a letter is no slash
 letter_no_slash : (b : ℕ) → is_ascii_uppercase b ≡ true → (b == 47) ≡ false
 letter_no_slash b is = grind (arith, nat_tests)
 
@@ -146,6 +161,7 @@ letter_no_switch b is = grind (arith, nat_tests)
 pub first_letter : (sign : Sign) (rest : List Sign) → is_ascii_uppercase sign.byte ≡ true → First (sign ∷ rest)
 first_letter sign rest up = record { sign = sign; rest = rest; signs_are = refl; no_slash = letter_no_slash sign.byte up; no_switch = letter_no_switch sign.byte up; no_comment = letter_no_comment sign.byte up }
 
+-- The next three: words, statements and any block begin with such a sign, after their comments.
 first_word : (signs : List Sign) (words : List Piece) → AreWords signs words → 0 < length signs → First (behind_comments signs)
 first_word signs [] is some = let bad : length signs ≡ 0 = ap length is in absurd (omega arith)
 first_word signs (word ∷ words) (letter, value, comments, others, is, up, val, no_remark, all, word-is, rest) some =
@@ -178,11 +194,12 @@ block_first _ _ _ (numbered skip letter number signs n lit is) some =
     let up : is_ascii_uppercase letter.byte ≡ true = subst P (sym (eqb-true letter.byte 78 n)) refl in
     subst First (sym (behind_other letter (number ++ signs) (letter_no_comment letter.byte up))) (first_letter letter (number ++ signs) up)
 
--- no digit of a skip sign stands first
+-- the signs do not begin with a digit from 1 to 9
 abbrev pub NoDigit : List Sign → Type 0
 NoDigit [] = Unit {0}
 NoDigit (sign ∷ signs) = is_switch sign.byte ≡ false
 
+-- The next three: comments and blocks do not begin with a digit that could name a switch.
 comment_no_digit : (sign : Sign) → is_comment sign ≡ true → is_switch sign.byte ≡ false
 comment_no_digit sign is = let P : ℕ → Type 0 = λ b. is_switch b ≡ false in subst P (sym (eqb-true sign.byte 40 is)) refl
 
@@ -202,11 +219,15 @@ no_digit_behind (sign ∷ between) signs all off = comment_no_digit sign (both (
 
 -- Behind the comments before it, a sentence is read as what it is.
 
--- behind a skip sign of this switch, or none, the reader reads this sentence
+-- from these signs the reader finds this switch, or none, and this sentence
 pub record IsRead (signs : List Sign) (skip : Option ℕ) (sentence : Sentence) : Type 0 where
+  -- the reader finds this switch
   pub switch_is : switch_of signs ≡ skip
+  -- the reader finds this sentence
   pub reads : ReadsAs (read_head signs) sentence
 
+-- The next four: what the reader finds without a skip sign, after one without a digit, and after
+-- one with a digit.
 behind_no_slash : (signs : List Sign) → First signs → (switch_of signs ≡ None) × (read_head signs ≡ read_block false (behind_comments signs))
 unfolding read_head
 behind_no_slash signs f =
@@ -225,7 +246,8 @@ behind_slash slash signs is = rw (eq-eqb slash.byte 47 is) (refl, refl)
 is_digit : (n : ℕ) → 1 ≤ n → n ≤ 9 → is_switch (48 + n) ≡ true
 is_digit n low high = grind (arith, nat_tests)
 
--- the skip sign, and the block behind it
+-- a skip sign or none, and comments, are passed: the reader finds the switch, and reads the block
+-- after them
 pub head_read : (head between rest : List Sign) (skip : Option ℕ) → IsSkip head skip → list_all is_comment between ≡ true → (skip ≡ None → First (behind_comments rest)) → NoDigit rest
     → (switch_of (behind_comments (head ++ (between ++ rest))) ≡ skip) × (read_head (behind_comments (head ++ (between ++ rest))) ≡ read_block (is_some skip) (behind_comments rest))
 head_read _ between rest _ none all first off =
@@ -250,12 +272,13 @@ head_read _ between rest _ (named slash digit switch slash-is digit-is low high)
     let whole = behind_other slash (digit ∷ (between ++ rest)) no_comment in
     (ap switch_of whole ∙ p.0 ∙ ap Some named-switch, ap read_head whole ∙ p.1 ∙ ap (λ (ss : List Sign). read_block true (behind_comments ss)) behind ∙ ap (read_block true) (behind_more between rest all))
 
--- without a skip sign there is no head
+-- without a switch there is no skip sign
 no_head : (head : List Sign) (skip : Option ℕ) → IsSkip head skip → skip ≡ None → head ≡ []
 no_head _ _ none e = refl
 no_head _ _ (alone slash slash-is) e = absurd cc
 no_head _ _ (named slash digit switch slash-is digit-is low high) e = absurd cc
 
+-- after its first comments a sentence is read as what it is
 sentence_behind_comments : (head between rest : List Sign) (skip : Option ℕ) (sentence : Sentence) → IsSkip head skip → list_all is_comment between ≡ true → 0 < length (head ++ rest) → IsBlock skip rest sentence
     → IsRead (behind_comments (head ++ (between ++ rest))) skip sentence
 sentence_behind_comments head between rest skip sentence is-skip all some is =
@@ -263,7 +286,7 @@ sentence_behind_comments head between rest skip sentence is-skip all some is =
     let P : Reading → Type 0 = λ r. ReadsAs r sentence in
     record { switch_is = p.0; reads = subst P (sym p.1) (block_read skip rest sentence is) }
 
--- a sentence of the grammar is read as it is
+-- a sentence of the grammar is read as what it is, behind its skip sign or none
 pub sentence_read : (signs : List Sign) (skip : Option ℕ) (sentence : Sentence) → IsSentence signs skip sentence → IsRead (behind_comments signs) skip sentence
 unfolding read_head
 sentence_read _ _ _ (blank comments all) =
@@ -275,7 +298,7 @@ sentence_read _ _ _ (block before head between rest skip sentence all-before is-
     let Q : List Sign → Type 0 = λ ss. IsRead ss skip sentence in
     subst Q (sym (behind_more before (head ++ (between ++ rest)) all-before)) (sentence_behind_comments head between rest skip sentence is-skip all-between some is)
 
--- the numbers of a sentence are literals
+-- the numbers of a sentence are literals to the reader
 abbrev pub HasLiterals : Sentence → Type 0
 HasLiterals NoBlock = Unit {0}
 HasLiterals (ProgramNumber text) = is_literal text ≡ true
@@ -283,6 +306,7 @@ HasLiterals (WordBlock words) = Unit {0}
 HasLiterals (StatementBlock None text) = Unit {0}
 HasLiterals (StatementBlock (Some number) text) = is_literal number ≡ true
 
+-- the numbers of a block of the grammar are literals
 block_literals : (skip : Option ℕ) (signs : List Sign) (sentence : Sentence) → IsBlock skip signs sentence → HasLiterals sentence
 block_literals _ _ _ (program signs word are o lit) = literal_read word.text lit
 block_literals _ _ _ (computed signs word are o lit) = tt
@@ -290,7 +314,7 @@ block_literals _ _ _ (worded skip signs words are off) = tt
 block_literals _ _ _ (stated skip signs is) = tt
 block_literals _ _ _ (numbered skip letter number signs n lit is) = literal_read (bytes_of number) lit
 
--- its numbers are literals
+-- the numbers of a sentence of the grammar are literals
 pub sentence_literals : (signs : List Sign) (skip : Option ℕ) (sentence : Sentence) → IsSentence signs skip sentence → HasLiterals sentence
 sentence_literals _ _ _ (blank comments all) = tt
 sentence_literals _ _ _ (block before head between rest skip sentence all-before is-skip all-between some is) = block_literals skip rest sentence is

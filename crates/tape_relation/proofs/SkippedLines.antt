@@ -1,4 +1,5 @@
--- What changes nothing: a block that is skipped, and a carriage return before a line feed.
+-- Two facts on one line: a readable block that is skipped says nothing, and a carriage return
+-- before a line feed is not read. For Removed and Returns.
 use Rattle.std.proofs.Common.{◌≡◌, ℕ, Bool, true, false, cond, List, [], ◌∷◌, ◌++◌, Ok, ap, ◌∙◌}
 use Rattle.line_text.specs.declared.said.Said.{Said}
 use Rattle.line_text.specs.declared.said.Said.TheVariants as said
@@ -18,7 +19,7 @@ skipped skips line ended says set e =
     let read = judged_ok (is_skipped skips (line_switch line ended)) (are_allowed scan.list) scan.unclosed reading says e in
     read.says_is ∙ ap (λ (t : Bool). cond t said.Nothing reading.said) set
 
--- a carriage return before a line feed is not read
+-- a line with a carriage return before its line feed says what the line says without both
 pub return_ignored : (skips : ℕ) (line : List ℕ) → line_says skips (line ++ 13 ∷ []) true ≡ line_says skips line false
 unfolding line_says signs_of
 return_ignored skips line = ap (λ (l : List ℕ). judged_signs skips (scan_of (without_last 59 (without_blanks l)) false 0)) (last_pushed 13 line 13)

@@ -1,4 +1,5 @@
--- Which texts are statements, and that no list of words is one.
+-- Which texts are statements, and that no list of words is one. For Heads, Found, Sentences and
+-- LongNumbers.
 use Rattle.std.proofs.Common.{◌≡◌, ◌==◌, ℕ, Bool, true, false, not, ◌||◌, List, [], ◌∷◌, ◌++◌, length, take, inl, inr, refl, sym, ap, subst, ◌∙◌, append-nil, arith}
 use Rattle.std.specs.Prelude.{nat_eq, codes}
 use Rattle.std.specs.Char.{is_ascii_uppercase}
@@ -20,6 +21,7 @@ use Rattle.tape_relation.proofs.Cuts.{pass_value}
 
 -- What begins with a word.
 
+-- The next three: a text begins with a word by the grammar exactly if it does to the reader.
 same_word : (word : List ℕ) → pointwise nat_eq word word ≡ true
 same_word [] = refl
 same_word (b ∷ word) = rw (eq-eqb b b refl) (same_word word)
@@ -34,7 +36,7 @@ begins_found (b ∷ word) (c ∷ text) e =
     let p = both (nat_eq b c) (pointwise nat_eq word (take (length word) text)) e in
     let later = begins_found word text p.1 in (later.0, ap (λ (k : ℕ). k ∷ text) (sym (eqb-true b c p.0)) ∙ ap (λ (t : List ℕ). b ∷ t) later.1)
 
--- a statement of the grammar is one for the reader,
+-- a statement of the grammar is one to the reader
 pub statement_read : (text : List ℕ) → IsStatement text → is_statement text ≡ true
 statement_read text is = go is
   where
@@ -46,7 +48,7 @@ statement_read text is = go is
     go (inr (inr (inr (inr (inl h))))) = or_right (starts_with nat_eq text (codes "#") || starts_with nat_eq text (codes "IF") || starts_with nat_eq text (codes "WHILE")) _ (or_left (starts_with nat_eq text (codes "GOTO") || starts_with nat_eq text (codes "DO")) _ (or_right (starts_with nat_eq text (codes "GOTO")) _ (begins_read (codes "DO") text h)))
     go (inr (inr (inr (inr (inr h))))) = or_right (starts_with nat_eq text (codes "#") || starts_with nat_eq text (codes "IF") || starts_with nat_eq text (codes "WHILE")) _ (or_right (starts_with nat_eq text (codes "GOTO") || starts_with nat_eq text (codes "DO")) _ (begins_read (codes "END") text h))
 
--- and the other way round
+-- a statement to the reader is one of the grammar
 pub statement_found : (text : List ℕ) → is_statement text ≡ true → IsStatement text
 statement_found text e = go (starts_with nat_eq text (codes "#")) refl (starts_with nat_eq text (codes "IF")) refl (starts_with nat_eq text (codes "WHILE")) refl (starts_with nat_eq text (codes "GOTO")) refl (starts_with nat_eq text (codes "DO")) refl (starts_with nat_eq text (codes "END")) refl e
   where
@@ -60,7 +62,7 @@ statement_found text e = go (starts_with nat_eq text (codes "#")) refl (starts_w
     go false ea false eb false ec false ed false ef true eg h = inr (inr (inr (inr (inr (begins_found (codes "END") text eg)))))
     go false ea false eb false ec false ed false ef false eg h = absurd cc
 
--- the first byte of a statement
+-- what holds of `#`, I, W, G, D and E holds of the first byte of a statement
 pub first_is : (P : ℕ → Type 0) (b : ℕ) (text : List ℕ) → P 35 → P 73 → P 87 → P 71 → P 68 → P 69 → IsStatement (b ∷ text) → P b
 first_is P b text hash i w g d e is = go is
   where
@@ -72,7 +74,7 @@ first_is P b text hash i w g d e is = go is
     go (inr (inr (inr (inr (inl (rest, is)))))) = let same : b ≡ 68 = cc in subst P (sym same) d
     go (inr (inr (inr (inr (inr (rest, is)))))) = let same : b ≡ 69 = cc in subst P (sym same) e
 
--- nothing is no statement
+-- the empty text is no statement
 pub no_statement : IsStatement [] → ⊥
 no_statement (inl (rest, is)) = absurd cc
 no_statement (inr (inl (rest, is))) = absurd cc
@@ -81,11 +83,11 @@ no_statement (inr (inr (inr (inl (rest, is))))) = absurd cc
 no_statement (inr (inr (inr (inr (inl (rest, is)))))) = absurd cc
 no_statement (inr (inr (inr (inr (inr (rest, is)))))) = absurd cc
 
--- the first byte is no letter, or the second one is a letter too
+-- whether the first byte is no letter, or the second one is a letter too
 abbrev letter_or : ℕ → ℕ → Bool
 letter_or first second = not (is_ascii_uppercase first) || is_ascii_uppercase second
 
--- a letter and what is no letter begin no statement
+-- a letter and then a byte that is no letter begin no statement
 second_letter : (first second : ℕ) (text : List ℕ) → IsStatement (first ∷ (second ∷ text)) → letter_or first second ≡ true
 second_letter first second text (inl (rest, is)) = let same : first ≡ 35 = cc in let P : ℕ → Type 0 = λ b. letter_or b second ≡ true in subst P (sym same) refl
 second_letter first second text (inr (inl (rest, is))) = let same : second ≡ 70 = cc in let P : ℕ → Type 0 = λ b. letter_or first b ≡ true in subst P (sym same) (or_right (not (is_ascii_uppercase first)) true refl)
@@ -108,7 +110,7 @@ value_first sign value e = go (is_ascii_uppercase sign.byte) refl (ap (λ (c : C
 pub letter_no_comment : (b : ℕ) → is_ascii_uppercase b ≡ true → (b == 40) ≡ false
 letter_no_comment b is = grind (arith, nat_tests)
 
--- what is no statement is none for the reader
+-- a text that is no statement of the grammar is none to the reader
 pub not_statement : (text : List ℕ) → (IsStatement text → ⊥) → is_statement text ≡ false
 not_statement text no-one = go (is_statement text) refl
   where
@@ -116,7 +118,7 @@ not_statement text no-one = go (is_statement text) refl
     go true e = absurd (no-one (statement_found text e))
     go false e = e
 
--- words before what is no statement are none
+-- words before signs that are no statement are no statement
 pub words_before : (signs tail : List Sign) (words : List Piece) → AreWords signs words → is_statement (sentence_of tail) ≡ false → is_statement (sentence_of (signs ++ tail)) ≡ false
 words_before signs tail [] is off = ap (λ (ss : List Sign). is_statement (sentence_of (ss ++ tail))) is ∙ off
 words_before signs tail (word ∷ words) (letter, [], comments, others, is, up, val, none, all, word-is, rest) off = let bad : false ≡ true = is_a_value [] val in absurd cc

@@ -1,4 +1,5 @@
--- What a reader asks at a line, and which conditions hold there.
+-- What the reader asks at a line tells which conditions of the relation hold there: outside the `%`
+-- lines, at one of them, and between them. For FirstFault.
 use Rattle.std.proofs.Common.{◌≡◌, ℕ, ◌+◌, ◌<◌, ◌≤◌, Bool, true, false, cond, not, ◌&&◌, ◌||◌, ltb, leb, List, [], ◌∷◌, length, filter, Option, Some, None, Ok, Err, refl, sym, ◌∙◌, arith}
 use Rattle.std.specs.Option.{is_none}
 use Rattle.std.specs.List.{list_any}
@@ -22,24 +23,32 @@ use Rattle.tape_relation.specs.Conditions.{Counts, IsInBody, Holds}
 use Rattle.tape_relation.proofs.Fronts.{has_more, size_last}
 use Rattle.tape_relation.proofs.LeastNumber.{order, first_of, Tells}
 
--- so many lines and bytes stand before a line
+-- as many lines and bytes were read as stand before the line, and they are not too many
 pub record Stands (front : List Line) (before : Before) : Type 0 where
+  -- as many lines were read as stand before
   pub lines_are : before.lines ≡ length front
+  -- as many bytes were read as these lines have
   pub bytes_are : before.bytes ≡ size front
+  -- these lines have at most 4 MiB
   pub few : size front ≤ 4194304
 
--- the line behind stands between the `%` lines, and this was said there
+-- the line behind these stands between the `%` lines, and as many blocks, and a program or none,
+-- were read as these lines say
 pub record Inside (skips : ℕ) (front : List Line) (before : Before) : Type 0 where
+  -- one of the lines before begins with `%`
   pub opened : has_percent front ≡ true
+  -- no second one does
   pub not_closed : is_closed front ≡ false
+  -- as many blocks were read as the lines of the body say
   pub blocks_are : before.blocks ≡ length (filter (says_block skips) (behind_percent front))
+  -- no program is being read exactly if these lines say nothing
   pub none_is : is_none before.current ≡ not (list_any (says_something skips) (behind_percent front))
 
--- with this line the text is past the longest tape
+-- whether the text is longer than 4 MiB with this line
 abbrev past : Before → Line → Bool
 past before line = is_past_end before (length line.bytes) line.ended
 
--- then the condition of a tape that is too long holds,
+-- if the text is too long with a line, the condition of a tape that is too long holds there
 past_holds : (skips : ℕ) (front : List Line) (line : Line) (before : Before) → Stands front before → past before line ≡ true → Holds skips front line TapeTooLong
 past_holds skips front line before stands e =
     let more = size_last front line in
@@ -47,7 +56,7 @@ past_holds skips front line before stands e =
     let same = stands.bytes_are in
     (stands.few, omega arith)
 
--- and the other way round
+-- if that condition holds at a line, the text is too long with it
 past_told : (skips : ℕ) (front : List Line) (line : Line) (before : Before) → Stands front before → Holds skips front line TapeTooLong → past before line ≡ true
 past_told skips front line before stands h =
     let more = size_last front line in
@@ -55,7 +64,7 @@ past_told skips front line before stands h =
     let over = h.1 in
     let here : 4194304 < before.bytes + size_of (length line.bytes) line.ended = omega arith in lt-ltb 4194304 (before.bytes + size_of (length line.bytes) line.ended) here
 
--- a line before the first `%` line, or behind the second
+-- what the reader asks at a line before the first `%` line or behind the second
 abbrev pub outer_test : Before → Line → Refusal → Bool
 outer_test before line TapeTooLong = past before line
 outer_test before line TooManyDigits = false
@@ -96,7 +105,7 @@ outer_tells skips front line before stands out = record { told = told; holds = h
     holds TapeTooLong e = past_holds skips front line before stands e
     holds WordRange e = absurd cc
 
--- one of the two `%` lines
+-- what the reader asks at one of the two `%` lines
 abbrev pub percent_test : Before → Line → Refusal → Bool
 percent_test before line TapeTooLong = past before line
 percent_test before line LineTooLong = ltb 512 (length line.bytes)
@@ -109,10 +118,11 @@ percent_test before line NoEnd = false
 percent_test before line TooManyBlocks = false
 percent_test before line WordRange = false
 
+-- a line that begins with `%` is no line of the body
 in_body_not : (front : List Line) (line : Line) → begins_percent line ≡ true → IsInBody front line → ⊥
 in_body_not front line is h = let bad : true ≡ false = sym is ∙ h.1 in absurd cc
 
--- so does what is asked at a `%` line
+-- what is asked at a `%` line tells which conditions hold there
 pub percent_tells : (skips : ℕ) (front : List Line) (line : Line) (before : Before) → Stands front before → Counts front line → begins_percent line ≡ true → Tells skips front line (percent_test before line)
 percent_tells skips front line before stands counts is = record { told = told; holds = holds }
   where
@@ -140,7 +150,7 @@ percent_tells skips front line before stands counts is = record { told = told; h
     holds TapeTooLong e = past_holds skips front line before stands e
     holds WordRange e = absurd cc
 
--- a line between them
+-- what the reader asks at a line between the `%` lines, by refusal
 abbrev pub body_test : ℕ → Before → Line → Refusal → Bool
 body_test skips before line TooManyDigits = (reading line).long && not (is_off skips line)
 body_test skips before line BadCharacter = not (are_allowed (scan line).list)
@@ -153,14 +163,15 @@ body_test skips before line TooManyBlocks = says_block skips line && leb 20000 b
 body_test skips before line TapeTooLong = past before line
 body_test skips before line WordRange = not (is_said_in_range (says skips line))
 
+-- what is false is not true
 not_is : (a : Bool) → a ≡ false → not a ≡ true
 not_is a e = rw e refl
 
--- a line of the body counts
+-- a line of the body is one that counts: the conditions of a tape's lines are asked there
 pub counts_here : (skips : ℕ) (front : List Line) (line : Line) (before : Before) → Inside skips front before → Counts front line
 counts_here skips front line before inside = (has_more front (line ∷ []) inside.opened, inside.not_closed)
 
--- so does what is asked at a line of the body
+-- what is asked at a line of the body tells which conditions hold there
 pub body_tells : (skips : ℕ) (front : List Line) (line : Line) (before : Before) → Stands front before → Inside skips front before → begins_percent line ≡ false → Tells skips front line (body_test skips before line)
 body_tells skips front line before stands inside is = record { told = told; holds = holds }
   where
@@ -198,7 +209,8 @@ body_tells skips front line before stands inside is = record { told = told; hold
     holds TapeTooLong e = past_holds skips front line before stands e
     holds WordRange e = (here, range_found skips line (not_true (is_said_in_range (says skips line)) e))
 
--- the tests of a line with this reading, one after another
+-- the reader's tests at a line with this reading, one after another, are a search in the order of
+-- the refusals
 judged_step : (skipped allowed unclosed : Bool) (read : Reading) (before : Before) (len : ℕ) (ended : Bool) (test : Refusal → Bool) (what : Said) → what ≡ cond (skipped || read.broken) said.Nothing read.said
     → test TooManyDigits ≡ (read.long && not skipped) → test BadCharacter ≡ not allowed → test NoNumber ≡ read.broken → test OpenComment ≡ unclosed
     → test NoProgramNumber ≡ (is_block what && is_none before.current) → test NoEnd ≡ false → test LineTooLong ≡ ltb 512 len → test TooManyBlocks ≡ (is_block what && leb 20000 before.blocks)

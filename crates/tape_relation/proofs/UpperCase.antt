@@ -1,6 +1,6 @@
--- Lower case reads as upper case.
--- Each lemma whose name ends in `_up` says that one step of the reader gives the same in upper
--- case.
+-- Lower case reads as upper case. Each lemma in `_up`, and each that begins with `up_`, says that
+-- one step of the reader gives the same in upper case. For the law `lower_case_reads_as_upper_case`
+-- (src/edits.rt).
 use Rattle.std.proofs.Common.{◌≡◌, ◌==◌, ℕ, zero, suc, ◌+◌, ◌-◌, ◌<◌, Bool, true, false, cond, not, ◌&&◌, ◌||◌, List, [], ◌∷◌, ◌++◌, length, map, take, get_or, refl, sym, ap, ◌∙◌, arith}
 use Rattle.std.specs.Prelude.{reverse}
 use Rattle.std.specs.Char.{to_ascii_uppercase}
@@ -17,7 +17,7 @@ use Rattle.tape_relation.proofs.Mapped.{either_map, prefix_same}
 abbrev up : ℕ → ℕ
 up b = to_ascii_uppercase b
 
--- a small letter and its capital are no other byte below the letters
+-- a letter and its capital equal the same bytes below the letters
 up_same : (b k : ℕ) → k < 65 → (up b == k) ≡ (b == k)
 up_same b k small = grind (arith, nat_tests)
 
@@ -35,7 +35,7 @@ up_added : (test : Bool) (place b : ℕ) (scan : Scan) → add_sign test place (
 up_added true place b scan = rw (up_up b) refl
 up_added false place b scan = refl
 
--- a line has the same signs,
+-- a line has the same signs in upper case
 scan_up : (line : List ℕ) (inside : Bool) (place : ℕ) → scan_of (map up line) inside place ≡ scan_of line inside place
 scan_up [] inside place = refl
 scan_up (b ∷ line) inside place =
@@ -75,7 +75,7 @@ content_up line ended =
     ap (λ (l : List ℕ). without_last 59 (without_blanks l)) (return_up line ended) ∙ ap (without_last 59) (blanks_up (without_return line ended))
     ∙ last_up 59 (without_blanks (without_return line ended)) (omega arith)
 
--- so it says the same,
+-- a line says the same in upper case
 says_up : (skips : ℕ) (line : List ℕ) (ended : Bool) → line_says skips (map up line) ended ≡ line_says skips line ended
 unfolding line_says signs_of
 says_up skips line ended =
@@ -89,7 +89,7 @@ onto_up : (b : ℕ) (lines : List Line) → onto_line (up b) (map up_line lines)
 onto_up b [] = refl
 onto_up b (line ∷ lines) = refl
 
--- and so do all lines of the text
+-- the lines of a text in upper case are its lines in upper case
 lines_up : (text : List ℕ) → lines_of (map up text) ≡ map up_line (lines_of text)
 lines_up [] = refl
 lines_up (b ∷ text) =
@@ -118,7 +118,7 @@ leader_up skips (line ∷ lines) before = λ i.
     cond (percent_up line.bytes i) (goes_on before (after_percent before (length-map line.bytes up i) line.ended) (λ after. body_up skips lines (begun after) i))
     (goes_on before (after_outer before (length-map line.bytes up i) line.ended) (λ after. leader_up skips lines after i))
 
--- lower case reads as upper case
+-- a text has the same answer with all its letters in upper case
 pub tape_up : (skips : ℕ) (text : List ℕ) → tape_of skips (map to_ascii_uppercase text) ≡ tape_of skips text
 unfolding tape_of
 tape_up skips text = ap (λ (lines : List Line). in_leader skips lines nothing_read) (lines_up text) ∙ leader_up skips (lines_of text) nothing_read

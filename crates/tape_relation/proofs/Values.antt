@@ -1,4 +1,5 @@
--- What the reader takes for a value is one of the grammar, and the other way round.
+-- What the reader takes for a value is one of the grammar, and the other way round. For the law
+-- `a_value_has_the_grammar` (src/law.rt), and for Cuts, Heads and Statements.
 use Rattle.std.proofs.Common.{◌≡◌, ℕ, ◌+◌, ◌-◌, ◌<◌, ◌==◌, Bool, true, false, cond, ◌&&◌, ◌||◌, List, [], ◌∷◌, ◌++◌, length, ◌⊎◌, inl, inr, refl, ap, sym, subst, ◌∙◌, arith}
 use Rattle.std.specs.Char.{is_ascii_digit}
 use Rattle.std.specs.List.{list_all}
@@ -11,6 +12,7 @@ use Rattle.tape_relation.specs.Numbers.{IsSign}
 use Rattle.tape_relation.specs.Value.{times, IsBracketed, IsVariable, IsValue}
 use Rattle.tape_relation.proofs.LiteralParts.{signed, literal_found, literal_read}
 
+-- how often a byte stands in a text with one byte more in front
 times_cons : (k b : ℕ) (text : List ℕ) (t : Bool) → (b == k) ≡ t → times k (b ∷ text) ≡ cond t 1 0 + times k text
 times_cons k b text true e = rw e refl
 times_cons k b text false e = rw e (let z : times k text ≡ 0 + times k text = omega arith in z)
@@ -22,6 +24,7 @@ record IsClosing (depth : ℕ) (text : List ℕ) : Type 0 where
   same : times 91 inner + depth ≡ times 93 inner + 1
   open_first : (front back : List ℕ) → inner ≡ front ++ back → times 93 front < times 91 front + depth
 
+-- The next two are the steps of `closed`: a byte more in front, and no bytes.
 extend : (b depth behind : ℕ) (text : List ℕ) (u v : Bool) → (b == 91) ≡ u → (b == 93) ≡ v → 0 < depth → cond u 1 0 + depth ≡ cond v 1 0 + behind → IsClosing behind text → IsClosing depth (b ∷ text)
 extend b depth behind text u v e f some count c =
     let x = times_cons 91 b c.inner u e in
@@ -48,7 +51,7 @@ no_front : (depth : ℕ) → 0 < depth → (front back : List ℕ) → ◌≡◌
 no_front depth some [] back e = omega arith
 no_front depth some (b ∷ front) back e = absurd cc
 
--- a text whose bracket is closed at its end is balanced within it,
+-- a text whose open brackets close at its very end is balanced within them
 closed : (text : List ℕ) (depth : ℕ) → 0 < depth → closes text depth ≡ true → IsClosing depth text
 closed [] depth some e = absurd cc
 closed (b ∷ text) depth some e = go (b == 91) refl (b == 93) refl (depth == 1) refl e (closed text (depth + 1)) (closed text (depth - 1)) (closed text depth)
@@ -72,7 +75,7 @@ closed (b ∷ text) depth some e = go (b == 91) refl (b == 93) refl (depth == 1)
         not_one d some off = grind arith
     go false e91 false e93 one e1 h more less same = extend b depth depth text false false e91 e93 some refl (same some h)
 
--- and the other way round; 91 is `[`, 93 is `]`
+-- a text that is balanced within its brackets closes them at its very end; 91 is `[`, 93 is `]`
 closing : (inner : List ℕ) (depth : ℕ) → 0 < depth → times 91 inner + depth ≡ times 93 inner + 1 → ((front back : List ℕ) → inner ≡ front ++ back → times 93 front < times 91 front + depth) → closes (inner ++ 93 ∷ []) depth ≡ true
 closing [] depth some same open_first = let one : depth ≡ 1 = omega arith in rw (eq-eqb depth 1 one) refl
 closing (b ∷ inner) depth some same open_first = go (b == 91) refl (b == 93) refl (depth == 1) refl (closing inner (depth + 1)) (closing inner (depth - 1)) (closing inner depth)
@@ -110,6 +113,7 @@ closing (b ∷ inner) depth some same open_first = go (b == 91) refl (b == 93) r
 
 -- A text in brackets.
 
+-- The next two: a text in brackets is one to the reader exactly if it is one of the grammar.
 bracketed : (text : List ℕ) → closes text 1 ≡ true → IsBracketed (91 ∷ text)
 bracketed text e =
     let c = closed text 1 (omega arith) e in
@@ -128,6 +132,7 @@ is_bracketed b text (inner, is, balanced) =
 
 -- A whole value.
 
+-- The next two: what the reader takes for a variable or a reference is one of the grammar.
 variable : (name : List ℕ) → is_variable name ≡ true → IsVariable (35 ∷ name)
 variable [] e = absurd cc
 variable (c ∷ name) e = go (c == 91) refl e
@@ -146,7 +151,7 @@ reference (b ∷ text) e = go (b == 35) refl e
         let p = both (b == 91) (closes text 1) h in
         let x : b ≡ 91 = eqb-true b 91 p.0 in let P : ℕ → Type 0 = λ k. IsBracketed (k ∷ text) in inr (subst P (sym x) (bracketed text p.1))
 
--- what the reader takes for a value is one of the grammar,
+-- what the reader takes for a value is a value of the grammar
 pub value_is : (text : List ℕ) → is_value text ≡ true → IsValue text
 value_is text e = go (is_literal text) refl e
   where
@@ -154,6 +159,7 @@ value_is text e = go (is_literal text) refl e
     go true is h = inl (literal_found text is)
     go false is h = let s = signed text in inr (s.0, behind_sign text, s.1, s.2, reference (behind_sign text) h)
 
+-- The next two: a variable or a reference of the grammar is one to the reader.
 is_variable_name : (name : List ℕ) → ((0 < length name) × (list_all is_ascii_digit name ≡ true)) ⊎ IsBracketed name → is_variable name ≡ true
 is_variable_name [] (inl (some, digits)) = absurd (omega arith)
 is_variable_name [] (inr (inner, is, balanced)) = absurd cc
@@ -172,7 +178,7 @@ is_a_reference (b ∷ text) (inr bracket) =
     let P : ℕ → Type 0 = λ k. (is_reference (k ∷ text) ≡ true) × (behind_sign (k ∷ text) ≡ k ∷ text) in
     let here : (is_reference (91 ∷ text) ≡ true) × (behind_sign (91 ∷ text) ≡ 91 ∷ text) = (p.1, refl) in subst P (sym p.0) here
 
--- and the other way round
+-- a value of the grammar is one to the reader
 pub is_a_value : (text : List ℕ) → IsValue text → is_value text ≡ true
 is_a_value text (inl is) = rw (literal_read text is) refl
 is_a_value text (inr (sign, rest, is, s, r)) =

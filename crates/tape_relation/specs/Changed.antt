@@ -1,5 +1,5 @@
--- An answer with other line numbers or other words.
--- For this crate alone.
+-- The answer of a text with other line numbers or other words: what the laws of edits
+-- (src/edits.rt) say that an edit changes. For this crate alone.
 use Rattle.std.specs.Prelude.{ℕ, ◌-◌, nat_lt, map, Ok, Err, if◌then◌else◌}
 use Rattle.line_text.specs.declared.body.Word.{Word}
 use Rattle.line_text.specs.declared.body.Body.{Body}
@@ -8,7 +8,7 @@ use Rattle.nc_text.specs.declared.tape.Block.{Block}
 use Rattle.nc_text.specs.declared.tape.Program.{Program}
 use Rattle.nc_text.specs.Tape.{Answer}
 
--- words with each word changed; a statement stays
+-- the body of a block with each of its words changed; a statement stays
 abbrev pub changed_body : (Word → Word) → Body → Body
 changed_body word (Words words) = Words (map word words)
 changed_body word (Statement text) = Statement text
@@ -17,7 +17,7 @@ changed_body word (Statement text) = Statement text
 abbrev pub changed_block : (ℕ → ℕ) → (Word → Word) → Block → Block
 changed_block line word block = record block { line = line block.line; body = changed_body word block.body }
 
--- a program with the same of its blocks
+-- a program with the number of each line changed, and each word of its blocks
 abbrev pub changed_program : (ℕ → ℕ) → (Word → Word) → Program → Program
 changed_program line word program = record program { line = line program.line; blocks = map (changed_block line word) program.blocks }
 
@@ -26,11 +26,11 @@ abbrev pub changed : (ℕ → ℕ) → (Word → Word) → Answer → Answer
 changed line word (Ok programs) = Ok (map (changed_program line word) programs)
 changed line word (Err fault) = Err (record fault { line = line fault.line })
 
--- the number of a line, where a line behind so many is taken out
+-- the number that a line has after the line that follows `before` lines was taken out
 abbrev pub lower : ℕ → ℕ → ℕ
 lower before line = if nat_lt before line then line - 1 else line
 
--- an answer with each line number above this one lowered by one
+-- an answer with each line number above `before` lowered by one
 abbrev pub lowered : ℕ → Answer → Answer
 lowered before answer = changed (lower before) (λ word. word) answer
 

@@ -1,6 +1,6 @@
--- The conditions under which a line is refused. Each looks for itself at all lines before it; none
--- asks for another.
--- For this crate alone.
+-- The conditions under which a line is refused, one for each refusal. Each looks for itself at all
+-- lines before the line; none asks for another. Relation takes the least line and number of them;
+-- a refusal that nc_text can give needs its line in `Holds`.
 use Rattle.std.specs.Prelude.{◌≡◌, ℕ, ◌+◌, ◌<◌, ◌≤◌, ◌⊎◌, true, false, List, [], ◌∷◌, ◌++◌, length, All}
 use Rattle.line_text.specs.declared.refusal.Refusal.{Refusal}
 use Rattle.line_text.specs.declared.refusal.Refusal.TheVariants.{TooManyDigits, BadCharacter, NoNumber, OpenComment, NoProgramNumber, NoEnd, LineTooLong, TooManyBlocks, TapeTooLong, WordRange}
@@ -10,23 +10,23 @@ use Rattle.tape_relation.specs.Parts.{size, begins_percent, has_percent, behind_
 use Rattle.tape_relation.specs.Characters.{HasBadCharacter, EndsInComment}
 use Rattle.tape_relation.specs.LineAlone.{SaysBlock, SaysSomething, HasLongNumber, IsBroken, IsOutOfRange}
 
--- in bytes, a line without its line feed
+-- the most bytes that a line may have, without its line feed
 abbrev pub longest_line : ℕ
 longest_line = 512
 
--- in bytes: 4 MiB
+-- the most bytes that a text may have: 4 MiB
 abbrev pub longest_tape : ℕ
 longest_tape = 4194304
 
--- the blocks of all programs of a tape
+-- the most blocks that all programs of a tape may have together
 abbrev pub most_blocks : ℕ
 most_blocks = 20000
 
--- the line is the first that begins with `%`, the second, or between them
+-- the line behind these is the first that begins with `%`, the second, or stands between them
 abbrev pub Counts : List Line → Line → Type 0
 Counts front line = (has_percent (front ++ line ∷ []) ≡ true) × (is_closed front ≡ false)
 
--- the line stands between the two
+-- the line behind these stands between the two that begin with `%`: it is a line of the programs
 abbrev pub IsInBody : List Line → Line → Type 0
 IsInBody front line = Counts front line × (begins_percent line ≡ false)
 
@@ -34,7 +34,7 @@ IsInBody front line = Counts front line × (begins_percent line ≡ false)
 abbrev pub SayNothing : ℕ → List Line → Type 0
 SayNothing skips lines = All (λ line. SaysSomething skips line → ⊥) lines
 
--- so many of these lines say a block
+-- exactly so many of these lines say a block
 abbrev pub SayBlocks : ℕ → List Line → ℕ → Type 0
 SayBlocks skips [] n = n ≡ 0
 SayBlocks skips (line ∷ lines) n = (SaysBlock skips line × ((m : ℕ) × (n ≡ m + 1) × SayBlocks skips lines m))
@@ -55,12 +55,12 @@ Holds skips front line TooManyBlocks = IsInBody front line × SaysBlock skips li
 Holds skips front line TapeTooLong = (size front ≤ longest_tape) × (longest_tape < size (front ++ line ∷ []))
 Holds skips front line WordRange = IsInBody front line × IsOutOfRange skips line
 
--- it holds, and none of a lesser number does
+-- the refusal's condition holds at this line behind these, and none of a lesser number does
 abbrev pub IsLeast : ℕ → List Line → Line → Refusal → Type 0
 IsLeast skips front line refusal = Holds skips front line refusal
     × ((other : Refusal) → Holds skips front line other → refusal_number refusal ≤ refusal_number other)
 
--- none holds at any of these lines, which stand behind the front
+-- no refusal's condition holds at any of these lines, which stand behind the front
 abbrev pub NoneHolds : ℕ → List Line → List Line → Type 0
 NoneHolds skips front lines = (before behind : List Line) (line : Line) (refusal : Refusal)
     → lines ≡ before ++ line ∷ behind → Holds skips (front ++ before) line refusal → ⊥

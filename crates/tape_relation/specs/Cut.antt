@@ -1,5 +1,5 @@
--- The words into which the reader cuts a line, for the law that they are those of the grammar.
--- For this crate alone.
+-- The words into which the reader cuts a line: what the law `a_line_is_cut_into_its_words`
+-- (src/law.rt) compares with the words of the grammar. For this crate alone.
 use Rattle.std.specs.Prelude.{◌≡◌, true, List}
 use Rattle.std.specs.List.{list_all}
 use Rattle.line_text.specs.declared.sign.Sign.{Sign}
@@ -9,6 +9,9 @@ use Rattle.line_text.specs.Said.{is_sound}
 
 -- the reader cuts the signs into these words: it starts at a letter, and each has a whole value
 pub record IsCut (signs : List Sign) (words : List Piece) : Type 0 where
+  -- the first sign begins a word
   pub at_letter : value_len signs 0 ≡ 0
+  -- the reader's pieces are these words
   pub words_are : pieces_of signs ≡ words
+  -- each word has a whole value
   pub whole : list_all is_sound words ≡ true

@@ -1,5 +1,5 @@
--- One line of a text, and what may be put into a text.
--- Bytes: 10 is the line feed, 13 the carriage return.
+-- One line of a text, and what may be put into a line or taken out of it: the conditions of the
+-- laws of edits (src/edits.rt). Bytes: 10 is the line feed, 13 the carriage return.
 -- For this crate alone.
 use Rattle.std.specs.Prelude.{◌≡◌, ℕ, ◌<◌, ◌≤◌, Bool, true, false, ◌==◌, List, [], ◌∷◌, ◌++◌, length, All, Option, Ok, if◌then◌else◌}
 use Rattle.std.specs.List.{list_all}
@@ -12,27 +12,36 @@ use Rattle.line_text.specs.Front.{behind_comments, switch_of}
 use Rattle.line_text.specs.Said.{line_says, is_skipped}
 use Rattle.tape_relation.specs.Alike.{Fits}
 
--- the last line too has its line feed
+-- whether each line of a text has its line feed, the last one too
 abbrev pub are_whole : List ℕ → Bool
 are_whole text = list_all (λ line. line.ended) (lines_of text)
 
--- a text with this line between the lines before it and what stands behind it
+-- the text of the lines before a line, the line with its line feed, and what stands after it
 abbrev pub with_line : List ℕ → List ℕ → List ℕ → List ℕ
 with_line front line back = front ++ (line ++ 10 ∷ back)
 
--- the line is one line of the text, and neither is too long
+-- the line is one line of the text, a line feed ends it, and neither is too long
 pub record IsLine (front line back : List ℕ) : Type 0 where
+  -- the lines before it all have their line feeds
   pub whole : are_whole front ≡ true
+  -- no line feed stands in the line
   pub one_line : IsOneLine line
+  -- the line has at most 512 bytes
   pub short : length line ≤ LONGEST_LINE
+  -- the text has at most 4 MiB
   pub fits : Fits (with_line front line back)
 
 -- the line is the last one of the text, without a line feed
 pub record IsLastLine (front line : List ℕ) : Type 0 where
+  -- the line has a byte
   pub some : 0 < length line
+  -- the lines before it all have their line feeds
   pub whole : are_whole front ≡ true
+  -- no line feed stands in the line
   pub one_line : IsOneLine line
+  -- the line has at most 512 bytes
   pub short : length line ≤ LONGEST_LINE
+  -- the text has at most 4 MiB
   pub fits : Fits (front ++ line)
 
 -- the switch of the block on a line, if it has the skip sign
@@ -41,24 +50,29 @@ line_switch line ended = switch_of (behind_comments (signs_of line ended).list)
 
 -- the block on the line is skipped and readable
 pub record IsSkipped (skips : ℕ) (line : List ℕ) (ended : Bool) : Type 0 where
+  -- what the line says; as a skipped line it says nothing
   pub says : Said
+  -- the switch of its skip sign is set
   pub switch : is_skipped skips (line_switch line ended) ≡ true
+  -- the line has no refusal by itself
   pub readable : line_says skips line ended ≡ Ok says
 
 -- nothing but comments counts on the line, and the last one is closed
 pub record HasOnlyComments (line : List ℕ) (ended : Bool) : Type 0 where
+  -- each byte of the line that counts belongs to a comment
   pub comments : list_all is_comment (signs_of line ended).list ≡ true
+  -- the line does not end inside a comment
   pub closed : (signs_of line ended).unclosed ≡ false
 
 -- the line does not end with a carriage return
 abbrev pub EndsWithoutReturn : List ℕ → Type 0
 EndsWithoutReturn line = without_last 13 line ≡ line
 
--- no carriage return
+-- the text has no carriage return
 abbrev pub HasNoReturn : List ℕ → Type 0
 HasNoReturn text = All (λ b. (b == 13) ≡ false) text
 
--- each line has room for one byte more
+-- each line of the text has at most 511 bytes: it has room for a carriage return
 abbrev pub HaveRoom : List ℕ → Type 0
 HaveRoom text = All (λ line. length line.bytes < LONGEST_LINE) (lines_of text)
 
@@ -70,5 +84,7 @@ with_returns (b ∷ bs) = if b == 10 then 13 ∷ 10 ∷ with_returns bs else b �
 -- a blank may stand here in a line: not in front of the `%` that begins it, nor behind the carriage
 -- return that ends it
 pub record MayHaveBlank (left right : List ℕ) : Type 0 where
+  -- a blank that begins the line does not stand before a `%`
   pub percent : left ≡ [] → is_percent right ≡ false
+  -- a blank that ends the line does not stand after a carriage return
   pub return : right ≡ [] → EndsWithoutReturn left

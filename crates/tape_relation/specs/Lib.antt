@@ -1,6 +1,6 @@
 -- The relation between a text and its tape (Relation, over Parts, Programs, Conditions, LineAlone,
 -- LineGrammar, Words, Value, Numbers and Characters), and the words of the laws of edits (Edited,
--- Changed, Alike). No other crate takes any.
+-- Changed, Alike). Cut is for the law of words. No other crate takes any of them.
 pub mod Numbers
 pub mod Value
 pub mod Characters

@@ -1,5 +1,5 @@
--- The programs of a tape: its lines cut at the O numbers.
--- For this crate alone.
+-- The programs of a tape: its lines cut at the O numbers, and their blocks, as nc_text's types have
+-- them. Relation says by it which tape a text is; no other crate cites it.
 use Rattle.std.specs.Prelude.{◌≡◌, ℕ, ◌+◌, ◌⊎◌, List, [], ◌∷◌, ◌++◌, length, All, Option, Some, None}
 use Rattle.line_text.specs.declared.piece.Piece.{Piece}
 use Rattle.nc_text.specs.declared.tape.Block.{Block}
@@ -16,13 +16,13 @@ use Rattle.tape_relation.specs.LineAlone.{Says, SaysBlock, SaysProgram, IsNumber
 abbrev pub HasNoNumber : List Piece → Type 0
 HasNoNumber words = All (λ word. IsNumbering word → ⊥) words
 
--- of several sequence numbers of a block the last counts
+-- the literal of the last of the words that are sequence numbers, or none if no word is one
 abbrev pub IsLastNumber : List Piece → Option (List ℕ) → Type 0
 IsLastNumber words None = HasNoNumber words
 IsLastNumber words (Some text) = (front : List Piece) × (word : Piece) × (back : List Piece)
     × (words ≡ front ++ word ∷ back) × IsNumbering word × (text ≡ word.text) × HasNoNumber back
 
--- the block has this sequence number, or has none
+-- the sequence number that this literal writes, or none without a literal
 abbrev pub IsSequence : Option (List ℕ) → Option ℕ → Type 0
 IsSequence None sequence = sequence ≡ None
 IsSequence (Some text) sequence = (n : ℕ) × (sequence ≡ Some n) × IsSequenceNumber text n
@@ -37,7 +37,7 @@ AreOthers [] others = others ≡ []
 AreOthers (word ∷ words) others = (IsNumbering word × AreOthers words others)
     ⊎ ((IsNumbering word → ⊥) × ((later : List Word) × (others ≡ word_of word ∷ later) × AreOthers words later))
 
--- the sequence number and the body of a block
+-- the sentence is a block with this sequence number and this body
 abbrev pub HasBody : Sentence → Option ℕ → Body → Type 0
 HasBody NoBlock sequence body = ⊥
 HasBody (ProgramNumber text) sequence body = ⊥
@@ -50,7 +50,7 @@ abbrev pub IsBlockOn : ℕ → ℕ → Line → Block → Type 0
 IsBlockOn skips number line block = (sentence : Sentence) × Says skips line sentence
     × HasBody sentence block.sequence block.body × (block.line ≡ number)
 
--- the blocks of these lines, behind so many
+-- the blocks that these lines say, of which the first stands behind so many lines
 abbrev pub AreBlocks : ℕ → ℕ → List Line → List Block → Type 0
 AreBlocks skips before [] blocks = blocks ≡ []
 AreBlocks skips before (line ∷ lines) blocks =
@@ -58,7 +58,7 @@ AreBlocks skips before (line ∷ lines) blocks =
     × AreBlocks skips (before + 1) lines later)
     ⊎ ((SaysBlock skips line → ⊥) × AreBlocks skips (before + 1) lines blocks)
 
--- the line says this O number
+-- the line says this O number, in its range
 abbrev pub SaysNumber : ℕ → Line → ℕ → Type 0
 SaysNumber skips line n = (text : List ℕ) × Says skips line (ProgramNumber text) × IsProgramNumber text n
 

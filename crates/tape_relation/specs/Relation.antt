@@ -1,5 +1,5 @@
--- The tape of a text, and the one fault of a text that is no tape, without any reader.
--- For this crate alone.
+-- The tape of a text, and the one fault of a text that is no tape, without any reader: `IsTape` and
+-- `IsFault`, of which the law `the_reader_reads_the_relation` (src/law.rt) speaks.
 use Rattle.std.specs.Prelude.{◌≡◌, ℕ, ◌+◌, ◌<◌, ◌⊎◌, true, false, List, [], ◌∷◌, ◌++◌, length}
 use Rattle.nc_text.specs.declared.fault.TextFault.{TextFault}
 use Rattle.line_text.specs.declared.refusal.Refusal.{Refusal}
@@ -11,20 +11,28 @@ use Rattle.tape_relation.specs.Parts.{AreLines, before_percent, body_of, is_clos
 use Rattle.tape_relation.specs.Conditions.{SayNothing, IsLeast, NoneHolds}
 use Rattle.tape_relation.specs.Programs.{ArePrograms}
 
--- the refusal, told of this line
+-- the refusal as the fault of a text: its number, told of this line
 abbrev pub fault_at : Refusal → ℕ → TextFault
 fault_at refusal line = record { number = refusal_number refusal; line = line }
 
 -- The least line at which a condition holds, and there the least number. The lines stand behind the
 -- front.
 pub record IsFirstFault (skips : ℕ) (front lines : List Line) (fault : TextFault) : Type 0 where
+  -- the lines before the line of the fault
   pub before : List Line
+  -- the line of the fault
   pub line : Line
+  -- the lines after the line of the fault
   pub behind : List Line
+  -- the refusal of the least number that holds at that line
   pub refusal : Refusal
+  -- the lines are these parts, one after the other
   pub lines_are : lines ≡ before ++ line ∷ behind
+  -- the refusal holds at the line, and none of a lesser number does
   pub least : IsLeast skips (front ++ before) line refusal
+  -- no refusal's condition holds at a line before it
   pub none_before : NoneHolds skips front before
+  -- the fault has its number and its line
   pub fault_is : fault ≡ fault_at refusal (length (front ++ before) + 1)
 
 -- the tape has no block and no O number: told of its first line that begins with `%`
@@ -32,7 +40,7 @@ abbrev pub LacksProgram : ℕ → List Line → TextFault → Type 0
 LacksProgram skips lines fault = SayNothing skips (body_of lines)
     × (fault ≡ fault_at NoProgramNumber (opening_line lines))
 
--- the tape has one, and no second line begins with `%`: told of the last line
+-- the tape has a block or an O number, and no second line begins with `%`: told of the last line
 abbrev pub LacksEnd : ℕ → List Line → TextFault → Type 0
 LacksEnd skips lines fault = (SayNothing skips (body_of lines) → ⊥) × (is_closed lines ≡ false)
     × (fault ≡ fault_at NoEnd (length lines))
@@ -45,19 +53,27 @@ IsFaultOf skips lines fault = IsFirstFault skips [] lines fault
 -- no condition holds, the closing line is there, and the body is lines that say nothing and then
 -- the programs
 pub record IsTapeOf (skips : ℕ) (lines : List Line) (tape : List Program) : Type 0 where
+  -- no refusal's condition holds at any line
   pub none_holds : NoneHolds skips [] lines
+  -- a second line begins with `%`
   pub closed : is_closed lines ≡ true
+  -- there is at least one program
   pub some : 0 < length tape
+  -- the lines of the body before the first O number, which say nothing
   pub quiet : List Line
+  -- the lines of the body from the first O number on
   pub others : List Line
+  -- the body is these two parts
   pub body_is : body_of lines ≡ quiet ++ others
+  -- the first part says neither a block nor an O number
   pub quiet_is : SayNothing skips quiet
+  -- the lines from the first O number on are the programs
   pub programs : ArePrograms skips (length (before_percent lines) + 1 + length quiet) others tape
 
--- the tape, or the fault, of the lines of a text
+-- the text is this tape
 abbrev pub IsTape : ℕ → List ℕ → List Program → Type 0
 IsTape skips text tape = (lines : List Line) × AreLines text lines × IsTapeOf skips lines tape
 
--- the fault of a text
+-- the text is no tape, and this is its fault
 abbrev pub IsFault : ℕ → List ℕ → TextFault → Type 0
 IsFault skips text fault = (lines : List Line) × AreLines text lines × IsFaultOf skips lines fault

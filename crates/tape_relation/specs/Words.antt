@@ -1,5 +1,6 @@
--- The words of a line as a grammar, apart from the way in which the reader cuts them.
--- For this crate alone.
+-- The words of a line as a grammar, apart from the way in which the reader cuts them. LineGrammar
+-- takes it for blocks of words; the law `a_line_is_cut_into_its_words` (src/law.rt) says that it is
+-- what the reader cuts.
 use Rattle.std.specs.Prelude.{◌≡◌, ℕ, ◌+◌, true, false, List, [], ◌∷◌, ◌++◌}
 use Rattle.std.specs.Char.{is_ascii_uppercase}
 use Rattle.std.specs.List.{list_all, list_any}
@@ -18,11 +19,15 @@ word_at letter end value = record {
   whole = true;
 }
 
--- the word ends behind the value's last sign
+-- the word has this letter and this value, and ends after the value's last sign
 pub record IsWord (letter : Sign) (value : List Sign) (word : Piece) : Type 0 where
+  -- the value without its last sign
   pub front : List Sign
+  -- the last sign of the value
   pub last : Sign
+  -- the value is these two
   pub value_is : value ≡ front ++ last ∷ []
+  -- the word is this letter and this value, and ends after the last sign
   pub word_is : word ≡ word_at letter (last.place + 1) value
 
 -- Signs spell words, one behind the other: each is a letter, its whole value without a comment in

@@ -1,5 +1,6 @@
-//! The law that ties the definition of reading to the relation.
-//! These laws are for readers: no other crate calls them.
+//! The laws that nc_text's definition of reading (`tape_of`) is the relation of this crate: for a
+//! whole text, for the words of a line, and for the value of a word.
+//! They are for readers: no other crate calls them.
 
 ghost use Rattle.std.specs.Prelude.{◌≡◌, ◌↔◌, ℕ, true, List, Ok, Err};
 ghost use Rattle.nc_text.specs.declared.tape.Program.{Program};
@@ -15,7 +16,8 @@ ghost use Rattle.tape_relation.specs.Value.{IsValue};
 ghost use Rattle.tape_relation.specs.Words.{AreWords};
 ghost use Rattle.tape_relation.specs.Cut.{IsCut};
 
-/// A law: a text has the tape, or the fault, that the relation says, and no other.
+/// A law: a text has the tape, or the fault, that the relation says, and no other. `lines` says the
+/// same of the lines of a text.
 pub fn the_reader_reads_the_relation()
     ensures lines { (text : List ℕ) (lines : List Line) → (lines_of text ≡ lines) ↔ AreLines text lines }
     ensures tape { (skips : ℕ) (text : List ℕ) (tape : List Program)

@@ -1,5 +1,5 @@
 -- One point more is read; a block that leads nowhere, the last block, and the end give the answer
--- (src/contour.rt).
+-- (`points_of`, src/contour.rt).
 use Rattle.std.proofs.Common.{sym, ◌∙◌, subst, All, IfSome}
 use Rattle.std.proofs.lemmas.List.Elements.{All-push}
 use Rattle.rough_cycle.specs.Form.{IsWritten}

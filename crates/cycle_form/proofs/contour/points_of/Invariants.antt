@@ -1,5 +1,5 @@
 -- The points so far and those of the blocks ahead are those of the contour, and literals can write
--- them (loop of src/contour.rt).
+-- them (loop of `points_of`, src/contour.rt).
 use Rattle.std.proofs.Common.{◌≡◌, [], drop, All}
 use Rattle.rough_cycle.specs.Form.{IsWritten}
 use Rattle.cycle_form.specs.Contour.{points_behind}

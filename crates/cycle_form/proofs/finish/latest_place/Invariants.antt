@@ -1,5 +1,5 @@
 -- The latest form so far and those of the parts ahead give the latest of all (loop of
--- src/finish.rt).
+-- `latest_place`, src/finish.rt).
 use Rattle.std.proofs.Common.{◌≡◌, None, drop}
 use Rattle.cycle_form.specs.Forms.{latest_from}
 use Rattle.cycle_form.proofs.finish.latest_place.Given as goal

@@ -1,4 +1,5 @@
--- The rest of the contour descends from here exactly if all of it does (loop of src/form.rt).
+-- The rest of the contour descends from here exactly if all of it does (loop of `descends`,
+-- src/form.rt).
 use Rattle.std.proofs.Common.{◌≡◌, drop}
 use Rattle.cycle_form.specs.Forms.{descends}
 use Rattle.cycle_form.proofs.form.descends.Given as goal

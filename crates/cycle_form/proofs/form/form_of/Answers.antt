@@ -1,4 +1,4 @@
--- What passes the tests of a form is a sound part (src/form.rt).
+-- What passes the tests of a form is a sound part (`form_of`, src/form.rt).
 use Rattle.std.proofs.Common.{◌≡◌, true, rules}
 use Rattle.rough_cycle.specs.Form.{rough_of}
 use Rattle.cycle_form.specs.Forms.{is_form}

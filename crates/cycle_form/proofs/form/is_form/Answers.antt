@@ -1,4 +1,4 @@
--- The last point of the contour has lengths that literals can write (src/form.rt).
+-- The last point of the contour has lengths that literals can write (`is_form`, src/form.rt).
 use Rattle.std.proofs.Common.{sym, subst, All}
 use Rattle.rough_cycle.specs.Form.{IsWritten}
 use Rattle.cycle_form.proofs.Forms.{last_near}

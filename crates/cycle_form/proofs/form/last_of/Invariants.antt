@@ -1,4 +1,4 @@
--- The last point from here on is the last of all (loop of src/form.rt).
+-- The last point from here on is the last of all (loop of `last_of`, src/form.rt).
 use Rattle.std.proofs.Common.{◌≡◌, drop}
 use Rattle.rough_cycle.specs.Contour.{last_of}
 use Rattle.cycle_form.proofs.form.last_of.Given as goal

@@ -1,4 +1,4 @@
--- The lines so far are those of the blocks so far (loop of src/form.rt).
+-- The lines so far are those of the blocks so far (loop of `lines_of`, src/form.rt).
 use Rattle.std.proofs.Common.{◌≡◌, map, take}
 use Rattle.cycle_form.proofs.form.lines_of.Given as goal
 

@@ -1,5 +1,5 @@
 -- A line feed ends a line, another byte may mark it, and the end of the text ends the last one
--- (src/marks.rt).
+-- (`marks_of`, src/marks.rt).
 use Rattle.std.proofs.Common.{◌≡◌, ◌==◌, true, false, get_or, arith}
 use Rattle.std.proofs.lemmas.Bool.Decides.{nat_tests}
 use Rattle.std.proofs.lemmas.List.{drop_all}

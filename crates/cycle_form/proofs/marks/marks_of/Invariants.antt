@@ -1,4 +1,4 @@
--- The marks so far and those of the bytes ahead are the text's (loop of src/marks.rt).
+-- The marks so far and those of the bytes ahead are the text's (loop of `marks_of`, src/marks.rt).
 use Rattle.std.proofs.Common.{◌≡◌, ◌++◌, false, drop}
 use Rattle.cycle_form.specs.Marks.{marks_from}
 use Rattle.cycle_form.proofs.marks.marks_of.Given as goal

@@ -1,4 +1,4 @@
--- A part fits, makes too many blocks, or none is left (src/sizes.rt).
+-- A part fits, makes too many blocks, or none is left (`check_sizes`, src/sizes.rt).
 use Rattle.std.proofs.Common.{◌≤◌, arith}
 use Rattle.std.proofs.lemmas.List.{drop_all}
 use Rattle.nc_number.specs.declared.limits.TheConstants.{MOST_BLOCKS}

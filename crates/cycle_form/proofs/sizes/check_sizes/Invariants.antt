@@ -1,4 +1,5 @@
--- The count so far with the parts ahead gives the answer for all parts (loop of src/sizes.rt).
+-- The count so far with the parts ahead gives the answer for all parts (loop of `check_sizes`,
+-- src/sizes.rt).
 use Rattle.std.proofs.Common.{◌≡◌, ◌≤◌, drop}
 use Rattle.nc_number.specs.declared.limits.TheConstants.{MOST_BLOCKS}
 use Rattle.cycle_form.specs.Sizes.{sized}

@@ -1,4 +1,4 @@
--- One program more adds its parts, or its refusal is the tape's (src/walk.rt).
+-- One program more adds its parts, or its refusal is the tape's (`parts_of`, src/walk.rt).
 use Rattle.std.proofs.lemmas.List.{drop_all}
 use Rattle.cycle_form.proofs.Walking.{tape_read, program_read, program_fails}
 use Rattle.cycle_form.proofs.walk.parts_of.Goals as goal

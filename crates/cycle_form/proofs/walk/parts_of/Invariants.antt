@@ -1,5 +1,5 @@
 -- The parts so far and those of the programs ahead are those of the tape, and all are sound (loop
--- of src/walk.rt).
+-- of `parts_of`, src/walk.rt).
 use Rattle.std.proofs.Common.{◌≡◌, [], All, drop}
 use Rattle.cycle_form.specs.Parts.{IsSoundPart}
 use Rattle.cycle_form.specs.Walk.{parts_behind}

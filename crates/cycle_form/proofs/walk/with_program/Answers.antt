@@ -1,5 +1,5 @@
 -- One block more is skipped, begins nothing, begins a part, or has a cycle that is refused
--- (src/walk.rt).
+-- (`with_program`, src/walk.rt).
 use Rattle.std.proofs.Common.{◌≡◌, ◌<◌, ◌≤◌, All, length, refl, subst, sym, arith}
 use Rattle.std.proofs.lemmas.List.{drop_all}
 use Rattle.std.proofs.lemmas.List.Elements.{All-push}

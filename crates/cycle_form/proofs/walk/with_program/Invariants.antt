@@ -1,5 +1,5 @@
 -- The parts so far and those of the blocks ahead are those of the whole program, and all are sound
--- (loop of src/walk.rt).
+-- (loop of `with_program`, src/walk.rt).
 use Rattle.std.proofs.Common.{◌≡◌, [], All, length, take, drop}
 use Rattle.cycle_form.specs.Parts.{IsSoundPart}
 use Rattle.cycle_form.specs.Walk.{parts_from}

@@ -1,4 +1,5 @@
--- The place after the last sign ends the word, or the start if there is no sign (src/cut.rt).
+-- The place after the last sign ends the word, or the start if there is no sign (`end_of`,
+-- src/cut.rt).
 use Rattle.std.proofs.Common.{◌≡◌, ℕ, suc, ◌+◌, ◌-◌, ◌≤◌, List, [], ◌∷◌, length, get_or, refl, ap, ◌∙◌, arith}
 use Rattle.line_text.specs.declared.sign.Sign.{Sign}
 use Rattle.line_text.specs.Pieces.{end_of}

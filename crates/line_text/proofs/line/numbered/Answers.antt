@@ -1,4 +1,5 @@
--- Signs that go on after N and its literal with no statement are no numbered one (src/line.rt).
+-- Signs that go on after N and its literal with no statement are no numbered one (`numbered`,
+-- src/line.rt).
 use Rattle.std.proofs.Common.{◌≡◌, ℕ, ◌-◌, false, List, [], ◌∷◌, length, take, drop, refl, sym, ap, ◌∙◌, arith}
 use Rattle.std.proofs.Math.Seq.{take-length}
 use Rattle.std.specs.List.{prefix_len}

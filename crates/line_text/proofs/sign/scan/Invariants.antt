@@ -1,4 +1,4 @@
--- The signs so far and those of the rest are all signs of the line (loop of src/sign.rt).
+-- The signs so far and those of the rest are all signs of the line (loop of `scan`, src/sign.rt).
 use Rattle.std.proofs.Common.{◌≡◌, ◌≤◌, ◌++◌, length, drop, false}
 use Rattle.line_text.specs.Signs.{scan_of}
 use Rattle.line_text.specs.Places.{ArePlaced}

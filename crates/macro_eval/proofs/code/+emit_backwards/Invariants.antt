@@ -1,11 +1,12 @@
 -- The code so far, with that of the part of the tree that is left, is the tree's (loop of
--- src/code.rt).
+-- `emit_backwards`, src/code.rt).
 use Rattle.std.proofs.Common.{◌≡◌, ◌≤◌, reverse}
 use Rattle.macro_expr.specs.Tree.{tree_of, right_depth}
 use Rattle.macro_eval.specs.Postfix.{code_before}
 use Rattle.macro_eval.proofs.code.+emit_backwards.Given as goal
 
--- It calls itself on right operands, in which fewer stand inside one another.
+-- The measure of its calls: it calls itself on right operands, in which fewer stand inside one
+-- another.
 abbrev pub decreases-emit_backwards : goal.decreases-emit_backwards
 decreases-emit_backwards l = right_depth (tree_of l.tree.now)
 

@@ -1,5 +1,5 @@
--- The part of the tree that is left fits exactly if the tree does, and each call has less room
--- (loop of src/code.rt).
+-- Right operands of the part that is left stand at most `room` deep exactly if those of the tree
+-- do; each call on a right operand has less room (loop of `is_shallow`, src/code.rt).
 use Rattle.std.proofs.Common.{◌≡◌, nat_le}
 use Rattle.macro_expr.specs.Tree.{tree_of, right_depth}
 use Rattle.macro_eval.proofs.code.+is_shallow.Given as goal

@@ -1,4 +1,4 @@
--- The two short ways answer what the code means (src/running.rt).
+-- The two short ways answer what the code means (`evaluate`, src/running.rt).
 use Rattle.std.proofs.Common.{◌≡◌, ◌∷◌, [], get_or, sym, ◌∙◌, ap}
 use Rattle.macro_eval.specs.Postfix.{run}
 use Rattle.macro_eval.proofs.Compiled.{run_is_meaning}

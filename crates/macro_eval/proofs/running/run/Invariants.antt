@@ -1,5 +1,5 @@
--- The rest of the code finds its operands, and its answer is that of the whole code (loop of
--- src/running.rt).
+-- The instructions that are left find their operands on the stack, and their answer is that of the
+-- whole code (loop of `run`, src/running.rt).
 use Rattle.std.proofs.Common.{◌≡◌, [], drop, length, true}
 use Rattle.macro_eval.specs.Postfix.{fits, run}
 use Rattle.macro_eval.proofs.running.run.Given as goal

@@ -1,5 +1,5 @@
 -- What is cleaned so far, with what the rest of the text gives, is the whole text cleaned (loop of
--- src/limits.rt).
+-- `cleaned`, src/limits.rt).
 use Rattle.std.proofs.Common.{◌≡◌, ◌++◌, drop, false}
 use Rattle.macro_expr.specs.Limits.{cleaned}
 use Rattle.macro_expr.proofs.limits.cleaned.Given as goal

@@ -1,4 +1,5 @@
--- No number with too many digits begins at the byte that was passed (src/limits.rt).
+-- No number with too many digits begins at the byte that was passed (`has_long_number`,
+-- src/limits.rt).
 use Rattle.std.proofs.Common.{◌≡◌, sym, ◌∙◌, take, drop, false}
 use Rattle.macro_expr.specs.Limits.{begins_long}
 use Rattle.macro_expr.proofs.Scans.{long_later}

@@ -1,5 +1,5 @@
 -- A number with too many digits, if there is one, begins in the rest of the text (loop of
--- src/limits.rt).
+-- `has_long_number`, src/limits.rt).
 use Rattle.std.proofs.Common.{◌≡◌, [], take, drop}
 use Rattle.macro_expr.specs.Limits.{long_behind}
 use Rattle.macro_expr.proofs.limits.has_long_number.Given as goal

@@ -1,4 +1,5 @@
--- No text has two trees, as an expression or as a statement (src/parse.rt).
+-- No text has two trees, as an expression or as a statement: each is what reading gives
+-- (`no_text_has_two_trees`, src/parse.rt).
 use Rattle.std.proofs.Common.{◌≡◌, ℕ, List, Result, Ok}
 use Rattle.macro_expr.specs.declared.stop.Stop.{Stop}
 use Rattle.macro_expr.specs.Statements.{expression_at, statement_at, whole}

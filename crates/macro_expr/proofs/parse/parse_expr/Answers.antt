@@ -1,4 +1,5 @@
--- The tree of an expression, all of the text (src/parse.rt).
+-- What `parse_expr` (src/parse.rt) answers: the tree is that of the grammar, each text with a tree
+-- gets it, right operands stand at most 12 deep, and no more variables are named than in the text.
 use Rattle.std.proofs.Common.{◌≤◌, false}
 use Rattle.macro_expr.specs.Tree.{tree_of, right_depth, variables}
 use Rattle.macro_expr.specs.Statements.{expression_at, whole}

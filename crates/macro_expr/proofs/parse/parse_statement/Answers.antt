@@ -1,4 +1,6 @@
--- The tree of a statement, all of the text: what a block holds in place of words (src/parse.rt).
+-- What `parse_statement` (src/parse.rt) answers: the tree is that of the grammar, each text with a
+-- tree gets it, right operands stand at most 12 deep, no more variables are named than in the text,
+-- and its numbers are in range.
 use Rattle.std.proofs.Common.{◌≤◌, false}
 use Rattle.std.specs.List.{All}
 use Rattle.macro_expr.specs.Tree.{sentence_of, right_depth, evaluated, variables_in, IsInRange}

@@ -1,5 +1,5 @@
--- Reading ends: each function calls one that stands lower in the grammar, or one with fewer
--- brackets left to open. The rounds of a chain take the text away (src/reading.rt).
+-- Reading ends: each function of src/reading.rt calls one that stands lower in the grammar, or one
+-- with fewer brackets left to open. Each round of `chain_at` has less text left.
 use Rattle.std.proofs.Common.{◌≡◌, ℕ, ◌+◌, ◌-◌, ◌*◌}
 use Rattle.macro_expr.specs.declared.words.Rank.{Rank}
 use Rattle.macro_expr.specs.declared.words.Rank.TheVariants.{Product, Sum}
@@ -8,7 +8,7 @@ use Rattle.macro_expr.specs.Words.{operator}
 use Rattle.macro_expr.specs.Reading.{chain, operand_at, chain_at, inside}
 use Rattle.macro_expr.proofs.reading.+reading.Given as goal
 
--- Fewer levels, or the same and nearer to the brackets.
+-- The measures of the functions: fewer levels, or as many and nearer to the brackets.
 abbrev pub decreases-inside : goal.decreases-inside
 decreases-inside l = 10 * l.levels
 

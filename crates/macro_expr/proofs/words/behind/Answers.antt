@@ -1,4 +1,5 @@
--- What stands behind the word, where the text begins with it (src/words.rt).
+-- What the prefix search of `behind` (src/words.rt) finds is what stands after the word, if the
+-- text begins with it.
 use Rattle.macro_expr.proofs.Prefixes.{behind_prefix}
 use Rattle.macro_expr.proofs.words.behind.Goals as goal
 

@@ -1,4 +1,5 @@
--- 5, 21 and 25 are answered exactly if their limits say so (src/law.rt).
+-- 5, 21 and 25 are answered exactly if their limits say so (`each_limit_has_its_refusal`,
+-- src/law.rt).
 use Rattle.std.proofs.Common.{false}
 use Rattle.macro_expr.specs.Limits.{cleaned}
 use Rattle.macro_limits.proofs.Exact.{expression_refused, statement_refused}

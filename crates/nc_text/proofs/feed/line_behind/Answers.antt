@@ -1,4 +1,4 @@
--- From the line that ended the reading leads to the line that begins (src/feed.rt).
+-- From the line that ended the reading leads to the line that begins (`line_behind`, src/feed.rt).
 use Rattle.nc_text.specs.View.{before_of}
 use Rattle.nc_text.proofs.Standing.{next_line}
 use Rattle.nc_text.proofs.feed.line_behind.Goals as goal

@@ -1,5 +1,5 @@
 -- The bytes before the first line feed have none, and without one the text is one line
--- (src/line_feed.rt).
+-- (`cut_at_line_feed`, src/line_feed.rt).
 use Rattle.std.proofs.Common.{◌≡◌, ◌==◌, ℕ, ◌+◌, ◌<◌, ◌≤◌, false, List, length, get_or, take, sym, subst, arith}
 use Rattle.std.proofs.lemmas.Bool.{ne_eqb}
 use Rattle.std.proofs.lemmas.List.{take_more, take_all}

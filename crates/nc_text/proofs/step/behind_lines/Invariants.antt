@@ -1,5 +1,5 @@
 -- The lines so far lead to the present stage and the rest, which gets shorter (loop of
--- src/step.rt).
+-- `behind_lines`, src/step.rt).
 use Rattle.std.proofs.Common.{length}
 use Rattle.nc_text.specs.View.{before_of}
 use Rattle.nc_text.specs.Mark.{Grows}

@@ -1,4 +1,5 @@
--- What is kept and counted of a whole line is enough to read it (src/step.rt).
+-- What is kept and counted of a whole line is enough to read it (`behind_whole_line`,
+-- src/step.rt).
 use Rattle.nc_text.specs.View.{before_of}
 use Rattle.nc_text.proofs.Standing.{whole_line}
 use Rattle.nc_text.proofs.step.behind_whole_line.Goals as goal

@@ -1,4 +1,4 @@
--- A line that is not too long says something of the right shape (src/step.rt).
+-- A line that is not too long says something of the right shape (`program_line`, src/step.rt).
 use Rattle.std.proofs.Common.{arith}
 use Rattle.nc_number.specs.declared.limits.TheConstants.{LONGEST_LINE}
 use Rattle.line_text.proofs.ShapeOfLine.{line_said}

@@ -1,9 +1,11 @@
+-- One write more, at the next stamp, leaves room for those to come and all writes early (first loop
+-- of `early_moments_of_many_writes_are_found_at_once`, src/writes.rt).
 use Rattle.std.proofs.Common.{◌≡◌, ◌≤◌, ◌+◌, ℕ, List, [], ◌∷◌, ◌++◌, All, sym, subst, arith}
 use Rattle.std.proofs.lemmas.List.Elements.{All-append, All-cons, All-nil}
 use Rattle.common_vars.specs.declared.links.Write.{Write}
 use Rattle.number_vectors.proofs.writes.early_moments_of_many_writes_are_found_at_once.Goals as goal
 
--- one more write, none later than before the next stamp
+-- a list of writes and one write more, none later than this stamp, are none later than the next
 one_more_is_early : (writes longer : List Write) (w : Write) (stamp : ℕ) → All (λ w. w.stamp ≤ stamp) writes → w.stamp ≤ stamp
     → longer ≡ writes ++ w ∷ [] → All (λ w. w.stamp ≤ stamp + 1) longer
 one_more_is_early writes longer w stamp early now grown =

@@ -1,3 +1,6 @@
+-- What the two loops of `early_moments_of_many_writes_are_found_at_once` (src/writes.rt) keep: the
+-- shared variables begin at 500; while writing there is room for the writes to come, and none so
+-- far is later than the next stamp.
 use Rattle.std.proofs.Common.{◌≡◌, ◌≤◌, ◌+◌, All}
 use Rattle.number_vectors.proofs.writes.early_moments_of_many_writes_are_found_at_once.Given as goal
 

@@ -1,4 +1,5 @@
--- Where a segment comes to a pass's X, its Z rounded up; no number is too large (src/contour.rt).
+-- Where a segment comes to a pass's X, its Z rounded up; no number is too large (`part_way`,
+-- src/contour.rt).
 use Rattle.std.proofs.Common.{◌≡◌, ◌*◌, ◌/◌, arith, ◌∙◌}
 use Rattle.std.proofs.lemmas.Int.{ints}
 use Rattle.nc_number.specs.Distances.{distance}

@@ -1,4 +1,4 @@
--- The blocks to the contour, along it, off, and back (src/form.rt).
+-- The blocks to the contour, along it, off, and back (`push_contour`, src/form.rt).
 use Rattle.std.proofs.Common.{◌∙◌, refl}
 use Rattle.rough_cycle.proofs.Pushed.{lines_pushed}
 use Rattle.rough_cycle.proofs.form.push_contour.Goals as goal

@@ -1,4 +1,5 @@
--- The text with edits, which are in the order of their lines (src/edits.rt).
+-- The text with edits that `splice` makes byte by byte is the one that the definition makes line by
+-- line (`edited`, src/edits.rt).
 use Rattle.std.proofs.Common.{◌∙◌}
 use Rattle.tape_expand.proofs.ByLines.{by_lines}
 use Rattle.tape_expand.proofs.edits.edited.Goals as goal

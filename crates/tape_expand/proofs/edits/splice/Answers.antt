@@ -1,5 +1,5 @@
 -- One byte more is written, dropped or replaced; at the end the text with its edits is whole
--- (src/edits.rt).
+-- (`splice`, src/edits.rt).
 use Rattle.std.proofs.Common.{◌≡◌, ◌+◌, ◌==◌, ◌++◌, drop, true, false, get_or, refl, sym, ap, ◌∙◌, arith}
 use Rattle.std.proofs.lemmas.List.{drop_all}
 use Rattle.std.proofs.lemmas.Bool.Decides.{nat_tests}

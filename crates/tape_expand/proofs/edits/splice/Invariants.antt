@@ -1,5 +1,5 @@
--- What is written so far, with what the edits make of the rest, is the text with its edits (loop of
--- src/edits.rt).
+-- What is written so far, with what the edits make of the rest, is the text with its edits (loop
+-- of `splice`, src/edits.rt).
 use Rattle.std.proofs.Common.{◌≡◌, ◌++◌, ◌≤◌, ◌+◌, drop}
 use Rattle.tape_expand.specs.Splice.{spliced}
 use Rattle.tape_expand.proofs.edits.splice.Given as goal

@@ -1,4 +1,4 @@
--- The refusal of a cycle, as that of the text (src/expand.rt).
+-- The refusal of a cycle is told as that of the expansion (`bad_cycle`, src/expand.rt).
 use Rattle.tape_expand.proofs.Answered.{cycle_fails}
 use Rattle.tape_expand.proofs.expand.bad_cycle.Goals as goal
 

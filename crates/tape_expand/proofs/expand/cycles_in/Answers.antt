@@ -1,4 +1,5 @@
--- The parts of a tape that was read from this text (src/expand.rt).
+-- The parts of a tape that was read from this text, or its refusal, are those of the definition
+-- (`cycles_in`, src/expand.rt).
 use Rattle.std.proofs.Common.{ap, sym, ◌∙◌}
 use Rattle.tape_expand.specs.Expansion.{of_cycles}
 use Rattle.tape_expand.proofs.Answered.{marked, same_fails}

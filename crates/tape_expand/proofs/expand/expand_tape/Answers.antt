@@ -1,4 +1,5 @@
--- The text of a tape with G71 and G70 over contours of lines as plain blocks (src/expand.rt).
+-- What `expand_tape` (src/expand.rt) answers: the text with its cycles written out, or its refusal;
+-- and the moves of the blocks written out stay out of the contours.
 use Rattle.std.proofs.Common.{Ok, ap, sym, ◌∙◌}
 use Rattle.std.specs.List.{flat_map}
 use Rattle.nc_text.specs.Lines.{lines_of}

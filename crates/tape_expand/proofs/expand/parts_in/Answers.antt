@@ -1,4 +1,5 @@
--- The parts that are written out, or why the text is refused (src/expand.rt).
+-- The parts that are written out, or why the text is refused, are those of the definition
+-- (`parts_in`, src/expand.rt).
 use Rattle.std.proofs.Common.{◌≤◌, sym, subst, length}
 use Rattle.nc_number.specs.Answers.{Gives}
 use Rattle.nc_number.specs.declared.limits.TheConstants.{MOST_BLOCKS}

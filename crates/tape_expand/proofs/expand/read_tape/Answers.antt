@@ -1,5 +1,5 @@
--- The tape of the text with no switch set, since a block that is skipped would still be written out
--- (src/expand.rt).
+-- What `read_tape` (src/expand.rt) answers is the tape of the text with no switch set, or its
+-- refusal, whether the reader refuses in `feed` or at the end.
 use Rattle.std.proofs.Common.{[]}
 use Rattle.nc_text.proofs.RefusedAtEnd.{refused_at_end}
 use Rattle.tape_expand.proofs.expand.read_tape.Goals as goal

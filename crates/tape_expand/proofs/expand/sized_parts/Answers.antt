@@ -1,4 +1,5 @@
--- The parts of a tape, if it has no more blocks than it may with them written out (src/expand.rt).
+-- The parts of a tape are refused for their size, or for the cycle that is part of no form, as the
+-- definition says (`sized_parts`, src/expand.rt).
 use Rattle.std.proofs.Common.{sym, subst, length}
 use Rattle.nc_number.specs.Answers.{Gives}
 use Rattle.nc_text.specs.Shape.{blocks_in}

@@ -1,4 +1,4 @@
--- A text that is no tape has no cycles (src/expand.rt).
+-- The refusal of a text that is no tape is told as that of the expansion (`unread`, src/expand.rt).
 use Rattle.tape_expand.proofs.Answered.{text_fails}
 use Rattle.tape_expand.proofs.expand.unread.Goals as goal
 

@@ -1,4 +1,4 @@
--- The edits of the parts so far, with those of the others, are all edits (loop of
+-- The edits of the parts so far, with those of the others, are all edits (loop of `edits_of`,
 -- src/part_text.rt).
 use Rattle.std.proofs.Common.{◌≡◌, take}
 use Rattle.std.specs.List.{flat_map}

@@ -1,4 +1,4 @@
--- The lines so far are to be removed (loop of src/part_text.rt).
+-- The lines so far are to be removed (loop of `push_removed`, src/part_text.rt).
 use Rattle.std.proofs.Common.{◌≡◌, ◌++◌, map, take}
 use Rattle.tape_expand.specs.Replaced.{removed}
 use Rattle.tape_expand.proofs.part_text.push_removed.Given as goal

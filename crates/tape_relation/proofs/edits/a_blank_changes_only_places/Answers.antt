@@ -1,4 +1,5 @@
--- A space or a tab in a line changes nothing but the places of the words behind it (src/edits.rt).
+-- A space or a tab in a line changes nothing but the places of the words behind it
+-- (`a_blank_changes_only_places`, src/edits.rt).
 use Rattle.tape_relation.proofs.Blanked.{blank_put, blank_put_last}
 use Rattle.tape_relation.proofs.edits.a_blank_changes_only_places.Goals as goal
 

@@ -1,5 +1,5 @@
 -- A block whose switch is set reads as if its line was deleted, where it is readable
--- (src/edits.rt).
+-- (`a_skipped_block_reads_as_no_line`, src/edits.rt).
 use Rattle.std.proofs.Common.{true, false}
 use Rattle.tape_relation.proofs.Removed.{emptied, taken_out, last_out, skipped_says}
 use Rattle.tape_relation.proofs.edits.a_skipped_block_reads_as_no_line.Goals as goal

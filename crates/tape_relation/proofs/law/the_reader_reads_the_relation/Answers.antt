@@ -1,4 +1,5 @@
--- A law: a text has the tape, or the fault, that the relation says, and no other (src/law.rt).
+-- A law: a text has the tape, or the fault, that the relation says, and no other
+-- (`the_reader_reads_the_relation`, src/law.rt).
 use Rattle.tape_relation.proofs.LinesOf.{are_lines, lines_are}
 use Rattle.tape_relation.proofs.Agrees.{is_tape, tape_is, is_fault, fault_is}
 use Rattle.tape_relation.proofs.law.the_reader_reads_the_relation.Goals as goal

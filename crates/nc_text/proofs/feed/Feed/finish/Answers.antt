@@ -1,5 +1,5 @@
 -- Without a present line, and with one that the end of the text ends, the answer is that of the
--- text (src/feed.rt).
+-- text (`finish`, src/feed.rt).
 use Rattle.nc_text.specs.View.{before_of}
 use Rattle.nc_text.proofs.Standing.{no_line, last_line}
 use Rattle.nc_text.proofs.feed.Feed.finish.Goals as goal

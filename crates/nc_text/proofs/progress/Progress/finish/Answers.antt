@@ -1,4 +1,4 @@
--- The programs that were read have the shape of a tape (src/progress.rt).
+-- The programs that were read have the shape of a tape (`finish`, src/progress.rt).
 use Rattle.nc_text.proofs.Shaping.{tape_shaped}
 use Rattle.nc_text.proofs.progress.Progress.finish.Goals as goal
 

@@ -1,4 +1,4 @@
--- A line that says nothing keeps the shape of what was read (src/progress.rt).
+-- A line that says nothing keeps the shape of what was read (`pass`, src/progress.rt).
 use Rattle.std.proofs.Common.{◌≤◌, ◌+◌, ◌++◌, arith}
 use Rattle.std.specs.Option.{option_to_list}
 use Rattle.nc_text.proofs.Shaping.{line_shaped}

@@ -1,5 +1,5 @@
 -- A piece is read, and what its ended lines decide is refused in the same call, else nothing
--- (src/reader.rt).
+-- (`feed`, src/reader.rt).
 use Rattle.std.proofs.Common.{◌≡◌, ◌++◌, None, sym, subst}
 use Rattle.nc_text.specs.View.{before_of}
 use Rattle.nc_text.specs.FeedView.{state_of}

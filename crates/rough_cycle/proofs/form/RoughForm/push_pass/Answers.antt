@@ -1,4 +1,4 @@
--- The four blocks of a pass: in, along, off, and back (src/form.rt).
+-- The four blocks of a pass: in, along, off, and back (`push_pass`, src/form.rt).
 use Rattle.std.proofs.Common.{◌∙◌, refl}
 use Rattle.rough_cycle.proofs.Pushed.{four_pushed}
 use Rattle.rough_cycle.proofs.form.RoughForm.push_pass.Goals as goal
