@@ -7,9 +7,6 @@ ghost use Rattle.nc_number.specs.Printed.{last_digits, without_trailing_zeros, f
 use crate::value::Value;
 use itoa::Buffer;
 
-/// Bytes that hold each printed value or length.
-const ROOM: usize = 24;
-
 /// Millionths in a unit.
 const MICRO_IN_UNIT: u64 = 1_000_000;
 
