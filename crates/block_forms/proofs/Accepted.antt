@@ -1,5 +1,6 @@
--- What holds of a block of words that is not refused. Its numbers are in their ranges, and its
--- control is one that is allowed.
+-- What holds of a block that is not refused: its numbers are in their ranges, its control is one
+-- that is allowed, and it waits by a waiting code. For the functions of src/reading.rt,
+-- src/words.rt and src/controls.rt.
 use Rattle.std.proofs.Common.{◌≡◌, ℕ, ◌≤◌, ◌/◌, ◌%◌, nat_le, Bool, true, false, if◌then◌else◌, ◌&&◌, ◌||◌, List, [], ◌∷◌, Option, Some, None, IfSome, refl, sym, ◌∙◌, arith}
 use Rattle.std.proofs.lemmas.Bool.Decides.{nat_tests}
 use Rattle.nc_number.specs.declared.cause.Cause.TheVariants.{NotFixed, UnknownCode, WaitNotAlone, WaitPaths, TwoM, BadCall, AxisTwice, WordRange}
@@ -17,7 +18,7 @@ use Rattle.block_forms.specs.Controls.{number_of, or_number, call_of_p, back_to,
 use Rattle.block_forms.proofs.NumbersFit.{IsWithin, last_within, first_within}
 use Rattle.code_tables.proofs.FoundPasses.{found_passes}
 
--- if none of eight refusals holds, the last one doesn't
+-- If none of eight refusals is answered, the last one does not hold.
 last_of_eight : (a b c d e f g h : Bool) → (if a then Some NotFixed else if b then Some UnknownCode else if c then Some WaitNotAlone else if d then Some WaitPaths else if e then Some TwoM else if f then Some BadCall else if g then Some AxisTwice else if h then Some WordRange else None) ≡ None → h ≡ false
 last_of_eight true b c d e f g h none = absurd (cc)
 last_of_eight false true c d e f g h none = absurd (cc)
@@ -29,28 +30,29 @@ last_of_eight false false false false false false true h none = absurd (cc)
 last_of_eight false false false false false false false true none = absurd (cc)
 last_of_eight false false false false false false false false none = refl
 
--- so each word of a block that is not refused is in its range
+-- If a block is not refused, no word of it is out of its range.
 all_in_range : (dialect : Dialect) (words : List FlowWord) → refusal_of dialect words ≡ None → is_out_of_range dialect words ≡ false
 all_in_range dialect words none =
     last_of_eight (is_not_fixed dialect words) (is_unknown dialect.system words) (is_wait_not_alone dialect words) (is_wait_of_others dialect words) (has_two_m dialect.system words) (is_bad_call dialect words) (has_axis_twice dialect.system words) (is_out_of_range dialect words) none
 
--- so a number of a letter with a range is in that range
+-- If a block is not refused, a number of a letter with a range is in that range.
 number_within : (dialect : Dialect) (words : List FlowWord) (purpose : Purpose) (letter least greatest : ℕ) → refusal_of dialect words ≡ None → purpose_of dialect words ≡ purpose → range_of purpose letter ≡ Between least greatest → IsWithin least greatest (number_of (letter ∷ []) words)
 number_within dialect words purpose letter least greatest none is range =
     last_within purpose letter least greatest words range
     (rw (← is) (all_in_range dialect words none))
 
--- a number in a range is at most the greatest of it
+-- A number in a range is at most the greatest of it.
 weaker : (least greatest : ℕ) (number : Option ℕ) → IsWithin least greatest number → IfSome number (λ n. n ≤ greatest)
 weaker least greatest None is = tt
 weaker least greatest (Some n) is = is.1
 
--- a number of a call, as far as a cast needs it
+-- If a block is not refused, a number of a letter with a range is at most the greatest of it, as a
+-- cast needs it.
 pub number_at_most : (dialect : Dialect) (words : List FlowWord) (own purpose : Purpose) (letter least greatest : ℕ) → refusal_of dialect words ≡ None → own ≡ purpose_of dialect words → own ≡ purpose → range_of purpose letter ≡ Between least greatest → IfSome (number_of (letter ∷ []) words) (λ n. n ≤ greatest)
 number_at_most dialect words own purpose letter least greatest none is kind range =
     weaker least greatest _ (number_within dialect words purpose letter least greatest none (sym is ∙ kind) range)
 
--- outside macro calls an M word is 0 to 999 (77 is the letter M)
+-- Outside macro calls an M word is 0 to 999 (77 is the letter M).
 range_of_m : (purpose : Purpose) → is_macro purpose ≡ false → range_of purpose 77 ≡ Between 0 999
 range_of_m MacroCall other = absurd (cc)
 range_of_m Subprogram other = refl
@@ -60,30 +62,30 @@ range_of_m Dwell other = refl
 range_of_m Setting other = refl
 range_of_m Other other = refl
 
--- the M code of a block that calls no macro
+-- The M code of a block that is not refused and calls no macro is at most 999.
 pub code_at_most : (dialect : Dialect) (words : List FlowWord) (own : Purpose) → refusal_of dialect words ≡ None → own ≡ purpose_of dialect words → is_macro own ≡ false → IfSome (m_code words) (λ n. n ≤ 999)
 code_at_most dialect words own none is other =
     weaker 0 999 _
     (first_within own 77 0 999 words (range_of_m own other) (rw is (all_in_range dialect words none)))
 
--- none of these leads to a control that is not allowed: a macro call with P and L in range,
+-- A macro call whose P and L are in their ranges is an allowed control.
 call_allowed : (program repeats : Option ℕ) → IsWithin 1 9999 program → IsWithin 1 9999 repeats → is_allowed (control.Call (or_number 0 program) (or_number 1 repeats)) ≡ true
 call_allowed None None p r = refl
 call_allowed (Some n) None p r = grind (arith, nat_tests)
 call_allowed None (Some m) p r = grind (arith, nat_tests)
 call_allowed (Some n) (Some m) p r = grind (arith, nat_tests)
 
--- the repeats of a call are 1 to 9,999,
+-- The repeats of a call, L or once, are 1 to 9,999 if L is.
 repeats_within : (repeats : Option ℕ) → IsWithin 1 9999 repeats → (1 ≤ or_number 1 repeats) × (or_number 1 repeats ≤ 9999)
 repeats_within None r = (omega arith, omega arith)
 repeats_within (Some n) r = r
 
--- and its P is up to 99,999,999
+-- The P of a call is up to 99,999,999, also if there is none.
 p_within : (p : Option ℕ) → IsWithin 1 99999999 p → or_number 0 p ≤ 99999999
 p_within None is = omega arith
 p_within (Some n) is = is.1
 
--- a call of a subprogram,
+-- A call of a subprogram whose P and repeats are in their ranges is an allowed control.
 call_of_p_allowed : (p repeats : ℕ) → p ≤ 99999999 → (1 ≤ repeats) × (repeats ≤ 9999) → is_allowed (call_of_p p repeats) ≡ true
 call_of_p_allowed p repeats small within = go (nat_le 10000 p) refl
   where
@@ -91,17 +93,17 @@ call_of_p_allowed p repeats small within = go (nat_le 10000 p) refl
     go true e = grind (arith, nat_tests)
     go false e = grind (arith, nat_tests)
 
--- a return,
+-- A return whose sequence number is in its range is an allowed control.
 back_allowed : (n : Option ℕ) → IsWithin 1 99999 n → is_allowed (back_to n) ≡ true
 back_allowed None is = refl
 back_allowed (Some n) is = grind (arith, nat_tests)
 
--- a wait,
+-- A wait is an allowed control.
 wait_allowed : (code : Option ℕ) → is_allowed (wait_at code) ≡ true
 wait_allowed None = refl
 wait_allowed (Some code) = refl
 
--- an end,
+-- An end, or none, is an allowed control.
 end_allowed : (words : List FlowWord) → is_allowed (end_or_next words) ≡ true
 end_allowed words = go (has_code 2 words || has_code 30 words)
   where
@@ -109,7 +111,7 @@ end_allowed words = go (has_code 2 words || has_code 30 words)
     go true = refl
     go false = refl
 
--- and so no block of words that is not refused
+-- The control of a block of words that is not refused is an allowed one.
 pub words_allowed : (dialect : Dialect) (words : List FlowWord) → refusal_of dialect words ≡ None → is_allowed (control_of_words dialect words) ≡ true
 words_allowed dialect words none = go (purpose_of dialect words) refl
   where
@@ -124,7 +126,7 @@ words_allowed dialect words none = go (purpose_of dialect words) refl
     go Setting is = end_allowed words
     go Other is = end_allowed words
 
--- none of these waits but by a waiting code: a call,
+-- A call of a subprogram is no wait.
 waits_of_call : (dialect : Dialect) (p repeats : ℕ) → waits_by_a_code dialect (call_of_p p repeats) ≡ true
 waits_of_call dialect p repeats = go (nat_le 10000 p)
   where
@@ -132,12 +134,12 @@ waits_of_call dialect p repeats = go (nat_le 10000 p)
     go true = refl
     go false = refl
 
--- a return,
+-- A return is no wait.
 waits_of_back : (dialect : Dialect) (n : Option ℕ) → waits_by_a_code dialect (back_to n) ≡ true
 waits_of_back dialect None = refl
 waits_of_back dialect (Some n) = refl
 
--- a wait itself,
+-- A wait by the first waiting code waits by a waiting code.
 waits_of_wait : (dialect : Dialect) (own : List ℕ) → waits_by_a_code dialect (wait_at (first_waiting dialect own)) ≡ true
 waits_of_wait dialect own = go (first_waiting dialect own) refl
   where
@@ -145,7 +147,7 @@ waits_of_wait dialect own = go (first_waiting dialect own) refl
     go None e = refl
     go (Some code) e = found_passes (is_waiting dialect) own code e
 
--- an end,
+-- An end, or none, is no wait.
 waits_of_end : (dialect : Dialect) (words : List FlowWord) → waits_by_a_code dialect (end_or_next words) ≡ true
 waits_of_end dialect words = go (has_code 2 words || has_code 30 words)
   where
@@ -153,7 +155,7 @@ waits_of_end dialect words = go (has_code 2 words || has_code 30 words)
     go true = refl
     go false = refl
 
--- so no block of words does,
+-- If a block of words waits, it does so by a waiting code.
 pub words_wait : (dialect : Dialect) (words : List FlowWord) → waits_by_a_code dialect (control_of_words dialect words) ≡ true
 words_wait dialect words = go (purpose_of dialect words)
   where
@@ -166,7 +168,7 @@ words_wait dialect words = go (purpose_of dialect words)
     go Setting = waits_of_end dialect words
     go Other = waits_of_end dialect words
 
--- and no statement
+-- No statement waits.
 pub sentence_waits : (dialect : Dialect) (sentence : Sentence) → waits_by_a_code dialect (control_of_sentence sentence) ≡ true
 sentence_waits dialect (Assign name tree) = refl
 sentence_waits dialect (Goto aim) = refl
@@ -176,16 +178,16 @@ sentence_waits dialect (WhileDo test name) = refl
 sentence_waits dialect (DoOnly name) = refl
 sentence_waits dialect (EndLoop name) = refl
 
--- the number of a loop is 1 to 3,
+-- A loop's name from 1 to 3 passes the test of an allowed control.
 loop_allowed : (n : ℕ) → IsLoop n → (nat_le 1 n && nat_le n 3) ≡ true
 loop_allowed n is = grind (arith, nat_tests)
 
--- and the sequence number of a jump is in its range,
+-- A jump's sequence number in its range passes the test of an allowed control.
 aim_allowed : (aim : Aim) → IsAimInRange aim → is_sequence (number_of_aim aim) ≡ true
 aim_allowed (ToNumber n) is = grind (arith, nat_tests)
 aim_allowed (ToNumberOf tree) is = refl
 
--- so what a statement in its ranges leads to is allowed
+-- The control of a statement whose numbers are in their ranges is an allowed one.
 pub sentence_allowed : (sentence : Sentence) → IsInRange sentence → is_allowed (control_of_sentence sentence) ≡ true
 sentence_allowed (Assign name tree) is = refl
 sentence_allowed (Goto aim) is = aim_allowed aim is

@@ -1,4 +1,5 @@
--- Of the refusals that hold of the text of a block of words the least is answered.
+-- Of the refusals that hold of the text of a block of words the least is answered. For the law
+-- `the_least_refusal_of_a_text_is_answered` (src/laws.rt).
 use Rattle.std.proofs.Common.{◌≡◌, ℕ, ◌≤◌, nat_le, Bool, true, false, if◌then◌else◌, List, [], ◌∷◌, ◌++◌, Option, Some, None, Result, Ok, Err, ◌↔◌, refl, sym, ◌∙◌, ap, arith}
 use Rattle.std.proofs.lemmas.Bool.Decides.{nat_tests}
 use Rattle.nc_number.specs.Causes.{cause_number}
@@ -13,14 +14,14 @@ use Rattle.block_forms.specs.Texts.{RefusesText, unread, many, said, IsLeastOfTe
 use Rattle.block_forms.proofs.LeastRefusal.{least_refusal, no_refusal, refusal_above_25}
 use Rattle.block_forms.proofs.WordNumbers.{Stops, word_number}
 
--- where all words read, so do those behind the first
+-- If one word and those behind it read, those behind it do.
 rest_reads : (word : Result FlowWord ℕ) (rest : Result (List FlowWord) ℕ) (words : List FlowWord) → joined word rest ≡ Ok words → (behind : List FlowWord) × (rest ≡ Ok behind)
 rest_reads (Ok w) (Ok ws) words e = (ws, refl)
 rest_reads (Ok w) (Err n) words e = absurd (cc)
 rest_reads (Err n) (Ok ws) words e = absurd (cc)
 rest_reads (Err n) (Err m) words e = absurd (cc)
 
--- if all words read, none of them doesn't
+-- If all words read, there is no word that does not.
 all_read : (before behind : List Word) (word : Word) (words : List FlowWord) (number : ℕ) → all_words (before ++ word ∷ behind) ≡ Ok words → word_of word ≡ Err number → ⊥
 all_read [] behind word words number all fails = go (word_of word) (all_words behind) fails all
   where
@@ -32,11 +33,11 @@ all_read (b ∷ before) behind word words number all fails =
     let rest = rest_reads (word_of b) (all_words (before ++ word ∷ behind)) words all in
     all_read before behind word rest.0 number rest.1 fails
 
--- the number that is answered is that of a word, or of those behind it
+-- The lesser of a word's number and that of the words behind it is at most each of them.
 first_or_rest : (own rest number : ℕ) → ◌≡◌ {A = Result (List FlowWord) ℕ} (Err (if nat_le own rest then own else rest)) (Err number) → (number ≤ own) × (number ≤ rest)
 first_or_rest own rest number e = let same : (if nat_le own rest then own else rest) ≡ number = cc in (grind (arith, nat_tests), grind (arith, nat_tests))
 
--- the number that is answered is at most that of each word that doesn't read
+-- The number that is answered is at most that of each word that doesn't read.
 is_least : (before behind : List Word) (word : Word) (number own : ℕ) → all_words (before ++ word ∷ behind) ≡ Err number → word_of word ≡ Err own → number ≤ own
 is_least [] behind word number own all fails = go (word_of word) (all_words behind) fails all
   where
@@ -53,15 +54,20 @@ is_least (b ∷ before) behind word number own all fails =
     go (Ok w) (Err m) at all later never = let a : m ≡ number = cc in let b : m ≤ own = later m at in omega arith
     go (Err n) (Err m) at all later never = let a : number ≤ m = (first_or_rest n m number all).1 in let b : m ≤ own = later m at in omega arith
 
--- a word of the block that doesn't read, and where it stands
+-- A word of the block that doesn't read, and is refused by this number.
 pub record Unread (texts : List Word) (number : ℕ) : Type 0 where
+  -- The words before it.
   pub before : List Word
+  -- The words behind it.
   pub behind : List Word
+  -- The word itself.
   pub word : Word
+  -- Together they are the block's words.
   pub stands : texts ≡ before ++ word ∷ behind
+  -- It is refused by this number.
   pub fails : word_of word ≡ Err number
 
--- and it is that of one of them
+-- The number that is answered for words that don't all read is that of one of them.
 there : (texts : List Word) (number : ℕ) → all_words texts ≡ Err number → Unread texts number
 there [] number all = absurd (cc)
 there (t ∷ ts) number all = go (word_of t) (all_words ts) refl refl all (λ n rest. there ts n rest)
@@ -90,7 +96,7 @@ there (t ∷ ts) number all = go (word_of t) (all_words ts) refl refl all (λ n 
         let same : (if nat_le n m then n else m) ≡ number = cc in
         either (nat_le n m) n m at (behind m rest) same
 
--- if a word doesn't read, the number that is answered is the least
+-- If a word doesn't read, the number that is answered is the least of a refusal of the text.
 unread_is_least : Stops → (dialect : Dialect) (texts : List Word) (number : ℕ) → all_words texts ≡ Err number → IsLeastOfText dialect texts number
 unread_is_least stops dialect texts number all =
     let it = there texts number all in
@@ -106,7 +112,8 @@ unread_is_least stops dialect texts number all =
     go _ (said words cause read refuses) small =
         let never : ◌≡◌ {A = Result (List FlowWord) ℕ} (Ok words) (Err number) = sym read ∙ all in absurd (cc)
 
--- if all words read and are few enough, the least refusal of what they say is the least
+-- If all words read and are few enough, the least refusal of what they say is the least of the
+-- text.
 said_is_least : (dialect : Dialect) (texts : List Word) (words : List FlowWord) (cause : Cause) → all_words texts ≡ Ok words → has_many_variables texts ≡ false → refusal_of dialect words ≡ Some cause → IsLeastOfText dialect texts (cause_number cause)
 said_is_least dialect texts words cause all few refused =
     let is = (least_refusal dialect words cause).0 refused in
@@ -124,7 +131,7 @@ said_is_least dialect texts words cause all few refused =
         let same : own ≡ words = cc in
         is.least other (rw (← same) refuses)
 
--- if all words read but name more than 32 variables, that is the least refusal
+-- If all words read but name more than 32 variables, that is the least refusal of the text.
 many_is_least : (dialect : Dialect) (texts : List Word) (words : List FlowWord) → all_words texts ≡ Ok words → has_many_variables texts ≡ true → IsLeastOfText dialect texts (cause_number TooManyVariables)
 many_is_least dialect texts words all are =
     record { holds = many are; least = λ other refuses. go other refuses }
@@ -135,11 +142,11 @@ many_is_least dialect texts words all are =
     go _ (many is) = omega arith
     go _ (said own other read refuses) = refusal_above_25 dialect own other refuses
 
--- what is least of a number is so of an equal one
+-- If a number is the least of a refusal of the text, an equal number is.
 along : (dialect : Dialect) (texts : List Word) (a b : ℕ) → a ≡ b → IsLeastOfText dialect texts a → IsLeastOfText dialect texts b
 along dialect texts a b same is = rw (← same) is
 
--- the number that is answered is the least,
+-- The number that is answered is the least of a refusal of the text.
 answered_is_least : Stops → (dialect : Dialect) (texts : List Word) (number : ℕ) → words_or_refusal dialect texts ≡ Err number → IsLeastOfText dialect texts number
 answered_is_least stops dialect texts number answered =
     go (all_words texts) refl (has_many_variables texts) refl answered
@@ -159,7 +166,7 @@ answered_is_least stops dialect texts number answered =
         let same : n ≡ number = cc in
         along dialect texts n number same (unread_is_least stops dialect texts n all)
 
--- what holds of an accepted block: its words read, and no refusal holds
+-- If a block is accepted, all its words read, and no refusal holds of its text.
 pub accepted_has_none : (dialect : Dialect) (texts : List Word) (words : List FlowWord) → words_or_refusal dialect texts ≡ Ok words → (all_words texts ≡ Ok words) × ((number : ℕ) → ¬ (RefusesText dialect texts number))
 accepted_has_none dialect texts words accepted =
     go (all_words texts) refl (has_many_variables texts) refl accepted
@@ -182,7 +189,7 @@ accepted_has_none dialect texts words accepted =
     go (Ok own) all false few e = told own all few (refusal_of dialect own) refl e
     go (Err n) all are is e = absurd (cc)
 
--- and the least is answered,
+-- The least number of a refusal of the text is answered.
 least_is_answered : Stops → (dialect : Dialect) (texts : List Word) (number : ℕ) → IsLeastOfText dialect texts number → words_or_refusal dialect texts ≡ Err number
 least_is_answered stops dialect texts number is = go (words_or_refusal dialect texts) refl
   where
@@ -195,6 +202,6 @@ least_is_answered stops dialect texts number is = go (words_or_refusal dialect t
         let same : n ≡ number = omega arith in
         ap Err same
 
--- so both are the same
+-- A number is answered exactly if it is the least of a refusal of the text.
 pub least_of_text : Stops → (dialect : Dialect) (texts : List Word) (number : ℕ) → (words_or_refusal dialect texts ≡ Err number) ↔ IsLeastOfText dialect texts number
 least_of_text stops dialect texts number = (answered_is_least stops dialect texts number, least_is_answered stops dialect texts number)

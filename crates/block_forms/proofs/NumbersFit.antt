@@ -1,4 +1,5 @@
--- Numbers of words that are in their range. So they fit the numbers that the code keeps.
+-- Numbers of words that are in their range, so they fit the numbers that the code keeps. For
+-- Accepted.
 use Rattle.std.proofs.Common.{◌≡◌, ℕ, ◌≤◌, Bool, true, false, cond, not, List, [], ◌∷◌, Option, Some, None, IfSome, ℤ, pos, negsuc, refl, arith}
 use Rattle.std.specs.List.{list_any, filter_map}
 use Rattle.std.proofs.lemmas.Bool.Decides.{nat_tests}
@@ -13,26 +14,26 @@ use Rattle.block_words.specs.Words.{is_one_of, words_of, whole_value, value_of_l
 use Rattle.block_words.specs.Codes.{natural, first}
 use Rattle.block_words.specs.Ranges.{is_between, range_of, fits_value, is_in_range}
 
--- a number, if there is one, from the one to the other
+-- The number lies between these, both included, if there is one.
 abbrev pub IsWithin : ℕ → ℕ → Option ℕ → Type 0
 IsWithin least greatest number = IfSome number (λ n. (least ≤ n) × (n ≤ greatest))
 
--- a whole number that tests as in its range is in it,
+-- A whole number that passes the test of a range is in it.
 number_within : (least greatest : ℕ) (z : Option ℤ) → is_between least greatest z ≡ true → IsWithin least greatest (natural z)
 number_within least greatest None is = tt
 number_within least greatest (Some (pos n)) is = (grind (arith, nat_tests), grind (arith, nat_tests))
 number_within least greatest (Some (negsuc n)) is = tt
 
--- so is that of a value that fits its range,
+-- The number of a value that fits its range is in it.
 value_within : (least greatest : ℕ) (value : WordValue) → fits_value (Between least greatest) value ≡ true → IsWithin least greatest (natural (whole_value value))
 value_within least greatest (Fixed literal) is = number_within least greatest _ is
 value_within least greatest (Computed minus tree) is = tt
 
--- a letter that is among one letter is it
+-- A letter that is one of a single letter is that letter.
 letter_is : (letter own : ℕ) → is_one_of (letter ∷ []) own ≡ true → own ≡ letter
 letter_is letter own e = grind (arith, nat_tests)
 
--- and that of a word in its range
+-- The number of a word that is in its range lies within it.
 word_within : (purpose : Purpose) (letter least greatest : ℕ) (word : FlowWord) → range_of purpose letter ≡ Between least greatest → is_one_of (letter ∷ []) word.letter ≡ true → is_in_range purpose word ≡ true → IsWithin least greatest (natural (whole_value word.value))
 word_within purpose letter least greatest word range same fits =
     let own : word.letter ≡ letter = letter_is letter word.letter same in
@@ -40,7 +41,8 @@ word_within purpose letter least greatest word range same fits =
     let between : fits_value (Between least greatest) word.value ≡ true = rw range at there in
     value_within least greatest word.value between
 
--- the last word of a letter, where all words are in their ranges
+-- If all words are in their ranges, the number of the last word of a letter lies in that of the
+-- letter.
 pub last_within : (purpose : Purpose) (letter least greatest : ℕ) (words : List FlowWord) → range_of purpose letter ≡ Between least greatest → list_any (λ word. not (is_in_range purpose word)) words ≡ false → IsWithin least greatest (natural (last_whole (letter ∷ []) words))
 last_within purpose letter least greatest [] range all = tt
 last_within purpose letter least greatest (w ∷ ws) range all =
@@ -54,7 +56,8 @@ last_within purpose letter least greatest (w ∷ ws) range all =
     go true rest None e here there = rw e (here refl)
     go false rest later e here there = there
 
--- the first word of a letter whose number is written out, where all words are in their ranges
+-- If all words are in their ranges, the first number that a word of a letter writes out lies in
+-- that of the letter.
 pub first_within : (purpose : Purpose) (letter least greatest : ℕ) (words : List FlowWord) → range_of purpose letter ≡ Between least greatest → list_any (λ word. not (is_in_range purpose word)) words ≡ false → IsWithin least greatest (first (filter_map (λ word. natural (whole_value word.value)) (words_of (letter ∷ []) words)))
 first_within purpose letter least greatest [] range all = tt
 first_within purpose letter least greatest (w ∷ ws) range all =

@@ -1,4 +1,5 @@
--- Words that are gathered one by one. Each step of the loop of reading.rt is one word more.
+-- Words that are gathered one by one: each step of a loop over words (src/reading.rt,
+-- src/gathering.rt) is one word more.
 use Rattle.std.proofs.Common.{◌≡◌, ℕ, suc, ◌+◌, ◌-◌, ◌<◌, ◌≤◌, nat_lt, true, false, List, [], ◌∷◌, ◌++◌, length, get_or, drop, Option, Some, None, Result, Ok, Err, OnOk, append_assoc, refl, sym, ◌∙◌, ap, arith}
 use Rattle.std.proofs.Math.Seq.{drop-cons}
 use Rattle.std.proofs.Math.ListN.{drop_of_length-le}
@@ -9,58 +10,59 @@ use Rattle.macro_expr.specs.Limits.{variable_signs}
 use Rattle.block_words.specs.declared.word.FlowWord.{FlowWord}
 use Rattle.block_forms.specs.Forms.{joined, all_words, word_of, lesser, gathered, signs_in}
 
--- a word that reads joins those before it
+-- A word that reads joins those before it.
 pub one_that_reads : (done : List FlowWord) (word : FlowWord) (least : Option ℕ) (rest : Result (List FlowWord) ℕ) → gathered (done ++ word ∷ []) least rest ≡ gathered done least (joined (Ok word) rest)
 one_that_reads done word None (Ok words) = ap Ok (append_assoc done (word ∷ []) words)
 one_that_reads done word None (Err number) = refl
 one_that_reads done word (Some least) (Ok words) = refl
 one_that_reads done word (Some least) (Err number) = refl
 
--- of three numbers the least is the same in either grouping
+-- Of three numbers the least is the same in either grouping.
 three_numbers : (a b c : ℕ) → lesser (Some (lesser (Some a) b)) c ≡ lesser (Some a) (lesser (Some b) c)
 three_numbers a b c = grind (arith, nat_tests)
 
--- a word that doesn't read leaves the lesser number
+-- A word that doesn't read leaves the lesser number.
 pub one_that_does_not : (done : List FlowWord) (number : ℕ) (least : Option ℕ) (rest : Result (List FlowWord) ℕ) → gathered done (Some (lesser least number)) rest ≡ gathered done least (joined (Err number) rest)
 one_that_does_not done number None (Ok words) = refl
 one_that_does_not done number None (Err other) = refl
 one_that_does_not done number (Some least) (Ok words) = refl
 one_that_does_not done number (Some least) (Err other) = ap Err (three_numbers least number other)
 
--- a loop over words, at one word more
+-- The words from i on are the word i and those behind it.
 pub all_words_at : (words : List Word) (i : ℕ) (d : Word) → i < length words → all_words (drop i words) ≡ joined (word_of (get_or words i d)) (all_words (drop (i + 1) words))
 all_words_at words i d lt =
     let e : i + 1 ≡ suc i = omega arith in
     rw (drop-cons words i d lt, e) refl
 
--- the same where the loop has the word itself
+-- The words from i on are the given word, which stands at i, and those behind it.
 pub all_words_here : (words : List Word) (i : ℕ) (word : Word) → i < length words → word ≡ get_or words i word → all_words (drop i words) ≡ joined (word_of word) (all_words (drop (i + 1) words))
 all_words_here words i word lt is =
     all_words_at words i word lt ∙ ap (λ (w : Word). joined (word_of w) (all_words (drop (i + 1) words))) (sym is)
 
--- what holds of an answer holds where it is no error
+-- What holds of an answer unless it is an error holds if it is none.
 pub where_ok : {X E P : Type 0} (result : Result X E) → is_err result ≡ false → OnOk result P → P
 where_ok (Ok x) no_error holds = holds
 where_ok (Err e) no_error holds = absurd (cc)
 
--- behind the last word there is none
+-- Behind the last word there is none.
 pub all_words_end : (words : List Word) (i : ℕ) → length words ≤ i → all_words (drop i words) ≡ Ok []
 all_words_end words i le = rw (drop_of_length-le words le) refl
 
--- the signs of variables from one word on,
+-- The signs of variables from the word i on are its own and those behind it.
 pub signs_at : (words : List Word) (i : ℕ) (d : Word) → i < length words → signs_in (drop i words) ≡ variable_signs (get_or words i d).text + signs_in (drop (i + 1) words)
 signs_at words i d lt =
     let e : i + 1 ≡ suc i = omega arith in
     rw (drop-cons words i d lt, e) refl
 
--- of which there are none behind the last
+-- Behind the last word there is no sign of a variable.
 pub signs_end : (words : List Word) (i : ℕ) → length words ≤ i → signs_in (drop i words) ≡ 0
 signs_end words i le = rw (drop_of_length-le words le) refl
 
--- what is above the room is above it with what fits taken from both
+-- To take the signs that fit from the room and from the rest does not change whether the rest is
+-- too much.
 pub less_room : (room signs rest : ℕ) → signs ≤ room → nat_lt (room - signs) rest ≡ nat_lt room (signs + rest)
 less_room room signs rest le = grind (arith, nat_tests)
 
--- more than the room is above it, whatever comes
+-- Signs that are more than the room are too much, whatever comes.
 pub no_room : (room signs rest : ℕ) → room < signs → nat_lt room (signs + rest) ≡ true
 no_room room signs rest lt = grind (arith, nat_tests)

@@ -1,4 +1,4 @@
--- The refusal of a word that does not read has a number up to 25.
+-- The refusal of a word that does not read has a number up to 25. For LeastOfText.
 use Rattle.std.proofs.Common.{◌≡◌, ℕ, ◌≤◌, Bool, true, false, if◌then◌else◌, List, Result, Ok, Err, refl, ap, arith, lit≤}
 use Rattle.nc_number.specs.declared.literal.Literal.{Literal}
 use Rattle.nc_number.specs.declared.fault.NumberFault.{NumberFault}
@@ -19,11 +19,11 @@ use Rattle.macro_expr.specs.Answers.{expression_of}
 use Rattle.block_words.specs.declared.word.WordValue.{WordValue}
 use Rattle.block_forms.specs.Forms.{fixed_value, computed_value, value_of, word_at, word_of}
 
--- the law of macro_expr on where reading stops in an expression, as these lemmas take it
+-- The law of macro_expr on where reading stops in an expression, as these lemmas take it.
 abbrev pub Stops : Type 0
 Stops = (text : List ℕ) (s : Stop) → whole (expression_at text) ≡ Err s → Lacks IsExpression Never text s
 
--- an expression that stops has a refusal up to 25,
+-- An expression at which reading stops has a refusal up to 25.
 stop_number : (text : List ℕ) (many : Bool) (s : Stop) → Lacks IsExpression Never text s → cause_number (cause_beside many s) ≤ 25
 stop_number text true stop.Expression lacks = lit≤ tt
 stop_number text false stop.Expression lacks = lit≤ tt
@@ -33,21 +33,22 @@ stop_number text many stop.Condition lacks = absurd lacks
 stop_number text many stop.Loop lacks = absurd lacks
 stop_number text many stop.Sequence lacks = absurd lacks
 
--- so has the least of three,
+-- Of too many digits, too many brackets and another refusal up to 25, the one that is answered is
+-- up to 25.
 one_of_three : (long deep : Bool) (rest : Cause) → cause_number rest ≤ 25 → (if long then refusal TooManyDigits else if deep then refusal TooManyBrackets else refusal rest).number ≤ 25
 one_of_three true deep rest small = lit≤ tt
 one_of_three false true rest small = lit≤ tt
 one_of_three false false rest small = small
 
--- and an equal number,
+-- A number equal to one up to 25 is up to 25.
 along : (a b : ℕ) → a ≡ b → a ≤ 25 → b ≤ 25
 along a b same small = omega arith
 
--- and an equal fault
+-- A fault equal to one with a number up to 25 has such a number.
 fault_along : (a b : ExprFault) → a ≡ b → a.number ≤ 25 → b.number ≤ 25
 fault_along a b same small = along a.number b.number (ap (λ (f : ExprFault). f.number) same) small
 
--- so has each expression that does not read,
+-- An expression that does not read has a refusal up to 25.
 expression_number : Stops → (text : List ℕ) (fault : ExprFault) → expression_of text ≡ Err fault → fault.number ≤ 25
 expression_number stops text fault is = go (whole (expression_at (cleaned false text))) refl is
   where
@@ -62,7 +63,7 @@ expression_number stops text fault is = go (whole (expression_at (cleaned false 
         let small : cause_number (cause_beside (has_many_variables (cleaned false text)) s) ≤ 25 = stop_number (cleaned false text) (has_many_variables (cleaned false text)) s (stops (cleaned false text) s at) in
         fault_along (refusal_of (cleaned false text) s) fault same (one_of_three (has_long_number (cleaned false text)) (has_deep_brackets (cleaned false text)) (cause_beside (has_many_variables (cleaned false text)) s) small)
 
--- each value,
+-- A value that does not read has a refusal up to 25.
 value_number : Stops → (text : List ℕ) (number : ℕ) → value_of text ≡ Err number → number ≤ 25
 value_number stops text number is = go (is_literal text) is
   where
@@ -78,7 +79,7 @@ value_number stops text number is = go (is_literal text) is
     go true e = fixed (word_literal text) e
     go false e = computed (has_minus text) (expression_of (behind_sign text)) refl e
 
--- and each word
+-- A word that does not read has a refusal up to 25.
 pub word_number : Stops → (word : Word) (number : ℕ) → word_of word ≡ Err number → number ≤ 25
 word_number stops word number is = go (value_of word.text) refl is
   where

@@ -1,10 +1,10 @@
--- A block that was read, without where it lies in memory.
--- lathe_top, nc_restart, path_state, race_report and tape_flow use these words.
+-- A block that was read, as contracts see it: apart from where it lies in memory. tape_flow,
+-- path_state, race_report, nc_restart and lathe_top cite `block_form`.
 use Rattle.block_forms.specs.declared.block.FlowBlock.{FlowBlock}
 use Rattle.block_forms.specs.Forms.{BlockForm}
 use Rattle.block_forms.specs.Views.{form_of}
 
--- its line, its sequence number, what it says and its control
+-- A block's line, its sequence number, what it says and its control.
 abbrev pub block_form : FlowBlock → BlockForm
 block_form block =
     record { line = block.line; sequence = block.sequence; form = form_of block.body; control = block.control }

@@ -1,5 +1,5 @@
--- What a block does to the order of blocks. The open reading has its own in open_forms.
--- open_forms and path_state use these words.
+-- What a block that reads does to the order of blocks. open_forms and path_state cite this; the
+-- open reading of a block has its own definition in open_forms.
 use Rattle.std.specs.Prelude.{ℕ, ◌/◌, ◌%◌, nat_le, Bool, true, ◌&&◌, ◌||◌, List, Option, Some, None, codes, if◌then◌else◌}
 use Rattle.block_order.specs.declared.control.Control.{Control}
 use Rattle.block_order.specs.declared.control.Control.TheVariants as control
@@ -11,38 +11,39 @@ use Rattle.block_words.specs.declared.purpose.Purpose.TheVariants.{MacroCall, Su
 use Rattle.block_words.specs.Words.{last_whole}
 use Rattle.block_words.specs.Codes.{natural, m_codes, has_code, is_waiting, first_waiting, purpose_of}
 
--- the number of the last P or L, where it is whole and not below 0
+-- The number that the last word of these letters says, if it is whole and not below 0.
 abbrev pub number_of : List ℕ → List FlowWord → Option ℕ
 number_of letters words = natural (last_whole letters words)
 
--- this number, or the one given if there is none
+-- The number that is said, or the given one if there is none.
 abbrev pub or_number : ℕ → Option ℕ → ℕ
 or_number n None = n
 or_number n (Some own) = own
 
--- the repeats of a call: L, or once
+-- The repeats of a call: L, or once.
 abbrev pub repeats_of : List FlowWord → ℕ
 repeats_of words = or_number 1 (number_of (codes "L") words)
 
--- a P of more than four digits has the repeats before the program's four digits
+-- The call that a P says: of more than four digits it has the repeats before the program's four
+-- digits, else they are given apart.
 abbrev pub call_of_p : ℕ → ℕ → Control
 call_of_p p repeats = if nat_le 10000 p then control.Call (p % 10000) (p / 10000) else control.Call p repeats
 
--- M99: back to a sequence number, or to the call
+-- M99: back to a sequence number, or without one to the call.
 abbrev pub back_to : Option ℕ → Control
 back_to None = control.Back
 back_to (Some n) = control.BackTo n
 
--- a wait by its code, of which each wait has one
+-- A wait of this code; each wait has one.
 abbrev pub wait_at : Option ℕ → Control
 wait_at None = control.Next
 wait_at (Some code) = control.Wait code
 
--- M02 and M30 end the path
+-- The end of the path, if a word is M02 or M30; else the next block.
 abbrev pub end_or_next : List FlowWord → Control
 end_or_next words = if has_code 2 words || has_code 30 words then control.End else control.Next
 
--- what a block of this purpose does to the order of blocks
+-- What a block of this purpose does to the order of blocks.
 abbrev pub control_by : Purpose → Dialect → List FlowWord → Control
 control_by MacroCall dialect words = control.Call (or_number 0 (number_of (codes "P") words)) (repeats_of words)
 control_by Subprogram dialect words = call_of_p (or_number 0 (number_of (codes "P") words)) (repeats_of words)
@@ -52,16 +53,16 @@ control_by Dwell dialect words = end_or_next words
 control_by Setting dialect words = end_or_next words
 control_by Other dialect words = end_or_next words
 
--- the control of a block of words that is not refused
+-- The control of a block of words that is not refused.
 abbrev pub control_of_words : Dialect → List FlowWord → Control
 control_of_words dialect words = control_by (purpose_of dialect words) dialect words
 
--- the sequence number of a jump that is written out, or none of a computed one
+-- The sequence number of a jump that is written out, or none of a computed one.
 abbrev pub number_of_aim : Aim → Option ℕ
 number_of_aim (ToNumber n) = Some n
 number_of_aim (ToNumberOf tree) = None
 
--- what a statement does to the order of blocks
+-- What a statement does to the order of blocks.
 abbrev pub control_of_sentence : Sentence → Control
 control_of_sentence (Assign name tree) = control.Next
 control_of_sentence (Goto aim) = control.Goto (number_of_aim aim)
@@ -71,7 +72,7 @@ control_of_sentence (WhileDo test name) = control.While name
 control_of_sentence (DoOnly name) = control.Do name
 control_of_sentence (EndLoop name) = control.EndLoop name
 
--- a computed sequence number is known in the run alone; one that is written out is up to 99,999
+-- The sequence number of a jump is up to 99,999; a computed one is known in the run alone.
 abbrev pub is_sequence : Option ℕ → Bool
 is_sequence None = true
 is_sequence (Some n) = nat_le n 99999
@@ -90,7 +91,7 @@ is_allowed (control.Call program repeats) = nat_le program 9999 && (nat_le 1 rep
 is_allowed control.Back = true
 is_allowed (control.BackTo n) = nat_le n 99999
 
--- where it waits, it does so by one of the waiting codes
+-- If the control is a wait, its code is one of the waiting codes.
 abbrev pub waits_by_a_code : Dialect → Control → Bool
 waits_by_a_code dialect (control.Wait code) = is_waiting dialect code
 waits_by_a_code dialect _ = true

@@ -1,5 +1,5 @@
--- How many variables a block names. At most 32, since the signs in its text are no more.
--- path_state uses these words.
+-- How many variables a block names; they are at most 32. FlowBlock keeps this bound (src/block.rt),
+-- and path_state rests on it: a block asks for no more values.
 use Rattle.std.specs.Prelude.{ℕ, ◌+◌, List, [], ◌∷◌}
 use Rattle.macro_expr.specs.Tree.{variables, variables_in, evaluated, sentence_of}
 use Rattle.block_words.specs.declared.word.FlowWord.{FlowWord}
@@ -8,17 +8,17 @@ use Rattle.block_words.specs.declared.word.WordValue.TheVariants.{Fixed, Compute
 use Rattle.block_forms.specs.declared.body.FlowBody.{FlowBody}
 use Rattle.block_forms.specs.declared.body.FlowBody.TheVariants.{Words, Statement}
 
--- a literal names none, an expression those of its tree
+-- How many variables the value of a word names: a literal none, an expression those of its tree.
 abbrev pub variables_of_value : WordValue → ℕ
 variables_of_value (Fixed literal) = 0
 variables_of_value (Computed minus tree) = variables tree
 
--- how many variables the computed words name together
+-- How many variables the words of a block name together.
 abbrev pub variables_of_words : List FlowWord → ℕ
 variables_of_words [] = 0
 variables_of_words (word ∷ words) = variables_of_value word.value + variables_of_words words
 
--- the computed words of a block, or all that its statement evaluates
+-- How many variables a block names: in its computed words, or in all that its statement evaluates.
 abbrev pub variables_of_body : FlowBody → ℕ
 variables_of_body (Words words) = variables_of_words words.words
 variables_of_body (Statement statement) = variables_in (evaluated (sentence_of statement.statement))

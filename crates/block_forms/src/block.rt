@@ -1,5 +1,5 @@
-//! A block that is not refused, and the call that it is.
-//! path_state, race_report and tape_flow use what it exports.
+//! A block that is not refused, and the call that it is. tape_flow keeps these, path_state runs
+//! them, race_report reads which variables they use.
 ghost use Rattle.std.specs.Prelude.{◌≡◌, ◌≤◌, true, None};
 ghost use Rattle.nc_number.specs.declared.limits.TheConstants.{MOST_READS};
 ghost use Rattle.block_forms.specs.Controls.{is_allowed};
@@ -31,7 +31,7 @@ pub struct FlowBlock {
 impl FlowBlock {
     ghost use Rattle.std.specs.Prelude.{IfSome};
 
-    /// The call that the block is: by M98 or by G65.
+    /// The call that the block is, by M98 or by G65, if it is one.
     pub fn calls(&self) -> Option<Called>
         ensures value { result ≡ call_of self.now.body self.now.control }
         ensures program { IfSome result (λ called. called.program ≤ 9999) }
@@ -44,7 +44,7 @@ impl FlowBlock {
     }
 }
 
-/// A block that calls does so by G65 where its words are a macro call, else by M98.
+/// How a block of this purpose calls: by G65 if its words are a macro call, else by M98.
 fn kind_of_call(purpose: Purpose) -> CallKind
     ensures { result ≡ kind_of_call purpose }
 {
@@ -54,7 +54,7 @@ fn kind_of_call(purpose: Purpose) -> CallKind
     }
 }
 
-/// Only a call has a program and repeats.
+/// The call that a control is; none if the block does something else to the order of blocks.
 fn called_by(kind: CallKind, control: Control) -> Option<Called>
     ensures { result ≡ called_by kind control }
 {

@@ -1,5 +1,5 @@
-//! The call that a block makes. Which program, how often, and by G65 or by M98.
-//! path_state uses what it exports.
+//! The call that a block makes: which program, how often, and by G65 or by M98. path_state opens
+//! it.
 
 /// How a program is called.
 #[derive(Clone, Copy, Debug, Default, PartialEq, Eq)]

@@ -1,5 +1,5 @@
-//! What the words or the statement of a block do to the order of blocks.
-//! For this crate alone: reading.rt uses it.
+//! What the words or the statement of a block do to the order of blocks. For this crate alone:
+//! reading.rt gives each block its control; the definition is specs/Controls.antt.
 ghost use Rattle.std.specs.Prelude.{◌≡◌, ◌≤◌, IfSome};
 ghost use Rattle.macro_expr.specs.Tree.{aim_of, sentence_of};
 ghost use Rattle.block_forms.specs.Controls.{number_of, or_number, call_of_p, back_to, wait_at, end_or_next, number_of_aim, control_of_sentence};
@@ -9,7 +9,7 @@ use block_order::Control;
 use block_words::{FlowWord, Purpose, first_waiting, has_code, number_of};
 use macro_expr::{Statement, Target};
 
-/// The number that the last word of these letters says, or another one.
+/// The number that the last word of these letters says, or the other number if it says none.
 fn number_or(words: &[FlowWord], letters: &[u8], other: u16) -> u16
     requires { IfSome (number_of letters.now words.now) (λ n. n ≤ 9999) }
     ensures { result ≡ or_number other (number_of letters.now words.now) }
@@ -20,7 +20,8 @@ fn number_or(words: &[FlowWord], letters: &[u8], other: u16) -> u16
     }
 }
 
-/// The call of a program, with its repeats before the program's four digits or apart.
+/// The call that a P says: of more than four digits it has the repeats before the program's four
+/// digits, else they stand apart.
 fn call_of_p(p: u32, repeats: u16) -> Control
     requires { p ≤ 99999999 }
     ensures { result ≡ call_of_p p repeats }
@@ -38,7 +39,7 @@ fn call_of_p(p: u32, repeats: u16) -> Control
     }
 }
 
-/// Back to a sequence number, or to the call.
+/// M99: back to a sequence number, or without one to the call.
 fn back_to(sequence: Option<u32>) -> Control
     ensures { result ≡ back_to sequence }
 {
@@ -48,7 +49,7 @@ fn back_to(sequence: Option<u32>) -> Control
     }
 }
 
-/// Words that wait have a waiting code, so the other case is never asked.
+/// A wait of this code. Words that wait have a waiting code, so there is no case without one.
 fn wait_at(code: Option<u16>) -> Control
     ensures { result ≡ wait_at code }
 {
@@ -58,7 +59,7 @@ fn wait_at(code: Option<u16>) -> Control
     }
 }
 
-/// M02 and M30 end the path.
+/// The end of the path, if a word is M02 or M30; else the next block.
 fn end_or_next(words: &[FlowWord]) -> Control
     ensures { result ≡ end_or_next words.now }
 {
@@ -99,7 +100,7 @@ impl FlowWords {
     ghost use Rattle.block_forms.specs.Refusals.{refusal_of};
     ghost use Rattle.block_forms.specs.Controls.{control_of_words};
 
-    /// What the block does to the order of blocks, where it is not refused.
+    /// What the block does to the order of blocks, if it is not refused.
     pub(crate) fn control(&self) -> Control
         requires { refusal_of self.now.dialect self.now.words ≡ None }
         ensures { result ≡ control_of_words self.now.dialect self.now.words }

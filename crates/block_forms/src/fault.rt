@@ -1,5 +1,5 @@
-//! Why a block is refused. A number of the table of refusals in nc_number.
-//! open_forms uses what it exports.
+//! Why a block is refused, as a number of the table of refusals in nc_number. open_forms answers it
+//! too; tape_flow and open_order tell it with its line.
 ghost use Rattle.std.specs.Prelude.{◌≡◌};
 ghost use Rattle.nc_number.specs.Causes.{cause_number};
 

@@ -1,5 +1,5 @@
-//! The words of a block, gathered one by one with the least refusal.
-//! For this crate alone: reading.rt uses it.
+//! The words of a block, gathered one by one with the least refusal of those that don't read. For
+//! this crate alone: the loop of reading.rt fills it.
 ghost use Rattle.std.specs.Prelude.{◌≡◌, ◌≤◌, ◌+◌, List, ℕ, Result, OnOk, IfOk};
 ghost use Rattle.nc_number.specs.Answers.{GivesBy};
 ghost use Rattle.block_words.specs.declared.word.FlowWord.{FlowWord};
@@ -21,7 +21,7 @@ pub(crate) struct Gathered {
     least: Option<u8>,
 }
 
-/// The lesser one of the numbers.
+/// The lesser one of two numbers, or the second if there is no first.
 fn lesser(before: Option<u8>, number: u8) -> u8
     ensures { result ≡ lesser before number }
 {
@@ -45,8 +45,8 @@ impl Gathered {
         })
     }
 
-    /// One word more: what was gathered with any rest is what was gathered before with the word and
-    /// the rest.
+    /// Takes one word more. What was gathered with any rest is what was gathered before with the
+    /// word and the rest.
     #[tactic(auto, using(crate::proofs::WordByWord::one_that_reads, crate::proofs::WordByWord::one_that_does_not, crate::proofs::FewVariables::one_more_named))]
     pub(crate) fn add(&mut self, word: Result<FlowWord, Failing<FormFault>>) -> Result<(), NoMemory>
         ensures exact { (due : Result FlowWord ℕ) (rest : Result (List FlowWord) ℕ)
@@ -65,7 +65,7 @@ impl Gathered {
         Ok(())
     }
 
-    /// The words, or the least number.
+    /// The words, or the least number of a refusal.
     pub(crate) fn finish(self) -> Result<FlowWordList, Failing<FormFault>>
         ensures exact { GivesBy (λ words. words) (λ fault. fault.number) result
             (gathered self.words.items self.least (Ok [])) }

@@ -1,7 +1,7 @@
 //! What one block of a tape says.
 //!
 //! The words of a block are read into literals and expressions, or its statement into its tree, and
-//! the block is refused where the control does not know or allow what it says: of several refusals
+//! the block is refused if the control does not know or allow what it says: of several refusals
 //! the one of the least number. What it does to the order of blocks is its `Control`.
 #![tactic(auto)]
 

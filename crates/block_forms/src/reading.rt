@@ -1,5 +1,5 @@
-//! A block read from its text, or the least of the refusals that hold of it.
-//! tape_flow uses what it exports.
+//! A block read from its text, or the least of the refusals that hold of it. tape_flow calls
+//! `read_block` for each block of a tape; the definition is `block_or_refusal` (specs/Forms.antt).
 ghost use Rattle.std.specs.Prelude.{◌≡◌, ◌≤◌, IfOk, None, true};
 ghost use Rattle.nc_number.specs.Answers.{GivesBy};
 ghost use Rattle.nc_number.specs.declared.limits.TheConstants.{MOST_READS};
@@ -28,14 +28,16 @@ use nc_number::{Cause, Failing, MOST_READS, is_literal, parse_word, unsigned};
 use nc_text::{Block, Body, Word};
 use std::alloc::Global;
 
-/// The sign before a variable or an expression is the word's own, not the expression's.
+/// Whether the text begins with a minus, which is then the word's own sign and not the
+/// expression's.
 fn is_minus(text: &[u8]) -> bool
     ensures { result ≡ has_minus text.now }
 {
     matches!(text, [b'-', ..])
 }
 
-/// A literal is refused for its digits alone; its range is asked later, with the other words.
+/// A value that is written out. It is refused for its digits alone; its range is asked later, with
+/// the other words.
 fn read_literal(text: &[u8]) -> Result<WordValue, Failing<FormFault>>
     requires { IsLiteral text.now }
     ensures exact { GivesBy (λ value. value) (λ fault. fault.number) result (fixed_value (word_literal text.now)) }
@@ -47,7 +49,7 @@ fn read_literal(text: &[u8]) -> Result<WordValue, Failing<FormFault>>
     }
 }
 
-/// A variable or an expression behind the word's own sign. Its tree is dropped.
+/// A variable or an expression behind the word's own sign, as its code; its tree is dropped.
 #[tactic(auto, using(crate::proofs::FewVariables::fewer_in_value))]
 fn read_expression(alloc: Global, text: &[u8]) -> Result<WordValue, Failing<FormFault>>
     ensures exact { GivesBy (λ value. value) (λ fault. fault.number) result
@@ -67,7 +69,7 @@ fn read_expression(alloc: Global, text: &[u8]) -> Result<WordValue, Failing<Form
     }
 }
 
-/// A value that is no literal is an expression, and refused as that where it is neither.
+/// The value of a word: a literal, or an expression. What is neither is refused as an expression.
 fn read_value(alloc: Global, text: &[u8]) -> Result<WordValue, Failing<FormFault>>
     ensures exact { GivesBy (λ value. value) (λ fault. fault.number) result (value_of text.now) }
     ensures named { IfOk result (λ value. variables_of_value value ≤ variable_signs text.now) }
@@ -79,7 +81,7 @@ fn read_value(alloc: Global, text: &[u8]) -> Result<WordValue, Failing<FormFault
     }
 }
 
-/// What a word says.
+/// What a word says: its letter and its value, or the refusal of the value.
 fn read_word(alloc: Global, word: &Word) -> Result<FlowWord, Failing<FormFault>>
     ensures exact { GivesBy (λ word. word) (λ fault. fault.number) result (word_of word.now) }
     ensures named { IfOk result (λ read. variables_of_value read.value ≤ variable_signs word.now.text) }
@@ -93,7 +95,7 @@ fn read_word(alloc: Global, word: &Word) -> Result<FlowWord, Failing<FormFault>>
     }
 }
 
-/// All words, or the least number of the refusals of those that don't read.
+/// What all words say, or the least number of the refusals of those that don't read.
 fn read_all(alloc: Global, words: &[Word]) -> Result<FlowWordList, Failing<FormFault>>
     ensures exact { GivesBy (λ words. words) (λ fault. fault.number) result (all_words words.now) }
     ensures named { IfOk result (λ read. variables_of_words read ≤ signs_in words.now) }
@@ -107,7 +109,7 @@ fn read_all(alloc: Global, words: &[Word]) -> Result<FlowWordList, Failing<FormF
     gathered.finish()
 }
 
-/// Every sign of a variable counts, those inside expressions too.
+/// How many signs of variables, `#`, the text has, those inside expressions too.
 fn count_signs(text: &[u8]) -> usize
     ensures { result ≡ variable_signs text.now }
 {
@@ -161,8 +163,7 @@ pub fn read_words(
 
 /// What a statement says.
 ///
-/// It is refused where its text has no tree: with 5, 20 to 25, or 64 of a sequence number past
-/// 99,999.
+/// It is refused if its text has no tree: with 5, 20 to 25, or 64 of a sequence number past 99,999.
 pub fn read_statement(alloc: Global, text: &[u8]) -> Result<FlowStatement, Failing<FormFault>>
     ensures exact { GivesBy (λ read. sentence_of read.statement) (λ fault. fault.number) result
         (sentence_or_refusal (statement_of text.now)) }
@@ -181,7 +182,7 @@ pub fn read_statement(alloc: Global, text: &[u8]) -> Result<FlowStatement, Faili
     }
 }
 
-/// The block of a statement.
+/// The block of a statement, with what it does to the order of blocks.
 #[tactic(auto, using(crate::proofs::Accepted::sentence_allowed, crate::proofs::Accepted::sentence_waits))]
 fn block_of_statement(line: u32, sequence: Option<u32>, statement: FlowStatement) -> FlowBlock
     requires ranges { IsInRange (sentence_of statement.statement) }
@@ -199,7 +200,7 @@ fn block_of_statement(line: u32, sequence: Option<u32>, statement: FlowStatement
     }
 }
 
-/// The block of words that are not refused.
+/// The block of words that are not refused, with what they do to the order of blocks.
 #[tactic(auto, using(crate::proofs::Accepted::words_allowed, crate::proofs::Accepted::words_wait))]
 fn block_of_words(line: u32, sequence: Option<u32>, words: FlowWords) -> FlowBlock
     requires accepted { refusal_of words.dialect words.words ≡ None }

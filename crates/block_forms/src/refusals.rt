@@ -1,5 +1,6 @@
-//! Why words that read are refused, each refusal apart from the others.
-//! For this crate alone: reading.rt asks for the first that holds.
+//! Why words that read are refused, each refusal apart from the others. For this crate alone:
+//! reading.rt asks for the first that holds. The definitions, of the same names, are in
+//! specs/Refusals.antt.
 ghost use Rattle.std.specs.Prelude.{◌≡◌, codes};
 ghost use Rattle.std.specs.List.{list_any};
 ghost use Rattle.block_words.specs.Words.{words_of};
@@ -40,7 +41,8 @@ fn is_unknown_code(system: System, word: &FlowWord) -> bool
     !word.value.is_computed() && is_refused_row(row_of_word(system, word))
 }
 
-/// A computed G word is no unknown code: it is refused because it is computed.
+/// Whether a G word is of a code that the system lacks or the control refuses. A computed G word is
+/// none: it is refused because it is computed.
 fn has_unknown_code(system: System, words: &[FlowWord]) -> bool
     ensures { result ≡ list_any (is_unknown_code system) (words_of (codes "G") words.now) }
 {
@@ -60,7 +62,7 @@ fn known_letters(system: System) -> &'static [u8]
     }
 }
 
-/// Whether the first word is the G65, and no other is a G word, or a computed N or O.
+/// Whether the first word is the G65, and no other is a G, N or O word.
 fn begins_macro_call(system: System, words: &[FlowWord]) -> bool
     ensures { result ≡ begins_macro_call system words.now }
 {
@@ -120,7 +122,7 @@ impl FlowWords {
     ghost use Rattle.block_words.specs.Words.{has, last_whole};
     ghost use Rattle.block_words.specs.Codes.{natural};
 
-    /// 54: a word that must be written out is computed.
+    /// 54: whether a word that must be written out is computed.
     fn is_not_fixed(&self) -> bool
         ensures { result ≡ is_not_fixed self.now.dialect self.now.words }
     {
@@ -135,7 +137,8 @@ impl FlowWords {
             || (is_one_of(b"Q", letter) && self.gives_setting()))
     }
 
-    /// Outside macro calls alone: there every letter but a few is an argument.
+    /// Whether a word has a letter without a meaning. Asked outside macro calls alone: there every
+    /// letter but a few is an argument.
     fn has_unknown_letter(&self) -> bool
         ensures { result ≡ list_any
             (λ word. is_unknown_letter self.now.dialect.system self.now.words word.letter) self.now.words }
@@ -144,8 +147,8 @@ impl FlowWords {
         words.iter().any(|word| self.is_unknown_letter(word.letter))
     }
 
-    /// The highest speed of the spindle, G50 of system A and G92 of system B, needs S, and X, Z, U
-    /// and W have no meaning beside it.
+    /// Whether the highest speed of the spindle, G50 of system A or G92 of system B, is without S
+    /// or beside X, Z, U or W, which have no meaning there.
     fn is_bad_limit(&self) -> bool
         ensures { result ≡ is_bad_limit self.now.dialect.system self.now.words }
     {
@@ -153,15 +156,15 @@ impl FlowWords {
         self.gives_limit() && (!has(words, b"S") || has(words, b"XZUW"))
     }
 
-    /// G53 goes to absolute positions alone.
+    /// Whether G53 stands beside U or W: it goes to absolute positions alone.
     fn is_bad_machine(&self) -> bool
         ensures { result ≡ is_bad_machine self.now.dialect.system self.now.words }
     {
         self.gives_machine() && has(self.words.as_slice(), b"UW")
     }
 
-    /// 56: a letter or a code that the system lacks, or that the control refuses or does not allow
-    /// there.
+    /// 56: whether there is a letter or a code that the system lacks, or that the control refuses
+    /// or does not allow there.
     fn is_unknown(&self) -> bool
         ensures { result ≡ is_unknown self.now.dialect.system self.now.words }
     {
@@ -183,7 +186,7 @@ impl FlowWords {
         !self.gives_macro_call() && has_wait(self.words.as_slice(), self.dialect)
     }
 
-    /// 57: a wait beside another word than P.
+    /// 57: whether a wait stands beside another word than P.
     fn is_wait_not_alone(&self) -> bool
         ensures { result ≡ is_wait_not_alone self.now.dialect self.now.words }
     {
@@ -200,7 +203,7 @@ impl FlowWords {
         }
     }
 
-    /// 58: the P of a wait is computed, or the last one does not name both paths.
+    /// 58: whether the P of a wait is computed, or the last one does not name both paths.
     fn is_wait_of_others(&self) -> bool
         ensures { result ≡ is_wait_of_others self.now.dialect self.now.words }
     {
@@ -208,14 +211,14 @@ impl FlowWords {
         self.waits_there() && has(words, b"P") && (has_computed(words, b"P") || !self.names_both())
     }
 
-    /// 59: two M words outside a macro call.
+    /// 59: whether there are two M words outside a macro call.
     fn has_two_m(&self) -> bool
         ensures { result ≡ has_two_m self.now.dialect.system self.now.words }
     {
         !self.gives_macro_call() && 1 < count_of(self.words.as_slice(), b"M")
     }
 
-    /// A dwell or the setting of an offset beside a call or a return.
+    /// Whether a dwell or the setting of an offset stands beside a call or a return.
     fn is_crowded_call(&self) -> bool
         ensures { result ≡ is_crowded_call self.now.dialect.system self.now.words }
     {
@@ -223,7 +226,7 @@ impl FlowWords {
         (has_code(words, 98) || has_code(words, 99)) && (self.gives_dwell() || self.gives_setting())
     }
 
-    /// A block that calls a macro needs P, and its I, J and K in order.
+    /// Whether a block that calls a macro lacks P, or its I, J and K are out of order.
     fn is_bad_macro_call(&self) -> bool
         ensures { result ≡ is_bad_macro_call self.now.words }
     {
@@ -231,7 +234,7 @@ impl FlowWords {
         !has(words, b"P") || !are_in_order(words)
     }
 
-    /// A call of a subprogram needs P, and has its repeats once.
+    /// Whether a call of a subprogram lacks P, or has its repeats twice, in P and by L.
     fn is_bad_subprogram(&self) -> bool
         ensures { result ≡ is_bad_subprogram self.now.words }
     {
@@ -239,7 +242,8 @@ impl FlowWords {
         !has(words, b"P") || (has_repeats(words) && has(words, b"L"))
     }
 
-    /// The rules of P and L outside macro calls.
+    /// Whether P and L break a rule outside macro calls: a bad call of a subprogram, a crowded call
+    /// or return, or a P or L without a meaning.
     fn is_bad_block(&self) -> bool
         ensures { result ≡ is_bad_block self.now.dialect.system self.now.purpose self.now.words }
     {
@@ -250,8 +254,8 @@ impl FlowWords {
             || (has(words, b"L") && self.purpose.is_idle_l())
     }
 
-    /// 61: a call without its program or with words that don't fit together; P or L where they have
-    /// no meaning.
+    /// 61: whether a call lacks its program or has words that don't fit together, or P or L has no
+    /// meaning.
     fn is_bad_call(&self) -> bool
         ensures { result ≡ is_bad_call self.now.dialect self.now.words }
     {
@@ -262,7 +266,8 @@ impl FlowWords {
         }
     }
 
-    /// 62: an absolute and an incremental word of one axis outside a macro call.
+    /// 62: whether an absolute and an incremental word of one axis stand in a block that calls no
+    /// macro.
     fn has_axis_twice(&self) -> bool
         ensures { result ≡ has_axis_twice self.now.dialect.system self.now.words }
     {
@@ -271,7 +276,7 @@ impl FlowWords {
             && ((has(words, b"X") && has(words, b"U")) || (has(words, b"Z") && has(words, b"W")))
     }
 
-    /// 64: a word that is written out is out of its range.
+    /// 64: whether a word that is written out is out of its range.
     fn is_out_of_range(&self) -> bool
         ensures { result ≡ is_out_of_range self.now.dialect self.now.words }
     {

@@ -1,6 +1,6 @@
-//! A block of words. What they are there for, and what they do to the order of blocks. Why they
-//! are refused is in refusals.rt.
-//! block_values and path_state use what it exports.
+//! The words of a block that is not refused, with what its codes make of them: what the block is
+//! for, and which codes it gives. Why words are refused is in refusals.rt. block_values and
+//! path_state ask these.
 ghost use Rattle.std.specs.Prelude.{◌≡◌};
 ghost use Rattle.block_words.specs.Codes.{rows as rows_in, one_shot as one_shot_in, purpose_of};
 
@@ -70,14 +70,14 @@ impl FlowWords {
         first_code(self.words.as_slice())
     }
 
-    /// Whether L is given.
+    /// Whether the block has an L word.
     pub fn has_l(&self) -> bool
         ensures { result ≡ has (codes "L") self.now.words }
     {
         has(self.words.as_slice(), b"L")
     }
 
-    /// Whether an arc is given.
+    /// Whether the block has a G code of an arc.
     pub fn gives_arc(&self) -> bool
         ensures { result ≡ gives self.now.dialect.system is_arc self.now.words }
     {
@@ -85,7 +85,7 @@ impl FlowWords {
         rows.iter().any(|row| row.kind.is_arc())
     }
 
-    /// Whether a dwell is given.
+    /// Whether the block has a dwell, G04.
     pub(crate) fn gives_dwell(&self) -> bool
         ensures { result ≡ gives self.now.dialect.system is_dwell self.now.words }
     {
@@ -93,7 +93,7 @@ impl FlowWords {
         rows.iter().any(|row| matches!(row.kind, CodeKind::Dwell))
     }
 
-    /// Whether the setting of an offset is given.
+    /// Whether the block sets an offset, G10.
     pub fn gives_setting(&self) -> bool
         ensures { result ≡ gives self.now.dialect.system is_setting self.now.words }
     {
@@ -101,7 +101,7 @@ impl FlowWords {
         rows.iter().any(|row| matches!(row.kind, CodeKind::Setting))
     }
 
-    /// Whether the highest speed of the spindle is given.
+    /// Whether the block limits the spindle's speed, G50 or G92.
     pub fn gives_limit(&self) -> bool
         ensures { result ≡ gives self.now.dialect.system is_limit self.now.words }
     {
@@ -109,7 +109,7 @@ impl FlowWords {
         rows.iter().any(|row| matches!(row.kind, CodeKind::Limit))
     }
 
-    /// Whether a rapid in machine coordinates is given.
+    /// Whether the block has positions in machine coordinates, G53.
     pub(crate) fn gives_machine(&self) -> bool
         ensures { result ≡ gives self.now.dialect.system is_machine self.now.words }
     {
@@ -117,7 +117,7 @@ impl FlowWords {
         rows.iter().any(|row| matches!(row.kind, CodeKind::Machine))
     }
 
-    /// Whether a call of a macro is given.
+    /// Whether the block calls a macro, G65.
     pub(crate) fn gives_macro_call(&self) -> bool
         ensures { result ≡ gives self.now.dialect.system is_macro_call self.now.words }
     {

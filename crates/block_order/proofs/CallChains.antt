@@ -1,5 +1,5 @@
--- Chains of calls of loud programs, and the frames of a place.
--- flow_laws takes `chain_before`, part_order `counts_below` and `main_below`.
+-- Chains of calls of loud programs, and the frames of a place. For KeepsLabels; flow_laws takes
+-- `chain_before`, part_order `counts_below` and `main_below`.
 use Rattle.std.proofs.Common.{◌≡◌, ◌≢◌, ℕ, zero, suc, ◌+◌, true, List, [], ◌∷◌, length, Some, refl, sym, subst, arith}
 use Rattle.block_order.specs.declared.control.Control.TheVariants.{Call}
 use Rattle.block_order.specs.declared.frame.Frame.{Frame}
@@ -11,15 +11,15 @@ use Rattle.block_order.specs.Faults.{IsReachedBy}
 use Rattle.block_order.specs.Steps.{IsPlace}
 use Rattle.block_order.proofs.LoudReaches.{AreLoud}
 
--- whoever calls a loud program counts
+-- A program of a place that stands at the call of a loud program counts, so its labels come.
 pub counts_below : (tape : List ControlProgram) → AreLoud tape → (g : Frame) (stack : List Frame) (q r : ℕ)
     → control_at (blocks tape g.program) g.block ≡ Some (Call q r) → loud tape q ≡ true
     → counts tape g.program stack ≡ true
 counts_below tape are g [] q r is noisy = refl
 counts_below tape are g (h ∷ stack) q r is noisy = are.calls g.program g.block q r is noisy
 
--- the running program of a place that counts is reached by as many calls of loud programs as are
--- open
+-- The running program of a place that counts is reached by as many calls of loud programs as are
+-- open.
 pub place_calling : (tape : List ControlProgram) → AreLoud tape → (f : Frame) (stack : List Frame)
     → IsPlace tape (f ∷ stack) → counts tape f.program stack ≡ true
     → IsReachedBy tape (length stack) (main_number tape) f.program
@@ -28,7 +28,7 @@ place_calling tape are f (g ∷ stack) place e =
     let below = counts_below tape are g stack f.program place.0 place.1 e in
     (g.program, g.block, place.0, place_calling tape are g stack place.3 below, place.1, e)
 
--- calls that lead to a program, and a chain that begins in it, are one chain
+-- Calls that lead to a program, and a chain that begins in it, are one chain.
 pub chain_before : (tape : List ControlProgram) (n m p q : ℕ) → IsReachedBy tape n p q → Chain tape m q
     → Chain tape (n + m) p
 chain_before tape zero m p q c chain =
@@ -37,19 +37,19 @@ chain_before tape (suc n) m p q (mid, block, r, c, is, noisy) chain =
     let e : n + suc m ≡ suc n + m = omega arith in
     subst (λ k. Chain tape k p) e (chain_before tape n (suc m) p mid c (block, q, r, is, noisy, chain))
 
--- a chain begins with a chain one shorter
+-- A chain begins with a chain one shorter.
 pub chain_front : (tape : List ControlProgram) (n p : ℕ) → Chain tape (suc n) p → Chain tape n p
 chain_front tape zero p chain = tt
 chain_front tape (suc n) p (block, q, r, is, noisy, chain) = (block, q, r, is, noisy, chain_front tape n q chain)
 
--- a chain begins with each shorter chain
+-- A chain begins with each shorter chain.
 pub chain_less : (tape : List ControlProgram) (k n p : ℕ) → Chain tape (k + n) p → Chain tape n p
 chain_less tape zero n p chain = let e : 0 + n ≡ n = omega arith in subst (λ k. Chain tape k p) e chain
 chain_less tape (suc k) n p chain =
     let e : suc k + n ≡ suc (k + n) = omega arith in
     chain_less tape k n p (chain_front tape (k + n) p (subst (λ k. Chain tape k p) e chain))
 
--- a circle of calls is a chain of any length
+-- A circle of calls is a chain of any length.
 pub chain_round : (tape : List ControlProgram) (d m p : ℕ) → IsReachedBy tape (suc d) p p → Chain tape m p
 chain_round tape d zero p c = tt
 chain_round tape d (suc m) p c =
@@ -57,7 +57,7 @@ chain_round tape d (suc m) p c =
     chain_less tape d (suc m) p
     (subst (λ k. Chain tape k p) e (chain_before tape (suc d) m p p c (chain_round tape d m p c)))
 
--- in a place of an unforked tape the main program is loud only at the bottom
+-- In a place of an unforked tape a loud program that has a caller is not the main program.
 pub main_below : (tape : List ControlProgram) → AreLoud tape → IsUnforked tape → (f g : Frame) (stack : List Frame)
     → IsPlace tape (f ∷ g ∷ stack) → loud tape f.program ≡ true → f.program ≢ main_number tape
 main_below tape are un f g stack place noisy e =

@@ -1,5 +1,6 @@
--- A tape without faults of waits has one list of labels.
--- flow_laws and path_state take the results, wait_order takes `block_of_control`.
+-- A tape without faults of waits has one list of labels. For the law
+-- `a_tape_without_faults_is_unforked`; flow_laws and path_state take the results, wait_order takes
+-- `block_of_control`.
 use Rattle.std.proofs.Common.{◌≡◌, ◌≢◌, ℕ, zero, suc, ◌+◌, Bool, true, false, ◌==◌, List, [], ◌∷◌, Some, slice_get, refl, sym, subst, arith, eqb-true}
 use Rattle.std.proofs.lemmas.Bool.{eqb-false}
 use Rattle.nc_number.specs.declared.cause.Cause.TheVariants.{BranchAtWait, WaitTooDeep}
@@ -13,7 +14,7 @@ use Rattle.block_order.specs.Labels.{IsTarget, Chain, Counts, IsStraight, IsUnfo
 use Rattle.block_order.specs.Faults.{Waiting, IsReachedBy, strays, deep, jump, loop, back, IsClear, IsFreeOf}
 use Rattle.block_order.proofs.Searches.{loop_facts}
 
--- numbers that don't differ are the same
+-- Numbers that don't differ are the same.
 same_number : (a b : ℕ) → (a ≢ b → ⊥) → a ≡ b
 same_number a b never = go (a == b) refl
   where
@@ -21,16 +22,14 @@ same_number a b never = go (a == b) refl
     go true e = eqb-true a b e
     go false e = absurd (never (eqb-false a b e))
 
--- the block of a control
+-- A place with a control has a block of that control.
 pub block_of_control : (bs : List ControlBlock) (place : ℕ) (c : Control) → control_at bs place ≡ Some c
     → (block : ControlBlock) × (slice_get bs place ≡ Some block) × (block.control ≡ c)
 block_of_control [] place c is = absurd cc
 block_of_control (b ∷ bs) zero c is = let same : b.control ≡ c = cc in (b, refl, same)
 block_of_control (b ∷ bs) (suc place) c is = block_of_control bs place c is
 
--- Where no block has a fault of waits, nothing strays, and no chain is too long.
-
--- Where no block has a fault of waits, no jump leads to another stretch,
+-- If no block has the fault 65, no jump of a program that counts leads to another stretch.
 jumps_straight : (tape : List ControlProgram) → IsFreeOf tape BranchAtWait → (program place target : ℕ) (c : Control)
     → Counts tape program
     → control_at (blocks tape program) place ≡ Some c → IsTarget tape program place c target
@@ -42,7 +41,8 @@ jumps_straight tape free program place target c counts is to =
     same_number (stretch (loud tape) (blocks tape program) place) (stretch (loud tape) (blocks tape program) target)
     (λ differ. free b.0.line (strays program place b.0 b.1 (jump target counts own differ)))
 
--- no loop ends in another stretch than it begins in,
+-- If no block has the fault 65, no loop of a program that counts ends in another stretch than it
+-- begins in.
 loops_straight : (tape : List ControlProgram) → IsFreeOf tape BranchAtWait → (program head close : ℕ) → Counts tape program
     → IsLoop (blocks tape program) head close
     → stretch (loud tape) (blocks tape program) head ≡ stretch (loud tape) (blocks tape program) close
@@ -52,7 +52,7 @@ loops_straight tape free program head close counts is_loop =
     same_number (stretch (loud tape) (blocks tape program) head) (stretch (loud tape) (blocks tape program) close)
     (λ differ. free b.0.line (strays program close b.0 b.1 (loop head counts is_loop differ)))
 
--- and M99 P stands in no loud program but the main one.
+-- If no block has the fault 65, an M99 P stands in no loud program but the main one.
 backs_main : (tape : List ControlProgram) → IsFreeOf tape BranchAtWait → (program place n : ℕ) → loud tape program ≡ true
     → control_at (blocks tape program) place ≡ Some (BackTo n) → program ≡ main_number tape
 backs_main tape free program place n noisy is =
@@ -60,7 +60,7 @@ backs_main tape free program place n noisy is =
     same_number program (main_number tape)
     (λ differ. free b.0.line (strays program place b.0 b.1 (back n noisy differ b.2)))
 
--- without faults of code 65 nothing strays from its stretch
+-- Without the fault 65 nothing leads from one stretch to another.
 pub nothing_strays : (tape : List ControlProgram) → IsFreeOf tape BranchAtWait → IsStraight tape
 nothing_strays tape free = record {
   jumps = jumps_straight tape free;
@@ -68,7 +68,8 @@ nothing_strays tape free = record {
   backs = backs_main tape free;
 }
 
--- n calls of loud programs lead here, and m + 1 further ones would be nine
+-- If n calls of loud programs lead from the main program to this one, and n and m are eight, no
+-- chain of m + 1 further calls begins in it.
 no_ninth : (tape : List ControlProgram) → IsFreeOf tape WaitTooDeep → (m n program : ℕ) → n + m ≡ 8
     → IsReachedBy tape n (main_number tape) program → Chain tape (suc m) program → ⊥
 no_ninth tape free zero n program eight reached (place, called, repeats, is, noisy, rest) =
@@ -79,11 +80,11 @@ no_ninth tape free zero n program eight reached (place, called, repeats, is, noi
 no_ninth tape free (suc m) n program eight reached (place, called, repeats, is, noisy, rest) =
     no_ninth tape free m (suc n) called (omega (arith, eight)) (program, place, repeats, reached, is, noisy) rest
 
--- without faults of code 66 no chain of nine calls begins in the main program
+-- Without the fault 66 no chain of nine calls of loud programs begins in the main program.
 pub chains_are_short : (tape : List ControlProgram) → IsFreeOf tape WaitTooDeep → Chain tape 9 (main_number tape) → ⊥
 chains_are_short tape free chain = no_ninth tape free 8 0 (main_number tape) refl refl chain
 
--- a tape without faults of waits is unforked
+-- A tape without faults of waits is unforked.
 pub faultless_unforked : (tape : List ControlProgram) → IsClear tape Waiting → IsUnforked tape
 faultless_unforked tape clear = record {
   straight = nothing_strays tape (λ line. clear line BranchAtWait);

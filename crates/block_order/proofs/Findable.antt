@@ -1,5 +1,5 @@
--- What a block's jump or call finds, and the first fault of the second stage.
--- open_order takes `seek-within`, wait_order takes `own_blocks`.
+-- What a block's jump or call finds, and the first fault of the second stage. For the proofs of
+-- src/finding.rt and src/tables.rt; open_order takes `seek-within`, wait_order takes `own_blocks`.
 use Rattle.std.proofs.Common.{◌≡◌, ◌≢◌, ℕ, zero, suc, ◌+◌, ◌<◌, ◌≤◌, ◌⊎◌, ◌↔◌, IsTrue, inl, inr, Bool, true, false, cond, eqb, List, [], ◌∷◌, length, map, drop, take, get_or, Option, Some, None, Result, Err, refl, sym, ap, ◌∙◌, arith, subst, ⊎_elim}
 use Rattle.std.specs.List.{slice_get, Contains}
 use Rattle.std.specs.Option.{is_some}
@@ -23,7 +23,7 @@ use Rattle.block_order.proofs.Lines.{rise-programs, rise-own, block-order, block
 use Rattle.block_order.proofs.Located.{clear-new}
 use Rattle.block_order.proofs.Programs.{found_stands}
 
--- a block that is found by its number is one of these
+-- A block that the search finds by its number is one of these blocks.
 numbered-within : (bs : List ControlBlock) (p n t : ℕ) → first_numbered bs p n ≡ Some t → (p ≤ t) × (t < p + length bs)
 numbered-within [] p n t e = absurd cc
 numbered-within (b ∷ bs) p n t e = go (λ f. numbered-within bs (suc p) n t f) (has_sequence n b.sequence) e where
@@ -32,7 +32,7 @@ numbered-within (b ∷ bs) p n t e = go (λ f. numbered-within bs (suc p) n t f)
   go rest true f = let k : p ≡ t = cc in (omega arith, omega arith)
   go rest false f = let w = rest f in (omega (arith, w.0), omega (arith, w.1))
 
--- a search for a sequence number ends at a block of the program
+-- A search for a sequence number ends at a block of the program.
 pub seek-within : (bs : List ControlBlock) (from n t : ℕ) → seek bs from n ≡ Some t → t < length bs
 seek-within bs from n t e = go (first_numbered (drop (suc from) bs) (suc from) n) refl where
   go : (o : Option ℕ) → first_numbered (drop (suc from) bs) (suc from) n ≡ o → t < length bs
@@ -45,7 +45,8 @@ seek-within bs from n t e = go (first_numbered (drop (suc from) bs) (suc from) n
       let w = numbered-within (drop (suc from) bs) (suc from) n x f in
       omega (arith, w.0, w.1, length-drop (suc from) bs)
 
--- the fault of a block's jump is the fault of the block
+-- What is so of the jump of a block is so of the block: its one fault is that of the jump, or it
+-- has none.
 pub lift-jump : (tape : List ControlProgram) (p : ControlProgram) (place n : ℕ) (control : Control) (o : Option Cause)
     → fixed_number tape p.number control ≡ Some n → ((called repeats : ℕ) → control ≢ Call called repeats)
     → IsFaultOf (JumpFault p.blocks place n) o → IsFaultOf (BlockFault tape p place control) o
@@ -58,7 +59,7 @@ lift-jump tape p place n control None fixed other w = λ cause f. go cause f whe
       w cause (subst (λ (x : ℕ). JumpFault p.blocks place x cause) (sym k) j)
   go _ (calls called repeats e none) = other called repeats e
 
--- with a place there is a program, from some place on
+-- An O number that has a place among these programs has a program there.
 some-place : (tape : List ControlProgram) (at q i : ℕ) → place_from tape at q ≡ Some i → is_some (program_of tape q) ≡ true
 some-place [] at q i e = absurd cc
 some-place (t ∷ ts) at q i e = go (λ f. some-place ts (suc at) q i f) (eqb t.number q) e where
@@ -67,11 +68,12 @@ some-place (t ∷ ts) at q i e = go (λ f. some-place ts (suc at) q i f) (eqb t.
   go rest true f = refl
   go rest false f = rest f
 
--- an O number that has a place on the tape has a program
+-- An O number that has a place on the tape has a program.
 pub some-program : (tape : List ControlProgram) (q i : ℕ) → place_of tape q ≡ Some i → is_some (program_of tape q) ≡ true
 some-program tape q i e = some-place tape 0 q i e
 
--- the fault of a block's call is the fault of the block
+-- What is so of the call of a block is so of the block: its one fault is an O number without a
+-- program, or it has none.
 pub lift-call : (tape : List ControlProgram) (p : ControlProgram) (place called repeats : ℕ) (control : Control) (o : Option Cause)
     → control ≡ Call called repeats → o ≡ cond (is_some (program_of tape called)) None (Some NoProgram)
     → IsFaultOf (BlockFault tape p place control) o
@@ -91,19 +93,19 @@ lift-call tape p place called repeats control o is e = go (program_of tape calle
   go (Some x) f =
       let g : o ≡ None = e ∙ ap (λ r. cond (is_some r) None (Some NoProgram)) f in rw g (clear x f)
 
--- M99 P of the main program names a fixed sequence number
+-- M99 P of the main program names a fixed sequence number.
 pub main-fixed : (tape : List ControlProgram) (program n : ℕ) → program ≡ main_number tape
     → fixed_number tape program (BackTo n) ≡ Some n
 main-fixed tape program n e =
     let t : eqb program (main_number tape) ≡ true = grind (arith, nat_tests) in rw t refl
 
--- the blocks below n have no fault
+-- The program's blocks below n have no fault in what they find.
 abbrev pub ClearBlocks : List ControlProgram → ControlProgram → ℕ → Type 0
 ClearBlocks tape p n =
     (place : ℕ) (b : ControlBlock) (cause : Cause) → place < n → slice_get p.blocks place ≡ Some b
     → BlockFault tape p place b.control cause → ⊥
 
--- if the next block has no fault either, one block more is clear
+-- If the next block has no fault either, one block more is clear.
 pub blocks-more : (tape : List ControlProgram) (p : ControlProgram) (n : ℕ) (b : ControlBlock) → slice_get p.blocks n ≡ Some b
     → ((cause : Cause) → BlockFault tape p n b.control cause → ⊥) → ClearBlocks tape p n → ClearBlocks tape p (n + 1)
 blocks-more tape p n b at here clear place other cause l there fault =
@@ -117,7 +119,8 @@ blocks-more tape p n b at here clear place other cause l there fault =
     (λ (ne : place ≢ n). clear place other cause (omega arith) there fault)
     (cases_eq place n)
 
--- where the faults of the second stage lie
+-- Where a fault of the second stage lies: at a block of a program of the tape, as that block's own
+-- fault.
 abbrev pub Found : List ControlProgram → Stage → ℕ → Cause → Type 0
 Found tape Fitting line cause = Unit {0}
 Found tape Finding line cause =
@@ -125,7 +128,7 @@ Found tape Finding line cause =
     × (slice_get p.blocks place ≡ Some b) × (line ≡ b.line) × BlockFault tape p place b.control cause
 Found tape Waiting line cause = Unit {0}
 
--- the program in which a block stands
+-- A block of an O number stands in a program of the tape that has this number.
 stands-in : (tape : List ControlProgram) (program place : ℕ) (b : ControlBlock) → Stands tape program place b
     → (i : ℕ) × (p : ControlProgram) × (slice_get tape i ≡ Some p) × (slice_get p.blocks place ≡ Some b)
     × (p.number ≡ program) × (blocks tape program ≡ p.blocks)
@@ -139,7 +142,7 @@ stands-in tape program place b s = go (program_of tape program) refl where
       let w = found_stands tape program p e in
       (w.0, p, w.1, sym (ap (λ o. slice_get (blocks_of o) place) e) ∙ s, w.2, ap blocks_of e)
 
--- a jump that fails lies in its program
+-- A jump that fails is the fault of its block, in a program of the tape.
 found-jump : (tape : List ControlProgram) (program place n : ℕ) (b : ControlBlock) (cause : Cause)
     → Stands tape program place b → fixed_number tape program b.control ≡ Some n
     → JumpFault (blocks tape program) place n cause → Found tape Finding b.line cause
@@ -156,7 +159,7 @@ found-jump tape program place n b cause s f j =
           (subst (λ (bs : List ControlBlock). JumpFault bs place n cause) w.5 j),
     )
 
--- each fault lies where `Found` says
+-- Each fault lies where `Found` says.
 found : (tape : List ControlProgram) (stage : Stage) (line : ℕ) (cause : Cause) → HasFault tape stage line cause
     → Found tape stage line cause
 found tape _ _ _ (twice before after p e w) = tt
@@ -168,7 +171,7 @@ found tape _ _ _ (unknown program place called repeats b s f e) =
 found tape _ _ _ (strays program place b s m) = tt
 found tape _ _ _ (deep program place called repeats b r s f e) = tt
 
--- the program that an O number finds is the first of that number
+-- The program that an O number finds is the first of that number.
 find-first : (tape : List ControlProgram) (i : ℕ) (p : ControlProgram) → slice_get tape i ≡ Some p
     → (Contains (map (λ q. q.number) (take i tape)) p.number → ⊥) → program_of tape p.number ≡ Some p
 find-first [] i p e new = absurd cc
@@ -185,12 +188,12 @@ find-first (t ∷ ts) (suc i) p e new =
       go rest true test = absurd (new (0, omega arith, eqb-true t.number p.number test))
       go rest false test = rw test rest
 
--- a program of a tape whose programs fit together has its own blocks
+-- A program of a tape whose programs fit together has its own blocks.
 pub own_blocks : (tape : List ControlProgram) (i : ℕ) (p : ControlProgram) → IsClear tape Fitting → slice_get tape i ≡ Some p
     → blocks tape p.number ≡ p.blocks
 own_blocks tape i p clear at = ap blocks_of (find-first tape i p at (clear-new tape i p clear at))
 
--- a block's own fault is a fault of the tape
+-- A block's own fault is a fault of the tape.
 block-has : (tape : List ControlProgram) (p : ControlProgram) (place : ℕ) (b : ControlBlock) (cause : Cause)
     → blocks tape p.number ≡ p.blocks → slice_get p.blocks place ≡ Some b → BlockFault tape p place b.control cause
     → HasFault tape Finding b.line cause
@@ -199,11 +202,11 @@ block-has tape p place b _ same at (jumps n cause f j) =
 block-has tape p place b _ same at (calls called repeats f e) =
     unknown p.number place called repeats b (ap (λ bs. slice_get bs place) same ∙ at) f e
 
--- a jump fails for one cause only
+-- A jump fails for one cause only.
 jump-same : (bs : List ControlBlock) (place n : ℕ) (a b : Cause) → JumpFault bs place n a → JumpFault bs place n b → a ≡ b
 jump-same bs place n a b e f = let both : ◌≡◌ {A = Result ℕ Cause} (Err a) (Err b) = sym e ∙ f in cc
 
--- a block has one fault at most
+-- A block has one fault at most.
 fault-same : (tape : List ControlProgram) (p : ControlProgram) (place : ℕ) (control : Control) (a b : Cause)
     → BlockFault tape p place control a → BlockFault tape p place control b → a ≡ b
 fault-same tape p place control _ _ (jumps n a f j) (jumps m b g k) =
@@ -216,19 +219,19 @@ fault-same tape p place control _ _ (calls called repeats g e) (jumps n a f j) =
     let k : None ≡ Some n = sym (ap (fixed_number tape p.number) g) ∙ f in absurd cc
 fault-same tape p place control _ _ (calls called repeats g e) (calls other more h f) = refl
 
--- the programs below n have no fault
+-- The tape's programs below n have no fault in what their jumps and calls find.
 abbrev pub ClearFinds : List ControlProgram → ℕ → Type 0
 ClearFinds tape n =
     (i : ℕ) (p : ControlProgram) (place : ℕ) (b : ControlBlock) (cause : Cause) → i < n → slice_get tape i ≡ Some p
     → slice_get p.blocks place ≡ Some b → BlockFault tape p place b.control cause → ⊥
 
--- if no program has a fault, the second stage is clear
+-- If no program has a fault, the second stage is clear.
 pub finds-all : (tape : List ControlProgram) (n : ℕ) → length tape ≤ n → ClearFinds tape n → IsClear tape Finding
 finds-all tape n l clear line cause fault =
     let w = found tape Finding line cause fault in
     clear w.0 w.1 w.2 w.3 cause (omega (arith, slice_get_within tape w.0 w.1 w.4)) w.4 w.5 w.7
 
--- if the next program has no fault either, one program more is clear
+-- If the next program has no fault either, one program more is clear.
 pub finds-more : (tape : List ControlProgram) (n : ℕ) (p : ControlProgram) → slice_get tape n ≡ Some p
     → IsProgramFault tape p None → ClearFinds tape n → ClearFinds tape (n + 1)
 finds-more tape n p at here clear i q place b cause l there is fault =
@@ -241,7 +244,7 @@ finds-more tape n p at here clear i q place b cause l there is fault =
     (λ (other : i ≢ n). clear i q place b cause (omega arith) there is fault)
     (cases_eq i n)
 
--- of two faults of one program
+-- Of two faults of one program that of the earlier block is no later.
 later-block : (tape : List ControlProgram) (n : ℕ) (p : ControlProgram) (first place : ℕ) (a b : ControlBlock) (x y : Cause)
     → IsListed tape → slice_get tape n ≡ Some p → slice_get p.blocks first ≡ Some a → slice_get p.blocks place ≡ Some b
     → BlockFault tape p first a.control x → BlockFault tape p place b.control y → first ≤ place
@@ -260,7 +263,7 @@ later-block tape n p first place a b x y listed at here there f g l =
     inl (block-order p.blocks p.line first place a b (rise-own tape 0 n p listed.lines at).1.1 here there (omega arith)))
     (cases_eq first place)
 
--- the first fault of the first program that has one is the first of the stage
+-- The first fault of the first program that has one is the first of the stage.
 pub found-first : (tape : List ControlProgram) (n : ℕ) (p : ControlProgram) (line : ℕ) (cause : Cause) → IsListed tape
     → IsClear tape Fitting → slice_get tape n ≡ Some p → ClearFinds tape n
     → IsProgramFault tape p (Some (record { cause = cause; line = line }))
@@ -295,13 +298,13 @@ found-first tape n p line cause listed fits at clear w =
         let z = found tape Finding l other fault in
         at-place l other z.0 z.1 z.2 z.3 z.4 z.5 z.6 z.7 (cases_order n z.0)
 
--- the test whether a program is the main one is right
+-- The test whether a program is the main one is right.
 pub main-test : (number main first : ℕ) → main ≡ first → IsTrue (eqb number main) ↔ (number ≡ first)
 main-test number main first e = (λ t. eqb-true number main t ∙ e, λ f. equal-test number main (f ∙ sym e)) where
   equal-test : (a b : ℕ) → a ≡ b → eqb a b ≡ true
   equal-test a b g = grind (arith, nat_tests)
 
--- a block with a fault is not below the clear ones
+-- A block with a fault is not below the clear ones.
 pub first-block : (tape : List ControlProgram) (p : ControlProgram) (i : ℕ) → ClearBlocks tape p i
     → (place : ℕ) (other : ControlBlock) (cause : Cause) → slice_get p.blocks place ≡ Some other
     → BlockFault tape p place other.control cause → i ≤ place
@@ -310,7 +313,7 @@ first-block tape p i clear place other cause at fault = go (cases_lt place i) wh
   go (inl l) = absurd (clear place other cause l at fault)
   go (inr l) = l
 
--- the first program is the main one
+-- The first program is the main one.
 pub main-is : (tape : List ControlProgram) (p : ControlProgram) → 0 < length tape → p ≡ get_or tape 0 p → p.number ≡ main_number tape
 main-is [] p l e = absurd (omega arith)
 main-is (t ∷ ts) p l e = ap (λ x. x.number) e

@@ -1,5 +1,6 @@
--- Flags of programs at their places, asked by O numbers. Being loud is defined in specs/Loud.antt.
--- wait_order takes `flag_set`.
+-- Flags of programs at their places, asked by O numbers, and when one round more finds no loud
+-- program more. Being loud is defined in specs/Loud.antt. For HeardFirst; wait_order takes
+-- `flag_set`.
 use Rattle.std.proofs.Common.{◌≡◌, ◌≢◌, ◌↔◌, ◌⊎◌, inl, inr, ℕ, zero, suc, ◌+◌, ◌-◌, ◌<◌, ◌≤◌, length, Bool, true, false, ◌==◌, List, [], ◌∷◌, map, drop, find, slice_index_or, slice_set, Option, Some, None, refl, ap, sym, ◌∙◌, arith}
 use Rattle.std.proofs.lemmas.Grind.{get_or-set_at}
 use Rattle.std.proofs.lemmas.List.{get_or-set_other}
@@ -13,7 +14,7 @@ use Rattle.block_order.specs.Numbers.{KnowsPlaces}
 use Rattle.block_order.specs.Heard.{flag_known}
 use Rattle.block_order.proofs.Programs.{one_place}
 
--- what stands at a place is the first of the rest from there
+-- The entry at index n is the first of the list without its first n entries.
 drop_head : {X : Type 0} (n : ℕ) (xs : List X) (x d : X) (rest : List X) → drop n xs ≡ x ∷ rest
     → (slice_index_or xs n d ≡ x) × (drop (suc n) xs ≡ rest)
 drop_head zero [] x d rest e = absurd cc
@@ -21,7 +22,8 @@ drop_head zero (y ∷ ys) x d rest e = (cc, cc)
 drop_head (suc n) [] x d rest e = absurd cc
 drop_head (suc n) (y ∷ ys) x d rest e = drop_head n ys x d rest e
 
--- the flag at a number's place, among programs from some place on
+-- A list that has f of each program's blocks tells f of the blocks of an O number, among programs
+-- from some place on.
 flag_from : (f : List ControlBlock → Bool) → f [] ≡ false → (ps : List ControlProgram) (place q : ℕ) (flags : List Bool)
     → drop place flags ≡ map (λ p. f p.blocks) ps
     → flag_at flags (place_from ps place q) ≡ f (blocks_of (find (λ p. p.number == q) ps))
@@ -36,21 +38,23 @@ flag_from f none (p ∷ ps) place q flags e = go (flag_from f none ps (suc place
     go rest true y = rw y here.0
     go rest false y = rw y rest
 
--- a flag that each program has from its blocks
+-- A list that has f of the blocks of each program tells, by the flag of an O number, f of its
+-- blocks.
 pub flag_of_blocks : (f : List ControlBlock → Bool) → f [] ≡ false → (tape : List ControlProgram) (q : ℕ)
     → flagged tape (map (λ p. f p.blocks) tape) q ≡ f (blocks tape q)
 flag_of_blocks f none tape q = flag_from f none tape 0 q (map (λ p. f p.blocks) tape) refl
 
--- at first no program is known to be loud
+-- At first no program is known to be loud.
 pub none_known : (tape : List ControlProgram) → flagged tape (map (λ p. has_loud_block (known_loud tape 0) []) tape) ≡ known_loud tape 0
 none_known tape i q = flag_of_blocks (λ bs. false) refl tape q i
 
--- what is kept of the places tells the flags by O numbers
+-- If the places of the O numbers are known, the flag that is kept of a number is that of its
+-- program.
 pub known_is_flagged : (tape : List ControlProgram) (numbers : ProgramNumbers) (flags : List Bool) → KnowsPlaces tape numbers
     → flag_known numbers flags ≡ flagged tape flags
 known_is_flagged tape numbers flags knows i q = flag_at flags (knows q i)
 
--- after one round more the flags are those of the programs known by that round
+-- After one round more the flags are those of the programs that are known to be loud by that round.
 pub round_known : (tape : List ControlProgram) (numbers : ProgramNumbers) (flags : List Bool) (n : ℕ) → KnowsPlaces tape numbers
     → flagged tape flags ≡ known_loud tape n
     → flagged tape (map (λ p. has_loud_block (flag_known numbers flags) p.blocks) tape) ≡ known_loud tape (n + 1)
@@ -59,7 +63,7 @@ round_known tape numbers flags n knows e =
     ∙ ((λ i q. has_loud_block ((known_is_flagged tape numbers flags knows ∙ e) i) (blocks tape q))
     ∙ (let k : n + 1 ≡ suc n = omega arith in ap (λ m. known_loud tape m) (sym k)))
 
--- what a round leaves as it was stays so in all later rounds
+-- If a round finds nothing new, each later round knows the same programs.
 stays : (tape : List ControlProgram) (n : ℕ) → known_loud tape n ≡ known_loud tape (suc n) → (k m : ℕ) → m ≡ k + n
     → known_loud tape n ≡ known_loud tape m
 stays tape n e zero m h = let same : n ≡ m = omega arith in ap (λ j. known_loud tape j) same
@@ -67,7 +71,7 @@ stays tape n e (suc k) m h =
     let same : suc (k + n) ≡ m = omega arith in
     e ∙ ((λ i program. has_loud_block (stays tape n e k (k + n) refl i) (blocks tape program)) ∙ ap (λ j. known_loud tape j) same)
 
--- where a round finds nothing new, no later one does
+-- If a round finds nothing new, it knows all loud programs.
 pub settled : (tape : List ControlProgram) (n : ℕ) → n ≤ length tape → known_loud tape n ≡ known_loud tape (n + 1)
     → known_loud tape n ≡ loud tape
 unfolding loud
@@ -75,11 +79,12 @@ settled tape n within e =
     let next : n + 1 ≡ suc n = omega arith in
     stays tape n (e ∙ ap (λ m. known_loud tape m) next) (length tape - n) (length tape) (omega arith)
 
--- two numbers are the same or differ
+-- Two numbers are the same or differ.
 same_or_not : (m n : ℕ) → (m ≡ n) ⊎ (m ≢ n)
 same_or_not m n = grind arith
 
--- with one flag more, just the flagged programs and this one are flagged
+-- If the flag at a number's place is set, just the programs flagged before and this one are
+-- flagged.
 pub flag_set : (tape : List ControlProgram) (flags : List Bool) (number place : ℕ) → place_of tape number ≡ Some place
     → place < length flags
     → (q : ℕ) → (flagged tape (slice_set flags place true) q ≡ true) ↔ ((flagged tape flags q ≡ true) ⊎ (q ≡ number))

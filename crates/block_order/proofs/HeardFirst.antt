@@ -11,12 +11,13 @@ use Rattle.block_order.specs.Heard.{flag_known}
 use Rattle.block_order.proofs.Flags.{flag_of_blocks, flag_set, known_is_flagged, none_known}
 use Rattle.block_order.proofs.LoudReaches.{IsWithin, has_within, loud-has}
 
--- a program with a block that is loud by sound flags is loud
+-- A program with a block that is loud by sound flags is loud.
 pub look_is_loud : (tape : List ControlProgram) (known : ℕ → Bool) → IsWithin known (loud tape) → (q : ℕ)
     → has_loud_block known (blocks tape q) ≡ true → loud tape q ≡ true
 look_is_loud tape known within q e = loud-has tape q ∙ has_within known (loud tape) within (blocks tape q) e
 
--- the flag of a program with a loud block, set besides, is the flag of a loud program
+-- If the flag of a program with a block that is loud by sound flags is set, the flags are still
+-- only of loud programs.
 pub one_heard : (tape : List ControlProgram) (numbers : ProgramNumbers) (flags : List Bool) (number place : ℕ)
     → KnowsPlaces tape numbers → IsWithin (flagged tape flags) (loud tape)
     → has_loud_block (flag_known numbers flags) (blocks tape number) ≡ true
@@ -30,22 +31,24 @@ one_heard tape numbers flags number place knows within noisy is fits q e =
           (ap (λ known. has_loud_block known (blocks tape number)) (sym (known_is_flagged tape numbers flags knows)) ∙ noisy))
     ]
 
--- at first nothing is flagged, so only loud programs are
+-- Flags of which none is set are only of loud programs.
 pub none_heard : (tape : List ControlProgram) (flags : List Bool)
     → flags ≡ map (λ p. has_loud_block (known_loud tape 0) []) tape → IsWithin (flagged tape flags) (loud tape)
 none_heard tape flags e q f =
     absurd (let quiet : flagged tape flags q ≡ false = ap (λ fs. flagged tape fs q) e ∙ ap (λ known. known q) (none_known tape) in cc)
 
--- the flags hold what so many rounds find, and nothing that is not loud
+-- The flags hold all that n rounds find, and only loud programs.
 pub record AreBetween (tape : List ControlProgram) (n : ℕ) (flags : List Bool) : Type 0 where
+  -- What n rounds find is flagged.
   pub found : IsWithin (known_loud tape n) (flagged tape flags)
+  -- Only loud programs are flagged.
   pub sound : IsWithin (flagged tape flags) (loud tape)
 
--- sound flags are a start: they hold what no round at all finds, which is nothing
+-- Flags of loud programs alone hold what no round at all finds, which is nothing.
 pub begins : (tape : List ControlProgram) (flags : List Bool) → IsWithin (flagged tape flags) (loud tape) → AreBetween tape 0 flags
 begins tape flags sound = record { found = λ q e. absurd cc; sound = sound }
 
--- what one more look flags
+-- One more look flags a program exactly if one of its blocks is loud by the flags so far.
 look_flags : (tape : List ControlProgram) (numbers : ProgramNumbers) (flags next : List Bool) → KnowsPlaces tape numbers
     → next ≡ map (λ p. has_loud_block (flag_known numbers flags) p.blocks) tape
     → (q : ℕ) → flagged tape next q ≡ has_loud_block (flagged tape flags) (blocks tape q)
@@ -54,7 +57,7 @@ look_flags tape numbers flags next knows made q =
     ∙ (flag_of_blocks (λ bs. has_loud_block (flag_known numbers flags) bs) refl tape q
     ∙ ap (λ known. has_loud_block known (blocks tape q)) (known_is_flagged tape numbers flags knows))
 
--- one look more finds what one round more finds, and only loud programs
+-- One look more finds what one round more finds, and only loud programs.
 pub looked_again : (tape : List ControlProgram) (numbers : ProgramNumbers) (flags next : List Bool) (n : ℕ) → KnowsPlaces tape numbers
     → AreBetween tape n flags → next ≡ map (λ p. has_loud_block (flag_known numbers flags) p.blocks) tape
     → AreBetween tape (n + 1) next
@@ -65,25 +68,26 @@ looked_again tape numbers flags next n knows between made = record {
   sound = λ q e. look_is_loud tape (flagged tape flags) between.sound q (sym (look_flags tape numbers flags next knows made q) ∙ e);
 }
 
--- two flags that imply each other are the same
+-- Two flags that imply each other are the same.
 alike : (a b : Bool) → (a ≡ true → b ≡ true) → (b ≡ true → a ≡ true) → a ≡ b
 alike true b f g = sym (f refl)
 alike false true f g = g refl
 alike false false f g = refl
 
--- flags of just the loud programs are those of `loud`
+-- Flags of loud programs alone that hold each loud one are those of `loud`.
 both_ways : (tape : List ControlProgram) (flags : List Bool) → IsWithin (flagged tape flags) (loud tape)
     → IsWithin (loud tape) (flagged tape flags) → flagged tape flags ≡ loud tape
 both_ways tape flags sound whole = λ i q. alike (flagged tape flags q) (loud tape q) (sound q) (whole q) i
 
--- a look that changes nothing has found all
+-- If one more look would change nothing, what is known holds all that any number of rounds finds:
+-- it is closed.
 closed : (tape : List ControlProgram) (known : ℕ → Bool) → ((q : ℕ) → known q ≡ has_loud_block known (blocks tape q))
     → (n : ℕ) → IsWithin (known_loud tape n) known
 closed tape known same zero q e = absurd cc
 closed tape known same (suc n) q e =
     same q ∙ has_within (known_loud tape n) known (closed tape known same n) (blocks tape q) e
 
--- flags that one more look leaves are those of the loud programs
+-- Flags that one more look leaves as they are flag exactly the loud programs.
 pub looked_enough : (tape : List ControlProgram) (numbers : ProgramNumbers) (flags : List Bool) (n : ℕ) → KnowsPlaces tape numbers
     → AreBetween tape n flags → flags ≡ map (λ p. has_loud_block (flag_known numbers flags) p.blocks) tape
     → flagged tape flags ≡ loud tape
@@ -92,7 +96,7 @@ looked_enough tape numbers flags n knows between made =
     both_ways tape flags between.sound
     (closed tape (flagged tape flags) (look_flags tape numbers flags flags knows made) (length tape))
 
--- after as many looks as there are programs, the flags are those of the loud programs
+-- After as many looks as there are programs, the flags are exactly those of the loud programs.
 pub looked_long : (tape : List ControlProgram) (flags : List Bool) (n : ℕ) → n ≡ length tape → AreBetween tape n flags
     → flagged tape flags ≡ loud tape
 unfolding loud

@@ -1,5 +1,5 @@
--- Each step keeps the labels ahead, but for an M99 of the main program.
--- part_order takes `Counts-from`.
+-- Each step keeps the labels ahead, but for an M99 of the main program, at which the whole list
+-- begins anew. For OnePath; part_order takes `Counts-from`.
 use Rattle.std.proofs.Common.{◌≡◌, ℕ, zero, suc, ◌<◌, inl, inr, Bool, true, false, List, [], ◌∷◌, length, Some, Ok, refl, ap, sym, subst, ◌∙◌, arith}
 use Rattle.block_order.specs.declared.control.Control.{Control}
 use Rattle.block_order.specs.declared.control.Control.TheVariants.{Next, Goto, While, Do, EndLoop, Wait, End, Call, Back, BackTo}
@@ -17,20 +17,20 @@ use Rattle.block_order.proofs.Searches.{loop_facts}
 use Rattle.block_order.proofs.Moved.{jump_leads, exit_leads, head_leads, call_leads}
 use Rattle.block_order.proofs.LabelsAhead.{ahead-counts, ahead-quiet, moves_kept, from-next, from-jump, call_opens, repeat_begins, last_returns}
 
--- the running program counts: it is the main program or loud
+-- If the running program's labels come, it is the main program or loud.
 pub Counts-from : (tape : List ControlProgram) (f : Frame) (stack : List Frame) → IsPlace tape (f ∷ stack)
     → counts tape f.program stack ≡ true → Counts tape f.program
 Counts-from tape f [] place e = inl place.0
 Counts-from tape f (g ∷ stack) place e = inr e
 
--- the next block, behind one that is no mark, keeps the labels ahead
+-- The next block, behind one that is no mark, keeps the labels ahead.
 pub next_kept : (tape : List ControlProgram) (f : Frame) (stack : List Frame) (c : Control)
     → control_at (blocks tape f.program) f.block ≡ Some c → mark_of (loud tape) c ≡ []
     → Same tape f stack (at f (suc f.block) ∷ stack)
 next_kept tape f stack c is none =
     moves_kept tape f stack (suc f.block) (λ _. from-next tape f.program f.block c is none)
 
--- a jump to a target in the same stretch keeps the labels ahead
+-- A jump to a target in the same stretch keeps the labels ahead.
 pub jump_kept : (tape : List ControlProgram) → IsUnforked tape → (f : Frame) (stack : List Frame)
     → IsPlace tape (f ∷ stack) → (c : Control) → control_at (blocks tape f.program) f.block ≡ Some c
     → (target : ℕ) → IsTarget tape f.program f.block c target
@@ -40,7 +40,7 @@ jump_kept tape un f stack place c is target to =
     (λ e. from-jump tape f.program f.block target
     (un.jumps f.program f.block target c (Counts-from tape f stack place e) is to))
 
--- leaving a loop from its head keeps the labels ahead
+-- Leaving a loop from its head keeps the labels ahead.
 pub exit_kept : (tape : List ControlProgram) → IsUnforked tape → (f : Frame) (stack : List Frame)
     → IsPlace tape (f ∷ stack) → (close : ℕ) → IsLoop (blocks tape f.program) f.block close
     → Same tape f stack (at f (suc close) ∷ stack)
@@ -50,7 +50,7 @@ exit_kept tape un f stack place close loop =
     (λ e. from-next tape f.program close (EndLoop facts.name) facts.is_close refl
     ∙ from-jump tape f.program f.block close (un.loops f.program f.block close (Counts-from tape f stack place e) loop))
 
--- going from the end of a loop to its head keeps the labels ahead
+-- Going from the end of a loop to its head keeps the labels ahead.
 pub loop_kept : (tape : List ControlProgram) → IsUnforked tape → (f : Frame) (stack : List Frame)
     → IsPlace tape (f ∷ stack) → (head : ℕ) → IsLoop (blocks tape f.program) head f.block
     → Same tape f stack (at f head ∷ stack)
@@ -59,7 +59,7 @@ loop_kept tape un f stack place head loop =
     (λ e. sym (from-jump tape f.program head f.block
     (un.loops f.program head f.block (Counts-from tape f stack place e) loop)))
 
--- a call keeps the labels ahead
+-- A call keeps the labels ahead.
 pub call_kept : (tape : List ControlProgram) → AreLoud tape → (f : Frame) (stack : List Frame) (q more : ℕ)
     → control_at (blocks tape f.program) f.block ≡ Some (Call q (suc more))
     → length stack < 8
@@ -74,7 +74,7 @@ call_kept tape are f stack q more is few = go (loud tape q) refl
         ∙ (call_opens tape (room stack) (room (f ∷ stack)) f.program f.block f.left q more (behind tape stack) deep is e
         ∙ sym (ahead-counts tape f stack (counts_below tape are f stack q (suc more) is e)))
 
--- the return of a program with callers keeps the labels ahead, with whatever repeats
+-- The return of a program with callers keeps the labels ahead, with whatever repeats.
 pub back_kept : (tape : List ControlProgram) → AreLoud tape → (f g : Frame) (stack : List Frame)
     → IsPlace tape (f ∷ g ∷ stack) → control_at (blocks tape f.program) f.block ≡ Some Back
     → (left : ℕ) → f.left ≡ left
@@ -100,7 +100,7 @@ back_kept tape are f g stack place is (suc left) l = go (loud tape f.program) re
         ∙ (repeat_begins tape (room (g ∷ stack)) f.program f.block left (behind tape (g ∷ stack)) is
         ∙ sym (ahead-counts tape f (g ∷ stack) e ∙ rw l refl))
 
--- M99 P, which leads to a block of the caller, keeps the labels ahead
+-- M99 P, which leads to a block of the caller, keeps the labels ahead.
 pub back_to_kept : (tape : List ControlProgram) → AreLoud tape → IsUnforked tape → (f : Frame) (stack : List Frame)
     → IsPlace tape (f ∷ stack) → (n : ℕ) → control_at (blocks tape f.program) f.block ≡ Some (BackTo n)
     → (to : List Frame) → place_of_jump_back tape n (f ∷ stack) ≡ Ok to → Same tape f stack to
@@ -119,7 +119,7 @@ back_to_kept tape are un f (g ∷ stack) place n is to e =
         jump_kept tape un g stack place.3 (Call f.program place.0) place.1 target (quiet, f.block, n, is, leads)
         ∙ sym (ahead-quiet tape f (g ∷ stack) quiet)
 
--- M99 of the main program begins the list of labels anew
+-- M99 of the main program begins the list of labels anew.
 pub restart_kept : (tape : List ControlProgram) (f : Frame) → IsPlace tape (f ∷ [])
     → control_at (blocks tape f.program) f.block ≡ Some Back
     → (to : List Frame) → Goes tape (f ∷ []) Back to → Kept tape f [] Back to
@@ -128,7 +128,7 @@ restart_kept tape f place is to e = (
   rw (e, place.0, place.1) refl,
 )
 
--- what each control does to the labels ahead
+-- A step of a block of any control does to the labels ahead what `Kept` says.
 pub keeps : (tape : List ControlProgram) → AreLoud tape → IsUnforked tape → (f : Frame) (stack : List Frame)
     → IsPlace tape (f ∷ stack) → (c : Control) → control_at (blocks tape f.program) f.block ≡ Some c
     → (to : List Frame) → Goes tape (f ∷ stack) c to → Kept tape f stack c to

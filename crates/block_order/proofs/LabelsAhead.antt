@@ -1,5 +1,5 @@
--- The labels ahead of a place, as its running frame moves.
--- For KeepsLabels and StepsStay.
+-- The labels ahead of a place, as its running frame moves. For the proofs of the law of one path:
+-- KeepsLabels and StepsStay.
 use Rattle.std.proofs.Common.{◌≡◌, ℕ, suc, Bool, true, false, List, [], ◌∷◌, ◌++◌, drop, Some, refl, ap, sym, ◌∙◌}
 use Rattle.block_order.specs.declared.control.Control.{Control}
 use Rattle.block_order.specs.declared.control.Control.TheVariants.{Wait, End, Call, Back}
@@ -14,21 +14,21 @@ use Rattle.block_order.specs.Labels.{times, labels, whole, frame_labels, room, b
 use Rattle.block_order.specs.Moves.{at}
 use Rattle.block_order.proofs.MarksFrom.{marks-at, same_stretch}
 
--- if the running program counts, its labels come first
+-- If the running program counts, the labels ahead begin with its own.
 pub ahead-counts : (tape : List ControlProgram) (f : Frame) (stack : List Frame) → counts tape f.program stack ≡ true
     → ahead tape (f ∷ stack) ≡ frame_labels tape (room stack) f.program f.block f.left (behind tape stack)
 ahead-counts tape f stack e = rw e
 
--- a quiet program has no labels of its own
+-- If the running program does not count, the labels ahead are those of its callers' frames.
 pub ahead-quiet : (tape : List ControlProgram) (f : Frame) (stack : List Frame) → counts tape f.program stack ≡ false
     → ahead tape (f ∷ stack) ≡ ahead tape stack
 ahead-quiet tape f stack e = rw e
 
--- the marks from the frame's block on
+-- The marks of the program from this block on.
 abbrev pub from : List ControlProgram → ℕ → ℕ → List Mark
 from tape p block = marks (loud tape) (drop block (blocks tape p))
 
--- a frame that moves where its marks stay keeps the labels ahead; a quiet one may move anywhere
+-- A frame that moves where its marks stay keeps the labels ahead; a quiet one may move anywhere.
 pub moves_kept : (tape : List ControlProgram) (f : Frame) (stack : List Frame) (block : ℕ)
     → (counts tape f.program stack ≡ true → from tape f.program block ≡ from tape f.program f.block)
     → ahead tape (at f block ∷ stack) ≡ ahead tape (f ∷ stack)
@@ -40,20 +40,21 @@ moves_kept tape f stack block same = go (counts tape f.program stack) refl
         (times f.left (λ k. whole tape (suc (room stack)) f.program k) (behind tape stack))) (same e))
     go false e = rw e refl
 
--- past a block that is no mark the marks ahead stay
+-- Past a block that is no mark the marks ahead stay.
 pub from-next : (tape : List ControlProgram) (p block : ℕ) (c : Control) → control_at (blocks tape p) block ≡ Some c
     → mark_of (loud tape) c ≡ []
     → from tape p (suc block) ≡ from tape p block
 from-next tape p block c is none =
     sym (marks-at (loud tape) (blocks tape p) block c is ∙ ap (λ ms. ms ++ from tape p (suc block)) none)
 
--- a jump within a stretch keeps the marks ahead
+-- A jump within a stretch keeps the marks ahead.
 pub from-jump : (tape : List ControlProgram) (p i j : ℕ)
     → stretch (loud tape) (blocks tape p) i ≡ stretch (loud tape) (blocks tape p) j
     → from tape p j ≡ from tape p i
 from-jump tape p i j e = sym (same_stretch (loud tape) (blocks tape p) i j e)
 
--- a call of a loud program opens as its labels say
+-- At a call of a loud program the labels of the frame are those of the called program and, behind
+-- them, those from the next block on.
 pub call_opens : (tape : List ControlProgram) (n m p block left q more : ℕ) (rest : List Label) → n ≡ suc m
     → control_at (blocks tape p) block ≡ Some (Call q (suc more)) → loud tape q ≡ true
     → frame_labels tape m q 0 more (frame_labels tape n p (suc block) left rest) ≡ frame_labels tape n p block left rest
@@ -61,26 +62,26 @@ unfolding whole
 call_opens tape n m p block left q more rest e is noisy =
     rw (e, marks-at (loud tape) (blocks tape p) block (Call q (suc more)) is, noisy) refl
 
--- a return with a repeat left begins the program anew
+-- At an M99 with a repeat left the labels of the frame are those of the program begun anew.
 pub repeat_begins : (tape : List ControlProgram) (n p block left : ℕ) (rest : List Label)
     → control_at (blocks tape p) block ≡ Some Back
     → frame_labels tape n p 0 left rest ≡ frame_labels tape n p block (suc left) rest
 unfolding whole
 repeat_begins tape n p block left rest is = rw (marks-at (loud tape) (blocks tape p) block Back is) refl
 
--- a last return leads to what stands behind
+-- At an M99 with no repeat left the labels of the frame are those behind it.
 pub last_returns : (tape : List ControlProgram) (n p block : ℕ) (rest : List Label)
     → control_at (blocks tape p) block ≡ Some Back
     → frame_labels tape n p block 0 rest ≡ rest
 last_returns tape n p block rest is = rw (marks-at (loud tape) (blocks tape p) block Back is) refl
 
--- at a wait the labels begin with it
+-- At a wait the labels begin with it.
 pub wait_begins : (tape : List ControlProgram) (n p block left code : ℕ) (rest : List Label)
     → control_at (blocks tape p) block ≡ Some (Wait code)
     → frame_labels tape n p block left rest ≡ label.Wait code ∷ frame_labels tape n p (suc block) left rest
 wait_begins tape n p block left code rest is = rw (marks-at (loud tape) (blocks tape p) block (Wait code) is) refl
 
--- at an end the labels are End alone
+-- At an end the labels are End alone.
 pub end_alone : (tape : List ControlProgram) (n p block left : ℕ) (rest : List Label)
     → control_at (blocks tape p) block ≡ Some End
     → frame_labels tape n p block left rest ≡ label.End ∷ []

@@ -1,4 +1,5 @@
--- The lemmas of this crate, each file by its subject.
+-- The lemmas of this crate, each file by its subject. wait_order, part_order, part_lines,
+-- path_state, flow_laws and open_order take some; the head of each file says which.
 pub mod Items
 pub mod Sought
 pub mod Opened

@@ -1,5 +1,5 @@
--- The lines of a tape rise.
--- wait_order takes the lemmas on blocks.
+-- The lines of a tape rise, so a later program or block has a greater line. For Located and
+-- Findable; wait_order takes the lemmas on blocks.
 use Rattle.std.proofs.Common.{◌≡◌, ℕ, zero, suc, ◌<◌, ◌≤◌, ◌⊎◌, inl, inr, List, [], ◌∷◌, ◌++◌, length, map, Some, sym, ap, arith, subst}
 use Rattle.std.specs.List.{slice_get}
 use Rattle.std.proofs.lemmas.List.{length-append}
@@ -8,34 +8,34 @@ use Rattle.block_order.specs.declared.program.ControlProgram.{ControlProgram}
 use Rattle.nc_number.specs.Rising.{RiseFrom}
 use Rattle.block_order.specs.Shape.{lines_of_program, lines_in, blocks_in}
 
--- the number is one of the list
+-- The number is one of the list.
 abbrev pub In : ℕ → List ℕ → Type 0
 In x [] = ⊥
 In x (y ∷ ys) = (y ≡ x) ⊎ In x ys
 
--- a number of the first list is one of both lists together,
+-- A number of the first list is one of both lists together.
 in-left : (x : ℕ) (xs ys : List ℕ) → In x xs → In x (xs ++ ys)
 in-left x [] ys w = elim w [ ]
 in-left x (y ∷ xs) ys (inl e) = inl e
 in-left x (y ∷ xs) ys (inr w) = inr (in-left x xs ys w)
 
--- and so is one of the second
+-- A number of the second list is one of both lists together.
 in-right : (x : ℕ) (xs ys : List ℕ) → In x ys → In x (xs ++ ys)
 in-right x [] ys w = w
 in-right x (y ∷ xs) ys w = inr (in-right x xs ys w)
 
--- rising numbers are all above their bound
+-- Rising numbers are all above their bound.
 rise-over : (low : ℕ) (xs : List ℕ) → RiseFrom low xs → (x : ℕ) → In x xs → low < x
 rise-over low [] h x w = elim w [ ]
 rise-over low (y ∷ ys) h x (inl e) = omega (arith, h.0)
 rise-over low (y ∷ ys) h x (inr w) = let more = rise-over y ys h.1 x w in omega (arith, h.0)
 
--- the first part of a rising list rises
+-- The first part of a rising list rises.
 rise-left : (low : ℕ) (xs ys : List ℕ) → RiseFrom low (xs ++ ys) → RiseFrom low xs
 rise-left low [] ys h = tt
 rise-left low (x ∷ xs) ys h = (h.0, rise-left x xs ys h.1)
 
--- and the second part rises, from a bound that the first part does not pass
+-- The second part of a rising list rises, from a bound that no number of the first part passes.
 rise-cut : (low : ℕ) (xs ys : List ℕ) → RiseFrom low (xs ++ ys)
     → (m : ℕ) × RiseFrom m ys × (low ≤ m) × ((x : ℕ) → In x xs → x ≤ m)
 rise-cut low [] ys h = (low, h, omega arith, λ x w. absurd w)
@@ -46,7 +46,7 @@ rise-cut low (x ∷ xs) ys h =
       each m l f y (inl e) = omega arith
       each m l f y (inr w) = f y w
 
--- a line of a program is a line of the tape
+-- A line of a program is a line of the tape.
 in-lines : (tape : List ControlProgram) (j b : ℕ) (q : ControlProgram) → slice_get tape j ≡ Some q
     → In b (lines_of_program q) → In b (lines_in tape)
 in-lines [] j b q e w = absurd cc
@@ -55,7 +55,7 @@ in-lines (t ∷ ts) zero b q e w =
     in-left b (lines_of_program t) (lines_in ts) (subst (λ (p : ControlProgram). In b (lines_of_program p)) (sym same) w)
 in-lines (t ∷ ts) (suc j) b q e w = in-right b (lines_of_program t) (lines_in ts) (in-lines ts j b q e w)
 
--- the lines of a later program are above those of an earlier one
+-- The lines of a later program are above those of an earlier one.
 pub rise-programs : (tape : List ControlProgram) (low i j a b : ℕ) (p q : ControlProgram) → RiseFrom low (lines_in tape)
     → slice_get tape i ≡ Some p → slice_get tape j ≡ Some q → i < j
     → In a (lines_of_program p) → In b (lines_of_program q) → a < b
@@ -72,7 +72,7 @@ rise-programs (t ∷ ts) low (suc i) (suc j) a b p q h at there l v w =
     let cut = rise-cut low (lines_of_program t) (lines_in ts) h in
     rise-programs ts cut.0 i j a b p q cut.1 at there (omega arith) v w
 
--- the lines of one program
+-- The lines of one program of the tape rise.
 pub rise-own : (tape : List ControlProgram) (low i : ℕ) (p : ControlProgram) → RiseFrom low (lines_in tape)
     → slice_get tape i ≡ Some p → (m : ℕ) × RiseFrom m (lines_of_program p)
 rise-own [] low i p h at = absurd cc
@@ -85,7 +85,7 @@ rise-own (t ∷ ts) low zero p h at =
 rise-own (t ∷ ts) low (suc i) p h at =
     let cut = rise-cut low (lines_of_program t) (lines_in ts) h in rise-own ts cut.0 i p cut.1 at
 
--- each block's line is above the bound
+-- If the lines of these blocks rise from a bound, each block's line is above it.
 pub block-over : (bs : List ControlBlock) (low place : ℕ) (b : ControlBlock) → RiseFrom low (map (λ x. x.line) bs)
     → slice_get bs place ≡ Some b → low < b.line
 block-over [] low place b h e = absurd cc
@@ -95,7 +95,7 @@ block-over (x ∷ xs) low zero b h e =
 block-over (x ∷ xs) low (suc place) b h e =
     let more = block-over xs x.line place b h.1 e in omega (arith, h.0)
 
--- of two blocks of a program the later one has the greater line
+-- Of two blocks of a program the later one has the greater line.
 pub block-order : (bs : List ControlBlock) (low i j : ℕ) (a b : ControlBlock) → RiseFrom low (map (λ x. x.line) bs)
     → slice_get bs i ≡ Some a → slice_get bs j ≡ Some b → i < j → a.line < b.line
 block-order [] low i j a b h at there l = absurd cc
@@ -107,14 +107,14 @@ block-order (x ∷ xs) low zero (suc j) a b h at there l =
 block-order (x ∷ xs) low (suc i) zero a b h at there l = absurd (omega arith)
 block-order (x ∷ xs) low (suc i) (suc j) a b h at there l = block-order xs x.line i j a b h.1 at there (omega arith)
 
--- a block's line is one of its program's lines
+-- A block's line is one of its program's lines.
 pub block-in : (bs : List ControlBlock) (place : ℕ) (b : ControlBlock) → slice_get bs place ≡ Some b
     → In b.line (map (λ x. x.line) bs)
 block-in [] place b e = absurd cc
 block-in (x ∷ xs) zero b e = let same : x ≡ b = cc in inl (ap (λ y. y.line) same)
 block-in (x ∷ xs) (suc place) b e = inr (block-in xs place b e)
 
--- no program has more blocks than the tape
+-- No program has more blocks than the tape.
 pub blocks-few : (tape : List ControlProgram) (i : ℕ) (p : ControlProgram) → slice_get tape i ≡ Some p
     → length p.blocks ≤ length (blocks_in tape)
 blocks-few [] i p e = absurd cc

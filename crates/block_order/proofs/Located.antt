@@ -1,5 +1,5 @@
--- Where the faults of the first stage lie, and which is the first.
--- For the proofs of src/fitting.rt, and for Findable.
+-- In which program a fault of the first stage lies, and which such fault is the first. For the
+-- proofs of src/fitting.rt and src/tables.rt, and for Findable.
 use Rattle.std.proofs.Common.{◌≡◌, ◌≢◌, ℕ, zero, suc, ◌+◌, ◌<◌, ◌≤◌, ◌⊎◌, inl, inr, Bool, true, false, not, ◌||◌, nat_eq, eqb, List, [], ◌∷◌, ◌++◌, length, map, get_or, take, drop, Option, Some, None, refl, sym, ap, ◌∙◌, arith, subst, ⊎_elim}
 use Rattle.std.specs.List.{slice_get, Contains, list_any}
 use Rattle.std.proofs.lemmas.Bool.{cases_eq, cases_order, eqb-true}
@@ -18,45 +18,45 @@ use Rattle.block_order.specs.Misplaced.{IsFirstMismatch}
 use Rattle.block_order.proofs.Mismatched.{mismatch-within}
 use Rattle.block_order.proofs.Lines.{In, rise-programs, rise-own, block-over, block-order, block-in}
 
--- a fault of the first stage in the program at i
+-- The program at i has a fault of the first stage.
 pub data FitFault (tape : List ControlProgram) (i : ℕ) (p : ControlProgram) : ℕ → Cause → Type 0 where
-  -- its O number was given before
+  -- Its O number was given before.
   again : Contains (map (λ q. q.number) (take i tape)) p.number → FitFault tape i p p.line ProgramTwice
-  -- its heads and ends don't fit together
+  -- The heads and ends of its loops don't fit together.
   apart : (place : ℕ) (block : ControlBlock) → slice_get p.blocks place ≡ Some block → IsMismatch p.blocks place
       → FitFault tape i p block.line LoopMismatch
 
--- a fault of the first stage lies in one program
+-- A fault of the first stage is one of a program of the tape.
 abbrev pub Lies : List ControlProgram → Stage → ℕ → Cause → Type 0
 Lies tape Fitting line cause =
     (i : ℕ) × (p : ControlProgram) × (slice_get tape i ≡ Some p) × FitFault tape i p line cause
 Lies tape Finding line cause = Unit {0}
 Lies tape Waiting line cause = Unit {0}
 
--- where two lists meet the entry between them stands
+-- Behind the first of two joined lists stands the first entry of the second.
 get-seam : (xs ys : List ControlProgram) (p : ControlProgram) → slice_get (xs ++ p ∷ ys) (length xs) ≡ Some p
 get-seam [] ys p = refl
 get-seam (x ∷ xs) ys p = get-seam xs ys p
 
--- the entries before the meeting are the first list
+-- As many entries of two joined lists as the first one has are the first one.
 take-seam : (xs ys : List ControlProgram) → take (length xs) (xs ++ ys) ≡ xs
 take-seam [] ys = refl
 take-seam (x ∷ xs) ys = ap (λ zs. x ∷ zs) (take-seam xs ys)
 
--- an entry that equals the program is it
+-- An entry of the tape that is equal to the program is the program at that index.
 contained-at : (tape : List ControlProgram) (p : ControlProgram) (k : ℕ) → k < length tape → get_or tape k p ≡ p
     → slice_get tape k ≡ Some p
 contained-at [] p k l e = absurd (omega arith)
 contained-at (t ∷ ts) p zero l e = ap (λ q. Some q) e
 contained-at (t ∷ ts) p (suc k) l e = contained-at ts p k (omega arith) e
 
--- an entry of the tape is one that it contains
+-- An entry of the tape is one that it contains.
 at-contained : (tape : List ControlProgram) (p : ControlProgram) (k : ℕ) → slice_get tape k ≡ Some p → Contains tape p
 at-contained [] p k e = absurd cc
 at-contained (t ∷ ts) p zero e = let same : t ≡ p = cc in (0, omega arith, same)
 at-contained (t ∷ ts) p (suc k) e = let w = at-contained ts p k e in (suc w.0, omega (arith, w.1), w.2)
 
--- each fault lies where `Lies` says
+-- Each fault lies where `Lies` says.
 lies : (tape : List ControlProgram) (stage : Stage) (line : ℕ) (cause : Cause) → HasFault tape stage line cause
     → Lies tape stage line cause
 lies tape _ _ _ (twice before after p e w) = (
@@ -73,45 +73,45 @@ lies tape _ _ _ (unknown program place called repeats block s f e) = tt
 lies tape _ _ _ (strays program place block s m) = tt
 lies tape _ _ _ (deep program place called repeats block r s f e) = tt
 
--- the tape is what stands before a program, the program and the rest
+-- The tape is what stands before a program, the program and the rest.
 split-at : (tape : List ControlProgram) (i : ℕ) (p : ControlProgram) → slice_get tape i ≡ Some p
     → tape ≡ take i tape ++ p ∷ drop (suc i) tape
 split-at [] i p e = absurd cc
 split-at (t ∷ ts) zero p e = let same : t ≡ p = cc in ap (λ q. q ∷ ts) same
 split-at (t ∷ ts) (suc i) p e = ap (λ zs. t ∷ zs) (split-at ts i p e)
 
--- a fault of a program is one of the tape
+-- A fault of a program is one of the tape.
 has-fault : (tape : List ControlProgram) (i : ℕ) (p : ControlProgram) (line : ℕ) (cause : Cause) → slice_get tape i ≡ Some p
     → FitFault tape i p line cause → HasFault tape Fitting line cause
 has-fault tape i p _ _ at (again w) = twice (take i tape) (drop (suc i) tape) p (split-at tape i p at) w
 has-fault tape i p _ _ at (apart place block b m) = mismatch p place block (at-contained tape p i at) b m
 
--- its line is one of the program's
+-- The line of a program's fault is one of the program's lines.
 fault-line : (tape : List ControlProgram) (i : ℕ) (p : ControlProgram) (line : ℕ) (cause : Cause) → FitFault tape i p line cause
     → In line (lines_of_program p)
 fault-line tape i p _ _ (again w) = inl refl
 fault-line tape i p _ _ (apart place block b m) = inr (block-in p.blocks place block b)
 
--- the programs below n have no fault
+-- The tape's programs below n have no fault of the first stage.
 abbrev pub ClearTo : List ControlProgram → ℕ → Type 0
 ClearTo tape n =
     (i : ℕ) (p : ControlProgram) (line : ℕ) (cause : Cause) → i < n → slice_get tape i ≡ Some p
     → FitFault tape i p line cause → ⊥
 
--- if no program has a fault, the first stage is clear
+-- If no program has a fault, the first stage is clear.
 pub clear-all : (tape : List ControlProgram) (n : ℕ) → length tape ≤ n → ClearTo tape n → IsClear tape Fitting
 clear-all tape n l clear line cause fault =
     let w = lies tape Fitting line cause fault in
     clear w.0 w.1 line cause (omega (arith, slice_get_within tape w.0 w.1 w.2)) w.2 w.3
 
--- a program whose number is new and whose loops fit has no fault
+-- A program whose number is new and whose loops fit has no fault.
 none-here : (tape : List ControlProgram) (i : ℕ) (p : ControlProgram) (line : ℕ) (cause : Cause)
     → (Contains (map (λ q. q.number) (take i tape)) p.number → ⊥) → ((place : ℕ) → IsMismatch p.blocks place → ⊥)
     → FitFault tape i p line cause → ⊥
 none-here tape i p _ _ new fits (again w) = new w
 none-here tape i p _ _ new fits (apart place block b m) = fits place m
 
--- such a program makes one program more clear
+-- If the number of the next program is new and its loops fit, one program more has no fault.
 pub clear-more : (tape : List ControlProgram) (n : ℕ) (p : ControlProgram) → slice_get tape n ≡ Some p
     → (Contains (map (λ q. q.number) (take n tape)) p.number → ⊥) → ((place : ℕ) → IsMismatch p.blocks place → ⊥)
     → ClearTo tape n → ClearTo tape (n + 1)
@@ -126,7 +126,8 @@ clear-more tape n p at new fits clear i q line cause l there fault =
     (λ (other : i ≢ n). clear i q line cause (omega arith) there fault)
     (cases_eq i n)
 
--- what the program at i has, where it is the first that has a fault
+-- If a program is the first with a fault, and this fault of it is no later than its others, then it
+-- is no later than any fault of the stage.
 first-in : (tape : List ControlProgram) (n : ℕ) (p : ControlProgram) (line : ℕ) (cause : Cause) → IsListed tape
     → slice_get tape n ≡ Some p → ClearTo tape n → In line (lines_of_program p)
     → ((l : ℕ) (other : Cause) → FitFault tape n p l other → IsNoLater line cause l other)
@@ -145,19 +146,19 @@ first-in tape n p line cause listed at clear here own l other fault =
           inl (rise-programs tape 0 n i line l p q listed.lines at there before here (fault-line tape i q l other f))
       go i q there f (inr (inr behind)) = absurd (clear i q l other behind there f)
 
--- the lines of its blocks rise from its own line
+-- The lines of a program's blocks rise from that of its O number.
 own-lines : (tape : List ControlProgram) (n : ℕ) (p : ControlProgram) → IsListed tape → slice_get tape n ≡ Some p
     → RiseFrom p.line (map (λ b. b.line) p.blocks)
 own-lines tape n p listed at = (rise-own tape 0 n p listed.lines at).1.1
 
--- no other fault of its own is before a number given twice
+-- No fault of a program is before that of its own O number, if that was given before.
 twice-own : (tape : List ControlProgram) (n : ℕ) (p : ControlProgram) (l : ℕ) (other : Cause) → IsListed tape
     → slice_get tape n ≡ Some p → FitFault tape n p l other → IsNoLater p.line ProgramTwice l other
 twice-own tape n p _ _ listed at (again w) = inr (refl, omega arith)
 twice-own tape n p _ _ listed at (apart place block b m) =
     inl (block-over p.blocks p.line place block (own-lines tape n p listed at) b)
 
--- the first program with a fault, whose number was given before, has the first fault
+-- The first program with a fault, whose number was given before, has the first fault.
 pub twice-first : (tape : List ControlProgram) (n : ℕ) (p : ControlProgram) → IsListed tape → slice_get tape n ≡ Some p
     → ClearTo tape n → Contains (map (λ q. q.number) (take n tape)) p.number
     → HasFault tape Fitting p.line ProgramTwice
@@ -167,7 +168,7 @@ twice-first tape n p listed at clear w = (
   first-in tape n p p.line ProgramTwice listed at clear (inl refl) (λ l other f. twice-own tape n p l other listed at f),
 )
 
--- no other fault of its own is before the first mismatch
+-- No fault of a program whose number is new is before its first mismatch.
 apart-own : (tape : List ControlProgram) (n : ℕ) (p : ControlProgram) (first : ℕ) (b : ControlBlock) (l : ℕ) (other : Cause)
     → IsListed tape → slice_get tape n ≡ Some p → slice_get p.blocks first ≡ Some b
     → (Contains (map (λ q. q.number) (take n tape)) p.number → ⊥)
@@ -185,7 +186,7 @@ apart-own tape n p first b _ _ listed at here new least (apart place block there
     (omega (arith, least place m))))
     (cases_eq first place)
 
--- the first program with a fault, whose loops don't fit, has the first fault
+-- The first program with a fault, whose loops don't fit, has the first fault.
 pub apart-first : (tape : List ControlProgram) (n : ℕ) (p : ControlProgram) (line : ℕ) → IsListed tape
     → slice_get tape n ≡ Some p → ClearTo tape n → (Contains (map (λ q. q.number) (take n tape)) p.number → ⊥)
     → IsMismatchLine p.blocks (Some line)
@@ -202,7 +203,7 @@ apart-first tape n p line listed at clear new w =
           (λ l other f. apart-own tape n p w.0 b l other listed at w.2 new w.5 f),
     )
 
--- a search that finds a number means that the list contains it,
+-- If a search finds a number in a list, the list contains it.
 pub any-contains : (q : ℕ) (ns : List ℕ) → list_any (nat_eq q) ns ≡ true → Contains ns q
 any-contains q [] e = absurd cc
 any-contains q (n ∷ ns) e = go (λ more. any-contains q ns more) (eqb q n) refl where
@@ -211,7 +212,7 @@ any-contains q (n ∷ ns) e = go (λ more. any-contains q ns more) (eqb q n) ref
   go rest false t =
       let w = rest (sym (ap (λ v. v || list_any (nat_eq q) ns) t) ∙ e) in (suc w.0, omega (arith, w.1), w.2)
 
--- a list that contains a number has a search that finds it
+-- If a list contains a number, a search for it does not fail.
 pub contains-any : (q k : ℕ) (ns : List ℕ) → k < length ns → get_or ns k q ≡ q → list_any (nat_eq q) ns ≡ false → ⊥
 contains-any q k [] l e f = absurd (omega arith)
 contains-any q zero (n ∷ ns) l e f =
@@ -222,21 +223,21 @@ contains-any q (suc k) (n ∷ ns) l e f = contains-any q k ns (omega arith) e (o
   or-false true b g = absurd cc
   or-false false b g = g
 
--- what is not false is true,
+-- A test whose negation is false is true.
 pub not-false : (v : Bool) → not v ≡ false → v ≡ true
 not-false true e = refl
 not-false false e = absurd cc
 
--- what is not true is false
+-- A test whose negation is true is false.
 pub not-true : (v : Bool) → not v ≡ true → v ≡ false
 not-true true e = absurd cc
 not-true false e = refl
 
--- at the start no program is looked at, so none has a fault
+-- At the start no program is looked at, so none has a fault.
 pub clear-none : (tape : List ControlProgram) → ClearTo tape 0
 clear-none tape i p line cause l there fault = absurd (omega arith)
 
--- the line of a place that is the first mismatch
+-- The line of the block at the first mismatch is the line of the first mismatch.
 pub mismatch-line : (bs : List ControlBlock) (o : Option ℕ) (first : ℕ) (d : ControlBlock) → IsFirstMismatch bs o
     → o ≡ Some first → IsMismatchLine bs (Some (get_or bs first d).line)
 mismatch-line bs None first d w e = absurd cc
@@ -245,23 +246,23 @@ mismatch-line bs (Some x) first d w e =
     subst (λ (n : ℕ). IsMismatchLine bs (Some (get_or bs n d).line)) k
     (x, get_or bs x d, slice_get-get_or bs x d w.0, refl, w.1, w.2)
 
--- no first mismatch, no mismatch at all
+-- If no place is told as the first mismatch, no block is a mismatch.
 pub no-mismatch : (bs : List ControlBlock) (o : Option ℕ) → IsFirstMismatch bs o → o ≡ None
     → (place : ℕ) → IsMismatch bs place → ⊥
 no-mismatch bs None w e = w
 no-mismatch bs (Some x) w e = absurd cc
 
--- no line of a mismatch, no mismatch at all
+-- If no line is told as that of the first mismatch, no block is a mismatch.
 pub no-line : (bs : List ControlBlock) (o : Option ℕ) → IsMismatchLine bs o → o ≡ None → (place : ℕ) → IsMismatch bs place → ⊥
 no-line bs None w e = w
 no-line bs (Some x) w e = absurd cc
 
--- in a clear stage each number is new
+-- If the first stage is clear, no program has a number that was given before.
 pub clear-new : (tape : List ControlProgram) (i : ℕ) (p : ControlProgram) → IsClear tape Fitting → slice_get tape i ≡ Some p
     → Contains (map (λ q. q.number) (take i tape)) p.number → ⊥
 clear-new tape i p clear at w = clear p.line ProgramTwice (has-fault tape i p p.line ProgramTwice at (again w))
 
--- in a clear stage each program's loops fit
+-- If the first stage is clear, no block of a program is a mismatch.
 pub clear-fits : (tape : List ControlProgram) (i : ℕ) (p : ControlProgram) → IsClear tape Fitting → slice_get tape i ≡ Some p
     → (place : ℕ) → IsMismatch p.blocks place → ⊥
 clear-fits tape i p clear at place m =

@@ -1,5 +1,6 @@
 -- Loud programs: as many rounds as there are programs find each of them, and each reaches a wait or
--- an end. part_order takes `AreLoud`.
+-- an end. For the law `being_loud_is_reaching_a_wait_or_an_end`, HeardFirst and the law of one
+-- path; part_order takes `AreLoud`.
 use Rattle.std.proofs.Common.{◌≡◌, ℕ, zero, suc, ◌≤◌, ◌⊎◌, inl, inr, Bool, true, false, ◌==◌, ◌||◌, List, [], ◌∷◌, length, None, Some, refl, ap, sym, subst, ◌∙◌, arith, eqb-true}
 use Rattle.std.proofs.lemmas.Bool.{eqb-false}
 use Rattle.block_order.specs.declared.control.Control.{Control}
@@ -9,11 +10,11 @@ use Rattle.block_order.specs.declared.program.ControlProgram.{ControlProgram}
 use Rattle.block_order.specs.Order.{program_of, blocks, control_at}
 use Rattle.block_order.specs.Loud.{is_loud_block, has_loud_block, known_loud, loud, Reaches, IsLoudExactly}
 
--- it holds of every number of which the other one holds
+-- The second test holds of every number of which the first one holds.
 abbrev pub IsWithin : (ℕ → Bool) → (ℕ → Bool) → Type 0
 IsWithin known more = (program : ℕ) → known program ≡ true → more program ≡ true
 
--- what is known to be loud stays so, where more is known: of one block,
+-- A block that is loud by what is known is loud if more is known.
 block_within : (known more : ℕ → Bool) → IsWithin known more → (c : Control)
     → is_loud_block known c ≡ true → is_loud_block more c ≡ true
 block_within known more within Next e = e
@@ -27,14 +28,14 @@ block_within known more within (Call program repeats) e = within program e
 block_within known more within Back e = e
 block_within known more within (BackTo n) e = e
 
--- two alternatives that each go over go over together
+-- If each of two tests implies another one, the one or the other test implies one of those.
 or_true : (a b a' b' : Bool) → (a ≡ true → a' ≡ true) → (b ≡ true → b' ≡ true) → (a || b) ≡ true → (a' || b') ≡ true
 or_true true b a' b' f g e = rw (f refl) refl
 or_true false true true b' f g e = refl
 or_true false true false b' f g e = g refl
 or_true false false a' b' f g e = absurd cc
 
--- a list with a loud block has one too if more is known
+-- Blocks of which one is loud by what is known have a loud one if more is known.
 pub has_within : (known more : ℕ → Bool) → IsWithin known more → (bs : List ControlBlock)
     → has_loud_block known bs ≡ true → has_loud_block more bs ≡ true
 has_within known more within [] e = e
@@ -43,40 +44,40 @@ has_within known more within (b ∷ bs) e =
     (is_loud_block more b.control) (has_loud_block more bs)
     (block_within known more within b.control) (has_within known more within bs) e
 
--- each round finds all that the one before found
+-- Each round finds all that the one before found.
 round_within : (tape : List ControlProgram) (n : ℕ) → IsWithin (known_loud tape n) (known_loud tape (suc n))
 round_within tape zero program e = absurd cc
 round_within tape (suc n) program e =
     has_within (known_loud tape n) (known_loud tape (suc n)) (round_within tape n) (blocks tape program) e
 
--- one more if the flag is set
+-- n, and one more if the flag is set. The name stands for the number.
 abbrev pub counted : Bool → ℕ → ℕ
 counted true n = suc n
 counted false n = n
 
--- of how many of these programs it holds
+-- How many of these programs the test holds of.
 abbrev pub holding : (ℕ → Bool) → List ControlProgram → ℕ
 holding known [] = 0
 holding known (p ∷ ps) = counted (known p.number) (holding known ps)
 
--- one flag counts one at most
+-- One flag adds one at most.
 counted-le : (a : Bool) (n m : ℕ) → n ≤ m → counted a n ≤ suc m
 counted-le true n m le = omega arith
 counted-le false n m le = omega arith
 
--- it holds of no more programs than there are
+-- The test holds of no more programs than there are.
 holding-le : (known : ℕ → Bool) (ps : List ControlProgram) → holding known ps ≤ length ps
 holding-le known [] = omega arith
 holding-le known (p ∷ ps) = counted-le (known p.number) (holding known ps) (length ps) (holding-le known ps)
 
--- more flags count no less,
+-- A flag that implies another one adds no more than that.
 counted_within : (a b : Bool) (n m : ℕ) → (a ≡ true → b ≡ true) → n ≤ m → counted a n ≤ counted b m
 counted_within true true n m f le = omega arith
 counted_within true false n m f le = absurd (let e : false ≡ true = f refl in cc)
 counted_within false true n m f le = omega arith
 counted_within false false n m f le = le
 
--- also over a list of programs
+-- A test that implies another one holds of no more of these programs.
 holding_within : (known more : ℕ → Bool) → IsWithin known more → (ps : List ControlProgram)
     → holding known ps ≤ holding more ps
 holding_within known more within [] = omega arith
@@ -84,19 +85,21 @@ holding_within known more within (p ∷ ps) =
     counted_within (known p.number) (more p.number) (holding known ps) (holding more ps) (within p.number)
     (holding_within known more within ps)
 
--- and where they count the same they are the same
+-- If a flag implies another one and both sums are the same, so are the flags and what they are
+-- added to.
 counted_same : (a b : Bool) (n m : ℕ) → (a ≡ true → b ≡ true) → n ≤ m → counted a n ≡ counted b m → (a ≡ b) × (n ≡ m)
 counted_same true true n m f le e = (refl, omega (arith, e))
 counted_same true false n m f le e = absurd (let e : false ≡ true = f refl in cc)
 counted_same false true n m f le e = absurd (omega (arith, e))
 counted_same false false n m f le e = (refl, e)
 
--- the two say the same of these programs
+-- The two tests say the same of each of these programs.
 abbrev pub AgreeOn : (ℕ → Bool) → (ℕ → Bool) → List ControlProgram → Type 0
 AgreeOn known more [] = Unit {0}
 AgreeOn known more (p ∷ ps) = (known p.number ≡ more p.number) × AgreeOn known more ps
 
--- two of which one is within the other and which hold of equally many programs agree on them
+-- If a test implies another one and both hold of equally many of these programs, they agree on
+-- them.
 same_agree : (known more : ℕ → Bool) → IsWithin known more → (ps : List ControlProgram)
     → holding known ps ≡ holding more ps
     → AgreeOn known more ps
@@ -106,7 +109,8 @@ same_agree known more within (p ∷ ps) e =
     (holding_within known more within ps) e in
     (same.0, same_agree known more within ps same.1)
 
--- they agree on each number, if they do so on those that no program has
+-- Two tests that agree on these programs, and on numbers that none of them has, agree on each
+-- number.
 agree_at : (known more : ℕ → Bool) (program : ℕ) (ps : List ControlProgram) → AgreeOn known more ps
     → (program_of ps program ≡ None → known program ≡ more program) → known program ≡ more program
 agree_at known more program [] agree lacking = lacking refl
@@ -119,17 +123,17 @@ agree_at known more program (p ∷ ps) agree lacking =
     go true e rest = subst (λ n. known n ≡ more n) (eqb-true p.number program e) agree.0
     go false e rest = rest (λ none. lacking (rw e none))
 
--- a number without a program is quiet
+-- A number without a program is not known to be loud.
 lacking_quiet : (tape : List ControlProgram) (n program : ℕ) → program_of tape program ≡ None
     → known_loud tape n program ≡ false
 lacking_quiet tape zero program none = refl
 lacking_quiet tape (suc n) program none = rw none refl
 
--- a round finds nothing new
+-- One round after the first n finds nothing new.
 abbrev pub IsSettled : List ControlProgram → ℕ → Type 0
 IsSettled tape n = known_loud tape n ≡ known_loud tape (suc n)
 
--- a round that finds no program more finds nothing new
+-- A round that finds no program more finds nothing new.
 no_more_settled : (tape : List ControlProgram) (n : ℕ)
     → holding (known_loud tape n) tape ≡ holding (known_loud tape (suc n)) tape → IsSettled tape n
 no_more_settled tape n e =
@@ -139,7 +143,7 @@ no_more_settled tape n e =
     (λ none. lacking_quiet tape n program none ∙ sym (lacking_quiet tape (suc n) program none)) in
     λ i program. same program i
 
--- each round finds more, until one finds nothing
+-- Each round finds one program more, or finds nothing new.
 settles : (tape : List ControlProgram) (n : ℕ) → IsSettled tape n ⊎ (n ≤ holding (known_loud tape n) tape)
 settles tape zero = inr (omega arith)
 settles tape (suc n) =
@@ -158,7 +162,7 @@ settles tape (suc n) =
         let differ = eqb-false (holding (known_loud tape n) tape) (holding (known_loud tape (suc n)) tape) other in
         inr (omega (arith, differ))
 
--- after as many rounds as there are programs nothing new is found
+-- After as many rounds as there are programs nothing new is found.
 pub settled : (tape : List ControlProgram) → IsSettled tape (length tape)
 settled tape = go (settles tape (length tape))
   where
@@ -171,13 +175,13 @@ settled tape = go (settles tape (length tape))
         let all = holding-le (known_loud tape (suc n)) tape in
         no_more_settled tape n (omega arith)
 
--- loud by one more look
+-- A program is loud exactly if one of its blocks is loud by the loud programs.
 pub loud-has : (tape : List ControlProgram) (program : ℕ)
     → loud tape program ≡ has_loud_block (loud tape) (blocks tape program)
 unfolding loud
 loud-has tape program = ap (λ known. known program) (settled tape)
 
--- a loud block among these makes the list loud
+-- If one of these blocks is loud, the list has a loud block.
 has_at : (known : ℕ → Bool) (bs : List ControlBlock) (i : ℕ) (c : Control) → control_at bs i ≡ Some c
     → is_loud_block known c ≡ true
     → has_loud_block known bs ≡ true
@@ -187,18 +191,18 @@ has_at known (b ∷ bs) (suc i) c is e =
     or_true false true (is_loud_block known b.control) (has_loud_block known bs) (λ f. absurd cc)
     (λ t. has_at known bs i c is e) refl
 
--- whoever has a wait or an end is loud, and whoever calls a loud program
+-- Which programs are loud: those with a wait or an end, and those that call a loud one.
 pub record AreLoud (tape : List ControlProgram) : Type 0 where
-  -- a program with a wait is loud
+  -- A program with a wait is loud.
   pub waits : (program block code : ℕ) → control_at (blocks tape program) block ≡ Some (Wait code)
       → loud tape program ≡ true
-  -- so is one with an end
+  -- A program with an end is loud.
   pub ends : (program block : ℕ) → control_at (blocks tape program) block ≡ Some End → loud tape program ≡ true
-  -- and one that calls a loud program
+  -- A program that calls a loud program is loud.
   pub calls : (program block called repeats : ℕ) → control_at (blocks tape program) block ≡ Some (Call called repeats)
       → loud tape called ≡ true → loud tape program ≡ true
 
--- a program that has a wait or an end, or calls a loud one, is loud
+-- A program that has a wait or an end, or calls a loud one, is loud.
 pub are_loud : (tape : List ControlProgram) → AreLoud tape
 are_loud tape = record {
   waits = λ program block code is.
@@ -208,11 +212,11 @@ are_loud tape = record {
       loud-has tape program ∙ has_at (loud tape) (blocks tape program) block (Call called repeats) is noisy;
 }
 
--- some block of these is loud
+-- One of these blocks is loud by what is known.
 abbrev pub HasLoud : (ℕ → Bool) → List ControlBlock → Type 0
 HasLoud known bs = (i : ℕ) × (c : Control) × (control_at bs i ≡ Some c) × (is_loud_block known c ≡ true)
 
--- in a loud list stands a loud block
+-- If the test finds a loud block among these, there is one at some place.
 has_block : (known : ℕ → Bool) (bs : List ControlBlock) → has_loud_block known bs ≡ true → HasLoud known bs
 has_block known [] e = absurd cc
 has_block known (b ∷ bs) e = go (λ h. has_block known bs h) (is_loud_block known b.control) refl
@@ -222,7 +226,8 @@ has_block known (b ∷ bs) e = go (λ h. has_block known bs h) (is_loud_block kn
     go rest true is = (0, b.control, refl, is)
     go rest false is = let r = rest (rw is at e) in (suc r.0, r.1, r.2, r.3)
 
--- what is found loud reaches a wait or an end
+-- A program with a block that is loud by what is known reaches a wait or an end, if all known
+-- programs do.
 reaches_by : (tape : List ControlProgram) (known : ℕ → Bool) → ((q : ℕ) → known q ≡ true → (m : ℕ) × Reaches tape m q)
     → (p i : ℕ) (c : Control) → control_at (blocks tape p) i ≡ Some c → is_loud_block known c ≡ true
     → (m : ℕ) × Reaches tape m p
@@ -237,24 +242,24 @@ reaches_by tape known found p i (EndLoop m) is e = absurd cc
 reaches_by tape known found p i Back is e = absurd cc
 reaches_by tape known found p i (BackTo n) is e = absurd cc
 
--- what a round finds reaches a wait or an end
+-- A program that some round finds loud reaches a wait or an end.
 found_reaches : (tape : List ControlProgram) (n p : ℕ) → known_loud tape n p ≡ true → (m : ℕ) × Reaches tape m p
 found_reaches tape zero p e = absurd cc
 found_reaches tape (suc n) p e =
     let b = has_block (known_loud tape n) (blocks tape p) e in
     reaches_by tape (known_loud tape n) (found_reaches tape n) p b.0 b.1 b.2 b.3
 
--- so does each loud program
+-- A loud program reaches a wait or an end.
 loud_reaches : (tape : List ControlProgram) (p : ℕ) → loud tape p ≡ true → (m : ℕ) × Reaches tape m p
 unfolding loud
 loud_reaches tape p e = found_reaches tape (length tape) p e
 
--- and what reaches one is loud
+-- A program that reaches a wait or an end is loud.
 reaches_loud : (tape : List ControlProgram) (m p : ℕ) → Reaches tape m p → loud tape p ≡ true
 reaches_loud tape zero p (i, inl is) = (are_loud tape).ends p i is
 reaches_loud tape zero p (i, inr (code, is)) = (are_loud tape).waits p i code is
 reaches_loud tape (suc m) p (i, q, r, is, more) = (are_loud tape).calls p i q r is (reaches_loud tape m q more)
 
--- being loud is reaching a wait or an end
+-- A program is loud exactly if it reaches a wait or an end.
 pub loud_exactly : (tape : List ControlProgram) → IsLoudExactly tape
 loud_exactly tape p = (loud_reaches tape p, λ reaches. reaches_loud tape reaches.0 p reaches.1)

@@ -1,5 +1,5 @@
--- The first mismatch: the pass over the blocks finds it.
--- wait_order takes `mismatch-within`.
+-- The pass over a program's blocks in src/mismatch.rt finds its first mismatch. For the proof of
+-- that file and for Located; wait_order takes `mismatch-within`.
 use Rattle.std.proofs.Common.{◌≡◌, ℕ, zero, suc, ◌+◌, ◌<◌, ◌≤◌, ◌⊎◌, inl, inr, min, Bool, true, false, not, ◌||◌, cond, eqb, List, [], ◌∷◌, length, get_or, take, Option, Some, None, refl, sym, ap, ◌∙◌, arith, subst, ⊎_elim}
 use Rattle.std.specs.List.{Contains}
 use Rattle.std.specs.Option.{option_or}
@@ -17,12 +17,12 @@ use Rattle.block_order.specs.Loops.{Open, closed, open_behind, open_after, open_
 use Rattle.block_order.specs.Misplaced.{has_name, is_latest, is_misplaced, first_misplaced, earliest, IsFirstMismatch}
 use Rattle.block_order.proofs.Opened.{within_control, Kind, opening, closing, plain, kind}
 
--- none of the first n blocks is misplaced
+-- None of the first n of these blocks is misplaced.
 abbrev pub NoneMisplaced : ℕ → List Open → List ControlBlock → ℕ → Type 0
 NoneMisplaced place loops bs n =
     (k : ℕ) (c : Control) → k < n → control_at bs k ≡ Some c → is_misplaced (open_after place loops (take k bs)) c ≡ false
 
--- if the first block is not misplaced either, one block more is clear
+-- If the first block is not misplaced and the n behind it are not, the first n + 1 are not.
 none-further : (place : ℕ) (loops : List Open) (b : ControlBlock) (bs : List ControlBlock) (n : ℕ)
     → is_misplaced loops b.control ≡ false
     → NoneMisplaced (suc place) (open_behind place b.control loops) bs n → NoneMisplaced place loops (b ∷ bs) (suc n)
@@ -30,14 +30,14 @@ none-further place loops b bs n here more zero c l e =
     let k : b.control ≡ c = cc in subst (λ (d : Control). is_misplaced loops d ≡ false) k here
 none-further place loops b bs n here more (suc k) c l e = more k c (omega arith) e
 
--- no block of these is misplaced, or the one at k is the first
+-- No block of these is misplaced, or the place is that of the first that is.
 abbrev pub Found : ℕ → List Open → List ControlBlock → Option ℕ → Type 0
 Found place loops bs None = NoneMisplaced place loops bs (length bs)
 Found place loops bs (Some p) =
     (k : ℕ) × (p ≡ place + k) × ((c : Control) × (control_at bs k ≡ Some c)
     × (is_misplaced (open_after place loops (take k bs)) c ≡ true)) × NoneMisplaced place loops bs k
 
--- the first misplaced block of the rest is that of all, if this one is not misplaced
+-- The first misplaced block of the rest is that of all, if this one is not misplaced.
 found-further : (place : ℕ) (loops : List Open) (b : ControlBlock) (bs : List ControlBlock) (o : Option ℕ)
     → is_misplaced loops b.control ≡ false
     → Found (suc place) (open_behind place b.control loops) bs o → Found place loops (b ∷ bs) o
@@ -45,7 +45,7 @@ found-further place loops b bs None here w = none-further place loops b bs (leng
 found-further place loops b bs (Some p) here w =
     (suc w.0, omega (arith, w.1), w.2, none-further place loops b bs w.0 here w.3)
 
--- the pass finds the first misplaced block
+-- The pass finds the first misplaced block.
 pub misplaced-found : (bs : List ControlBlock) (place : ℕ) (loops : List Open)
     → Found place loops bs (first_misplaced place loops bs)
 misplaced-found [] place loops = λ k c l e. absurd (omega arith)
@@ -56,7 +56,7 @@ misplaced-found (b ∷ bs) place loops =
       go more true e = rw e (0, omega arith, (b.control, refl, e), λ k c l f. absurd (omega arith))
       go more false e = rw e (found-further place loops b bs _ e more)
 
--- a test that finds the name means that the list contains it
+-- A test that finds the name means that the list contains it.
 has-contains : (n : ℕ) (loops : List Open) → has_name n loops ≡ true → Contains (names loops) n
 has-contains n [] e = absurd cc
 has-contains n (x ∷ xs) e = go (λ more. has-contains n xs more) (eqb x.name n) refl where
@@ -66,34 +66,34 @@ has-contains n (x ∷ xs) e = go (λ more. has-contains n xs more) (eqb x.name n
       let more : has_name n xs ≡ true = sym (ap (λ v. v || has_name n xs) t) ∙ e in
       let w = rest more in (suc w.0, omega (arith, w.1), w.2)
 
--- and the other way round
+-- If the list of names contains the name, the test finds it.
 contains-has : (n k : ℕ) (loops : List Open) → k < length (names loops) → get_or (names loops) k n ≡ n → has_name n loops ≡ true
 contains-has n k [] l e = absurd (omega arith)
 contains-has n zero (x ∷ xs) l e =
     let t : eqb x.name n ≡ true = grind (arith, nat_tests) in ap (λ v. v || has_name n xs) t
 contains-has n (suc k) (x ∷ xs) l e = or_right (eqb x.name n) (has_name n xs) (contains-has n k xs (omega arith) e)
 
--- a test that finds the latest name is right,
+-- If the test says that the latest open loop has the name, it has it.
 latest-true : (n : ℕ) (loops : List Open) → is_latest n loops ≡ true → latest (names loops) ≡ Some n
 latest-true n [] e = absurd cc
 latest-true n (x ∷ xs) e = ap (λ k. Some k) (eqb-true x.name n e)
 
--- and the other way round
+-- If the latest open loop has the name, the test says so.
 latest-same : (n : ℕ) (loops : List Open) → latest (names loops) ≡ Some n → is_latest n loops ≡ true
 latest-same n [] e = absurd cc
 latest-same n (x ∷ xs) e = let k : x.name ≡ n = cc in grind (arith, nat_tests)
 
--- the latest name is one of the names
+-- The latest name is one of the names.
 latest-contains : (n : ℕ) (loops : List Open) → is_latest n loops ≡ true → Contains (names loops) n
 latest-contains n [] e = absurd cc
 latest-contains n (x ∷ xs) e = (0, omega arith, eqb-true x.name n e)
 
--- what can't be true is false
+-- The negation of a test that can't be true is true.
 true-not : (v : Bool) → (v ≡ true → ⊥) → not v ≡ true
 true-not true f = absurd (f refl)
 true-not false f = refl
 
--- an END of another loop than the latest is a mismatch
+-- An END of another loop than the latest is a mismatch.
 end-mismatch : (bs : List ControlBlock) (p n : ℕ) → control_at bs p ≡ Some (EndLoop n)
     → is_latest n (open_before bs p) ≡ false → IsMismatch bs p
 end-mismatch bs p n at other = go (has_name n (open_before bs p)) refl where
@@ -107,7 +107,7 @@ end-mismatch bs p n at other = go (has_name n (open_before bs p)) refl where
       (λ (w : Contains (names (open_before bs p)) n).
       let f : has_name n (open_before bs p) ≡ true = contains-has n w.0 (open_before bs p) w.1 w.2 in absurd cc)
 
--- a misplaced block is a mismatch
+-- A misplaced block is a mismatch.
 pub to-mismatch : (bs : List ControlBlock) (p : ℕ) (c : Control) → control_at bs p ≡ Some c
     → is_misplaced (open_before bs p) c ≡ true → IsMismatch bs p
 to-mismatch bs p (While n) at e = nested n (ap head_name at) (has-contains n (open_before bs p) e)
@@ -121,11 +121,11 @@ to-mismatch bs p (Call n m) at e = absurd cc
 to-mismatch bs p Back at e = absurd cc
 to-mismatch bs p (BackTo n) at e = absurd cc
 
--- the block at this place is misplaced
+-- The block at this place is misplaced.
 abbrev Misplaced : List ControlBlock → ℕ → Type 0
 Misplaced bs p = (c : Control) × (control_at bs p ≡ Some c) × (is_misplaced (open_before bs p) c ≡ true)
 
--- a head inside a loop of its name is misplaced
+-- A head inside a loop of its name is misplaced.
 head-misplaced : (bs : List ControlBlock) (p n : ℕ) → head_name (control_at bs p) ≡ Some n
     → Contains (names (open_before bs p)) n → Misplaced bs p
 head-misplaced bs p n named w = go (control_at bs p) refl where
@@ -141,7 +141,7 @@ head-misplaced bs p n named w = go (control_at bs p) refl where
   go None at = let none : None ≡ Some n = sym (ap head_name at) ∙ named in absurd cc
   go (Some c) at = in-head c at (sym (ap head_name at) ∙ named)
 
--- a mismatch is a misplaced block or an unclosed head
+-- A mismatch is a misplaced block or an unclosed head.
 pub from-mismatch : (bs : List ControlBlock) (p : ℕ) → IsMismatch bs p
     → Contains (places (open_before bs (length bs))) p ⊎ Misplaced bs p
 from-mismatch bs p (unclosed w) = inl w
@@ -151,17 +151,17 @@ from-mismatch bs p (nested n named w) = inr (head-misplaced bs p n named w)
 from-mismatch bs p (overlap n at w ne) =
     inr (EndLoop n, at, true-not (is_latest n (open_before bs p)) (λ e. ne (latest-true n (open_before bs p) e)))
 
--- the places of open loops fall
+-- The places of the open loops fall from a bound: each is below the one before it.
 abbrev Falls : ℕ → List Open → Type 0
 Falls m [] = Unit {0}
 Falls m (x ∷ xs) = (x.place < m) × Falls x.place xs
 
--- falling places are below each greater bound
+-- Places that fall from a bound fall from each greater one.
 falls-raise : (m n : ℕ) (loops : List Open) → m ≤ n → Falls m loops → Falls n loops
 falls-raise m n [] l w = tt
 falls-raise m n (x ∷ xs) l w = (omega (arith, w.0), w.1)
 
--- they still fall if one is closed,
+-- The places of open loops still fall if a loop is closed.
 falls-closed : (m n : ℕ) (loops : List Open) → Falls m loops → Falls m (closed n loops)
 falls-closed m n [] w = tt
 falls-closed m n (x ∷ xs) w = go (falls-closed x.place n xs w.1) (eqb x.name n) where
@@ -169,7 +169,7 @@ falls-closed m n (x ∷ xs) w = go (falls-closed x.place n xs w.1) (eqb x.name n
   go more true = falls-raise x.place m xs (omega (arith, w.0)) w.1
   go more false = (w.0, more)
 
--- and behind one block more,
+-- The places of the open loops fall behind one block more.
 falls-behind : (place : ℕ) (c : Control) (loops : List Open) → Kind c → Falls place loops
     → Falls (suc place) (open_behind place c loops)
 falls-behind place c loops (opening n is push other) w = rw (push place loops) (omega arith, w)
@@ -179,7 +179,7 @@ falls-behind place c loops (closing n is) w =
 falls-behind place c loops (plain none same other) w =
     rw (same place loops) (falls-raise place (suc place) loops (omega arith) w)
 
--- and behind a list of blocks
+-- The places of the open loops fall behind a list of blocks.
 falls-after : (bs : List ControlBlock) (place m : ℕ) (loops : List Open) → m ≡ place + length bs → Falls place loops
     → Falls m (open_after place loops bs)
 falls-after [] place m loops e w = falls-raise place m loops (omega arith) w
@@ -187,27 +187,28 @@ falls-after (b ∷ bs) place m loops e w =
     falls-after bs (suc place) m (open_behind place b.control loops) (omega arith)
     (falls-behind place b.control loops (kind b.control) w)
 
--- each is below the bound
+-- Each place of loops that fall from a bound is below it.
 all-below : (m k d : ℕ) (loops : List Open) → Falls m loops → k < length (places loops) → get_or (places loops) k d < m
 all-below m k d [] w l = absurd (omega arith)
 all-below m zero d (x ∷ xs) w l = w.0
 all-below m (suc k) d (x ∷ xs) w l =
     let more = all-below x.place k d xs w.1 (omega arith) in omega (arith, w.0)
 
--- if a loop is open, one was opened first
+-- If a loop is open, one was opened first.
 some-earliest : (x : Open) (xs : List Open) → earliest (x ∷ xs) ≡ None → ⊥
 some-earliest x xs e = go (earliest xs) e where
   go : (o : Option ℕ) → or_else o (Some x.place) ≡ None → ⊥
   go None f = absurd cc
   go (Some y) f = absurd cc
 
--- what the earliest one is
+-- No loop is open, or the place is the least of the open loops' heads and below the bound.
 abbrev Earliest : ℕ → List Open → Option ℕ → Type 0
 Earliest m loops None = loops ≡ []
 Earliest m loops (Some e) =
     (e < m) × Contains (places loops) e × ((k d : ℕ) → k < length (places loops) → e ≤ get_or (places loops) k d)
 
--- the one opened first, of one more loop
+-- The least head of open loops and of one loop more, which was opened later, is that of the open
+-- ones; if there are none, it is the one more.
 earliest-step : (m : ℕ) (x : Open) (xs : List Open) (o : Option ℕ) → x.place < m → Earliest x.place xs o
     → Earliest m (x ∷ xs) (or_else o (Some x.place))
 earliest-step m x xs None l w = (l, (0, omega arith, refl), first) where
@@ -220,19 +221,19 @@ earliest-step m x xs (Some e) l w =
       more zero d h = omega (arith, w.0)
       more (suc k) d h = w.2 k d (omega arith)
 
--- the first-opened loop is the least place
+-- The head of the loop that was opened first is the least of the open loops' heads.
 earliest-is : (m : ℕ) (loops : List Open) → Falls m loops → Earliest m loops (earliest loops)
 earliest-is m [] w = refl
 earliest-is m (x ∷ xs) w = earliest-step m x xs (earliest xs) w.0 (earliest-is x.place xs w.1)
 
--- an unclosed head, by the earliest one
+-- The head of a loop that is open at the end is no earlier than the one opened first.
 unclosed-late : (bs : List ControlBlock) (o : Option ℕ) → Earliest (length bs) (open_before bs (length bs)) o → (p : ℕ)
     → Contains (places (open_before bs (length bs))) p → (e : ℕ) × (o ≡ Some e) × (e ≤ p)
 unclosed-late bs None w p k =
     let none = ap (λ ls. length (places ls)) w in absurd (omega (arith, k.1))
 unclosed-late bs (Some e) w p k = (e, refl, omega (arith, w.2 k.0 p k.1, k.2))
 
--- no misplaced block is before the first one
+-- A misplaced block is no earlier than the first one.
 misplaced-late : (bs : List ControlBlock) (o : Option ℕ) → Found 0 [] bs o → (p : ℕ) → Misplaced bs p
     → (e : ℕ) × (o ≡ Some e) × (e ≤ p)
 misplaced-late bs None w p m =
@@ -243,7 +244,7 @@ misplaced-late bs (Some e) w p m =
     (λ (l : w.0 ≤ p). (e, refl, omega (arith, w.1)))
     (cases_lt p w.0)
 
--- the lesser of the first misplaced block and the first unclosed head is the first mismatch
+-- The lesser of the first misplaced block and the first unclosed head is the first mismatch.
 lesser-first : (bs : List ControlBlock) (a b : Option ℕ) → Found 0 [] bs a
     → Earliest (length bs) (open_before bs (length bs)) b → IsFirstMismatch bs (lesser a b)
 lesser-first bs None None fa eb = λ p m.
@@ -285,7 +286,7 @@ lesser-first bs (Some x) (Some y) fa eb = (
         subst (IsMismatch bs) e (to-mismatch bs fa.0 fa.2.0 fa.2.1 fa.2.2)
     one (inr l) = let e : y ≡ min x y = omega arith in subst (IsMismatch bs) e (unclosed eb.1)
 
--- the pass over the blocks finds the first mismatch
+-- The pass over the blocks finds the first mismatch.
 pub mismatch-found : (bs : List ControlBlock)
     → IsFirstMismatch bs (lesser (first_misplaced 0 [] bs) (earliest (open_after 0 [] bs)))
 mismatch-found bs =
@@ -295,7 +296,7 @@ mismatch-found bs =
     (subst (λ (ls : List Open). Earliest (length bs) ls (earliest (open_after 0 [] bs))) (sym all)
     (earliest-is (length bs) (open_after 0 [] bs) falls))
 
--- what is found in the blocks so far comes before what is found in the rest
+-- What is found in the blocks so far comes before what is found in the rest.
 pub or-else-further : (m : Option ℕ) (v : Bool) (i : ℕ) (rest : Option ℕ)
     → or_else m (cond v (Some i) rest) ≡ or_else (option_or m (cond v (Some i) None)) rest
 or-else-further None true i rest = refl
@@ -303,12 +304,12 @@ or-else-further None false i rest = refl
 or-else-further (Some x) true i rest = refl
 or-else-further (Some x) false i rest = refl
 
--- nothing found adds nothing
+-- An option, or else nothing, is the option.
 pub or-else-none : (m : Option ℕ) → or_else m None ≡ m
 or-else-none None = refl
 or-else-none (Some x) = refl
 
--- a mismatch is a block of the program
+-- A mismatch stands at a block of the program.
 pub mismatch-within : (bs : List ControlBlock) (p : ℕ) → IsMismatch bs p → p < length bs
 mismatch-within bs p m =
     ⊎_elim

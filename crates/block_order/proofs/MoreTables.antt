@@ -1,5 +1,5 @@
--- The tables of a tape, one program further.
--- For the proof of src/tables.rt.
+-- The tables of the first programs of a tape, with those of one program more. For the proof of
+-- `tape_tables` (src/tables.rt).
 use Rattle.std.proofs.Common.{◌≡◌, ◌≢◌, ℕ, ◌+◌, ◌<◌, List, [], ◌∷◌, ◌++◌, length, Some, sym, ap, ◌∙◌, arith, subst, ⊎_elim}
 use Rattle.std.specs.List.{slice_get}
 use Rattle.std.proofs.lemmas.Bool.{cases_eq}
@@ -8,13 +8,14 @@ use Rattle.block_order.specs.declared.tables.ProgramTables.{ProgramTables}
 use Rattle.block_order.specs.TapeTable.{IsProgramTables}
 use Rattle.block_order.proofs.NotedEnds.{get-push-here, get-push-other}
 
--- the first n programs have their tables
+-- The first n programs have their tables.
 abbrev pub EachTables : List ControlProgram → ℕ → List ProgramTables → Type 0
 EachTables tape n tables =
     (i : ℕ) (p : ControlProgram) → i < n → slice_get tape i ≡ Some p
     → (own : ProgramTables) × (slice_get tables i ≡ Some own) × IsProgramTables p.blocks own
 
--- the tables of one program more, pushed behind, are those of one program more
+-- If the first n programs have their tables, and those of the next one are pushed behind, the first
+-- n + 1 have theirs.
 pub each-more : (tape : List ControlProgram) (n : ℕ) (tables : List ProgramTables) (p : ControlProgram) (own : ProgramTables)
     → length tables ≡ n → slice_get tape n ≡ Some p → IsProgramTables p.blocks own → EachTables tape n tables
     → EachTables tape (n + 1) (tables ++ own ∷ [])

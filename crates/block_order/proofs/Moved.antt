@@ -1,5 +1,5 @@
--- What the moves of a place come to, frame by frame.
--- part_order takes these.
+-- What each move of a place comes to, frame by frame. For KeepsLabels and StepsStay; part_order
+-- takes these lemmas.
 use Rattle.std.proofs.Common.{◌≡◌, ℕ, zero, suc, ◌-◌, ◌<◌, ◌==◌, ◌||◌, Bool, true, false, nat_lt, List, ◌∷◌, length, Option, Some, None, Result, Ok, Err, refl, arith, if◌then◌else◌}
 use Rattle.std.proofs.lemmas.Bool.Decides.{nat_tests}
 use Rattle.nc_number.specs.declared.cause.Cause.{Cause}
@@ -10,7 +10,7 @@ use Rattle.block_order.specs.Order.{blocks, IsLoop, Leads, target_of, end_of_loo
 use Rattle.block_order.specs.Moves.{at, place_to, place_by, place_of_jump, behind_end, place_behind_loop, at_head, place_of_head, place_in, place_of_call}
 use Rattle.block_order.proofs.Searches.{head_is_of_loop}
 
--- to the block that the running frame leads to
+-- A move of the running frame leads to the block that is its target and changes no other frame.
 moved_to : (target : Frame → Result ℕ Cause) (f : Frame) (stack to : List Frame) → place_by target (f ∷ stack) ≡ Ok to
     → (block : ℕ) × (target f ≡ Ok block) × (to ≡ at f block ∷ stack)
 moved_to target f stack to e = go (target f) e
@@ -19,14 +19,14 @@ moved_to target f stack to e = go (target f) e
     go (Ok block) e = (block, refl, cc)
     go (Err cause) e = absurd cc
 
--- a jump leads to a block of the running program, and changes no other frame
+-- A jump leads to a block of the running program, and changes no other frame.
 pub jump_leads : (tape : List ControlProgram) (n : ℕ) (f : Frame) (stack to : List Frame)
     → place_of_jump tape n (f ∷ stack) ≡ Ok to
     → (target : ℕ) × Leads (blocks tape f.program) f.block n target × (to ≡ at f target ∷ stack)
 jump_leads tape n f stack to e =
     moved_to (λ f. target_of (blocks tape f.program) f.block n) f stack to e
 
--- a loop that is left leads behind its END
+-- A loop that is left leads behind its END.
 pub exit_leads : (tape : List ControlProgram) (f : Frame) (stack to : List Frame)
     → place_behind_loop tape (f ∷ stack) ≡ Ok to
     → (close : ℕ) × IsLoop (blocks tape f.program) f.block close × (to ≡ at f (suc close) ∷ stack)
@@ -37,7 +37,7 @@ exit_leads tape f stack to e = go (end_of_loop (blocks tape f.program) f.block) 
     go None is e = absurd cc
     go (Some close) is e = (close, is, cc)
 
--- an END leads to the head of its loop
+-- An END leads to the head of its loop.
 pub head_leads : (tape : List ControlProgram) (f : Frame) (stack to : List Frame) → place_of_head tape (f ∷ stack) ≡ Ok to
     → (head : ℕ) × IsLoop (blocks tape f.program) head f.block × (to ≡ at f head ∷ stack)
 head_leads tape f stack to e = go (head_of_loop (blocks tape f.program) f.block) refl e
@@ -47,12 +47,12 @@ head_leads tape f stack to e = go (head_of_loop (blocks tape f.program) f.block)
     go None is e = absurd cc
     go (Some head) is e = (head, head_is_of_loop (blocks tape f.program) f.block head is, cc)
 
--- of an alternative that fails the second part fails
+-- If neither of two tests holds, the second does not.
 second_false : (a b : Bool) → (a || b) ≡ false → b ≡ false
 second_false true b e = absurd cc
 second_false false b e = e
 
--- a call runs its program at least once, and leaves no more than eight calls open
+-- A call runs its program at least once, and leaves no more than eight calls open.
 pub call_leads : (program repeats : ℕ) (f : Frame) (stack to : List Frame) → place_of_call program repeats (f ∷ stack) ≡ Ok to
     → (more : ℕ) × (repeats ≡ suc more) × (length stack < 8) × (to ≡ place_in program more (f ∷ stack))
 call_leads program zero f stack to e = absurd cc

@@ -1,5 +1,4 @@
--- Loops that fit are nested.
--- For the law of src/fitting_law.rt.
+-- Loops whose heads and ends fit together are nested. For the law of src/fitting_law.rt.
 use Rattle.std.proofs.Common.{◌≡◌, ◌≢◌, ℕ, zero, suc, ◌-◌, ◌<◌, ◌≤◌, ◌⊎◌, inl, inr, List, [], ◌∷◌, length, Some, sym, ◌∙◌, arith}
 use Rattle.std.proofs.lemmas.Bool.{cases_lt}
 use Rattle.nc_number.proofs.Counts.{some_is}
@@ -10,13 +9,13 @@ use Rattle.block_order.specs.Fitting.{Fits, IsNested}
 use Rattle.block_order.proofs.Opened.{opens, open-ends, open-inside, end-closes, closed-head, nests, has-names}
 use Rattle.block_order.proofs.Searches.{loop_facts}
 
--- a head stands in the program
+-- The head of a loop stands in the program.
 named_within : (bs : List ControlBlock) (head name : ℕ) → head_name (control_at bs head) ≡ Some name → head < length bs
 named_within [] head name named = absurd cc
 named_within (b ∷ bs) zero name named = omega arith
 named_within (b ∷ bs) (suc head) name named = let l = named_within bs head name named in omega arith
 
--- of two loops the later one is behind the other or inside it
+-- Of two loops the later one is behind the other or inside it.
 apart-or-inside : (bs : List ControlBlock) (head end inner last : ℕ) → Fits bs → IsLoop bs head end → IsLoop bs inner last
     → head < inner → (end < inner) ⊎ (last < end)
 apart-or-inside bs head end inner last fits outer within l = go (cases_lt end inner) where
@@ -24,7 +23,7 @@ apart-or-inside bs head end inner last fits outer within l = go (cases_lt end in
   go (inl k) = inl k
   go (inr k) = inr (nests bs head end inner last fits outer within l k)
 
--- a loop inside another has another name
+-- A loop inside another has another name.
 other-name : (bs : List ControlBlock) (head end inner last : ℕ) → Fits bs → IsLoop bs head end → IsLoop bs inner last
     → head < inner → inner ≤ end → head_name (control_at bs head) ≢ head_name (control_at bs inner)
 other-name bs head end inner last fits outer within l m e =
@@ -32,7 +31,7 @@ other-name bs head end inner last fits outer within l m e =
     fits inner (nested facts.name (sym e ∙ facts.named)
     (has-names head facts.name (open_before bs inner) (open-inside bs head end facts inner l m)))
 
--- loops that fit are nested
+-- Loops that fit are nested.
 pub loops-nested : (bs : List ControlBlock) → Fits bs → IsNested bs
 loops-nested bs fits = record {
   heads = λ head name named.

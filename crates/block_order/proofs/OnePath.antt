@@ -1,5 +1,5 @@
--- The law of one path.
--- path_state takes it.
+-- The law of one path, put together from its parts. For the law `each_step_keeps_the_labels` of
+-- src/laws.rt; path_state takes it too.
 use Rattle.std.proofs.Common.{List}
 use Rattle.block_order.specs.declared.program.ControlProgram.{ControlProgram}
 use Rattle.block_order.specs.Labels.{IsUnforked}
@@ -8,7 +8,7 @@ use Rattle.block_order.proofs.LoudReaches.{are_loud}
 use Rattle.block_order.proofs.KeepsLabels.{keeps}
 use Rattle.block_order.proofs.StepsStay.{goes_stays, next_stays, wait_first, end_only}
 
--- in an unforked tape each step keeps the labels ahead, as `KeepsLabels` says
+-- In an unforked tape each step keeps the labels ahead, as `KeepsLabels` says.
 pub keeps_labels : (tape : List ControlProgram) → IsUnforked tape → KeepsLabels tape
 keeps_labels tape un = record {
   step = λ f stack place c is to goes.

@@ -1,5 +1,7 @@
 -- Which loops are open where, in a program whose heads and ends fit together: an invariant of each
--- block. part_lines, path_state and wait_order take the lemmas on a place's control.
+-- block. For the proofs of src/loops.rt, and for Mismatched, Nested and NotedEnds. part_lines,
+-- path_state and wait_order take `within_control` and `close_within`. The file's name stands for
+-- the loops that were opened.
 use Rattle.std.proofs.Common.{◌≡◌, ◌≢◌, ℕ, zero, suc, ◌+◌, ◌-◌, ◌<◌, ◌≤◌, ◌↔◌, ◌⊎◌, inl, inr, Bool, true, false, cond, eqb, List, [], ◌∷◌, length, take, Option, Some, None, refl, sym, ap, ◌∙◌, arith, subst, ⊎_elim}
 use Rattle.std.specs.List.{Contains}
 use Rattle.std.proofs.lemmas.Bool.{cases_eq, cases_lt}
@@ -15,19 +17,19 @@ use Rattle.block_order.specs.Loops.{unclosed, unopened, nested, overlap}
 use Rattle.block_order.specs.Fitting.{Fits, innermost}
 use Rattle.block_order.proofs.Searches.{loop_facts, nearest_is, loop_unique, permitted_held}
 
--- what a control does to the open loops
+-- What a control does to the open loops.
 pub data Kind (c : Control) : Type 0 where
-  -- a head
+  -- A head opens the loop of its name.
   opening : (n : ℕ) → head_name (Some c) ≡ Some n
       → ((p : ℕ) (loops : List Open) → open_behind p c loops ≡ record { place = p; name = n } ∷ loops)
       → ((m : ℕ) → c ≢ EndLoop m) → Kind c
-  -- an END
+  -- An END closes one.
   closing : (n : ℕ) → c ≡ EndLoop n → Kind c
-  -- neither
+  -- A control that is neither leaves them as they are.
   plain : head_name (Some c) ≡ None → ((p : ℕ) (loops : List Open) → open_behind p c loops ≡ loops)
       → ((m : ℕ) → c ≢ EndLoop m) → Kind c
 
--- each control is one of these
+-- Each control is a head, an END or neither.
 pub kind : (c : Control) → Kind c
 kind (While m) = opening m refl (λ p loops. refl) (λ k e. cc)
 kind (Do m) = opening m refl (λ p loops. refl) (λ k e. cc)
@@ -40,7 +42,7 @@ kind (Call program repeats) = plain refl (λ p loops. refl) (λ k e. cc)
 kind Back = plain refl (λ p loops. refl) (λ k e. cc)
 kind (BackTo n) = plain refl (λ p loops. refl) (λ k e. cc)
 
--- one block more
+-- The loops that are open behind one block more are those before it, changed by its control.
 open_after-more : (bs : List ControlBlock) (p place : ℕ) (loops : List Open) (c : Control) → control_at bs p ≡ Some c
     → open_after place loops (take (suc p) bs) ≡ open_behind (place + p) c (open_after place loops (take p bs))
 open_after-more [] p place loops c e = absurd cc
@@ -53,61 +55,62 @@ open_after-more (b ∷ bs) (suc p) place loops c e =
     open_after-more bs p (suc place) (open_behind place b.control loops) c e
     ∙ ap (λ q. open_behind q c (open_after (suc place) (open_behind place b.control loops) (take p bs))) at
 
--- the open loops behind a block are those before it, changed by its control
+-- The open loops behind a block are those before it, changed by its control.
 pub open_more : (bs : List ControlBlock) (p : ℕ) (c : Control) → control_at bs p ≡ Some c
     → open_before bs (suc p) ≡ open_behind p c (open_before bs p)
 open_more bs p c e =
     let at : 0 + p ≡ p = omega arith in
     open_after-more bs p 0 [] c e ∙ ap (λ q. open_behind q c (open_before bs p)) at
 
--- a place within the program has a control,
+-- A place within the program has a control.
 pub control_within : (bs : List ControlBlock) (p : ℕ) → p < length bs → (c : Control) × (control_at bs p ≡ Some c)
 control_within (b ∷ bs) zero h = (b.control, refl)
 control_within (b ∷ bs) (suc p) h = control_within bs p (omega arith)
 control_within [] p h = absurd (omega arith)
 
--- a place with a control stands in the program
+-- A place with a control stands in the program.
 pub within_control : (bs : List ControlBlock) (p : ℕ) (c : Control) → control_at bs p ≡ Some c → p < length bs
 within_control (b ∷ bs) zero c e = omega arith
 within_control (b ∷ bs) (suc p) c e = let l = within_control bs p c e in omega arith
 within_control [] p c e = absurd cc
 
--- the END of a loop stands in the program
+-- The END of a loop stands in the program.
 pub close_within : (bs : List ControlBlock) (head close : ℕ) → IsLoop bs head close → close < length bs
 close_within bs head close loop =
     let facts = loop_facts bs head close loop in within_control bs close (EndLoop facts.name) facts.is_close
 
--- the loop that begins at this head, of this name, is among these
+-- The loop of this head and name is one of these open loops.
 abbrev pub Has : ℕ → ℕ → List Open → Type 0
 Has h n [] = ⊥
 Has h n (x ∷ xs) = ((x.place ≡ h) × (x.name ≡ n)) ⊎ Has h n xs
 
--- an open loop's name is one of the names,
+-- The name of an open loop is one of the names.
 pub has-names : (h n : ℕ) (loops : List Open) → Has h n loops → Contains (names loops) n
 has-names h n [] w = elim w [ ]
 has-names h n (x ∷ xs) (inl e) = (0, omega arith, e.1)
 has-names h n (x ∷ xs) (inr w) = let k = has-names h n xs w in (suc k.0, omega (arith, k.1), k.2)
 
--- an open loop's head is one of the places
+-- The head of an open loop is one of the places.
 pub has-places : (h n : ℕ) (loops : List Open) → Has h n loops → Contains (places loops) h
 has-places h n [] w = elim w [ ]
 has-places h n (x ∷ xs) (inl e) = (0, omega arith, e.0)
 has-places h n (x ∷ xs) (inr w) = let k = has-places h n xs w in (suc k.0, omega (arith, k.1), k.2)
 
--- the test of equal numbers says yes,
+-- The test of equal numbers says yes.
 eq_test : (a b : ℕ) → a ≡ b → eqb a b ≡ true
 eq_test a b e = grind (arith, nat_tests)
 
--- and that of different ones no
+-- The test of different numbers says no.
 ne_test : (a b : ℕ) → a ≢ b → eqb a b ≡ false
 ne_test a b e = grind (arith, nat_tests)
 
--- a loop that stays in the rest stays, whether the first is closed or not
+-- A loop that is in two lists is in the one that is taken, also if another loop stands in front of
+-- the second.
 has-cond : (v : Bool) (h n : ℕ) (x : Open) (xs ys : List Open) → Has h n xs → Has h n ys → Has h n (cond v xs (x ∷ ys))
 has-cond true h n x xs ys a b = a
 has-cond false h n x xs ys a b = inr b
 
--- closing another name leaves it there
+-- A loop stays open if one of another name is closed.
 has-closed : (h n m : ℕ) (loops : List Open) → n ≢ m → Has h n loops → Has h n (closed m loops)
 has-closed h n m [] ne w = elim w [ ]
 has-closed h n m (x ∷ xs) ne (inl e) =
@@ -116,7 +119,7 @@ has-closed h n m (x ∷ xs) ne (inl e) =
     rw test (inl e)
 has-closed h n m (x ∷ xs) ne (inr w) = has-cond (eqb x.name m) h n x xs (closed m xs) w (has-closed h n m xs ne w)
 
--- a block that does not end a loop of the name leaves it open
+-- A loop stays open behind a block that is no END of its name.
 has-behind : (h n p : ℕ) (c : Control) (loops : List Open) → Kind c → c ≢ EndLoop n → Has h n loops
     → Has h n (open_behind p c loops)
 has-behind h n p c loops (opening m is push other) ne w = rw (push p loops) (inr w)
@@ -139,11 +142,11 @@ AllOpen bs p (x ∷ xs) =
     × (xs ≡ open_before bs x.place)
     × AllOpen bs p xs
 
--- a list with one name more still contains the others
+-- A list of names with one name more still contains the others.
 contains-more : (n m : ℕ) (ns : List ℕ) → Contains ns n → Contains (m ∷ ns) n
 contains-more n m ns w = (suc w.0, omega (arith, w.1), w.2)
 
--- a block that is no END of this name adds none
+-- If no block between a head and p is an END of the name, and p is none, no block up to p is one.
 not-end : (bs : List ControlBlock) (p n : ℕ) (c : Control) (x : ℕ) → control_at bs p ≡ Some c → c ≢ EndLoop n
     → ((k : ℕ) → x < k → k < p → control_at bs k ≢ Some (EndLoop n))
     → (k : ℕ) → x < k → k < suc p → control_at bs k ≢ Some (EndLoop n)
@@ -156,7 +159,7 @@ not-end bs p n c x at ne f k l m e =
     (λ (other : k ≢ p). f k l (omega arith) e)
     (cases_eq k p)
 
--- one block further, where it ends none of them
+-- The invariant of open loops holds one block further, if that block ends none of them.
 all-further : (bs : List ControlBlock) (p : ℕ) (c : Control) (loops : List Open) → control_at bs p ≡ Some c
     → ((n : ℕ) → Contains (names loops) n → c ≢ EndLoop n) → AllOpen bs p loops → AllOpen bs (suc p) loops
 all-further bs p c [] at ne w = tt
@@ -169,11 +172,11 @@ all-further bs p c (x ∷ xs) at ne w = (
   all-further bs p c xs at (λ n k. ne n (contains-more n x.name (names xs) k)) w.5,
 )
 
--- a loop whose name is not the latest one
+-- If the name of the first open loop is not n, the latest name is not n.
 some-names : (x : Open) (xs : List Open) (n : ℕ) → x.name ≢ n → latest (names (x ∷ xs)) ≢ Some n
 some-names x xs n ne e = let k : x.name ≡ n = cc in ne k
 
--- the END of a program that fits closes the latest open loop
+-- The END of a program that fits closes the latest open loop.
 pub closes-latest : (bs : List ControlBlock) (p n : ℕ) → Fits bs → control_at bs p ≡ Some (EndLoop n)
     → (loops : List Open) → loops ≡ open_before bs p
     → (x : Open) × (xs : List Open) × (loops ≡ x ∷ xs) × (x.name ≡ n)
@@ -189,7 +192,7 @@ closes-latest bs p n fits at (x ∷ xs) is =
     absurd (fits p (unopened n at lacks)))
     (cases_eq x.name n)
 
--- the invariant, behind one block
+-- The invariant of the open loops holds behind one block more.
 all-behind : (bs : List ControlBlock) (p : ℕ) (c : Control) (loops : List Open) → Fits bs → control_at bs p ≡ Some c → Kind c
     → loops ≡ open_before bs p → AllOpen bs p loops → AllOpen bs (suc p) (open_behind p c loops)
 all-behind bs p c loops fits at (opening n is push other) same w =
@@ -214,7 +217,7 @@ all-behind bs p c loops fits at (closing n is) same w =
     split.3 (subst (Contains (names top.1)) (sym (top.3 ∙ eq)) k)) split.5)
 all-behind bs p c loops fits at (plain none stays other) same w = rw (stays p loops) (all-further bs p c loops at (λ n k. other n) w)
 
--- the invariant of the open loops
+-- The invariant holds of the loops that are open before each block.
 pub all-open : (bs : List ControlBlock) → Fits bs → (p : ℕ) → p ≤ length bs → AllOpen bs p (open_before bs p)
 all-open bs fits zero h = tt
 all-open bs fits (suc p) h =
@@ -222,7 +225,7 @@ all-open bs fits (suc p) h =
     rw (open_more bs p c.0 c.1)
     (all-behind bs p c.0 (open_before bs p) fits c.1 (kind c.0) refl (all-open bs fits p (omega arith)))
 
--- what the invariant says of one of them
+-- An open loop began at its head, before the block, and has met no END of its name.
 pub each-open : (bs : List ControlBlock) (p h n : ℕ) (loops : List Open) → AllOpen bs p loops → Has h n loops
     → (h < p) × (head_name (control_at bs h) ≡ Some n)
     × ((k : ℕ) → h < k → k < p → control_at bs k ≢ Some (EndLoop n))
@@ -234,11 +237,11 @@ each-open bs p h n (x ∷ xs) w (inl e) =
     subst (P h) e.1 (subst (λ h. P h x.name) e.0 (w.0, w.1, w.2))
 each-open bs p h n (x ∷ xs) w (inr more) = each-open bs p h n xs w.5 more
 
--- a place has one control
+-- A place has one control.
 pub at-control : (bs : List ControlBlock) (p : ℕ) (c d : Control) → control_at bs p ≡ Some c → control_at bs p ≡ Some d → c ≡ d
 at-control bs p c d e f = let k : Some c ≡ Some d = sym e ∙ f in cc
 
--- a head is opened
+-- The loop of a head is open behind it.
 pub opens : (bs : List ControlBlock) (h n : ℕ) → head_name (control_at bs h) ≡ Some n → Has h n (open_before bs (suc h))
 opens bs h n named = go (control_at bs h) refl where
   opened : (c : Control) → control_at bs h ≡ Some c → head_name (Some c) ≡ Some n → Kind c → Has h n (open_before bs (suc h))
@@ -251,7 +254,7 @@ opens bs h n named = go (control_at bs h) refl where
   go None at = let none : None ≡ Some n = sym (ap head_name at) ∙ named in absurd cc
   go (Some c) at = opened c at (sym (ap head_name at) ∙ named) (kind c)
 
--- a loop is open between its head and its END
+-- A loop is open between its head and its END.
 pub loop-open : (bs : List ControlBlock) (h close : ℕ) (loop : LoopFacts bs h close) (gap : ℕ)
     → suc (h + gap) ≤ close → Has h loop.name (open_before bs (suc (h + gap)))
 loop-open bs h close loop zero l =
@@ -268,7 +271,7 @@ loop-open bs h close loop (suc gap) l =
     subst (λ (p : ℕ). Has h loop.name (open_before bs p)) e
     (rw (open_more bs (suc (h + gap)) c.0 c.1) (has-behind h loop.name _ c.0 _ (kind c.0) ne more))
 
--- a loop is open before each block that it holds
+-- A loop is open before each block that it holds.
 pub open-inside : (bs : List ControlBlock) (h close : ℕ) (loop : LoopFacts bs h close) (t : ℕ) → h < t → t ≤ close
     → Has h loop.name (open_before bs t)
 open-inside bs h close loop t l m =
@@ -276,7 +279,7 @@ open-inside bs h close loop t l m =
     let e : suc (h + gap) ≡ t = omega arith in
     subst (λ (p : ℕ). Has h loop.name (open_before bs p)) e (loop-open bs h close loop gap (omega arith))
 
--- a control is this END or not
+-- A control is this END or not.
 cases-end : (c : Control) (n : ℕ) → (c ≡ EndLoop n) ⊎ (c ≢ EndLoop n)
 cases-end c n = go (kind c) where
   go : Kind c → (c ≡ EndLoop n) ⊎ (c ≢ EndLoop n)
@@ -288,7 +291,7 @@ cases-end c n = go (kind c) where
       (cases_eq m n)
   go (plain none same other) = inr (other n)
 
--- an open loop ends behind
+-- A loop that is open before a block ends at that block or behind it.
 pub open-ends : (bs : List ControlBlock) (h n left t : ℕ) → Fits bs → t + left ≡ length bs → Has h n (open_before bs t)
     → (close : ℕ) × (t ≤ close) × IsLoop bs h close
 open-ends bs h n zero t fits e w =
@@ -310,17 +313,17 @@ open-ends bs h n (suc left) t fits e w =
     (more.0, omega (arith, more.1), more.2))
     (cases-end c.0 n)
 
--- the innermost head before a block belongs to an open loop
+-- The innermost head before a block belongs to an open loop.
 latest-has : (h : ℕ) (loops : List Open) → latest (places loops) ≡ Some h → (n : ℕ) × Has h n loops
 latest-has h [] e = absurd cc
 latest-has h (x ∷ xs) e = let k : x.place ≡ h = cc in (x.name, inl (k, refl))
 
--- if a loop is open, there is an innermost one
+-- If a loop is open, there is an innermost one.
 has-latest : (h n : ℕ) (loops : List Open) → Has h n loops → latest (places loops) ≡ None → ⊥
 has-latest h n [] w e = w
 has-latest h n (x ∷ xs) w e = absurd cc
 
--- no open loop of these begins behind the innermost head
+-- None of these open loops begins behind the innermost head.
 top-of : (bs : List ControlBlock) (p h n top : ℕ) (loops : List Open) → Fits bs → p ≤ length bs → AllOpen bs p loops
     → Has h n loops → latest (places loops) ≡ Some top → h ≤ top
 top-of bs p h n top [] fits l w has e = elim has [ ]
@@ -332,18 +335,18 @@ top-of bs p h n top (x ∷ xs) fits l w (inr more) e =
     (subst (λ (ls : List Open). Has h n ls) w.4 more) in
     omega (arith, below.0)
 
--- no open loop begins behind the head of the innermost one
+-- No open loop begins behind the head of the innermost one.
 pub top-least : (bs : List ControlBlock) (p h n top : ℕ) → Fits bs → p ≤ length bs → Has h n (open_before bs p)
     → innermost bs p ≡ Some top → h ≤ top
 top-least bs p h n top fits l has e = top-of bs p h n top _ fits l (all-open bs fits p l) has e
 
--- two open loops of one name are one
+-- Two open loops of one name are one.
 same-name : (bs : List ControlBlock) (p h n : ℕ) (x : Open) (xs : List Open) → AllOpen bs p (x ∷ xs) → Has h n (x ∷ xs)
     → n ≡ x.name → x.place ≡ h
 same-name bs p h n x xs w (inl e) is = e.0
 same-name bs p h n x xs w (inr more) is = absurd (w.3 (subst (Contains (names xs)) is (has-names h n xs more)))
 
--- an END closes the innermost loop
+-- An END closes the innermost loop.
 pub closed-head : (bs : List ControlBlock) (h end : ℕ) → Fits bs → IsLoop bs h end → innermost bs end ≡ Some h
 closed-head bs h end fits is_loop =
     let loop = loop_facts bs h end is_loop in
@@ -356,7 +359,8 @@ closed-head bs h end fits is_loop =
     same-name bs end h loop.name top.0 top.1 split (subst (λ (ls : List Open). Has h loop.name ls) top.2 has) (sym top.3) in
     ap (λ ls. latest (places ls)) top.2 ∙ ap (λ x. Some x) at
 
--- the innermost loop and the one below it, at an END
+-- An END closes the loop of the innermost head, which ends here; behind it those loops are open
+-- that were so before that head.
 pub end-closes : (bs : List ControlBlock) (end n : ℕ) → Fits bs → control_at bs end ≡ Some (EndLoop n)
     → (h : ℕ) × (innermost bs end ≡ Some h) × (h < end) × IsLoop bs h end × (open_before bs (suc end) ≡ open_before bs h)
 end-closes bs end n fits at =
@@ -381,14 +385,14 @@ end-closes bs end n fits at =
       to ∙ split.4,
     )
 
--- no block is both a head and an END
+-- No block is both a head and an END.
 head-no-end : (bs : List ControlBlock) (h end p : ℕ) → IsLoop bs h p → IsLoop bs end h → ⊥
 head-no-end bs h end p x y =
     let head = loop_facts bs h p x in
     let close = loop_facts bs end h y in
     let e : None ≡ Some head.name = sym (ap head_name close.is_close) ∙ head.named in cc
 
--- a loop that begins inside another ends before it
+-- A loop that begins inside another ends before it.
 pub nests : (bs : List ControlBlock) (h end h' end' : ℕ) → Fits bs → IsLoop bs h end → IsLoop bs h' end' → h < h' → h' ≤ end
     → end' < end
 nests bs h end h' end' fits x y l m = go (cases_lt end' end) where
@@ -405,14 +409,14 @@ nests bs h end h' end' fits x y l m = go (cases_lt end' end) where
       absurd (omega (arith, top-least bs end h' inner.name h fits (omega arith) has (closed-head bs h end fits x))))
       (cases_eq h' end)
 
--- outside all loops a jump is permitted from everywhere
+-- A jump to a block that no loop holds is permitted from everywhere.
 pub reach-all : (bs : List ControlBlock) (t b : ℕ) → innermost bs t ≡ None → IsPermitted bs b t
 reach-all bs t b e =
     (permitted_held bs b t).1
     (λ h end loop l m.
     let facts = loop_facts bs h end loop in absurd (has-latest h facts.name _ (open-inside bs h end facts t l m) e))
 
--- the END of the innermost loop
+-- The loop of the innermost head that is open before a block holds that block.
 pub innermost-ends : (bs : List ControlBlock) (t top : ℕ) → Fits bs → t ≤ length bs → innermost bs t ≡ Some top
     → (end : ℕ) × (top < t) × (t ≤ end) × IsLoop bs top end
 innermost-ends bs t top fits l e =
@@ -421,7 +425,7 @@ innermost-ends bs t top fits l e =
     let ends = open-ends bs top has.0 (length bs - t) t fits (omega arith) has.1 in
     (ends.0, begun.0, ends.1, ends.2)
 
--- inside loops it is permitted from the blocks of the innermost one
+-- A jump to a block in loops is permitted exactly from the blocks that the innermost of them holds.
 pub reach-some : (bs : List ControlBlock) (t b top end : ℕ) → Fits bs → t ≤ length bs → innermost bs t ≡ Some top
     → top < t → t ≤ end → IsLoop bs top end → IsPermitted bs b t ↔ ((top < b) × (b ≤ end))
 reach-some bs t b top end fits l e before behind loop = (

@@ -1,5 +1,6 @@
--- What the searches for loops and jumps find.
--- wait_order takes `led` and `leads_to`, and part_order too takes `loop_facts`.
+-- What the searches for loops and jumps find. For the law `a_loop_ends_at_its_nearest_end` and the
+-- proofs on loops and jumps; wait_order takes `led`, `leads_to` and `loop_facts`, part_order `led`
+-- and `loop_facts`.
 use Rattle.std.proofs.Common.{◌≡◌, ◌≢◌, ◌↔◌, ℕ, zero, suc, ◌+◌, ◌-◌, ◌<◌, ◌≤◌, inl, inr, Bool, true, false, ◌==◌, ◌&&◌, ◌||◌, not, nat_lt, nat_le, List, [], ◌∷◌, drop, Option, Some, None, Result, Ok, Err, refl, ap, sym, subst, ◌∙◌, arith}
 use Rattle.std.proofs.lemmas.Bool.Decides.{nat_tests}
 use Rattle.nc_number.specs.declared.cause.Cause.{Cause}
@@ -13,26 +14,26 @@ use Rattle.block_order.specs.declared.program.ControlBlock.{ControlBlock}
 use Rattle.block_order.specs.Order.{control_at, seek, IsLoop, IsPermitted, Leads, head_name, is_end_of, first_end, end_named, end_of_loop, head_below, head_of_loop, is_up_to, holds, permits_below, permits, permitted_target}
 use Rattle.block_order.specs.LoopFacts.{LoopFacts, IsHeldToo}
 
--- equal numbers test as equal
+-- Equal numbers test as equal.
 true_same : (a b : ℕ) → a ≡ b → (a == b) ≡ true
 true_same a b e = grind (arith, nat_tests)
 
--- a control that tests as this END is it,
+-- A control that passes the test for an END of this name is one.
 end-true : (name : ℕ) (c : Control) → is_end_of name c ≡ true → c ≡ EndLoop name
 end-true name (EndLoop own) e = ap (λ k. EndLoop k) (equal own name e)
 end-true name _ e = absurd cc
 
--- and this END tests so
+-- An END of this name passes the test for it.
 true-end : (name : ℕ) (c : Control) → c ≡ EndLoop name → is_end_of name c ≡ true
 true-end name c e = rw e (true_same name name refl)
 
--- what is known of the first END: its place, and that none stands before it
+-- The first END of this name among the blocks stands at `close`, and none stands before it.
 abbrev FirstEnd : ℕ → List ControlBlock → ℕ → ℕ → Type 0
 FirstEnd name bs place close =
     (i : ℕ) × (close ≡ place + i) × (control_at bs i ≡ Some (EndLoop name))
     × ((k : ℕ) → k < i → control_at bs k ≢ Some (EndLoop name))
 
--- the search finds the first END
+-- The search finds the first END.
 first_end-found : (name : ℕ) (bs : List ControlBlock) (place close : ℕ)
     → first_end name bs place ≡ Some close → FirstEnd name bs place close
 first_end-found name [] place close e = absurd cc
@@ -56,7 +57,7 @@ first_end-found name (b ∷ bs) place close e =
         let r = rest (rw n at e) in
         (suc r.0, (let at' = r.1 in omega arith), r.2, later n r.0 r.3)
 
--- the first END is found
+-- If an END of the name stands at i and none before it, the search finds it.
 first_end-is : (name : ℕ) (bs : List ControlBlock) (place i : ℕ) → control_at bs i ≡ Some (EndLoop name)
     → ((k : ℕ) → k < i → control_at bs k ≢ Some (EndLoop name))
     → first_end name bs place ≡ Some (place + i)
@@ -73,14 +74,14 @@ first_end-is name (b ∷ bs) place (suc i) at before =
     go rest true y = absurd (before 0 (omega arith) (ap (λ x. Some x) (end-true name b.control y)))
     go rest false n = rw n (rest ∙ ap (λ n. Some n) (omega arith))
 
--- the control at a place, in the blocks without the first n
+-- The control at a place of the blocks without the first n is that n places further on.
 control-drop : (bs : List ControlBlock) (n i : ℕ) → control_at (drop n bs) i ≡ control_at bs (n + i)
 control-drop bs zero i = ap (λ k. control_at bs k) (omega arith)
 control-drop [] (suc n) i = refl
 control-drop (b ∷ bs) (suc n) i =
     control-drop bs n i ∙ (let e : suc (n + i) ≡ suc n + i = omega arith in ap (λ k. control_at (b ∷ bs) k) e)
 
--- the nearest END is the one that the search finds
+-- The nearest END is the one that the search finds.
 pub nearest_is : (bs : List ControlBlock) (head close : ℕ) → LoopFacts bs head close → IsLoop bs head close
 nearest_is bs head close facts =
     let i = close - suc head in
@@ -92,7 +93,7 @@ nearest_is bs head close facts =
     (sym (control-drop bs (suc head) k) ∙ at))
     ∙ ap (λ k. Some k) e)
 
--- what is known of a loop
+-- A loop that the search finds is as `LoopFacts` says.
 pub loop_facts : (bs : List ControlBlock) (head close : ℕ) → IsLoop bs head close → LoopFacts bs head close
 loop_facts bs head close loop = go (head_name (control_at bs head)) refl loop
   where
@@ -114,34 +115,34 @@ loop_facts bs head close loop = go (head_name (control_at bs head)) refl loop
               r.3 k (omega arith) (control-drop bs (suc head) k ∙ (ap (λ j. control_at bs j) e ∙ at'));
         }
 
--- a loop is exactly what `LoopFacts` says
+-- A loop is exactly what `LoopFacts` says.
 pub loop_nearest : (bs : List ControlBlock) (head close : ℕ) → IsLoop bs head close ↔ LoopFacts bs head close
 loop_nearest bs head close = (loop_facts bs head close, nearest_is bs head close)
 
--- a head has one END
+-- A head has one END.
 pub loop_unique : (bs : List ControlBlock) (head a b : ℕ) → IsLoop bs head a → IsLoop bs head b → a ≡ b
 loop_unique bs head a b x y = some_is (sym x ∙ y)
 
--- a number tests as no more than a greater one
+-- A number tests as no more than a greater one.
 le_true : (a b : ℕ) → a ≤ b → nat_le a b ≡ true
 le_true a b h = grind (arith, nat_tests)
 
--- an implication, by a test, used
+-- If a test says that a is false or b true, and a is true, b is true.
 implied : (a b : Bool) → (not a || b) ≡ true → a ≡ true → b ≡ true
 implied true b e h = e
 implied false b e h = absurd cc
 
--- and shown
+-- If b is true whenever a is, the test says that a is false or b true.
 implies : (a b : Bool) → (a ≡ true → b ≡ true) → (not a || b) ≡ true
 implies true b f = f refl
 implies false b f = refl
 
--- what a loop holds
+-- A loop holds a block exactly if that lies behind its head and up to its END.
 holds-at : (bs : List ControlBlock) (head close block : ℕ) → IsLoop bs head close
     → holds bs head block ≡ (nat_lt head block && nat_le block close)
 holds-at bs head close block loop = ap (λ o. nat_lt head block && is_up_to block o) loop
 
--- a loop that holds a block begins before it and ends at it or behind
+-- A loop that holds a block begins before it and ends at it or behind.
 holds-loop : (bs : List ControlBlock) (head block : ℕ) → holds bs head block ≡ true
     → (close : ℕ) × IsLoop bs head close × (head < block) × (block ≤ close)
 holds-loop bs head block h =
@@ -153,7 +154,7 @@ holds-loop bs head block h =
     go None e l f = absurd cc
     go (Some close) e l f = (close, e, l, true_le block close f)
 
--- what one head asks of a permitted jump
+-- If one head allows a jump and its loop holds the target, it holds the block.
 one_head : (bs : List ControlBlock) (block target head close : ℕ)
     → (not (holds bs head target) || holds bs head block) ≡ true
     → IsLoop bs head close → head < target → target ≤ close → (head < block) × (block ≤ close)
@@ -164,7 +165,7 @@ one_head bs block target head close h loop from to =
     ∙ implied (holds bs head target) (holds bs head block) h t) in
     (true_lt head block b.0, true_le block close b.1)
 
--- what the test asks of all heads below n
+-- If all heads below n allow a jump, each loop of theirs that holds the target holds the block.
 permits-loop : (n : ℕ) (bs : List ControlBlock) (block target : ℕ)
     → permits_below n bs block target ≡ true
     → (head close : ℕ) → head < n → IsLoop bs head close → head < target → target ≤ close
@@ -178,7 +179,7 @@ permits-loop (suc n) bs block target h head close lt loop from to =
       | inr less ↦ permits-loop n bs block target each.1 head close less loop from to
     ]
 
--- a jump whose target is held only with it passes the test
+-- If every loop that holds the target holds the block, all heads below n allow the jump.
 permits-from : (n : ℕ) (bs : List ControlBlock) (block target : ℕ) → IsHeldToo bs block target
     → permits_below n bs block target ≡ true
 permits-from zero bs block target p = refl
@@ -192,14 +193,14 @@ permits-from (suc n) bs block target p =
     (lt_true n block in'.0) (le_true block held.0 in'.1)))
     (permits-from n bs block target p)
 
--- a jump is permitted where every loop that holds the target holds it too
+-- A jump is permitted exactly if every loop that holds its target holds its block.
 pub permitted_held : (bs : List ControlBlock) (block target : ℕ) → IsPermitted bs block target ↔ IsHeldToo bs block target
 permitted_held bs block target = (
   λ h head close loop from to. permits-loop target bs block target h head close from loop from to,
   λ p. permits-from target bs block target p,
 )
 
--- a jump leads where the search says, and is permitted
+-- A jump leads where the search says, and is permitted.
 pub led : (bs : List ControlBlock) (block n target : ℕ) → Leads bs block n target
     → (seek bs block n ≡ Some target) × IsPermitted bs block target
 led bs block n target e = go (seek bs block n) refl e
@@ -217,17 +218,17 @@ led bs block n target e = go (seek bs block n) refl e
     go None f h = absurd cc
     go (Some at) f h = to at f (permits bs block at) refl h
 
--- a permitted jump leads to the block that the search finds
+-- A permitted jump leads to the block that the search finds.
 pub leads_to : (bs : List ControlBlock) (block n target : ℕ) → seek bs block n ≡ Some target → IsPermitted bs block target
     → Leads bs block n target
 leads_to bs block n target found may = rw (found, may) refl
 
--- an option that tests as holding the number holds it
+-- An option that tests as holding the number holds it.
 some_of : (place : ℕ) (o : Option ℕ) → is_some_of place o ≡ true → o ≡ Some place
 some_of place None e = absurd cc
 some_of place (Some own) e = ap (λ k. Some k) (equal own place e)
 
--- the head that the search finds is one of a loop that ends there
+-- The head that the search below n finds begins a loop that ends at the block.
 below-loop : (n : ℕ) (bs : List ControlBlock) (close head : ℕ) → head_below n bs close ≡ Some head
     → IsLoop bs head close
 below-loop zero bs close head e = absurd cc
@@ -242,12 +243,12 @@ below-loop (suc n) bs close head e =
         subst (λ k. IsLoop bs k close) same (some_of close (end_of_loop bs n) y)
     go rest false y = rest (rw y at e)
 
--- the head that is found for an END begins a loop that ends there
+-- The head that is found for an END begins a loop that ends there.
 pub head_is_of_loop : (bs : List ControlBlock) (close head : ℕ) → head_of_loop bs close ≡ Some head
     → IsLoop bs head close
 head_is_of_loop bs close head e = below-loop close bs close head e
 
--- and where a loop ends there, a head is found
+-- If a loop of a head below n ends at the block, the search below n finds a head.
 below-found : (n : ℕ) (bs : List ControlBlock) (close head : ℕ) → IsLoop bs head close → head < n
     → (found : ℕ) × (head_below n bs close ≡ Some found)
 below-found zero bs close head loop lt = absurd (omega arith)
@@ -270,7 +271,7 @@ below-found (suc n) bs close head loop lt =
     go rest true y = (n, rw y refl)
     go rest false y = let r = rest (other y) in (r.0, rw y (r.1))
 
--- the head of the one loop that ends at the block is the one that the search finds
+-- The head of the one loop that ends at the block is the one that the search finds.
 pub head_answered : (bs : List ControlBlock) (close : ℕ) (first : Option ℕ)
     → ((head : ℕ) → (first ≡ Some head) ↔ IsLoop bs head close) → first ≡ head_of_loop bs close
 head_answered bs close first heads = go first heads (head_of_loop bs close) refl
@@ -284,7 +285,7 @@ head_answered bs close first heads = go first heads (head_of_loop bs close) refl
         let found = below-found close bs close head loop (loop_facts bs head close loop).order in
         absurd (let clash : ◌≡◌ {A = Option ℕ} None (Some found.0) = sym e ∙ found.1 in cc)
 
--- no blocks have no loop
+-- A program without blocks has no head to be found.
 pub no_head_answered : (bs : List ControlBlock) (close : ℕ) → bs ≡ [] → None ≡ head_of_loop bs close
 no_head_answered bs close e =
     head_answered bs close None

@@ -1,6 +1,6 @@
--- The open loops, as the stack of src/mismatch.rt holds them: the latest last, where the specs have
--- it first.
--- For the proofs of that file.
+-- The open loops as the stack of src/mismatch.rt holds them: the latest last, where the specs have
+-- it first. For the proofs of that file. The file's name is that of the function `seen`, the stack
+-- as contracts see it.
 use Rattle.std.proofs.Common.{◌≡◌, ◌≢◌, ℕ, ◌+◌, ◌-◌, ◌<◌, ◌==◌, Bool, true, false, cond, eqb, ◌||◌, List, [], ◌∷◌, ◌++◌, length, map, reverse, get_or, take, drop, Some, None, refl, sym, ap, ◌∙◌, arith}
 use Rattle.std.specs.List.{slice_get, list_any}
 use Rattle.std.proofs.lemmas.List.{reverse-append, map-append, append_assoc, append-nil, take_more, take_all, drop_more, drop_all}
@@ -13,51 +13,52 @@ use Rattle.block_order.specs.Order.{or_else}
 use Rattle.block_order.specs.Loops.{Open, closed}
 use Rattle.block_order.specs.Misplaced.{opened, seen, has_name, is_latest, earliest}
 
--- of two stacks the upper one comes first
+-- A stack on top of another one, as the specs see it, is the upper one and then the lower one.
 pub seen-append : (xs ys : List OpenLoop) → seen (xs ++ ys) ≡ seen ys ++ seen xs
 unfolding seen
 seen-append xs ys = ap reverse (map-append opened xs ys) ∙ reverse-append (map opened xs) (map opened ys)
 
--- of one loop
+-- A stack of one loop is seen as that loop alone.
 pub seen-one : (x : OpenLoop) → seen (x ∷ []) ≡ opened x ∷ []
 unfolding seen
 seen-one x = refl
 
--- of none
+-- An empty stack is seen as no open loop.
 pub seen-none : seen [] ≡ []
 unfolding seen
 seen-none = refl
 
--- a loop that is pushed is the latest
+-- A loop that is pushed on the stack is seen as the latest.
 pub seen-push : (xs : List OpenLoop) (x : OpenLoop) → seen (xs ++ x ∷ []) ≡ opened x ∷ seen xs
 seen-push xs x = seen-append xs (x ∷ []) ∙ ap (λ ls. ls ++ seen xs) (seen-one x)
 
--- a test of the specs' loops is one of the code's
+-- A test finds a loop among those of the specs exactly if it finds one among those of the code.
 any-map : (p : Open → Bool) (xs : List OpenLoop) → list_any p (map opened xs) ≡ list_any (λ x. p (opened x)) xs
 any-map p [] = refl
 any-map p (x ∷ xs) = ap (λ b. p (opened x) || b) (any-map p xs)
 
--- some loop has the name, on the stack and in the list
+-- Some loop of the stack has the name exactly if an open loop of the specs has it.
 pub seen-name : (n : ℕ) (xs : List OpenLoop) → list_any (λ x. x.name == n) xs ≡ has_name n (seen xs)
 unfolding seen
 seen-name n xs =
     sym (any-map (λ x. x.name == n) xs)
     ∙ list_any-IsPermutation (λ x. x.name == n) (map opened xs) (reverse (map opened xs)) (IsPermutation-reverse (map opened xs))
 
--- the list up to its last element, and that
+-- A stack that is not empty is all but its last loop, and that one.
 pub front-last : (xs : List OpenLoop) (d : OpenLoop) → 0 < length xs
     → xs ≡ take (length xs - 1) xs ++ get_or xs (length xs - 1) d ∷ []
 front-last xs d h =
     sym (take_all ((length xs - 1) + 1) xs (omega arith)) ∙ take_more xs (length xs - 1) d (omega arith)
 
--- the last of the stack is the latest
+-- The last loop of the stack has the name exactly if the latest open one has it.
 pub seen-last : (xs : List OpenLoop) (d : OpenLoop) (n : ℕ) → 0 < length xs
     → is_latest n (seen xs) ≡ ((get_or xs (length xs - 1) d).name == n)
 seen-last xs d n h =
     ap (λ ls. is_latest n (seen ls)) (front-last xs d h)
     ∙ ap (is_latest n) (seen-push (take (length xs - 1) xs) (get_or xs (length xs - 1) d))
 
--- a search for a name that passes a loop of another name closes the same loop
+-- If the loop at `at` has another name, the search down the stack goes on below it: what is passed,
+-- and what closing the name leaves of the rest, stay the same.
 pub down-other : (xs : List OpenLoop) (at n : ℕ) (d : OpenLoop) → at < length xs → (get_or xs at d).name ≢ n
     → seen (drop (at + 1) xs) ++ closed n (seen (take (at + 1) xs)) ≡ seen (drop at xs) ++ closed n (seen (take at xs))
 down-other xs at n d h ne =
@@ -74,7 +75,7 @@ down-other xs at n d h ne =
     ∙ sym (append_assoc (seen (drop (at + 1) xs)) (opened x ∷ []) (closed n (seen (take at xs))))
     ∙ ap (λ ls. ls ++ closed n (seen (take at xs))) (sym below)
 
--- a search for a name that comes to a loop of the name closes that one
+-- If the loop at `at` has the name, closing the name takes just this one from the stack.
 pub down-closed : (xs : List OpenLoop) (at n : ℕ) (d : OpenLoop) → at < length xs → (get_or xs at d).name ≡ n
     → seen (drop (at + 1) xs) ++ closed n (seen (take (at + 1) xs)) ≡ seen (take at xs ++ drop (at + 1) xs)
 down-closed xs at n d h is =
@@ -86,32 +87,33 @@ down-closed xs at n d h is =
     ap (closed n) split ∙ ap (λ v. cond v (seen (take at xs)) (opened x ∷ closed n (seen (take at xs)))) test in
     ap (λ ls. seen (drop (at + 1) xs) ++ ls) kept ∙ sym (seen-append (take at xs) (drop (at + 1) xs))
 
--- the last of the list was opened first
+-- The last loop of the specs' list was opened first.
 earliest-snoc : (ls : List Open) (x : Open) → earliest (ls ++ x ∷ []) ≡ Some x.place
 earliest-snoc [] x = refl
 earliest-snoc (l ∷ ls) x = ap (λ o. or_else o (Some l.place)) (earliest-snoc ls x)
 
--- the bottom of the stack was opened first
+-- The bottom of the stack is the loop that was opened first.
 pub seen-earliest : (xs : List OpenLoop) → earliest (seen xs) ≡ option_map (λ x. x.place) (slice_get xs 0)
 seen-earliest [] = ap earliest seen-none
 seen-earliest (x ∷ xs) =
     ap earliest (seen-append (x ∷ []) xs ∙ ap (λ ls. seen xs ++ ls) (seen-one x)) ∙ earliest-snoc (seen xs) (opened x)
 
--- the name of the stack's last loop is that of the latest open one
+-- If the stack's last loop is x, the latest open loop has a name exactly if x has it.
 pub latest-some : (xs : List OpenLoop) (n : ℕ) (x : OpenLoop) → slice_get xs (length xs - 1) ≡ Some x
     → (x.name == n) ≡ is_latest n (seen xs)
 latest-some xs n x e =
     let within = slice_get_within xs (length xs - 1) x e in
     ap (λ y. y.name == n) (sym (get_or_from_slice_get xs (length xs - 1) x x e)) ∙ sym (seen-last xs x n (omega arith))
 
--- an empty stack has no latest loop
+-- In an empty stack no loop is the latest.
 pub latest-none : (xs : List OpenLoop) (n : ℕ) → slice_get xs (length xs - 1) ≡ None → false ≡ is_latest n (seen xs)
 latest-none [] n e = ap (is_latest n) (sym seen-none)
 latest-none (x ∷ xs) n e =
     let some = slice_get-get_or (x ∷ xs) (length (x ∷ xs) - 1) x (omega arith) in
     let f : Some (get_or (x ∷ xs) (length (x ∷ xs) - 1) x) ≡ None = sym some ∙ e in absurd cc
 
--- before the search nothing is passed
+-- Before the search down the stack nothing is passed: what closing leaves is that of the whole
+-- stack.
 pub close-start : (xs : List OpenLoop) (at n : ℕ) → at ≡ length xs
     → closed n (seen xs) ≡ seen (drop at xs) ++ closed n (seen (take at xs))
 close-start xs at n e =
@@ -119,7 +121,8 @@ close-start xs at n e =
     ∙ ap (λ ls. ls ++ closed n (seen (take at xs))) seen-none
     ∙ ap (λ ls. closed n (seen ls)) (take_all at xs (omega arith)))
 
--- a search that comes to the bottom closes nothing
+-- If the search came to the bottom, no loop has the name, and closing the name leaves the stack as
+-- it is.
 pub close-end : (xs : List OpenLoop) (at n : ℕ) → at ≡ 0
     → closed n (seen xs) ≡ seen (drop at xs) ++ closed n (seen (take at xs)) → seen xs ≡ closed n (seen xs)
 close-end xs at n z e =

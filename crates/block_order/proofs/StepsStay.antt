@@ -1,5 +1,5 @@
--- Steps lead from place to place; and what a wait and an end say of the labels ahead.
--- part_order takes some of these.
+-- Steps lead from place to place, and what a wait and an end say of the labels ahead. For OnePath;
+-- part_order takes `step_stays`, `next_stays` and `wait_counts`.
 use Rattle.std.proofs.Common.{◌≡◌, ℕ, zero, suc, inl, inr, true, List, [], ◌∷◌, Some, refl, ap, sym, subst, ◌∙◌}
 use Rattle.block_order.specs.declared.control.Control.{Control}
 use Rattle.block_order.specs.declared.control.Control.TheVariants.{Next, Goto, While, Do, EndLoop, Wait, End, Call, Back, BackTo}
@@ -14,13 +14,13 @@ use Rattle.block_order.proofs.LoudReaches.{AreLoud}
 use Rattle.block_order.proofs.Moved.{jump_leads, exit_leads, head_leads, call_leads}
 use Rattle.block_order.proofs.LabelsAhead.{ahead-counts, wait_begins, end_alone}
 
--- a place whose running frame moves is a place
+-- A place whose running frame moves is a place.
 pub place_moves : (tape : List ControlProgram) (f : Frame) (stack : List Frame) (block : ℕ) → IsPlace tape (f ∷ stack)
     → IsPlace tape (at f block ∷ stack)
 place_moves tape f [] block place = place
 place_moves tape f (g ∷ stack) block place = place
 
--- where a block leads from a place is a place
+-- If a block leads from a place to another list of frames, that is a place.
 pub goes_stays : (tape : List ControlProgram) (f : Frame) (stack : List Frame) → IsPlace tape (f ∷ stack)
     → (c : Control) → control_at (blocks tape f.program) f.block ≡ Some c
     → (to : List Frame) → Goes tape (f ∷ stack) c to → IsPlace tape to
@@ -52,30 +52,30 @@ goes_stays tape f [] place (BackTo n) is to e =
 goes_stays tape f (g ∷ stack) place (BackTo n) is to e =
     let j = jump_leads tape n g stack to e in subst (IsPlace tape) (sym j.2) (place_moves tape g stack j.0 place.3)
 
--- a step leads from place to place
+-- A step leads from place to place.
 pub step_stays : (tape : List ControlProgram) (from to : List Frame) → IsPlace tape from → Step tape from to
     → IsPlace tape to
 step_stays tape [] to place step = absurd place
 step_stays tape (f ∷ stack) to place (c, is, goes) = goes_stays tape f stack place c is to goes
 
--- the next block is a place too
+-- The place at the next block is a place.
 pub next_stays : (tape : List ControlProgram) (from : List Frame) → IsPlace tape from → IsPlace tape (place_behind from)
 next_stays tape [] place = absurd place
 next_stays tape (f ∷ stack) place = place_moves tape f stack (suc f.block) place
 
--- the program of a path that stands at a wait counts
+-- The program of a path that stands at a wait counts.
 pub wait_counts : (tape : List ControlProgram) → AreLoud tape → (f : Frame) (stack : List Frame) (code : ℕ)
     → control_at (blocks tape f.program) f.block ≡ Some (Wait code) → counts tape f.program stack ≡ true
 wait_counts tape are f [] code is = refl
 wait_counts tape are f (g ∷ stack) code is = are.waits f.program f.block code is
 
--- so does whoever ends
+-- The program of a path that stands at an end counts.
 end_counts : (tape : List ControlProgram) → AreLoud tape → (f : Frame) (stack : List Frame)
     → control_at (blocks tape f.program) f.block ≡ Some End → counts tape f.program stack ≡ true
 end_counts tape are f [] is = refl
 end_counts tape are f (g ∷ stack) is = are.ends f.program f.block is
 
--- at a wait the labels ahead begin with it, and passing it takes it away
+-- At a wait the labels ahead begin with it, and passing it takes it away.
 pub wait_first : (tape : List ControlProgram) → AreLoud tape → (place : List Frame) (code : ℕ)
     → standing tape place ≡ Some (Wait code)
     → ahead tape place ≡ label.Wait code ∷ ahead tape (place_behind place)
@@ -86,7 +86,7 @@ wait_first tape are (f ∷ stack) code is =
     ∙ (wait_begins tape (room stack) f.program f.block f.left code (behind tape stack) is
     ∙ ap (λ ls. label.Wait code ∷ ls) (sym (ahead-counts tape (at f (suc f.block)) stack e)))
 
--- at an end the labels ahead are it alone
+-- At an end the labels ahead are `End` alone.
 pub end_only : (tape : List ControlProgram) → AreLoud tape → (place : List Frame) → standing tape place ≡ Some End
     → ahead tape place ≡ label.End ∷ []
 end_only tape are [] is = absurd cc

@@ -1,17 +1,16 @@
--- What a search for a sequence number finds.
--- wait_order takes `seek_stands`.
+-- A search for a sequence number finds a block of that number. wait_order takes `seek_stands`.
 use Rattle.std.proofs.Common.{◌≡◌, ℕ, zero, suc, ◌+◌, ◌<◌, Bool, true, false, List, [], ◌∷◌, length, drop, Option, Some, None, refl, ap, ◌∙◌, arith}
 use Rattle.std.proofs.lemmas.Bool.Decides.{nat_tests}
 use Rattle.block_order.specs.declared.program.ControlBlock.{ControlBlock}
 use Rattle.block_order.specs.Order.{has_sequence, first_numbered, or_else, seek}
 use Rattle.block_order.specs.Places.{IsNumbered}
 
--- a sequence number that tests as n is n
+-- A sequence number that tests as n is n.
 has_sequence-is : (n : ℕ) (o : Option ℕ) → has_sequence n o ≡ true → o ≡ Some n
 has_sequence-is n None e = absurd cc
 has_sequence-is n (Some own) e = let same : own ≡ n = grind (arith, nat_tests) in ap (λ k. Some k) same
 
--- where it is found a block of that number stands
+-- If the search finds a place, a block of the number stands there.
 first_numbered-stands : (bs : List ControlBlock) (place n t : ℕ) → first_numbered bs place n ≡ Some t
     → (i : ℕ) × (t ≡ place + i) × (i < length bs) × IsNumbered bs i n
 first_numbered-stands [] place n t e = absurd cc
@@ -28,7 +27,8 @@ first_numbered-stands (b ∷ bs) place n t e = go (λ h. first_numbered-stands b
         let at = r.1 in let within = r.2 in
         (suc r.0, omega arith, omega arith, r.3)
 
--- a numbered block of the rest stands in the whole
+-- A block of the number in the program without its first k blocks is one of the whole program, k
+-- places further on.
 numbered_behind : (bs : List ControlBlock) (k i n : ℕ) → i < length (drop k bs) → IsNumbered (drop k bs) i n
     → (k + i < length bs) × IsNumbered bs (k + i) n
 numbered_behind bs zero i n within is = let e : 0 + i ≡ i = omega arith in rw e (within, is)
@@ -39,7 +39,7 @@ numbered_behind (b ∷ bs) (suc k) i n within is =
     let e : suc k + i ≡ suc (k + i) = omega arith in
     rw e (omega arith, r.1)
 
--- the target of a search is a block of that number
+-- The target of a search is a block of that number.
 pub seek_stands : (bs : List ControlBlock) (block n t : ℕ) → seek bs block n ≡ Some t → (t < length bs) × IsNumbered bs t n
 seek_stands bs block n t e = go (first_numbered (drop (suc block) bs) (suc block) n) refl e
   where

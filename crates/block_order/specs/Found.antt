@@ -1,5 +1,5 @@
--- The fault of one block in what jumps and calls find.
--- For this crate alone.
+-- The fault of one block in what its jump or call finds, and the first such fault of a program. For
+-- src/finding.rt, which looks for them.
 use Rattle.std.specs.Prelude.{◌≡◌, ℕ, ◌≤◌, List, Option, Some, None, Err, slice_get}
 use Rattle.nc_number.specs.declared.cause.Cause.{Cause}
 use Rattle.nc_number.specs.declared.cause.Cause.TheVariants.{NoProgram}
@@ -11,25 +11,25 @@ use Rattle.block_order.specs.declared.program.ControlProgram.{ControlProgram}
 use Rattle.block_order.specs.Order.{program_of, target_of}
 use Rattle.block_order.specs.Faults.{fixed_number}
 
--- a jump of a block to a number fails
+-- A jump from the block at a place to the number n fails for this cause.
 abbrev pub JumpFault : List ControlBlock → ℕ → ℕ → Cause → Type 0
 JumpFault bs place n cause = target_of bs place n ≡ Err cause
 
--- a block of a program at a place has this fault
+-- A block of this control at a place of the program has this fault.
 pub data BlockFault (tape : List ControlProgram) (program : ControlProgram) (place : ℕ) (control : Control) : Cause → Type 0 where
-  -- its jump fails
+  -- Its jump fails.
   jumps : (n : ℕ) (cause : Cause) → fixed_number tape program.number control ≡ Some n
       → JumpFault program.blocks place n cause → BlockFault tape program place control cause
-  -- it calls a program that the tape lacks
+  -- It calls a program that the tape lacks.
   calls : (called repeats : ℕ) → control ≡ Call called repeats → program_of tape called ≡ None
       → BlockFault tape program place control NoProgram
 
--- the fault, or none
+-- The answer is a cause that is a fault, or none if no cause is one.
 abbrev pub IsFaultOf : (Cause → Type 0) → Option Cause → Type 0
 IsFaultOf Fault None = (cause : Cause) → Fault cause → ⊥
 IsFaultOf Fault (Some cause) = Fault cause
 
--- the first block of the program that has a fault
+-- The fault is that of the program's first block that has one; there is none if no block has one.
 abbrev pub IsProgramFault : List ControlProgram → ControlProgram → Option OrderFault → Type 0
 IsProgramFault tape program None =
     (place : ℕ) (block : ControlBlock) (cause : Cause) → slice_get program.blocks place ≡ Some block

@@ -8,18 +8,28 @@ use Rattle.block_order.specs.Heard.{IsKnown}
 use Rattle.block_order.specs.Shape.{IsListed}
 use Rattle.block_order.specs.TapeTable.{IsTapeTables}
 
--- the programs fit together, their jumps and calls find what they name, and the tables and the loud
--- programs are theirs
+-- What a draft of an order keeps: programs that fit together and whose jumps and calls find what
+-- they name, with the tables and the loud programs of just these.
 pub record IsDrafted (tape : List ControlProgram) (tables : List ProgramTables) (known : LoudPrograms) : Type 0 where
+  -- The programs are such as a tape that was read has.
   pub listed : IsListed tape
+  -- Programs and loops fit together.
   pub fits : IsClear tape Fitting
+  -- Jumps and calls find what they name.
   pub finds : IsClear tape Finding
+  -- The tables are those of the programs.
   pub tables_are : IsTapeTables tape tables
+  -- The places and the flags of loud programs are those of the tape.
   pub loud_are : IsKnown tape known
 
--- what an order keeps of programs whose waits, besides, stay in order
+-- What an order keeps: programs whose waits, besides, stay in order, with the tables and the loud
+-- programs of just these.
 pub record IsKept (tape : List ControlProgram) (tables : List ProgramTables) (known : LoudPrograms) : Type 0 where
+  -- The programs are such as a tape that was read has.
   pub listed : IsListed tape
+  -- Nothing is wrong with the order of their blocks.
   pub sound : IsSound tape
+  -- The tables are those of the programs.
   pub tables_are : IsTapeTables tape tables
+  -- The places and the flags of loud programs are those of the tape.
   pub loud_are : IsKnown tape known

@@ -1,17 +1,21 @@
--- Which loops are open where, and when the heads and ends of a program's loops don't fit together.
--- wait_order cites this. A loop's END as a search finds it is in Order.
+-- Which loops are open where, and when the heads and ends of a program's loops don't fit together:
+-- the fault 52. src/mismatch.rt looks for it, wait_order cites this. A loop's END as a search finds
+-- it is in Order.
 use Rattle.std.specs.Prelude.{◌≡◌, ◌≢◌, ℕ, suc, ◌==◌, List, [], ◌∷◌, length, map, take, Option, Some, None, Contains, if◌then◌else◌}
 use Rattle.block_order.specs.declared.control.Control.{Control}
 use Rattle.block_order.specs.declared.control.Control.TheVariants.{While, Do, EndLoop}
 use Rattle.block_order.specs.declared.program.ControlBlock.{ControlBlock}
 use Rattle.block_order.specs.Order.{control_at, head_name}
 
--- a loop that is open: the place of its head, and its name
+-- An open loop: one whose head came before and whose END did not.
 pub record Open : Type 0 where
+  -- The place of its head.
   pub place : ℕ
+  -- Its name, 1, 2 or 3.
   pub name : ℕ
 
--- without the latest one of this name
+-- The loops that stay open once an END has closed the latest one of this name; all of them if none
+-- has the name. The name stands for the list of open loops after a close.
 abbrev pub closed : ℕ → List Open → List Open
 closed name [] = []
 closed name (loop ∷ loops) = if loop.name == name then loops else loop ∷ closed name loops
@@ -24,24 +28,25 @@ open_behind place (Do name) loops = record { place = place; name = name } ∷ lo
 open_behind place (EndLoop name) loops = closed name loops
 open_behind place other loops = loops
 
--- the loops that are open behind these blocks, which stand from a place on
+-- The loops that are open behind these blocks, of which the first stands at a place, if the given
+-- loops are open before them.
 abbrev pub open_after : ℕ → List Open → List ControlBlock → List Open
 open_after place loops [] = loops
 open_after place loops (b ∷ bs) = open_after (suc place) (open_behind place b.control loops) bs
 
--- the loops that are open before the block
+-- The loops of a program that are open before the block at a place.
 abbrev pub open_before : List ControlBlock → ℕ → List Open
 open_before bs place = open_after 0 [] (take place bs)
 
--- the names of these loops
+-- The names of these open loops.
 abbrev pub names : List Open → List ℕ
 names loops = map (λ loop. loop.name) loops
 
--- the places of their heads
+-- The places of the heads of these open loops.
 abbrev pub places : List Open → List ℕ
 places loops = map (λ loop. loop.place) loops
 
--- the first entry, which is that of the loop opened last
+-- The first entry of a list of names or places of open loops: that of the loop opened last.
 abbrev pub latest : List ℕ → Option ℕ
 latest [] = None
 latest (name ∷ earlier) = Some name
@@ -49,14 +54,14 @@ latest (name ∷ earlier) = Some name
 -- The block at a place does not fit: a head without its END, an END without its head, a head inside
 -- a loop of its own name, or an END that closes a loop while a later one is open.
 pub data IsMismatch (bs : List ControlBlock) (place : ℕ) : Type 0 where
-  -- a head whose loop is still open at the program's end
+  -- A head whose loop is still open at the program's end.
   unclosed : Contains (places (open_before bs (length bs))) place → IsMismatch bs place
-  -- an END without an open loop of its name
+  -- An END without an open loop of its name.
   unopened : (name : ℕ) → control_at bs place ≡ Some (EndLoop name) → (Contains (names (open_before bs place)) name → ⊥)
       → IsMismatch bs place
-  -- a head inside a loop of its own name
+  -- A head inside a loop of its own name.
   nested : (name : ℕ) → head_name (control_at bs place) ≡ Some name → Contains (names (open_before bs place)) name
       → IsMismatch bs place
-  -- an END of a loop that is not the latest open one
+  -- An END of a loop that is not the latest open one.
   overlap : (name : ℕ) → control_at bs place ≡ Some (EndLoop name) → Contains (names (open_before bs place)) name
       → latest (names (open_before bs place)) ≢ Some name → IsMismatch bs place

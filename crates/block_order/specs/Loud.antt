@@ -9,19 +9,19 @@ use Rattle.block_order.specs.declared.program.ControlBlock.{ControlBlock}
 use Rattle.block_order.specs.declared.program.ControlProgram.{ControlProgram}
 use Rattle.block_order.specs.Order.{blocks, control_at}
 
--- the block is a wait or an end, or calls a program that is known to be loud
+-- The block is a wait or an end, or calls a program that is known to be loud.
 abbrev pub is_loud_block : (ℕ → Bool) → Control → Bool
 is_loud_block known (Wait code) = true
 is_loud_block known End = true
 is_loud_block known (Call program repeats) = known program
 is_loud_block known other = false
 
--- one of the blocks is loud, by what is known
+-- One of the blocks is loud, by what is known.
 abbrev pub has_loud_block : (ℕ → Bool) → List ControlBlock → Bool
 has_loud_block known [] = false
 has_loud_block known (b ∷ bs) = is_loud_block known b.control || has_loud_block known bs
 
--- the programs that reach a wait or an end by fewer than n calls
+-- Whether the program reaches a wait or an end by fewer than n calls.
 abbrev pub known_loud : List ControlProgram → ℕ → ℕ → Bool
 known_loud tape zero program = false
 known_loud tape (suc n) program = has_loud_block (known_loud tape n) (blocks tape program)
@@ -31,23 +31,23 @@ known_loud tape (suc n) program = has_loud_block (known_loud tape n) (blocks tap
 unfoldable pub loud : List ControlProgram → ℕ → Bool
 loud tape program = known_loud tape (length tape) program
 
--- a wait or an end of the program
+-- A wait or an end of the program.
 abbrev pub HasStop : List ControlProgram → ℕ → Type 0
 HasStop tape program =
     (block : ℕ) × ((control_at (blocks tape program) block ≡ Some End)
     ⊎ ((code : ℕ) × (control_at (blocks tape program) block ≡ Some (Wait code))))
 
--- so many calls lead from the program to one that has a wait or an end
+-- So many calls lead from the program to one that has a wait or an end.
 abbrev pub Reaches : List ControlProgram → ℕ → ℕ → Type 0
 Reaches tape zero program = HasStop tape program
 Reaches tape (suc n) program =
     (block called repeats : ℕ) × (control_at (blocks tape program) block ≡ Some (Call called repeats)) × Reaches tape n called
 
--- being loud is exactly that
+-- A program is loud exactly if some number of calls leads from it to a wait or an end.
 abbrev pub IsLoudExactly : List ControlProgram → Type 0
 IsLoudExactly tape = (program : ℕ) → (loud tape program ≡ true) ↔ ((n : ℕ) × Reaches tape n program)
 
--- the mark of a block, if it is one
+-- The one mark of a block of this control, or none if it is no mark.
 abbrev pub mark_of : (ℕ → Bool) → Control → List Mark
 mark_of loud (Wait code) = mark.Wait code ∷ []
 mark_of loud End = mark.End ∷ []
@@ -55,7 +55,7 @@ mark_of loud (Call program repeats) = if loud program then mark.Call program rep
 mark_of loud Back = mark.Back ∷ []
 mark_of loud other = []
 
--- the marks of these blocks, in order
+-- The marks of these blocks, in order.
 abbrev pub marks : (ℕ → Bool) → List ControlBlock → List Mark
 marks loud [] = []
 marks loud (b ∷ bs) = mark_of loud b.control ++ marks loud bs

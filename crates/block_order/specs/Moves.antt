@@ -8,80 +8,82 @@ use Rattle.block_order.specs.declared.frame.Frame.{Frame}
 use Rattle.block_order.specs.declared.program.ControlProgram.{ControlProgram}
 use Rattle.block_order.specs.Order.{blocks, target_of, end_of_loop, head_of_loop}
 
--- the frame at another block
+-- The frame at another block.
 abbrev pub at : Frame → ℕ → Frame
 at f block = record f { block = block }
 
--- the place with its running frame at another block
+-- The place with its running frame at another block.
 abbrev pub place_at : ℕ → List Frame → List Frame
 place_at block [] = []
 place_at block (f ∷ stack) = at f block ∷ stack
 
--- the next block, behind a wait too
+-- The place with its running frame at the next block; a wait is passed by this move.
 abbrev pub place_behind : List Frame → List Frame
 place_behind [] = []
 place_behind (f ∷ stack) = at f (suc f.block) ∷ stack
 
--- the place at a block, or why there is none
+-- The place with its running frame at the block that was found, or the alarm if none was.
 abbrev pub place_to : List Frame → Result ℕ Cause → Result (List Frame) Cause
 place_to place (Ok block) = Ok (place_at block place)
 place_to place (Err cause) = Err cause
 
--- the place at the block to which its running frame leads
+-- The place with its running frame at the block to which `target` leads that frame, or its alarm.
 abbrev pub place_by : (Frame → Result ℕ Cause) → List Frame → Result (List Frame) Cause
 place_by target [] = Ok []
 place_by target (f ∷ stack) = place_to (f ∷ stack) (target f)
 
--- a jump of the running program to a sequence number
+-- The place behind a jump of the running program to a sequence number, or alarm 50 or 53.
 abbrev pub place_of_jump : List ControlProgram → ℕ → List Frame → Result (List Frame) Cause
 place_of_jump tape n place = place_by (λ f. target_of (blocks tape f.program) f.block n) place
 
--- behind the END of a loop, where there is one
+-- The block behind the END of a loop, if there is an END.
 abbrev pub behind_end : Option ℕ → Result ℕ Cause
 behind_end None = Err LoopMismatch
 behind_end (Some close) = Ok (suc close)
 
--- out of the loop that begins at the running block
+-- The place behind the loop whose head is the running block.
 abbrev pub place_behind_loop : List ControlProgram → List Frame → Result (List Frame) Cause
 place_behind_loop tape place = place_by (λ f. behind_end (end_of_loop (blocks tape f.program) f.block)) place
 
--- at the head of a loop, where there is one
+-- The head of a loop, if there is one.
 abbrev pub at_head : Option ℕ → Result ℕ Cause
 at_head None = Err LoopMismatch
 at_head (Some head) = Ok head
 
--- the head of the loop that ends at the running block
+-- The place at the head of the loop whose END is the running block.
 abbrev pub place_of_head : List ControlProgram → List Frame → Result (List Frame) Cause
 place_of_head tape place = place_by (λ f. at_head (head_of_loop (blocks tape f.program) f.block)) place
 
--- the start of a program, above these frames, with so many repeats still to come
+-- The place at the start of a program that runs above these frames, with so many repeats still to
+-- come.
 abbrev pub place_in : ℕ → ℕ → List Frame → List Frame
 place_in program left place = record { program = program; block = 0; left = left } ∷ place
 
--- a call of a program, to run it so many times; alarm 32 where it would be the ninth that is open,
--- or runs the program no time
+-- The place after a call of a program, to run it so many times; alarm 32 if the call would be the
+-- ninth that is open, or would run the program no time.
 abbrev pub place_of_call : ℕ → ℕ → List Frame → Result (List Frame) Cause
 place_of_call program repeats place =
     if repeats == 0 || nat_lt 8 (length place) then Err TooDeep else Ok (place_in program (repeats - 1) place)
 
--- a return with so many repeats left, from a frame whose callers are these
+-- The place after a return from a frame with so many repeats left, above these callers.
 abbrev pub return_by : ℕ → Frame → List Frame → List Frame
 return_by left f [] = at f 0 ∷ []
 return_by zero f (g ∷ stack) = at g (suc g.block) ∷ stack
 return_by (suc left) f (g ∷ stack) = place_in f.program left (g ∷ stack)
 
--- M99: the start of the main program, the next repeat, or behind the call
+-- The place after an M99: the start of the main program, the start of the next repeat, or the block
+-- behind the call.
 abbrev pub place_of_return : List Frame → List Frame
 place_of_return [] = []
 place_of_return (f ∷ stack) = return_by f.left f stack
 
--- the caller's call, in the main program its running block
+-- The place of the caller, at its call; in the main program the place itself.
 abbrev pub place_of_caller : List Frame → List Frame
 place_of_caller [] = []
 place_of_caller (f ∷ []) = f ∷ []
 place_of_caller (f ∷ g ∷ stack) = g ∷ stack
 
--- M99 with a sequence number: a jump of the caller, whatever repeats are left, in the main program
--- its own
+-- The place after an M99 with a sequence number: a jump of the caller, whatever repeats are left;
+-- in the main program a jump of its own.
 abbrev pub place_of_jump_back : List ControlProgram → ℕ → List Frame → Result (List Frame) Cause
 place_of_jump_back tape n place = place_of_jump tape n (place_of_caller place)

@@ -1,7 +1,8 @@
 -- The programs of a tape, as far as control goes through them: where jumps lead, and which loops
 -- hold a block. Everywhere a tape is the list of its programs, a program is known by its O number,
 -- and a block of it by its place from 0.
--- All crates of the flow, and two_path above them, cite this.
+-- The crates that check or follow the order of blocks cite this: wait_order, tape_flow, open_order,
+-- label_list, part_lines, path_state, two_path and the verifiers.
 use Rattle.std.specs.Prelude.{◌≡◌, ℕ, zero, suc, Bool, true, false, not, ◌==◌, ◌&&◌, ◌||◌, nat_lt, nat_le, List, [], ◌∷◌, drop, find, Option, Some, None, Result, Ok, Err, slice_get, if◌then◌else◌}
 use Rattle.nc_number.specs.declared.cause.Cause.{Cause}
 use Rattle.nc_number.specs.declared.cause.Cause.TheVariants.{NoSequence, IntoLoop}
@@ -11,44 +12,44 @@ use Rattle.block_order.specs.declared.control.Control.TheVariants.{While, Do, En
 use Rattle.block_order.specs.declared.program.ControlBlock.{ControlBlock}
 use Rattle.block_order.specs.declared.program.ControlProgram.{ControlProgram}
 
--- the first program of that number, if the tape has one
+-- The first program of that number, if the tape has one.
 abbrev pub program_of : List ControlProgram → ℕ → Option ControlProgram
 program_of tape number = find (λ program. program.number == number) tape
 
--- the blocks of a program, and none of no program
+-- The blocks of a program, and none of no program.
 abbrev pub blocks_of : Option ControlProgram → List ControlBlock
 blocks_of None = []
 blocks_of (Some program) = program.blocks
 
--- the blocks of the program with this number
+-- The blocks of the program with this number.
 abbrev pub blocks : List ControlProgram → ℕ → List ControlBlock
 blocks tape number = blocks_of (program_of tape number)
 
--- the main program is the first one
+-- The main program is the first one.
 abbrev pub main_number : List ControlProgram → ℕ
 main_number [] = 0
 main_number (program ∷ rest) = program.number
 
--- the control of a block, if there is one
+-- The control of a block, if there is one.
 abbrev pub control_of : Option ControlBlock → Option Control
 control_of None = None
 control_of (Some block) = Some block.control
 
--- the control of the block at a place
+-- The control of the block at a place.
 abbrev pub control_at : List ControlBlock → ℕ → Option Control
 control_at bs place = control_of (slice_get bs place)
 
--- a block of this sequence number, which may lack one, is numbered n
+-- A block with this sequence number, which it may lack, is numbered n.
 abbrev pub has_sequence : ℕ → Option ℕ → Bool
 has_sequence n None = false
 has_sequence n (Some own) = n == own
 
--- the first block of this sequence number, among blocks that stand from a place on
+-- The first block of this sequence number, among blocks that stand from a place on.
 abbrev pub first_numbered : List ControlBlock → ℕ → ℕ → Option ℕ
 first_numbered [] place n = None
 first_numbered (b ∷ bs) place n = if has_sequence n b.sequence then Some place else first_numbered bs (suc place) n
 
--- the first one, or else the other
+-- The first place, or else the other one.
 abbrev pub or_else : Option ℕ → Option ℕ → Option ℕ
 or_else (Some place) other = Some place
 or_else None other = other
@@ -58,23 +59,23 @@ or_else None other = other
 abbrev pub seek : List ControlBlock → ℕ → ℕ → Option ℕ
 seek bs block n = or_else (first_numbered (drop (suc block) bs) (suc block) n) (first_numbered bs 0 n)
 
--- the name of the loop that begins at a block of this control
+-- The name of the loop that begins at a block of this control.
 abbrev pub head_name : Option Control → Option ℕ
 head_name (Some (While name)) = Some name
 head_name (Some (Do name)) = Some name
 head_name other = None
 
--- the block is an END of this name
+-- The block is an END of this name.
 abbrev pub is_end_of : ℕ → Control → Bool
 is_end_of name (EndLoop own) = own == name
 is_end_of name other = false
 
--- the first END of this name, among blocks that stand from a place on
+-- The first END of this name, among blocks that stand from a place on.
 abbrev pub first_end : ℕ → List ControlBlock → ℕ → Option ℕ
 first_end name [] place = None
 first_end name (b ∷ bs) place = if is_end_of name b.control then Some place else first_end name bs (suc place)
 
--- the END, behind the head, of a loop of this name
+-- The END, behind the head, of a loop of this name.
 abbrev pub end_named : List ControlBlock → ℕ → Option ℕ → Option ℕ
 end_named bs head None = None
 end_named bs head (Some name) = first_end name (drop (suc head) bs) (suc head)
@@ -84,25 +85,25 @@ end_named bs head (Some name) = first_end name (drop (suc head) bs) (suc head)
 abbrev pub end_of_loop : List ControlBlock → ℕ → Option ℕ
 end_of_loop bs head = end_named bs head (head_name (control_at bs head))
 
--- the latest of so many first blocks whose loop ends at the block
+-- The latest of the first n heads whose loop ends at the block.
 abbrev pub head_below : ℕ → List ControlBlock → ℕ → Option ℕ
 head_below zero bs close = None
 head_below (suc head) bs close = if is_some_of close (end_of_loop bs head) then Some head else head_below head bs close
 
--- the head of the loop that ends at the block
+-- The head of the loop that ends at the block.
 abbrev pub head_of_loop : List ControlBlock → ℕ → Option ℕ
 head_of_loop bs close = head_below close bs close
 
--- the block is not behind the END
+-- The block stands at the END or before it; if there is no END, no block does.
 abbrev pub is_up_to : ℕ → Option ℕ → Bool
 is_up_to block None = false
 is_up_to block (Some close) = nat_le block close
 
--- the loop that begins at head holds the block
+-- The loop that begins at head holds the block.
 abbrev pub holds : List ControlBlock → ℕ → ℕ → Bool
 holds bs head block = nat_lt head block && is_up_to block (end_of_loop bs head)
 
--- each of so many first heads whose loop holds the target holds the block too
+-- Each loop that begins at one of the first n places and holds the target holds the block too.
 abbrev pub permits_below : ℕ → List ControlBlock → ℕ → ℕ → Bool
 permits_below zero bs block target = true
 permits_below (suc head) bs block target =
@@ -113,29 +114,30 @@ permits_below (suc head) bs block target =
 abbrev pub permits : List ControlBlock → ℕ → ℕ → Bool
 permits bs block target = permits_below target bs block target
 
--- the target that a search found, if a jump to it is permitted; else alarm 50 or 53
+-- The target that a search found, if a jump to it is permitted; else alarm 50 or 53.
 abbrev pub permitted_target : List ControlBlock → ℕ → Option ℕ → Result ℕ Cause
 permitted_target bs block None = Err NoSequence
 permitted_target bs block (Some target) = if permits bs block target then Ok target else Err IntoLoop
 
--- where a jump from the block to the number leads; 50 where its program has no such number, 53 into
--- a loop that does not hold it
+-- Where a jump from the block to the number leads; 50 where its program has no such number, 53 into
+-- a loop that does not hold it.
 abbrev pub target_of : List ControlBlock → ℕ → ℕ → Result ℕ Cause
 target_of bs block n = permitted_target bs block (seek bs block n)
 
--- the loop that begins at head ends at close
+-- The loop that begins at head ends at close.
 abbrev pub IsLoop : List ControlBlock → ℕ → ℕ → Type 0
 IsLoop bs head close = end_of_loop bs head ≡ Some close
 
--- a jump from the block to the target leads into no loop
+-- A jump from the block to the target leads into no loop.
 abbrev pub IsPermitted : List ControlBlock → ℕ → ℕ → Type 0
 IsPermitted bs block target = permits bs block target ≡ true
 
--- a jump from the block to the number n leads to the target
+-- A jump from the block to the number n leads to the target.
 abbrev pub Leads : List ControlBlock → ℕ → ℕ → ℕ → Type 0
 Leads bs block n target = target_of bs block n ≡ Ok target
 
--- a sequence number that is written out is that number, a computed one is any
+-- The number may be n: a sequence number that is written out is only itself, a computed one may be
+-- any.
 abbrev pub MayBe : Option ℕ → ℕ → Type 0
 MayBe None n = Unit {0}
 MayBe (Some own) n = own ≡ n

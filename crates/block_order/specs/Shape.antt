@@ -7,21 +7,24 @@ use Rattle.nc_number.specs.Rising.{RiseFrom}
 use Rattle.block_order.specs.declared.program.ControlBlock.{ControlBlock}
 use Rattle.block_order.specs.declared.program.ControlProgram.{ControlProgram}
 
--- the lines of a program's O number and of its blocks
+-- The lines of a program's O number and of its blocks.
 abbrev pub lines_of_program : ControlProgram → List ℕ
 lines_of_program program = program.line ∷ map (λ block. block.line) program.blocks
 
--- the lines of all programs, in the order of the text
+-- The lines of all programs, in the order of the text.
 abbrev pub lines_in : List ControlProgram → List ℕ
 lines_in tape = flat_map lines_of_program tape
 
--- the blocks of all programs, in the order of the text
+-- The blocks of all programs, in the order of the text.
 abbrev pub blocks_in : List ControlProgram → List ControlBlock
 blocks_in tape = flat_map (λ program. program.blocks) tape
 
--- at least one program, lines that rise through the whole tape, and at most 20,000 blocks
+-- What every tape that was read has: at least one program, lines that rise through the whole tape,
+-- and at most 20,000 blocks.
 pub record IsListed (tape : List ControlProgram) : Type 0 where
+  -- There is a program.
   pub some : 0 < length tape
-  -- lines count from 1
+  -- Lines count from 1.
   pub lines : RiseFrom 0 (lines_in tape)
+  -- There are at most 20,000 blocks.
   pub few : length (blocks_in tape) ≤ 20000

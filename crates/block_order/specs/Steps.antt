@@ -1,5 +1,5 @@
--- Which places may follow a place, whatever the variables hold, and the law of one path.
--- path_state, two_path, part_order and pair_order rest on this law.
+-- Which places may follow a place, whatever the variables hold, and the law of one path,
+-- `KeepsLabels`. path_state, two_path, part_order and pair_order rest on this law.
 use Rattle.std.specs.Prelude.{◌≡◌, ℕ, ◌<◌, ◌⊎◌, List, [], ◌∷◌, length, Option, Some, None, Ok}
 use Rattle.block_order.specs.declared.control.Control.{Control}
 use Rattle.block_order.specs.declared.control.Control.TheVariants.{Next, Goto, While, Do, EndLoop, Wait, End, Call, Back, BackTo}
@@ -11,7 +11,8 @@ pub use Rattle.block_order.specs.Moves.{place_behind}
 use Rattle.block_order.specs.Moves.{place_of_jump, place_behind_loop, place_of_head, place_of_call, place_of_return, place_of_jump_back}
 use Rattle.block_order.specs.Labels.{ahead, list}
 
--- a block of this control, at which the place stands, may lead there
+-- From a place that stands at a block of this control, one step may lead to the other place. A wait
+-- and an end lead nowhere by themselves.
 abbrev pub Goes : List ControlProgram → List Frame → Control → List Frame → Type 0
 Goes tape place Next to = to ≡ place_behind place
 Goes tape place (Goto n) to =
@@ -25,17 +26,17 @@ Goes tape place (Call program repeats) to = place_of_call program repeats place 
 Goes tape place Back to = to ≡ place_of_return place
 Goes tape place (BackTo n) to = place_of_jump_back tape n place ≡ Ok to
 
--- the control of the running block
+-- The control of the block at which the place stands, if there is one.
 abbrev pub standing : List ControlProgram → List Frame → Option Control
 standing tape [] = None
 standing tape (f ∷ stack) = control_at (blocks tape f.program) f.block
 
--- one step that is no wait and no end
+-- One step leads from the first place to the other; its block is no wait and no end.
 abbrev pub Step : List ControlProgram → List Frame → List Frame → Type 0
 Step tape place to = (c : Control) × (standing tape place ≡ Some c) × Goes tape place c to
 
--- A place: each frame but the running one stands on the call of the next one's program, and the
--- lowest is the main program's.
+-- A place: each frame but the running one stands on the call of the next one's program, at most
+-- eight calls are open, and the lowest frame is the main program's, with no repeat left.
 abbrev pub IsPlace : List ControlProgram → List Frame → Type 0
 IsPlace tape [] = ⊥
 IsPlace tape (f ∷ []) = (f.program ≡ main_number tape) × (f.left ≡ 0)
@@ -43,12 +44,12 @@ IsPlace tape (f ∷ g ∷ stack) =
     (repeats : ℕ) × (control_at (blocks tape g.program) g.block ≡ Some (Call f.program repeats)) × (length stack < 8)
     × IsPlace tape (g ∷ stack)
 
--- a step leaves the labels ahead as they were
+-- The step from the frame f with these callers leaves the labels ahead as they were.
 abbrev pub Same : List ControlProgram → Frame → List Frame → List Frame → Type 0
 Same tape f stack to = ahead tape to ≡ ahead tape (f ∷ stack)
 
--- what a step does to the labels ahead: nothing, but at an M99 of the main program with no call
--- open
+-- What a step of a block of this control does to the labels ahead: nothing, but at an M99 of the
+-- main program with no call open. Before that they are `Again` alone, behind it the whole list.
 abbrev pub Kept : List ControlProgram → Frame → List Frame → Control → List Frame → Type 0
 Kept tape f [] Back to = (ahead tape (f ∷ []) ≡ label.Again ∷ []) × (ahead tape to ≡ list tape)
 Kept tape f (g ∷ stack) Back to = Same tape f (g ∷ stack) to
@@ -66,9 +67,12 @@ Kept tape f stack (BackTo n) to = Same tape f stack to
 -- main program, before which they are Again alone and behind which they are the whole list; at a
 -- wait they begin with it, and it goes with the passing; at an end they are End alone.
 pub record KeepsLabels (tape : List ControlProgram) : Type 0 where
+  -- A step leads to a place and does to the labels ahead what `Kept` says.
   pub step : (f : Frame) (stack : List Frame) → IsPlace tape (f ∷ stack)
       → (c : Control) → control_at (blocks tape f.program) f.block ≡ Some c
       → (to : List Frame) → Goes tape (f ∷ stack) c to → IsPlace tape to × Kept tape f stack c to
+  -- At a wait the labels ahead begin with it, and behind it are the others.
   pub wait : (place : List Frame) (code : ℕ) → IsPlace tape place → standing tape place ≡ Some (Wait code)
       → IsPlace tape (place_behind place) × (ahead tape place ≡ label.Wait code ∷ ahead tape (place_behind place))
+  -- At an end the labels ahead are `End` alone.
   pub ends : (place : List Frame) → IsPlace tape place → standing tape place ≡ Some End → ahead tape place ≡ label.End ∷ []

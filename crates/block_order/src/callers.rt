@@ -1,7 +1,8 @@
-//! Which programs call a program. The only error here is that memory runs out.
+//! Which programs call a program, so that a search can go from a program back to its callers. The
+//! only error here is that memory runs out.
 //!
-//! Only time depends on it: it says which programs are looked at again, and that look decides.
-//! part_lines uses it too.
+//! loud.rt and part_lines look again at the callers of what they found, and that look decides. So
+//! what this table holds changes the time that they take, and not their answer.
 
 use crate::control::Control;
 use crate::program::{ControlBlock, ControlProgram};
@@ -9,7 +10,7 @@ use indexmap::IndexMap;
 use nc_number::NoMemory;
 use std::alloc::Global;
 
-/// From an O number to those of the programs that call it, once for each call.
+/// From an O number to those of the programs that call it, one entry for each call.
 #[derive(Drop)]
 pub struct Callers {
     numbers: IndexMap<u16, Vec<u16>>,

@@ -1,4 +1,5 @@
-//! What a block does to the order of blocks. Which words say so is in block_forms and open_forms.
+//! What a block does to the order of blocks. Which words say so is in block_forms and open_forms,
+//! which make these; this crate, wait_order and the crates of paths match on them.
 
 /// What a block does to the order of blocks.
 #[derive(Clone, Copy, Debug, PartialEq, Eq)]

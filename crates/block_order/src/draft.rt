@@ -23,6 +23,7 @@ use std::marker::Model;
 /// calls find what they name. Its waits are still to be judged.
 #[derive(Drop)]
 pub struct DraftOrder {
+    /// The programs of the tape, in the order of the text.
     programs: Vec<ControlProgram>,
     /// The tables of the programs, in their order.
     tables: Vec<ProgramTables>,
@@ -96,7 +97,8 @@ impl DraftOrder {
         &self.loud
     }
 
-    /// The same order, after wait_order has found no fault of waits.
+    /// This draft as the order of its tape, once wait_order has found no fault of waits. The name
+    /// stands for the order that was judged.
     pub fn judged(self) -> BlockOrder
         requires waits { IsClear self Waiting }
         ensures { result ≡ self }

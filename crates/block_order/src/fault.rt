@@ -1,5 +1,5 @@
-//! What is wrong with the order of a tape's blocks. wait_order answers it too, tape_flow by its
-//! number.
+//! What is wrong with the order of a tape's blocks: the fault and its line. This crate and
+//! wait_order answer it; tape_flow and open_order make it the refusal of their tape.
 
 use nc_number::Cause;
 use thiserror::Error;

@@ -1,5 +1,5 @@
-//! The first fault in what jumps and calls find.
-//! Which faults there are is in specs/Faults.antt. draft.rt calls it.
+//! The first fault in what jumps and calls find: 50, 51 or 53. Which faults there are is in
+//! specs/Faults.antt. draft.rt calls `finding_fault`.
 ghost use Rattle.std.specs.Prelude.{◌≡◌, ◌↔◌, ◌<◌, ◌≤◌, List, IsTrue, None, Some, is_some, length, if◌then◌else◌};
 ghost use Rattle.nc_number.specs.declared.cause.Cause.TheVariants.{NoProgram};
 ghost use Rattle.block_order.specs.declared.program.ControlBlock.{ControlBlock};

@@ -1,5 +1,5 @@
-//! The first fault in how programs and loops fit together.
-//! Which faults there are is in specs/Faults.antt. draft.rt calls it.
+//! The first fault in how programs and loops fit together: 60 or 52. Which faults there are is in
+//! specs/Faults.antt. draft.rt calls `fitting_fault`.
 ghost use Rattle.std.specs.Prelude.{◌≤◌, length, IfOk};
 ghost use Rattle.block_order.specs.Faults.{Fitting};
 ghost use Rattle.block_order.specs.First.{IsFirstOf, IsMismatchLine};

@@ -1,5 +1,5 @@
-//! One open call of a place.
-//! A place, place.rt, is made of these.
+//! One open call of a place. A place (place.rt) is made of frames; the specs of path_state speak of
+//! them too.
 
 /// One open call of a place, or the main program at its bottom: the program that runs, at a block,
 /// with so many repeats still to come.

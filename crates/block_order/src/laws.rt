@@ -1,6 +1,6 @@
 //! What holds of every tape, for the crates above. Each law is the contract of a function that does
-//! nothing: who calls it has the law.
-//! The verifiers, pair_order, two_path, loud_calls and trace_list call them.
+//! nothing: who calls it has the law. nc_verify, wait_verify, pair_order, two_path, loud_calls and
+//! trace_list call them.
 
 ghost use Rattle.std.specs.Prelude.{List, ℕ, ◌↔◌};
 ghost use Rattle.block_order.specs.declared.program.ControlBlock.{ControlBlock};
@@ -18,19 +18,19 @@ pub fn each_step_keeps_the_labels()
     ensures { (tape : List ControlProgram) → IsUnforked tape → KeepsLabels tape }
 {}
 
-/// A program is found loud exactly where it, or one that it calls, directly or through others, has
-/// a wait or an end.
+/// A program is found loud exactly if it, or one that it calls, directly or through others, has a
+/// wait or an end.
 pub fn being_loud_is_reaching_a_wait_or_an_end()
     ensures { (tape : List ControlProgram) → IsLoudExactly tape }
 {}
 
-/// Where no fault of waits is found, all runs of the tape come to one list of labels.
+/// If no fault of waits is found, all runs of the tape come to one list of labels.
 pub fn a_tape_without_faults_is_unforked()
     ensures { (tape : List ControlProgram) → IsClear tape Waiting → IsUnforked tape }
 {}
 
-/// A loop ends at the nearest END of its name behind its head, and a jump is permitted exactly
-/// where every loop that holds its target holds it too.
+/// A loop ends at the nearest END of its name behind its head, and a jump is permitted exactly if
+/// every loop that holds its target holds its own block too.
 pub fn a_loop_ends_at_its_nearest_end()
     ensures ends { (bs : List ControlBlock) (head close : ℕ) → IsLoop bs head close ↔ LoopFacts bs head close }
     ensures jumps { (bs : List ControlBlock) (block target : ℕ)

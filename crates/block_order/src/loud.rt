@@ -1,5 +1,5 @@
-//! Which programs are loud: they reach a wait or an end.
-//! wait_order asks for them too. The meaning is in specs/Loud.antt.
+//! Which programs are loud: they reach a wait or an end. The meaning is in specs/Loud.antt. The
+//! orders of this crate keep it; wait_order asks for it too.
 ghost use Rattle.std.specs.Prelude.{◌≡◌, [], true, map, IfOk};
 ghost use Rattle.block_order.specs.Loud.{is_loud_block, has_loud_block, known_loud, loud};
 ghost use Rattle.block_order.specs.Order.{blocks};
@@ -59,7 +59,7 @@ fn any_is_loud(numbers: &ProgramNumbers, flags: &[bool], blocks: &[ControlBlock]
     false
 }
 
-/// One more look at each program, with what is known so far.
+/// The flags after one more look at each program, by what is known so far.
 fn look_again(
     alloc: Global,
     numbers: &ProgramNumbers,
@@ -90,8 +90,8 @@ fn are_same(these: &[bool], those: &[bool]) -> bool
     these == those
 }
 
-/// Flags the program of this number where one of its blocks is loud, by what is known so far.
-/// Whether it is flagged only now.
+/// Flags the program of this number if one of its blocks is loud, by what is known so far. The
+/// answer is whether it is flagged only now.
 fn hear(
     programs: &[ControlProgram],
     numbers: &ProgramNumbers,
@@ -116,8 +116,8 @@ fn hear(
     }
 }
 
-/// The same of each of these programs. The numbers of those that are flagged only now are put
-/// behind the others.
+/// Flags those of these programs that have a loud block, by what is known so far. The numbers of
+/// those that are flagged only now are put behind the others in `fresh`.
 fn hear_each(
     programs: &[ControlProgram],
     numbers: &ProgramNumbers,
@@ -137,7 +137,8 @@ fn hear_each(
     Ok(())
 }
 
-/// Flags loud programs, and of each one that is flagged looks at those that call it.
+/// Flags loud programs: first by one look at each program, then by a look at the callers of each
+/// one that was flagged.
 fn hear_all(
     alloc: Global,
     programs: &[ControlProgram],
@@ -170,7 +171,7 @@ fn hear_all(
     Ok(())
 }
 
-/// Flags of loud programs, mostly of all of them.
+/// Flags of loud programs; mostly of all of them, which is not promised.
 fn heard_first(
     alloc: Global,
     numbers: &ProgramNumbers,
@@ -184,8 +185,8 @@ fn heard_first(
     Ok(flags)
 }
 
-/// The flags of exactly the loud programs. What is heard first is looked at again until nothing
-/// changes, which it mostly doesn't.
+/// The flags of exactly the loud programs. The first flags are looked at again until nothing
+/// changes, which is mostly so at once.
 fn loud_flags(
     alloc: Global,
     numbers: &ProgramNumbers,
@@ -243,7 +244,7 @@ impl LoudPrograms {
         flag_of(&self.numbers, flags, number)
     }
 
-    /// Whether the program with this O number is loud; no program is not.
+    /// Whether the program with this O number is loud; `false` for a number without a program.
     pub fn is_loud(&self, number: u16) -> bool
         ensures { result ≡ heard self.now number }
     {

@@ -1,5 +1,5 @@
-//! The first block of a program that shows that its loops don't fit together.
-//! fitting.rt calls it.
+//! The first block of a program that shows that its loops don't fit together. fitting.rt calls
+//! `first_mismatch` for the fault 52.
 ghost use Rattle.std.specs.Prelude.{◌≡◌, ◌≤◌, length, IfOk, OnOk};
 ghost use Rattle.block_order.specs.Loops.{closed, open_behind};
 ghost use Rattle.block_order.specs.Misplaced.{seen, has_name, is_latest, is_misplaced, earliest, IsFirstMismatch};
@@ -38,7 +38,7 @@ pub(crate) fn first_mismatch(
     Ok(lesser(misplaced, earliest(stack.as_slice())))
 }
 
-/// With these loops open, the latest last, a block of this control does not fit.
+/// Whether a block of this control does not fit while these loops are open, the latest last.
 fn is_misplaced(stack: &[OpenLoop], control: Control) -> bool
     ensures { result ≡ is_misplaced (seen stack.now) control }
 {
@@ -50,14 +50,14 @@ fn is_misplaced(stack: &[OpenLoop], control: Control) -> bool
     }
 }
 
-/// An open loop has this name.
+/// Whether an open loop has this name.
 fn has_name(stack: &[OpenLoop], name: u8) -> bool
     ensures { result ≡ has_name name (seen stack.now) }
 {
     stack.iter().any(|other| other.name == name)
 }
 
-/// The latest open loop has this name.
+/// Whether the latest open loop has this name.
 fn is_latest(stack: &[OpenLoop], name: u8) -> bool
     ensures { result ≡ is_latest name (seen stack.now) }
 {

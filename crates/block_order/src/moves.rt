@@ -1,5 +1,5 @@
-//! Where control goes from a place, by the order of its tape.
-//! What a move does to the place is in place.rt.
+//! Where control goes from a place, by the order of its tape: path_state asks this, and then moves
+//! the place. What a move does to the place is in place.rt.
 ghost use Rattle.std.specs.Prelude.{◌≡◌, ◌∷◌};
 ghost use Rattle.block_order.specs.Moves.{place_to, place_of_jump, place_behind_loop, place_of_head};
 ghost use Rattle.block_order.specs.Moves.{place_of_caller, place_of_jump_back};
@@ -61,8 +61,8 @@ impl Place {
         }
     }
 
-    /// Where M99 with a sequence number leads: a block of the caller, in the main program one of
-    /// its own.
+    /// Where M99 with a sequence number leads: to a block of the caller, in the main program to a
+    /// block of that.
     ///
     /// Errors: those of [`jump`](Place::jump).
     pub fn jump_back(&self, order: &BlockOrder, number: u32) -> Result<u32, Cause>

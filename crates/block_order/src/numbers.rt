@@ -1,5 +1,5 @@
-//! From O numbers to places on the tape.
-//! For this crate alone; other crates ask the order.
+//! From O numbers to places on the tape. For this crate alone; other crates ask the order
+//! (order.rt) or the loud programs (loud.rt).
 ghost use Rattle.std.specs.Prelude.{◌≡◌, ◌==◌, ◌<◌, ℕ, Some, None, length, OnOk, IfOk, if◌then◌else◌};
 ghost use Rattle.block_order.specs.Order.{blocks, or_else};
 ghost use Rattle.block_order.specs.ProgramPlaces.{place_of};

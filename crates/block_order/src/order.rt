@@ -1,5 +1,5 @@
-//! The order of a tape's blocks, checked.
-//! wait_order makes it of a draft; path_state and label_list go by it.
+//! The order of a tape's blocks, checked: what all crates above ask where a jump, a loop or a call
+//! leads. wait_order makes it of a draft; path_state and label_list go by it.
 ghost use Rattle.std.specs.Prelude.{◌≡◌, ◌<◌, [], None, IfSome, slice_get};
 ghost use Rattle.std.specs.Option.{option_copied};
 ghost use Rattle.block_order.specs.Faults.{IsSound};
@@ -19,6 +19,7 @@ use std::marker::Model;
 /// together, its jumps and calls find what they name, and its waits stay in order.
 #[derive(Drop)]
 pub struct BlockOrder {
+    /// The programs of the tape, in the order of the text.
     pub(crate) programs: Vec<ControlProgram>,
     /// The tables of the programs, in their order.
     pub(crate) tables: Vec<ProgramTables>,
@@ -143,7 +144,8 @@ impl BlockOrder {
         }
     }
 
-    /// Whether the program has a wait or an end, or calls one that is loud.
+    /// Whether the program has a wait or an end, or calls a program that is loud; `false` for a
+    /// number without a program.
     pub fn is_loud(&self, program: u16) -> bool
         ensures { result ≡ loud self.now program }
     {

@@ -1,6 +1,6 @@
-//! Where a path stands, and its moves.
-//! What the moves ask of the tape is in moves.rt.
-//! path_state, tape_flow and label_list go by places.
+//! Where a path stands, and what each move makes of its place. Where a move leads on the tape is in
+//! moves.rt, the meaning of each move in specs/Moves.antt. path_state goes by places; tape_flow
+//! tells where a path starts, and the line and the label of a place.
 ghost use Rattle.std.specs.Prelude.{◌≡◌, ◌+◌, ◌≤◌, ◌↔◌, ◌∷◌, length, reverse, slice_get};
 ghost use Rattle.std.specs.Prelude.{Ok, Err, IsOk, IfErr, OnOk, OnErr};
 ghost use Rattle.nc_number.specs.declared.cause.Cause.TheVariants as Cause;
@@ -94,7 +94,7 @@ impl Place {
         self.frame(1)
     }
 
-    /// Goes to the next block, behind a wait too.
+    /// Goes to the next block; a wait is passed by this too.
     pub fn next(&mut self)
         requires { MayPass self.old }
         ensures { self.new ≡ place_behind self.old }

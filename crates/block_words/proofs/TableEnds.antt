@@ -1,4 +1,5 @@
--- No table of G codes has a code past 65,535.
+-- No table of G codes has a code past 65,535. For `row_of` (src/dialect.rt), which looks no
+-- further.
 use Rattle.std.proofs.Common.{◌≡◌, ℕ, ◌<◌, ◌==◌, nat_le, true, false, List, [], ◌∷◌, None, refl, arith}
 use Rattle.std.specs.List.{list_all}
 use Rattle.std.proofs.lemmas.Bool.{and_parts}
@@ -22,7 +23,7 @@ none_beyond (row ∷ rows) code all beyond =
     differs : (own code : ℕ) → nat_le own 65535 ≡ true → 65535 < code → (own == code) ≡ false
     differs own code small beyond = grind (arith, nat_tests)
 
--- The table of each system has none.
+-- The table of neither system has a row for a code past 65,535.
 pub no_row_beyond : (system : System) (code : ℕ) → 65535 < code → row_of (rows_of_system system) code ≡ None
 no_row_beyond A code beyond = none_beyond (rows_of_system A) code refl beyond
 no_row_beyond B code beyond = none_beyond (rows_of_system B) code refl beyond

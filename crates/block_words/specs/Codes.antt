@@ -1,5 +1,5 @@
 -- The G and M codes of a block, and what they make of P and L. block_forms, open_forms,
--- block_values and crates above read this.
+-- block_values, path_state and other crates above cite this.
 use Rattle.std.specs.Prelude.{ℕ, Bool, true, false, ◌==◌, ◌&&◌, nat_le, List, [], ◌∷◌, Option, Some, None, ℤ, pos, negsuc, codes, find, if◌then◌else◌}
 use Rattle.std.specs.List.{list_any, filter_map}
 use Rattle.code_tables.specs.declared.row.Row.{Row}

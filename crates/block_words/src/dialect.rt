@@ -1,5 +1,5 @@
 //! How a tape is read, as the settings say: which M codes wait, and of which system its G codes
-//! are.
+//! are. tape_flow and wait_verify make it of the settings; every reader of words takes it.
 ghost use Rattle.std.specs.Prelude.{◌≡◌};
 ghost use Rattle.code_tables.specs.Codes.{row_of};
 ghost use Rattle.code_tables.specs.Systems.{rows_of_system};

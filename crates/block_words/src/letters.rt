@@ -40,7 +40,7 @@ pub fn count_of(words: &[FlowWord], letters: &[u8]) -> usize
         .count()
 }
 
-/// What the word says, if it is of these letters; else what was said before.
+/// The number that this word says, if it is of these letters; else the number that was said before.
 fn later_number(before: Option<u32>, word: &FlowWord, letters: &[u8]) -> Option<u32>
     requires { IfSome before (λ n. n ≤ 99999999) }
     ensures value { result

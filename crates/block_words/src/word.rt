@@ -1,4 +1,5 @@
-//! A word of a block, and its value. How its text is read is in block_forms.
+//! A word of a block: its letter and its value. How its text is read is in block_forms;
+//! block_values and race_report read the values.
 ghost use Rattle.std.specs.Prelude.{◌≡◌, ◌≤◌, Some, IfSome, unsigned_abs};
 
 use macro_eval::Code;

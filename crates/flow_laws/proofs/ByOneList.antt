@@ -9,7 +9,7 @@ use Rattle.tape_flow.specs.Forms.{ProgramForm}
 use Rattle.flow_laws.specs.OneList.{ReadsWithOneList}
 use Rattle.flow_laws.specs.Waits.{AreWaitFaultsExact}
 
--- if the faults of waits are exact, accepted and read with one list are the same
+-- If the faults of waits are exact, a tape is accepted exactly if it reads with one list of labels.
 pub by_one_list : ((order : List ControlProgram) → AreWaitFaultsExact order) → (dialect : Dialect) (tape : List Program)
     (programs : List ProgramForm) → IsAccepted dialect tape programs ↔ ReadsWithOneList dialect tape programs
 by_one_list law dialect tape programs = (

@@ -9,7 +9,7 @@ use Rattle.block_order.specs.Faults.{Stage, Fitting, Finding, Waiting, HasFault,
 use Rattle.flow_laws.specs.Answers.{HasOneFirst, HasSomeFirst}
 use Rattle.flow_laws.proofs.Least.{none_at_all}
 
--- what is no later than the other both ways is the same
+-- Of two faults each of which is no later than the other, line and number are the same.
 same_place : (line other_line n m : ℕ) → (line < other_line) ⊎ ((line ≡ other_line) × (n ≤ m))
     → (other_line < line) ⊎ ((other_line ≡ line) × (m ≤ n)) → (line ≡ other_line) × (n ≡ m)
 same_place line other_line n m (inl a) (inl b) = absurd (omega arith)
@@ -17,16 +17,16 @@ same_place line other_line n m (inl a) (inr b) = absurd (omega (arith, b.0))
 same_place line other_line n m (inr a) (inl b) = absurd (omega (arith, a.0))
 same_place line other_line n m (inr a) (inr b) = (a.0, omega (arith, a.1, b.1))
 
--- the first fault of a stage
+-- The fault is the first of this stage, and the stages before have none.
 record IsFirstIn (tape : List ControlProgram) (stage : Stage) (line : ℕ) (cause : Cause) : Type 0 where
-  -- the stages before have no fault
+  -- The stages before have no fault.
   before : IsClearBefore tape stage
-  -- it is a fault of this stage
+  -- It is a fault of this stage.
   holds : HasFault tape stage line cause
-  -- no other fault of the stage comes earlier
+  -- No other fault of the stage comes earlier.
   least : (other_line : ℕ) (other : Cause) → HasFault tape stage other_line other → IsNoLater line cause other_line other
 
--- a stage has one first fault
+-- Two first faults of one stage are one line and one cause.
 one_of_stage : (tape : List ControlProgram) (stage : Stage) (line other_line : ℕ) (cause other : Cause)
     → IsFirstIn tape stage line cause → IsFirstIn tape stage other_line other → (line ≡ other_line) × (cause ≡ other)
 one_of_stage tape stage line other_line cause other a b =
@@ -34,7 +34,7 @@ one_of_stage tape stage line other_line cause other a b =
     (b.least line cause a.holds) in
     (same.0, number_has_one_cause cause other same.1)
 
--- two first faults are of one stage, and so the same
+-- Two first faults of a tape are of one stage, and so one line and one cause.
 one_of_stages : (tape : List ControlProgram) (stage other_stage : Stage) (line other_line : ℕ) (cause other : Cause)
     → IsFirstIn tape stage line cause → IsFirstIn tape other_stage other_line other → (line ≡ other_line) × (cause ≡ other)
 one_of_stages tape Fitting Fitting line other_line cause other a b = one_of_stage tape Fitting line other_line cause other a b
@@ -47,24 +47,22 @@ one_of_stages tape Finding Fitting line other_line cause other a b = absurd (a.b
 one_of_stages tape Waiting Fitting line other_line cause other a b = absurd (a.before.0 other_line other b.holds)
 one_of_stages tape Waiting Finding line other_line cause other a b = absurd (a.before.1 other_line other b.holds)
 
--- a first fault is the first of its stage
+-- A first fault of a tape is the first of its stage.
 in_its_stage : (tape : List ControlProgram) (line : ℕ) (cause : Cause) → (first : IsFirst tape line cause)
     → IsFirstIn tape first.stage line cause
 in_its_stage tape line cause first = record { before = first.before; holds = first.holds; least = first.least }
 
--- the law: a tape has one first fault
+-- The law: a tape has one first fault.
 pub one_first : HasOneFirst
 one_first tape line other_line cause other a b =
     one_of_stages tape a.stage b.stage line other_line cause other (in_its_stage tape line cause a)
     (in_its_stage tape other_line other b)
 
--- Some first fault.
-
--- a cause of a fault of the line, by its number
+-- The line has a fault of the stage whose cause has this number.
 abbrev HasNumber : List ControlProgram → Stage → ℕ → ℕ → Type 0
 HasNumber tape stage line n = (cause : Cause) × HasFault tape stage line cause × (cause_number cause ≡ n)
 
--- a fault of the least number on its line is no later than others on that line or after it
+-- A fault of the least number on its line is no later than others on that line or after it.
 no_later_than : (tape : List ControlProgram) (stage : Stage) (line other_line n : ℕ) (cause other : Cause) → cause_number cause ≡ n
     → ((m : ℕ) → HasNumber tape stage line m → n ≤ m) → HasFault tape stage other_line other → line ≤ other_line
     → IsNoLater line cause other_line other
@@ -76,7 +74,7 @@ no_later_than tape stage line other_line n cause other own least fault le = elim
   | inr less ↦ inl less
 ]
 
--- a stage without a first fault is clear, if those before it are
+-- A stage without a first fault is clear, if those before it are.
 clear_stage : (tape : List ControlProgram) (stage : Stage) → ((line : ℕ) × (cause : Cause) × IsFirst tape line cause → ⊥)
     → IsClearBefore tape stage → IsClear tape stage
 clear_stage tape stage none before line cause fault =
@@ -96,7 +94,7 @@ clear_stage tape stage none before line cause fault =
     (cause_number some.0) (some.0, some.1, refl))
     line (cause, fault)
 
--- the law: no tape is neither sound nor has a first fault
+-- The law: no tape is neither sound nor has a first fault.
 pub sound_or_first : HasSomeFirst
 sound_or_first tape unsound none =
     let fits : IsClear tape Fitting = clear_stage tape Fitting none tt in

@@ -1,4 +1,4 @@
--- The files of proofs, each after those that it uses.
+-- The lemmas of the laws, each file after those that it takes. No other crate takes them.
 pub mod Unforked
 pub mod Least
 pub mod FirstFault

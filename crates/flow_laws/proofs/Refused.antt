@@ -1,5 +1,5 @@
--- A tape has one answer: its programs, or one refusal (the laws of src/tape.rt). First come its
--- blocks, then that there is one refusal, then that there is some answer.
+-- A tape has one answer, its programs or one refusal: the laws of src/tape.rt on that. First come
+-- its blocks, then that there is one refusal, then that there is some answer.
 use Rattle.std.proofs.Common.{◌≡◌, ℕ, zero, suc, ◌<◌, ◌≤◌, ◌⊎◌, inl, inr, List, [], ◌∷◌, map, Some, None, Result, Ok, Err, Contains, refl, ap, sym, subst, ◌∙◌, arith}
 use Rattle.nc_number.specs.Causes.{cause_number}
 use Rattle.nc_text.specs.declared.tape.Block.{Block}
@@ -19,18 +19,16 @@ use Rattle.tape_flow.proofs.Accepted.{nothing_found}
 use Rattle.flow_laws.specs.Answers.{CantBothFail, HasOneFirst, HasSomeFirst, HasRisingBlocks}
 use Rattle.flow_laws.proofs.Least.{none_at_all}
 
--- One block on each line.
-
--- a block of a list is its first or one of the others
+-- A block of a list is its first one or one of the others.
 here_or_later : (x : Block) (xs : List Block) (y : Block) → Contains (x ∷ xs) y → (x ≡ y) ⊎ Contains xs y
 here_or_later x xs y (zero, within, is) = inl is
 here_or_later x xs y (suc place, within, is) = inr (place, omega (arith, within), is)
 
--- an empty list has no block
+-- An empty list has no block.
 none_there : (y : Block) → Contains [] y → ⊥
 none_there y (place, within, is) = absurd (omega (arith, within))
 
--- each block stands on a later line than those before the list
+-- Each block of a list whose lines rise from a bound stands on a line above it.
 behind : (xs : List Block) (low : ℕ) (y : Block) → RiseFrom low (map (λ b. b.line) xs) → Contains xs y → low < y.line
 behind [] low y rise has = absurd (none_there y has)
 behind (x ∷ xs) low y rise has = elim (here_or_later x xs y has) [
@@ -38,7 +36,7 @@ behind (x ∷ xs) low y rise has = elim (here_or_later x xs y has) [
   | inr later ↦ let more : x.line < y.line = behind xs x.line y rise.1 later in omega (arith, rise.0)
 ]
 
--- two blocks of a tape on one line are the same
+-- Two blocks of a tape that stand on one line are the same block.
 one_block : (xs : List Block) (low : ℕ) (a b : Block) → RiseFrom low (map (λ x. x.line) xs) → Contains xs a → Contains xs b
     → a.line ≡ b.line → a ≡ b
 one_block [] low a b rise has other same = absurd (none_there a has)
@@ -55,9 +53,7 @@ one_block (x ∷ xs) low a b rise has other same =
         let own : x.line ≡ b.line = ap (λ z. z.line) q in absurd (omega arith)
     go (inr p) (inr q) rest = rest p q
 
--- Where all blocks read, none is refused.
-
--- if no block is refused and this one reads, none with this one is
+-- If there is no first refusal among a block and those behind it, none of them is refused.
 none_refused_at : (dialect : Dialect) (x : Block) (xs : List Block) (read : Result BlockForm ℕ) → block_or_refusal dialect x ≡ read
     → refusal_or (at_line x.line read) (first_refusal dialect xs) ≡ None
     → (first_refusal dialect xs ≡ None → (y : Block) (number : ℕ) → Contains xs y → block_or_refusal dialect y ≡ Err number → ⊥)
@@ -70,14 +66,14 @@ none_refused_at dialect x xs (Ok form) is clear rest y number has refused = elim
   | inr later ↦ rest clear y number later refused
 ]
 
--- if no block is the first refused, none is refused
+-- If there is no first refusal among these blocks, none of them is refused.
 none_refused : (dialect : Dialect) (xs : List Block) → first_refusal dialect xs ≡ None → (y : Block) (number : ℕ) → Contains xs y
     → block_or_refusal dialect y ≡ Err number → ⊥
 none_refused dialect [] clear y number has refused = none_there y has
 none_refused dialect (x ∷ xs) clear y number has refused =
     none_refused_at dialect x xs (block_or_refusal dialect x) refl clear (λ rest. none_refused dialect xs rest) y number has refused
 
--- if all blocks read, no line has a fault of a block
+-- If all blocks read, no line has a fault of a block.
 no_block_fault : (dialect : Dialect) (tape : List Program) (programs : List ProgramForm) (line number : ℕ)
     → programs_read dialect tape ≡ Ok programs → HasBlockFault dialect tape line number → ⊥
 no_block_fault dialect tape programs line number read has =
@@ -85,9 +81,7 @@ no_block_fault dialect tape programs line number read has =
     (nothing_found (programs_read dialect tape) programs (first_refusal dialect (blocks_in tape)) (programs_tell dialect tape []) read) has.0
     number has.1 has.3
 
--- One refusal.
-
--- the faults of the blocks of one line have one number
+-- Two faults of blocks on one line have one number.
 one_block_fault : (dialect : Dialect) (tape : List Program) (line other_line number other : ℕ) → HasRisingBlocks tape
     → line ≡ other_line → HasBlockFault dialect tape line number → HasBlockFault dialect tape other_line other → number ≡ other
 one_block_fault dialect tape line other_line number other rising same a b =
@@ -96,7 +90,7 @@ one_block_fault dialect tape line other_line number other rising same a b =
     let refused : block_or_refusal dialect b.0 ≡ Err number = subst (λ x. block_or_refusal dialect x ≡ Err number) blocks a.3 in
     let both : ◌≡◌ {A = Result BlockForm ℕ} (Err number) (Err other) = sym refused ∙ b.3 in cc
 
--- the law: a tape that is refused is refused at one line, by one number
+-- The law: a tape that is refused is refused at one line, by one number.
 pub one_refusal : HasOneFirst → (dialect : Dialect) (tape : List Program) (line other_line number other : ℕ) → HasRisingBlocks tape
     → IsRefused dialect tape line number → IsRefused dialect tape other_line other → (line ≡ other_line) × (number ≡ other)
 one_refusal law dialect tape line other_line number other rising (block a first) (block b other_first) =
@@ -115,13 +109,11 @@ one_refusal law dialect tape line other_line number other rising (order programs
     let one = law (controls others) line other_line a.0 b.0 own b.1 in
     (one.0, a.2 ∙ ap cause_number one.1 ∙ sym b.2)
 
--- Some answer.
-
--- a block of the list is refused
+-- A block of the list is refused.
 abbrev HasRefused : Dialect → List Block → Type 0
 HasRefused dialect xs = (y : Block) × (number : ℕ) × Contains xs y × (block_or_refusal dialect y ≡ Err number)
 
--- if this block or one after it is the first refused, one of the list is refused
+-- If there is a first refusal among a block and those behind it, one of them is refused.
 refused_at : (dialect : Dialect) (x : Block) (xs : List Block) (fault : FlowFault) (read : Result BlockForm ℕ)
     → block_or_refusal dialect x ≡ read → refusal_or (at_line x.line read) (first_refusal dialect xs) ≡ Some fault
     → (first_refusal dialect xs ≡ Some fault → HasRefused dialect xs) → HasRefused dialect (x ∷ xs)
@@ -130,13 +122,13 @@ refused_at dialect x xs fault (Ok form) is found rest =
     (later.0, later.1, (suc later.2.0, omega (arith, later.2.1), later.2.2), later.3)
 refused_at dialect x xs fault (Err number) is found rest = (x, number, (zero, omega arith, refl), is)
 
--- if there is a first refusal, one of the blocks is refused
+-- If there is a first refusal among these blocks, one of them is refused.
 some_refused : (dialect : Dialect) (xs : List Block) (fault : FlowFault) → first_refusal dialect xs ≡ Some fault → HasRefused dialect xs
 some_refused dialect [] fault found = absurd cc
 some_refused dialect (x ∷ xs) fault found =
     refused_at dialect x xs fault (block_or_refusal dialect x) refl found (λ rest. some_refused dialect xs fault rest)
 
--- the law: no tape is neither accepted nor refused
+-- The law: no tape is neither accepted nor refused.
 pub some_answer : HasSomeFirst → (dialect : Dialect) (tape : List Program)
     → CantBothFail ((programs : List ProgramForm) × IsAccepted dialect tape programs)
     ((line : ℕ) × (number : ℕ) × IsRefused dialect tape line number)

@@ -17,24 +17,24 @@ use Rattle.nc_text.specs.Tape.{Before, Answer, nothing_read, programs_of, next, 
 use Rattle.nc_text.proofs.Shaping.{blocks_last, rise_from, rise_last, rise_on}
 use Rattle.flow_laws.specs.Answers.{HasRisingBlocks}
 
--- the lines of the blocks of programs
+-- The lines of the blocks of these programs.
 abbrev lines : List Program → List ℕ
 lines tape = map (λ block. block.line) (blocks_in tape)
 
--- the blocks so far stand on rising lines, and none is past the lines that are read
+-- The blocks so far stand on rising lines, and none stands past the lines that were read.
 abbrev Rises : Before → Type 0
 Rises before = RiseTo 0 (lines (programs_of before)) before.lines
 
--- so does the tape, if there is one
+-- The blocks of the tape that is answered stand on rising lines, if one is answered.
 abbrev AnswerRises : Answer → Type 0
 AnswerRises answer = IfOk answer HasRisingBlocks
 
--- an O number adds no block
+-- An O number adds no line of a block.
 lines_with_program : (programs : List Program) (line number : ℕ) → lines (programs ++ program_at line number ∷ []) ≡ lines programs
 lines_with_program programs line number =
     ap (λ bs. map (λ block. block.line) bs) (blocks_last programs (program_at line number) ∙ append-nil (blocks_in programs))
 
--- a block is the last one
+-- A block that is put to the last program adds its line at the end.
 lines_with_block : (programs : List Program) (program : Program) (block : Block)
     → lines (programs ++ record program { blocks = program.blocks ++ block ∷ [] } ∷ []) ≡ lines (programs ++ program ∷ []) ++ block.line ∷ []
 lines_with_block programs program block =
@@ -44,11 +44,11 @@ lines_with_block programs program block =
     ∙ ap (λ bs. bs ++ block ∷ []) (sym (blocks_last programs program)))
     ∙ map-append (λ b. b.line) (blocks_in (programs ++ program ∷ [])) (block ∷ [])
 
--- one line more, which says nothing
+-- After a line that says nothing the lines of the blocks so far rise.
 line_more : (before : Before) (len : ℕ) (ended : Bool) → Rises before → Rises (next before len ended)
 line_more before len ended h = rise_on (lines (programs_of before)) 0 before.lines (before.lines + 1) h (omega arith)
 
--- a block on the next line comes after those so far
+-- With a block on the next line the lines of the blocks so far rise.
 block_more : (done : List Program) (current : Option Program) (block : Block) (n : ℕ) → block.line ≡ n + 1
     → RiseTo 0 (lines (done ++ option_to_list current)) n
     → RiseTo 0 (lines (done ++ option_to_list (with_block block current))) (n + 1)
@@ -56,7 +56,7 @@ block_more done None block n at h = rise_on (lines (done ++ [])) 0 n (n + 1) h (
 block_more done (Some program) block n at h =
     rw (lines_with_block done program block, at) (rise_last (lines (done ++ program ∷ [])) 0 n (n + 1) h (omega arith))
 
--- whatever the next line says, the lines still rise
+-- Whatever the next line says, the lines of the blocks so far rise.
 said_more : (before : Before) (what : Said) (len : ℕ) (ended : Bool) → Rises before → Rises (next (with_said before what) len ended)
 said_more before said.Nothing len ended h = line_more before len ended h
 said_more before (said.Program None) len ended h = line_more before len ended h
@@ -65,15 +65,15 @@ said_more before (said.Program (Some number)) len ended h =
 said_more before (said.Block block) len ended h =
     block_more before.done before.current (block_at (before.lines + 1) block) before.lines refl h
 
--- Steps.
-
--- if what follows a line rises, so does the reading from it on, also if the line is refused
+-- If what follows a line answers rising lines, so does the reading from it on, also if the line is
+-- refused.
 goes : (before after : Before) (refusal : Option Refusal) (rest : Before → Answer) → AnswerRises (rest after)
     → AnswerRises (goes_on before (unless_refused refusal after) rest)
 goes before after None rest h = h
 goes before after (Some refusal) rest h = tt
 
--- if what follows a line rises whatever it says, so does the reading from this line on
+-- If what follows a line answers rising lines whatever the line says, so does the reading from this
+-- line on.
 goes_said : (before : Before) (len : ℕ) (ended : Bool) (says : Result Said Refusal) (rest : Before → Answer)
     → ((what : Said) → AnswerRises (rest (next (with_said before what) len ended)))
     → AnswerRises (goes_on before (after_said before len ended says) rest)
@@ -81,12 +81,12 @@ goes_said before len ended (Ok what) rest h =
     goes before (next (with_said before what) len ended) (said_refusal before len ended what) rest (h what)
 goes_said before len ended (Err refusal) rest h = tt
 
--- whichever of two readings is taken, its lines rise
+-- If two readings answer rising lines, so does whichever is taken.
 either : (test : Bool) (one other : Answer) → AnswerRises one → AnswerRises other → AnswerRises (if test then one else other)
 either true one other h k = h
 either false one other h k = k
 
--- what is read after the second `%` has rising lines
+-- What is read behind the second `%` answers rising lines.
 rest_rises : (rest : List Line) (before : Before) → Rises before → AnswerRises (in_rest rest before)
 rest_rises [] before h =
     either (is_none before.current) _ (Ok (programs_of before)) tt (rise_from (lines (programs_of before)) 0 before.lines h)
@@ -94,7 +94,7 @@ rest_rises (line ∷ rest) before h =
     goes before (next before (length line.bytes) line.ended) (outer_refusal before (length line.bytes) line.ended) (in_rest rest)
     (rest_rises rest (next before (length line.bytes) line.ended) (line_more before (length line.bytes) line.ended h))
 
--- what is read between the `%` lines, and after them, has rising lines
+-- What is read between the two `%`, and behind them, answers rising lines.
 body_rises : (skips : ℕ) (rest : List Line) (before : Before) → Rises before → AnswerRises (in_body skips rest before)
 body_rises skips [] before h = either (is_none before.current) _ _ tt tt
 body_rises skips (line ∷ rest) before h =
@@ -105,7 +105,7 @@ body_rises skips (line ∷ rest) before h =
     (λ what. body_rises skips rest (next (with_said before what) (length line.bytes) line.ended)
     (said_more before what (length line.bytes) line.ended h)))
 
--- what is read from before the first `%` on has rising lines
+-- What is read from before the first `%` on answers rising lines.
 leader_rises : (skips : ℕ) (rest : List Line) (before : Before) → Rises before → AnswerRises (in_leader skips rest before)
 leader_rises skips [] before h = tt
 leader_rises skips (line ∷ rest) before h =
@@ -116,11 +116,11 @@ leader_rises skips (line ∷ rest) before h =
     (body_rises skips rest (begun after) own))
     (goes before after (outer_refusal before (length line.bytes) line.ended) (in_leader skips rest) (leader_rises skips rest after own))
 
--- what is read of a whole text has rising lines
+-- What is read of a whole text answers rising lines.
 read_rises : (skips : ℕ) (text : List ℕ) → AnswerRises (tape_of skips text)
 unfolding tape_of
 read_rises skips text = leader_rises skips (lines_of text) nothing_read (omega arith)
 
--- the law: the blocks of a tape that was read stand on rising lines
+-- The law: the blocks of a tape that was read stand on rising lines.
 pub blocks_rise : (skips : ℕ) (text : List ℕ) (tape : List Program) → tape_of skips text ≡ Ok tape → HasRisingBlocks tape
 blocks_rise skips text tape read = subst AnswerRises read (read_rises skips text)

@@ -1,5 +1,5 @@
 -- Which tapes are accepted, said by their lists of labels and without the faults of waits. For the
--- law of src/tape.rt alone.
+-- law `a_tape_is_accepted_exactly_with_one_list` (src/tape.rt) alone.
 use Rattle.std.specs.Prelude.{◌≡◌, List, Ok}
 use Rattle.nc_text.specs.declared.tape.Program.{Program}
 use Rattle.block_words.specs.declared.dialect.Dialect.{Dialect}
@@ -11,11 +11,11 @@ use Rattle.tape_flow.specs.Forms.{ProgramForm, programs_read}
 -- All blocks read so, programs and loops fit together, jumps and calls find what they name, and the
 -- tape has one list of labels.
 pub record ReadsWithOneList (dialect : Dialect) (tape : List Program) (programs : List ProgramForm) : Type 0 where
-  -- the blocks read as these programs
+  -- The blocks read as these programs.
   pub reads : programs_read dialect tape ≡ Ok programs
-  -- programs and loops fit together
+  -- Programs and loops fit together.
   pub fits : IsClear (controls programs) Fitting
-  -- jumps and calls find what they name
+  -- Jumps and calls find what they name.
   pub finds : IsClear (controls programs) Finding
-  -- whatever the variables hold, a path comes to one list of labels
+  -- Whatever the variables hold, a path comes to one list of labels.
   pub unforked : IsUnforked (controls programs)

@@ -1,5 +1,5 @@
--- What the two faults of waits deny: 65 is BranchAtWait, 66 is WaitTooDeep. For the first law of
--- src/order.rt alone.
+-- What the two faults of waits deny: 65 is BranchAtWait, 66 is WaitTooDeep. For the law
+-- `a_tape_has_one_list_where_no_wait_is_at_fault` (src/order.rt) alone.
 use Rattle.std.specs.Prelude.{◌↔◌, List}
 use Rattle.nc_number.specs.declared.cause.Cause.TheVariants.{BranchAtWait, WaitTooDeep}
 use Rattle.block_order.specs.declared.program.ControlProgram.{ControlProgram}
@@ -8,11 +8,12 @@ use Rattle.block_order.specs.Labels.{Chain, IsStraight, IsUnforked}
 use Rattle.block_order.specs.Faults.{IsClear, IsFreeOf, Waiting}
 
 -- 65 says exactly that blocks stray, 66 exactly that calls go too deep, and without both the tape
--- has one list of labels
+-- has one list of labels.
 pub record AreWaitFaultsExact (tape : List ControlProgram) : Type 0 where
-  -- 65 says exactly that some block may lead past a wait
+  -- No block has 65 exactly if no jump, no end of a loop and no return leads from one stretch to
+  -- another.
   pub strays : IsFreeOf tape BranchAtWait ↔ IsStraight tape
-  -- 66 says exactly that nine calls lead to one
+  -- No block has 66 exactly if no chain of nine calls of loud programs begins in the main program.
   pub deep : IsFreeOf tape WaitTooDeep ↔ (Chain tape 9 (main_number tape) → ⊥)
-  -- without both there is one list of labels
+  -- No block has either exactly if the tape has one list of labels.
   pub both : IsClear tape Waiting ↔ IsUnforked tape

@@ -2,7 +2,8 @@
 //! keeps a tape from having one list of labels.
 //!
 //! Each law is the contract of a function that does nothing: who calls it has the law. They speak
-//! of definitions alone, of what is read, accepted and refused, whatever code finds it.
+//! of definitions alone, of what is read, accepted and refused, whatever code finds it. nc_verify
+//! and wait_verify call them.
 #![tactic(auto)]
 
 mod lines;

@@ -1,5 +1,6 @@
-//! The faults of the order of blocks. wait_verify takes the laws on first faults; tape.rt takes
-//! all.
+//! What is so of the faults of the order of blocks, whatever code looks for them: 65 and 66 deny
+//! one list of labels, and a tape has one first fault or none. wait_verify calls the laws on first
+//! faults; tape.rt calls all.
 ghost use Rattle.std.specs.Prelude.{List};
 ghost use Rattle.block_order.specs.declared.program.ControlProgram.{ControlProgram};
 ghost use Rattle.flow_laws.specs.Answers.{HasOneFirst, HasSomeFirst};

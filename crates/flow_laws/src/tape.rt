@@ -1,4 +1,4 @@
-//! The answers that a tape has: its programs, or one refusal. nc_verify takes these laws.
+//! The answers that a tape has: its programs, or one refusal. nc_verify calls these laws.
 ghost use Rattle.std.specs.Prelude.{◌≡◌, ◌↔◌, ℕ, List};
 ghost use Rattle.nc_text.specs.declared.tape.Program.{Program};
 ghost use Rattle.block_words.specs.declared.dialect.Dialect.{Dialect};

@@ -1,16 +1,16 @@
 -- Two lists of labels that agree as far as the shorter goes are equal, since each ends by its last
--- label alone.
+-- label alone. For the proof of `first_difference` (src/comparison.rt).
 use Rattle.std.proofs.Common.{◌≡◌, ℕ, ◌≤◌, min, List, [], ◌∷◌, take, length, zero, suc, ap, arith}
 use Rattle.block_order.specs.declared.label.Label.{Label}
 use Rattle.block_order.specs.declared.label.Label.TheVariants.{Wait, End, Again, Off}
 use Rattle.label_list.specs.declared.labelled.Labelled.{Labelled}
 use Rattle.label_list.specs.Lists.{IsEnded, ended_by, bare}
 
--- a label alone is the same list on both sides
+-- If nothing is behind a label on either side, both lists are that label.
 none_left : (a : Label) (xs ys : List Labelled) → xs ≡ [] → ys ≡ [] → a ∷ bare xs ≡ a ∷ bare ys
 none_left a xs ys p q = let e1 : bare xs ≡ [] = ap bare p in let e2 : bare ys ≡ [] = ap bare q in cc
 
--- lists that agree as far as the shorter one goes agree to their ends
+-- Lists that agree as far as the shorter one goes agree to their ends.
 pub same_to_end : (xs ys : List Labelled) (n : ℕ) → min (length xs) (length ys) ≤ n → IsEnded xs → IsEnded ys
     → bare (take n xs) ≡ bare (take n ys) → bare xs ≡ bare ys
 same_to_end [] ys n short l r e = absurd l

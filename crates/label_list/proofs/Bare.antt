@@ -1,5 +1,5 @@
 -- Lines aside, the labels of a path are those ahead of its start: by induction over blocks and
--- calls.
+-- calls. For the law `labels_are_those_of_the_blocks` (src/laws.rt), and for Paired.
 use Rattle.std.proofs.Common.{◌≡◌, ℕ, zero, suc, Bool, true, false, List, [], ◌∷◌, ◌++◌, refl, ap, ◌∙◌}
 use Rattle.block_order.specs.declared.control.Control.{Control}
 use Rattle.block_order.specs.declared.control.Control.TheVariants.{Next, Goto, While, Do, EndLoop, Wait, End, Call, Back, BackTo}
@@ -15,13 +15,13 @@ use Rattle.block_order.specs.Labels.{labels, list}
 use Rattle.label_list.specs.declared.labelled.Labelled.{Labelled}
 use Rattle.label_list.specs.Lists.{bare, times, block_labels, blocks_labels, off_line, whole, path_labels, at}
 
--- a program that is called many times gives, lines aside, the labels that block_order defines,
+-- A program that is called many times gives, lines aside, the labels that block_order defines.
 times_bare : (n : ℕ) (f : List Labelled → List Labelled) (g : List Label → List Label) (behind : List Labelled)
     → ((k : List Labelled) → bare (f k) ≡ g (bare k)) → bare (times n f behind) ≡ plain.times n g (bare behind)
 times_bare zero f g behind same = refl
 times_bare (suc n) f g behind same = same (times n f behind) ∙ ap g (times_bare n f g behind same)
 
--- so does a block,
+-- A block gives, lines aside, the labels that block_order defines.
 block_bare : (ld : ℕ → Bool) (f : ℕ → List Labelled → List Labelled) (g : ℕ → List Label → List Label) (back : ℕ → List Labelled)
     (rest : List Label) (line : ℕ) (c : Control) (behind : List Labelled) (ms : List Mark)
     → ((q : ℕ) (k : List Labelled) → bare (f q k) ≡ g q (bare k)) → ((at_line : ℕ) → bare (back at_line) ≡ rest)
@@ -41,7 +41,7 @@ block_bare ld f g back rest line (Call q r) behind ms same ends more = go (ld q)
     go false e = rw e more
     go true e = rw e (times_bare r (f q) (g q) behind (same q) ∙ ap (λ ls. plain.times r (g q) ls) more)
 
--- so do the blocks of a program,
+-- The blocks of a program give, lines aside, the labels that block_order defines.
 blocks_bare : (ld : ℕ → Bool) (f : ℕ → List Labelled → List Labelled) (g : ℕ → List Label → List Label) (back : ℕ → List Labelled)
     (rest : List Label) (off : ℕ) (bs : List ControlBlock)
     → ((q : ℕ) (k : List Labelled) → bare (f q k) ≡ g q (bare k)) → ((at_line : ℕ) → bare (back at_line) ≡ rest)
@@ -51,7 +51,7 @@ blocks_bare ld f g back rest off (b ∷ bs) same ends =
     block_bare ld f g back rest b.line b.control (blocks_labels ld f back off bs) (marks ld bs) same ends
     (blocks_bare ld f g back rest off bs same ends)
 
--- and a program with all that it calls
+-- A program with all that it calls gives, lines aside, the labels that block_order defines.
 whole_bare : (tape : List ControlProgram) (n program : ℕ) (back : ℕ → List Labelled) (rest : List Label)
     → ((line : ℕ) → bare (back line) ≡ rest) → bare (whole tape n program back) ≡ plain.whole tape n program rest
 unfolding whole plain.whole
@@ -60,13 +60,13 @@ whole_bare tape (suc n) program back rest ends =
     blocks_bare (loud tape) (λ q behind. whole tape n q (λ line. behind)) (λ q k. plain.whole tape n q k) back rest
     (off_line (program_of tape program)) (blocks tape program) (λ q k. whole_bare tape n q (λ line. k) (bare k) (λ line. refl)) ends
 
--- the list of a tape is that of its main program, in which at most eight calls follow one in
--- another
+-- The list of a tape is that of its main program, in which at most eight calls follow one in
+-- another.
 list_whole : (tape : List ControlProgram) → plain.whole tape 9 (main_number tape) (label.Again ∷ []) ≡ list tape
 unfolding plain.whole
 list_whole tape = refl
 
--- so the labels of a path are, lines aside, the list of its tape
+-- The labels of a path are, lines aside, the list of its tape.
 pub bare_path : (tape : List ControlProgram) → bare (path_labels tape) ≡ list tape
 unfolding path_labels
 bare_path tape =

@@ -1,5 +1,5 @@
--- A path's list has one End, Again or Off, and it is the last label.
--- nc_verify takes `path_ended`.
+-- A path's list has one `End`, `Again` or `Off`, and it is the last label. For `labels` and
+-- `labels_of_order`; nc_verify takes `path_ended`.
 use Rattle.std.proofs.Common.{◌≡◌, ℕ, zero, suc, Bool, true, false, List, [], ◌∷◌, refl}
 use Rattle.block_order.specs.declared.control.Control.{Control}
 use Rattle.block_order.specs.declared.control.Control.TheVariants.{Next, Goto, While, Do, EndLoop, Wait, End, Call, Back, BackTo}
@@ -11,14 +11,13 @@ use Rattle.block_order.specs.Loud.{loud}
 use Rattle.label_list.specs.declared.labelled.Labelled.{Labelled}
 use Rattle.label_list.specs.Lists.{at, times, block_labels, blocks_labels, off_line, whole, path_labels, IsEnded}
 
--- a program that is called many times before labels that end so keeps that the last label, and no
--- other, ends the path,
+-- If a program before labels that end a path still does so, it does when it is called many times.
 times_ended : (n : ℕ) (f : List Labelled → List Labelled) (behind : List Labelled)
     → ((k : List Labelled) → IsEnded k → IsEnded (f k)) → IsEnded behind → IsEnded (times n f behind)
 times_ended zero f behind keeps e = e
 times_ended (suc n) f behind keeps e = keeps (times n f behind) (times_ended n f behind keeps e)
 
--- so does a block,
+-- A block before labels that end a path gives labels that end it.
 block_ended : (ld : ℕ → Bool) (f : ℕ → List Labelled → List Labelled) (back : ℕ → List Labelled) (line : ℕ) (c : Control)
     (behind : List Labelled) → ((q : ℕ) (k : List Labelled) → IsEnded k → IsEnded (f q k))
     → ((at_line : ℕ) → IsEnded (back at_line)) → IsEnded behind → IsEnded (block_labels ld f back line c behind)
@@ -37,7 +36,7 @@ block_ended ld f back line (Call q r) behind keeps ends e = go (ld q) refl
     go false is = rw is e
     go true is = rw is (times_ended r (f q) behind (keeps q) e)
 
--- so do the blocks of a program,
+-- The blocks of a program give labels that end a path, if what follows its M99 does.
 blocks_ended : (ld : ℕ → Bool) (f : ℕ → List Labelled → List Labelled) (back : ℕ → List Labelled) (off : ℕ) (bs : List ControlBlock)
     → ((q : ℕ) (k : List Labelled) → IsEnded k → IsEnded (f q k)) → ((at_line : ℕ) → IsEnded (back at_line))
     → IsEnded (blocks_labels ld f back off bs)
@@ -45,7 +44,7 @@ blocks_ended ld f back off [] keeps ends = refl
 blocks_ended ld f back off (b ∷ bs) keeps ends =
     block_ended ld f back b.line b.control (blocks_labels ld f back off bs) keeps ends (blocks_ended ld f back off bs keeps ends)
 
--- and a program with all that it calls
+-- A program with all that it calls gives labels that end a path, if what follows its M99 does.
 whole_ended : (tape : List ControlProgram) (n program : ℕ) (back : ℕ → List Labelled) → ((line : ℕ) → IsEnded (back line))
     → IsEnded (whole tape n program back)
 unfolding whole
@@ -54,7 +53,7 @@ whole_ended tape (suc n) program back ends =
     blocks_ended (loud tape) (λ q behind. whole tape n q (λ line. behind)) back (off_line (program_of tape program)) (blocks tape program)
     (λ q k e. whole_ended tape n q (λ line. k) (λ line. e)) ends
 
--- so the list of a path has one label of an end, and it is the last
+-- The list of a path has one label that ends it, and it is the last.
 pub path_ended : (tape : List ControlProgram) → IsEnded (path_labels tape)
 unfolding path_labels
 path_ended tape = whole_ended tape 9 (main_number tape) (λ line. at label.Again line ∷ []) (λ line. refl)

@@ -1,4 +1,5 @@
--- Labels that are added once, and many times.
+-- Labels that are added once, and many times, and when they become too many. For Taken and the
+-- proofs of src/piece.rt.
 use Rattle.std.proofs.Common.{◌≡◌, ℕ, zero, suc, ◌+◌, ◌<◌, ◌≤◌, List, [], ◌∷◌, ◌++◌, length, drop, refl, ap, sym, ◌∙◌, arith, append_assoc}
 use Rattle.std.proofs.lemmas.List.{append-nil, length-append}
 use Rattle.std.proofs.Math.Seq.{drop-cons}
@@ -7,34 +8,34 @@ use Rattle.label_list.specs.declared.labelled.Labelled.{Labelled}
 use Rattle.label_list.specs.Lists.{times}
 use Rattle.label_list.specs.Pieces.{repeated, IsTooLong}
 
--- once more is once more at the end
+-- n + 1 times the labels are n times and once more behind.
 pub repeated-more : (n : ℕ) (xs : List Labelled) → repeated (n + 1) xs ≡ repeated n xs ++ xs
 repeated-more zero xs = append-nil xs
 repeated-more (suc n) xs =
     let e : suc n + 1 ≡ suc (n + 1) = omega arith in
     ap (λ k. repeated k xs) e ∙ (ap (λ ys. xs ++ ys) (repeated-more n xs) ∙ sym (append_assoc xs (repeated n xs) xs))
 
--- no label, however often, is none
+-- No label, however often, is none.
 pub repeated-none : (n : ℕ) (xs : List Labelled) → length xs ≡ 0 → repeated n xs ≡ []
 repeated-none n (x ∷ xs) e = absurd (omega arith)
 repeated-none zero [] e = refl
 repeated-none (suc n) [] e = repeated-none n [] e
 
--- if each call adds the same labels, n calls add them n times
+-- If each call adds the same labels, n calls add them n times.
 pub times_repeated : (n : ℕ) (f : List Labelled → List Labelled) (xs behind : List Labelled) → ((k : List Labelled) → f k ≡ xs ++ k)
     → times n f behind ≡ repeated n xs ++ behind
 times_repeated zero f xs behind is = refl
 times_repeated (suc n) f xs behind is =
     is (times n f behind) ∙ (ap (λ ys. xs ++ ys) (times_repeated n f xs behind is) ∙ sym (append_assoc xs (repeated n xs) behind))
 
--- fewer runs, with one more, are no longer than all
+-- Fewer runs than n, with one more, give no more labels than n runs.
 pub repeated-longer : (i n : ℕ) (xs : List Labelled) → i < n → length (repeated i xs) + length xs ≤ length (repeated n xs)
 repeated-longer i zero xs lt = absurd (omega arith)
 repeated-longer zero (suc n) xs lt = omega (arith, length-append xs (repeated n xs))
 repeated-longer (suc i) (suc n) xs lt =
     omega (arith, repeated-longer i n xs (omega arith), length-append xs (repeated n xs), length-append xs (repeated i xs))
 
--- one label more of those that are to be added
+-- If one label more of those that are to be added is too much, all of them are.
 pub appended_one : (old now more : List Labelled) (i : ℕ) (d : Labelled) (fault : PairFault) → i < length more
     → now ++ drop i more ≡ old ++ more → IsTooLong now (d ∷ []) fault → IsTooLong old more fault
 appended_one old now more i d fault within are long =
@@ -49,7 +50,7 @@ appended_one old now more i d fault within are long =
     length-drop (x ∷ xs) zero = omega arith
     length-drop (x ∷ xs) (suc k) = omega (arith, length-drop xs k)
 
--- one run more of those that are to be added
+-- If one run more of those that are to be added is too much, all of them are.
 pub times_too_long : (old now more : List Labelled) (i n : ℕ) (fault : PairFault) → i < n → now ≡ old ++ repeated i more
     → IsTooLong now more fault → IsTooLong old (repeated n more) fault
 times_too_long old now more i n fault lt are long =

@@ -1,4 +1,5 @@
 -- The labels of a program do not depend on how many calls may follow, as long as there are enough.
+-- For the law `labels_hang_on_no_number_of_calls` (src/laws.rt).
 use Rattle.std.proofs.Common.{◌≡◌, ℕ, zero, suc, ◌≤◌, Bool, true, false, List, [], ◌∷◌, Some, refl, ap, ◌∙◌, arith}
 use Rattle.block_order.specs.declared.control.Control.{Control}
 use Rattle.block_order.specs.declared.control.Control.TheVariants.{Next, Goto, While, Do, EndLoop, Wait, End, Call, Back, BackTo}
@@ -11,17 +12,18 @@ use Rattle.label_list.specs.declared.labelled.Labelled.{Labelled}
 use Rattle.label_list.specs.Lists.{at, times, block_labels, blocks_labels, off_line, whole}
 use Rattle.loud_calls.specs.Calls.{IsShort}
 
--- two meanings of a program that agree give the same labels, however often it is called,
+-- Two meanings of a program that agree give the same labels, however often it is called.
 times_same : (n : ℕ) (f g : List Labelled → List Labelled) (behind : List Labelled) → ((k : List Labelled) → f k ≡ g k)
     → times n f behind ≡ times n g behind
 times_same zero f g behind same = refl
 times_same (suc n) f g behind same = ap f (times_same n f g behind same) ∙ same (times n g behind)
 
--- two meanings of calls that agree on the loud programs called here
+-- Two meanings of calls agree on the loud programs that these blocks call.
 abbrev pub AgreeOn : (ℕ → Bool) → List ControlBlock → (ℕ → List Labelled → List Labelled) → (ℕ → List Labelled → List Labelled) → Type 0
 AgreeOn ld bs f g = (i q r : ℕ) → control_at bs i ≡ Some (Call q r) → ld q ≡ true → (k : List Labelled) → f q k ≡ g q k
 
--- so they do at a block,
+-- Two meanings of calls that agree on the program that a block calls give the same labels at the
+-- block.
 block_same : (ld : ℕ → Bool) (f g : ℕ → List Labelled → List Labelled) (back : ℕ → List Labelled) (line : ℕ) (c : Control)
     (one two : List Labelled) → ((q r : ℕ) → c ≡ Call q r → ld q ≡ true → (k : List Labelled) → f q k ≡ g q k) → one ≡ two
     → block_labels ld f back line c one ≡ block_labels ld g back line c two
@@ -40,7 +42,7 @@ block_same ld f g back line (Call q r) one two here more = go (ld q) refl
     go false e = rw e more
     go true e = rw e (ap (λ ls. times r (f q) ls) more ∙ times_same r (f q) (g q) two (here q r refl e))
 
--- and at the blocks of a program
+-- Two meanings of calls that agree on what these blocks call give the same labels.
 blocks_same : (ld : ℕ → Bool) (f g : ℕ → List Labelled → List Labelled) (back : ℕ → List Labelled) (off : ℕ) (bs : List ControlBlock)
     → AgreeOn ld bs f g → blocks_labels ld f back off bs ≡ blocks_labels ld g back off bs
 blocks_same ld f g back off [] same = refl
@@ -48,7 +50,8 @@ blocks_same ld f g back off (b ∷ bs) same =
     block_same ld f g back b.line b.control (blocks_labels ld f back off bs) (blocks_labels ld g back off bs)
     (λ q r is. same 0 q r (ap (λ c. Some c) is)) (blocks_same ld f g back off bs (λ i. same (suc i)))
 
--- where no chain of n calls begins, n calls are as good as more
+-- If no chain of n calls begins in a program, it gives the same labels with n calls to follow and
+-- with more.
 pub enough : (tape : List ControlProgram) (n m program : ℕ) (back : ℕ → List Labelled) → IsShort tape n program → n ≤ m
     → whole tape n program back ≡ whole tape m program back
 unfolding whole

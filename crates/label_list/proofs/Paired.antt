@@ -1,4 +1,6 @@
--- A pair is accepted by its lists with their lines as by those of the blocks.
+-- A pair is accepted by its lists with their lines exactly if it is by those without. For the law
+-- `a_pair_is_accepted_by_its_lists` (src/laws.rt). The file's name stands for the two tapes that
+-- make a pair.
 use Rattle.std.proofs.Common.{◌≡◌, ◌↔◌, ◌≤◌, List, length, ap, sym, subst, ◌∙◌}
 use Rattle.std.proofs.lemmas.List.{length-map}
 use Rattle.nc_number.specs.declared.limits.TheConstants.{MOST_LABELS}
@@ -9,12 +11,12 @@ use Rattle.label_list.specs.Accepted.{AgreeOnLabels, IsAcceptedPair}
 use Rattle.label_list.specs.Lists.{path_labels}
 use Rattle.label_list.proofs.Bare.{bare_path}
 
--- lines aside, a list is as long
+-- The list of a tape has as many labels as the one with their lines.
 as_long : (tape : List ControlProgram) → length (list tape) ≡ length (path_labels tape)
 as_long tape = ap length (sym (bare_path tape)) ∙ length-map (path_labels tape) (λ (x : Labelled). x.label)
 
--- two tapes with one list of labels each are accepted by the one definition exactly if they are by
--- the other
+-- Two tapes with one list of labels each are accepted by the one definition exactly if they are by
+-- the other.
 pub paired : (left right : List ControlProgram) → IsUnforked left → IsUnforked right
     → IsAcceptedPair left right ↔ AgreeOnLabels left right
 paired left right one two = (

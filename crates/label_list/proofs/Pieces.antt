@@ -1,4 +1,5 @@
--- The labels of a program as they grow block by block, and the labels that are known.
+-- The labels of a program as they grow block by block come to those of the whole program, or to too
+-- many. For the proofs of src/listing.rt.
 use Rattle.std.proofs.Common.{◌≡◌, ℕ, zero, suc, ◌+◌, ◌-◌, ◌<◌, ◌≤◌, true, List, [], ◌∷◌, ◌++◌, length, drop, get_or, Some, None, refl, ap, sym, subst, ◌∙◌, arith}
 use Rattle.std.proofs.lemmas.List.{append-nil, length-append}
 use Rattle.std.proofs.Math.Seq.{drop-cons}
@@ -22,13 +23,13 @@ use Rattle.label_list.specs.declared.piece.Ending.TheVariants.{Stops, Returns}
 use Rattle.label_list.specs.Lists.{at, times, blocks_labels, off_line, whole, path_labels}
 use Rattle.label_list.specs.Pieces.{coming, from_block, IsAppended, IsTooLong, IsPiece, IsTaken, IsSoFar, IsLong, FailsAt, FailsInCall, FailsLong, IsListTooLong}
 
--- what follows from the one fault follows for an error
+-- If P gives Q of each fault, and P is so of the fault of an error, Q is so of it.
 pub by_fault : (P Q : PairFault → Type 0) (error : Failing PairFault) → ((fault : PairFault) → P fault → Q fault)
     → IfFault error P → IfFault error Q
 by_fault P Q (Fault fault) follows p = follows fault p
 by_fault P Q NoMemory follows p = tt
 
--- before the first block there is no label
+-- Before the first block there is no label, and all blocks are left.
 pub so_far_start : (tape : List ControlProgram) (p : ℕ) → IsSoFar tape p [] (blocks tape p)
 unfolding whole
 so_far_start tape p = record {
@@ -37,7 +38,8 @@ so_far_start tape p = record {
   are = λ n back short. refl;
 }
 
--- the chains of a called program are shorter by the call
+-- If no chain of n + 1 calls begins in a program, none of n calls begins in a program that a block
+-- of it calls.
 pub short_call : (tape : List ControlProgram) (n p : ℕ) (labels : List Labelled) (b : ControlBlock) (rest : List ControlBlock)
     → IsSoFar tape p labels (b ∷ rest) → IsShort tape (suc n) p → IsShortCall tape n b.control
 short_call tape n p labels b rest so short = go b.control refl
@@ -56,12 +58,13 @@ short_call tape n p labels b rest so short = go b.control refl
     go Back is = tt
     go (BackTo n) is = tt
 
--- the labels of the blocks that are left
+-- The labels of the blocks that are left.
 abbrev pub left_labels : List ControlProgram → ℕ → ℕ → (ℕ → List Labelled) → List ControlBlock → List Labelled
 left_labels tape p n back rest =
     blocks_labels (loud tape) (λ q behind. whole tape n q (λ line. behind)) back (off_line (program_of tape p)) rest
 
--- the block is taken and the program goes on
+-- If the program goes on at a block that was taken, the labels so far are the new ones, with one
+-- block less left.
 pub so_far_next : (tape : List ControlProgram) (p : ℕ) (old new : List Labelled) (b : ControlBlock) (rest : List ControlBlock)
     → IsSoFar tape p old (b ∷ rest) → IsTaken tape b.line b.control old new None → IsSoFar tape p new rest
 so_far_next tape p old new b rest so taken = record {
@@ -72,13 +75,13 @@ so_far_next tape p old new b rest so taken = record {
       ∙ taken.are n back (left_labels tape p n back rest) (short_call tape n p old b rest so short);
 }
 
--- behind the end of a program nothing follows
+-- If a program ends, its labels do not hang on what would come if it went on.
 ending_alone : (ending : Ending) (back : ℕ → List Labelled) (behind : List Labelled)
     → coming (Some ending) back behind ≡ coming (Some ending) back []
 ending_alone Stops back behind = refl
 ending_alone (Returns line) back behind = refl
 
--- the block is taken and the program ends
+-- If the program ends at a block that was taken, the new labels are its piece.
 pub piece_at : (tape : List ControlProgram) (p : ℕ) (old new : List Labelled) (b : ControlBlock) (rest : List ControlBlock) (ending : Ending)
     → IsSoFar tape p old (b ∷ rest) → IsTaken tape b.line b.control old new (Some ending) → IsPiece tape p new ending
 piece_at tape p old new b rest ending so taken = record {
@@ -93,7 +96,8 @@ piece_at tape p old new b rest ending so taken = record {
         ∙ (taken.are n back (left_labels tape p n back rest) (short_call tape n p old b rest so short)
         ∙ ap (λ ys. new ++ ys) (ending_alone ending back (left_labels tape p n back rest)))
 
--- all blocks are taken
+-- If no block is left, the labels so far with `Off` behind them are the piece of a program that
+-- stops.
 pub piece_off : (tape : List ControlProgram) (p line : ℕ) (old new : List Labelled) → IsSoFar tape p old [] → line ≡ off_line (program_of tape p)
     → IsAppended old new (at label.Off line ∷ []) → IsPiece tape p new Stops
 piece_off tape p line old new so is appended = record {
@@ -106,7 +110,7 @@ piece_off tape p line old new so is appended = record {
     go (suc n) back short =
         so.are n back short ∙ (ap (λ k. old ++ (at label.Off k ∷ [])) (sym is) ∙ (sym appended.are ∙ sym (append-nil new)))
 
--- one label too many where the path runs off the program makes it too long
+-- If there is no room for the `Off` behind the last block, the program has too many labels.
 pub fails_off : (tape : List ControlProgram) (p line : ℕ) (old : List Labelled) (fault : PairFault) → IsSoFar tape p old []
     → IsTooLong old (at label.Off line ∷ []) fault → FailsLong tape p fault
 fails_off tape p line old fault so long = record {
@@ -119,7 +123,7 @@ fails_off tape p line old fault so long = record {
     go (suc n) back short =
         omega (arith, ap length (so.are n back short), long.long, length-append old (at label.Off (off_line (program_of tape p)) ∷ []))
 
--- the labels are too many already with the block
+-- If there are too many labels with a block of the program, the program has too many.
 pub fails_at : (tape : List ControlProgram) (p : ℕ) (old : List Labelled) (b : ControlBlock) (rest : List ControlBlock) (fault : PairFault)
     → IsSoFar tape p old (b ∷ rest) → FailsAt tape b.line b.control old fault → FailsLong tape p fault
 fails_at tape p old b rest fault so fails = record {
@@ -133,14 +137,14 @@ fails_at tape p old b rest fault so fails = record {
         subst (λ ys. MOST_LABELS < length ys) (sym (so.are n back short))
         (fails.long n back (left_labels tape p n back rest) (short_call tape n p old b rest so short))
 
--- a run of a program that is too long makes the caller too long
+-- If a called program has too many labels, so have a call of it and what follows.
 called_long : (tape : List ControlProgram) (n q r line : ℕ) (back : ℕ → List Labelled) (behind : List Labelled) → loud tape q ≡ true → 0 < r
     → IsLong tape q → IsShort tape n q → MOST_LABELS < length (from_block tape n back line (Call q r) behind)
 called_long tape n q zero line back behind noisy some long short = absurd (omega arith)
 called_long tape n q (suc r) line back behind noisy some long short =
     rw noisy (long n (λ at_line. times r (λ k. whole tape n q (λ at_line. k)) behind) short)
 
--- a called program that is too long makes the calling one too long
+-- If a called program has too many labels, so has the calling one.
 pub fails_in_call : (tape : List ControlProgram) (p : ℕ) (old : List Labelled) (b : ControlBlock) (rest : List ControlBlock) (fault : PairFault)
     → IsSoFar tape p old (b ∷ rest) → FailsInCall tape b.control fault → FailsLong tape p fault
 fails_in_call tape p old b rest fault so fails = record {
@@ -161,23 +165,24 @@ fails_in_call tape p old b rest fault so fails = record {
         subst (λ c. MOST_LABELS < length (from_block tape n back b.line c behind)) (sym call.is) long in
         omega (arith, here, ap length (so.are n back short), length-append old (from_block tape n back b.line b.control behind))
 
--- what stands for a block where there is none
+-- A block that is read from a list at a place past its end.
 abbrev pub no_block : ControlBlock
 no_block = record { line = 0; sequence = None; control = Next }
 
--- the labels so far, at the block that comes next
+-- At a place within the blocks those that are left are the block there and the ones behind it.
 pub so_far_at : (tape : List ControlProgram) (p : ℕ) (labels : List Labelled) (bs : List ControlBlock) (i : ℕ) → i < length bs
     → IsSoFar tape p labels (drop i bs) → IsSoFar tape p labels (get_or bs i no_block ∷ drop (i + 1) bs)
 so_far_at tape p labels bs i within so =
     let next : suc i ≡ i + 1 = omega arith in
     subst (λ xs. IsSoFar tape p labels xs) (drop-cons bs i no_block within ∙ ap (λ k. get_or bs i no_block ∷ drop k bs) next) so
 
--- the labels so far, behind the last block
+-- Behind the last block none is left.
 pub so_far_past : (tape : List ControlProgram) (p : ℕ) (labels : List Labelled) (bs : List ControlBlock) (i : ℕ) → length bs ≤ i
     → IsSoFar tape p labels (drop i bs) → IsSoFar tape p labels []
 so_far_past tape p labels bs i past so = subst (λ xs. IsSoFar tape p labels xs) (drop_of_length-le bs past) so
 
--- the chains of what this program calls are shorter by one
+-- If no chain of n calls begins in a program, none of n - 1 calls begins in a program that a block
+-- of it calls.
 pub short_left : (tape : List ControlProgram) (n p : ℕ) (labels : List Labelled) (b : ControlBlock) (rest : List ControlBlock)
     → IsSoFar tape p labels (b ∷ rest) → IsShort tape n p → IsShortCall tape (n - 1) b.control
 short_left tape zero p labels b rest so short = absurd (short tt)
@@ -185,7 +190,7 @@ short_left tape (suc n) p labels b rest so short =
     let e : suc n - 1 ≡ n = omega arith in
     rw e (short_call tape n p labels b rest so short)
 
--- the piece of the main program is the list of the path, but for its beginning anew
+-- The list of a path is the piece of its main program, and `Again` behind it if that returns.
 pub path_whole : (tape : List ControlProgram) (main : ℕ) (labels : List Labelled) (ending : Ending) → main ≡ main_number tape
     → IsShort tape 9 (main_number tape) → IsPiece tape main labels ending
     → path_labels tape ≡ labels ++ coming (Some ending) (λ line. at label.Again line ∷ []) []
@@ -193,7 +198,7 @@ unfolding path_labels
 path_whole tape main labels ending is short piece =
     (subst (λ p. IsPiece tape p labels ending) is piece).are 9 (λ line. at label.Again line ∷ []) short
 
--- a program that is too long whatever follows makes the list of the path too long
+-- If the main program has too many labels whatever follows, the list of the path is too long.
 pub path_long : (tape : List ControlProgram) (main : ℕ) (fault : PairFault) → main ≡ main_number tape
     → IsShort tape 9 (main_number tape) → FailsLong tape main fault → IsListTooLong (path_labels tape) fault
 unfolding path_labels

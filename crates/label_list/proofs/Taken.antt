@@ -1,4 +1,5 @@
--- What a call of a loud program gives to the labels of the program that makes it.
+-- What a call of a loud program gives to the labels of the program that makes it. For the proof of
+-- `take_call` (src/listing.rt). The file's name stands for the labels that are taken.
 use Rattle.std.proofs.Common.{◌≡◌, ℕ, zero, suc, ◌+◌, ◌<◌, true, List, ◌++◌, length, ap, sym, subst, ◌∙◌, arith, append_assoc}
 use Rattle.std.proofs.lemmas.List.{length-append}
 use Rattle.nc_number.specs.declared.limits.TheConstants.{MOST_LABELS}
@@ -14,11 +15,11 @@ use Rattle.loud_calls.specs.Calls.{IsShortCall}
 use Rattle.label_list.specs.Pieces.{copies, stop_of, coming, from_block, IsAppended, IsTooLong, IsPiece, IsTaken, FailsAt}
 use Rattle.label_list.proofs.Joined.{times_repeated}
 
--- old and more are put together by the one or the other
+-- The old labels, more behind them, and the rest are the new ones and the rest.
 joined : (old new more behind : List Labelled) → new ≡ old ++ more → old ++ (more ++ behind) ≡ new ++ behind
 joined old new more behind e = sym (append_assoc old more behind) ∙ ap (λ xs. xs ++ behind) (sym e)
 
--- what a call of a loud program gives
+-- A call of a loud program gives its labels as often as it runs, and what comes by how it ends.
 call_gives : (tape : List ControlProgram) (line q r n : ℕ) (back : ℕ → List Labelled) (xs behind : List Labelled) (ending : Ending)
     → loud tape q ≡ true → 0 < r → IsPiece tape q xs ending → IsShortCall tape n (Call q r)
     → from_block tape n back line (Call q r) behind ≡ copies ending r xs ++ coming (stop_of ending) back behind
@@ -28,7 +29,7 @@ call_gives tape line q (suc r) n back xs behind Stops noisy some piece short =
 call_gives tape line q (suc r) n back xs behind (Returns l) noisy some piece short =
     rw noisy (times_repeated (suc r) (λ k. whole tape n q (λ at_line. k)) xs behind (λ k. piece.are n (λ at_line. k) (short noisy)))
 
--- a call adds the labels of its program as often as it runs
+-- If the labels of a loud program are added as often as it runs, its call is taken.
 pub taken_call : (tape : List ControlProgram) (line q r : ℕ) (old new xs : List Labelled) (ending : Ending)
     → loud tape q ≡ true → 0 < r → IsPiece tape q xs ending → IsAppended old new (copies ending r xs)
     → IsTaken tape line (Call q r) old new (stop_of ending)
@@ -40,11 +41,12 @@ taken_call tape line q r old new xs ending noisy some piece appended =
           ∙ joined old new (copies ending r xs) (coming (stop_of ending) back behind) appended.are;
     }
 
--- too many already with what is added, whatever follows
+-- Labels that are too many are too many whatever follows.
 too_long : (old more behind : List Labelled) → MOST_LABELS < length old + length more → MOST_LABELS < length (old ++ (more ++ behind))
 too_long old more behind h = omega (arith, h, length-append old (more ++ behind), length-append more behind)
 
--- where these are too many, the calling program is too long
+-- If the labels of a called program, as often as it runs, are too many behind the old ones, the
+-- calling program is too long.
 pub fails_call : (tape : List ControlProgram) (line q r : ℕ) (old xs : List Labelled) (ending : Ending) (fault : PairFault)
     → loud tape q ≡ true → 0 < r → IsPiece tape q xs ending → IsTooLong old (copies ending r xs) fault
     → FailsAt tape line (Call q r) old fault

@@ -1,7 +1,6 @@
 -- Which pairs of tapes are accepted: whatever their variables hold, both paths come to the same
--- labels in the same order.
--- nc_verify takes `AgreeOnLabels` and `IsAcceptedPair`, race_report `IsAcceptedPair` and
--- wait_verify `IsAcceptedPair`.
+-- labels in the same order. nc_verify, race_report and wait_verify cite `IsAcceptedPair`, nc_verify
+-- `AgreeOnLabels` too.
 use Rattle.std.specs.Prelude.{◌≡◌, ◌≤◌, List, length}
 use Rattle.nc_number.specs.declared.limits.TheConstants.{MOST_LABELS}
 use Rattle.block_order.specs.declared.program.ControlProgram.{ControlProgram}
@@ -10,14 +9,22 @@ use Rattle.label_list.specs.Lists.{bare, path_labels}
 
 -- Each tape has one list of labels, which is not too long, and the two lists are equal.
 pub record IsAcceptedPair (left right : List ControlProgram) : Type 0 where
+  -- The tape of path 1 has one list of labels.
   pub left_unforked : IsUnforked left
+  -- The tape of path 2 has one list of labels.
   pub right_unforked : IsUnforked right
+  -- The list of path 1 has at most 65,536 labels.
   pub left_few : length (list left) ≤ MOST_LABELS
+  -- The list of path 2 has at most 65,536 labels.
   pub right_few : length (list right) ≤ MOST_LABELS
+  -- Both lists are equal.
   pub same : list left ≡ list right
 
--- the same of the lists with their lines, lines aside
+-- The lists of both tapes with their lines are not too long, and are equal, lines aside.
 pub record AgreeOnLabels (left right : List ControlProgram) : Type 0 where
+  -- The list of path 1 has at most 65,536 labels.
   pub left_few : length (path_labels left) ≤ MOST_LABELS
+  -- The list of path 2 has at most 65,536 labels.
   pub right_few : length (path_labels right) ≤ MOST_LABELS
+  -- Both lists are equal, lines aside.
   pub same : bare (path_labels left) ≡ bare (path_labels right)

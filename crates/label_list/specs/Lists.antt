@@ -1,5 +1,5 @@
--- The labels of a path with their lines, in the order in which the path comes to them.
--- lathe_top, nc_verify and wait_verify take words from here.
+-- The labels of a path with their lines, in the order in which the path comes to them: the
+-- definition that src/listing.rt answers. nc_verify, wait_verify and lathe_top cite it.
 use Rattle.std.specs.Prelude.{◌≡◌, ℕ, zero, suc, ◌≤◌, Bool, List, [], ◌∷◌, length, map, Option, Some, None, if◌then◌else◌}
 use Rattle.nc_number.specs.declared.limits.TheConstants.{MOST_LABELS}
 use Rattle.block_order.specs.declared.control.Control.{Control}
@@ -13,18 +13,18 @@ use Rattle.block_order.specs.Loud.{loud}
 use Rattle.tape_flow.specs.Places.{last_line}
 use Rattle.label_list.specs.declared.labelled.Labelled.{Labelled}
 
--- a label at a line
+-- The label with the line of its block.
 abbrev pub at : Label → ℕ → Labelled
 at label line = record { label = label; line = line }
 
--- what the program gives n times, one after another
+-- The labels that f puts before others, put n times before `behind`.
 abbrev pub times : ℕ → (List Labelled → List Labelled) → List Labelled → List Labelled
 times zero f behind = behind
 times (suc n) f behind = f (times n f behind)
 
 -- The labels from a block of this line and control on. A loud program that it calls gives its
--- labels before those behind the call; back is what follows an M99 of a line; behind an end nothing
--- follows.
+-- labels before those behind the call; `back` is what follows an M99 of a line; behind an end
+-- nothing follows.
 abbrev pub block_labels : (ℕ → Bool) → (ℕ → List Labelled → List Labelled) → (ℕ → List Labelled) → ℕ → Control → List Labelled → List Labelled
 block_labels loud called back line (Wait code) behind = at (label.Wait code) line ∷ behind
 block_labels loud called back line End behind = at label.End line ∷ []
@@ -33,14 +33,14 @@ block_labels loud called back line (Call program repeats) behind =
 block_labels loud called back line Back behind = back line
 block_labels loud called back line other behind = behind
 
--- the labels from these blocks on, of which the last one is the program's last; off is the line of
--- the place past it
+-- The labels from these blocks on, of which the last one is the program's last; `off` is the line
+-- of the place past it.
 abbrev pub blocks_labels : (ℕ → Bool) → (ℕ → List Labelled → List Labelled) → (ℕ → List Labelled) → ℕ → List ControlBlock → List Labelled
 blocks_labels loud called back off [] = at label.Off off ∷ []
 blocks_labels loud called back off (b ∷ bs) =
     block_labels loud called back b.line b.control (blocks_labels loud called back off bs)
 
--- the line at which a path runs off the program
+-- The line of the place past a program's last block.
 abbrev pub off_line : Option ControlProgram → ℕ
 off_line None = 0
 off_line (Some program) = last_line program
@@ -52,27 +52,30 @@ whole tape zero program back = back 0
 whole tape (suc n) program back =
     blocks_labels (loud tape) (λ q behind. whole tape n q (λ line. behind)) back (off_line (program_of tape program)) (blocks tape program)
 
--- the labels of a path, with their lines: those of its main program, whose M99 begins it anew
+-- The labels of a path, with their lines: those of its main program, whose M99 begins it anew.
 unfoldable pub path_labels : List ControlProgram → List Labelled
 path_labels tape = whole tape 9 (main_number tape) (λ line. at label.Again line ∷ [])
 
--- the labels, lines aside
+-- The labels, lines aside.
 abbrev pub bare : List Labelled → List Label
 bare xs = map (λ (x : Labelled). x.label) xs
 
--- behind a wait the list goes on; behind each other label it is over
+-- What must be so of the labels behind this one: behind a wait the list goes on, behind each other
+-- label it is over.
 abbrev pub ended_by : Label → List Labelled → Type 0 → Type 0
 ended_by (label.Wait code) xs rest = rest
 ended_by label.End xs rest = xs ≡ []
 ended_by label.Again xs rest = xs ≡ []
 ended_by label.Off xs rest = xs ≡ []
 
--- the last label, and no other, is End, Again or Off
+-- The last label, and no other, is `End`, `Again` or `Off`.
 abbrev pub IsEnded : List Labelled → Type 0
 IsEnded [] = ⊥
 IsEnded (x ∷ xs) = ended_by x.label xs (IsEnded xs)
 
--- so ended, and no longer than it may be
+-- What the type LabelList keeps: the list ends as a path ends, and is no longer than 65,536 labels.
 pub record IsListed (xs : List Labelled) : Type 0 where
+  -- Its last label, and no other, ends a path.
   pub ended : IsEnded xs
+  -- It has at most 65,536 labels.
   pub few : length xs ≤ MOST_LABELS

@@ -1,5 +1,5 @@
-//! Why two tapes make no pair: too many labels, 70, or labels that differ, 72.
-//! nc_verify uses it.
+//! Why two tapes make no pair: too many labels, 70, or labels that differ, 72. nc_verify tells it
+//! as the refusal of the pair.
 use nc_number::Cause;
 use thiserror::Error;
 
@@ -10,7 +10,7 @@ use thiserror::Error;
 pub struct PairFault {
     /// The number of the refusal.
     pub number: u8,
-    /// 1 where the labels differ; else 0, and the caller knows the path.
+    /// 1 if the labels differ; else 0, and the caller knows the path.
     pub path: u8,
     /// The line of path 1's label where the labels differ first; else 0.
     pub line: u32,

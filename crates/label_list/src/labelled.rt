@@ -1,9 +1,9 @@
-//! A label and the line of its block. What a label is, is in block_order.
-//! lathe_calls, lathe_top and two more crates use it.
+//! A label and the line of its block. What a label is, is in block_order. wait_verify prints these;
+//! a refusal of nc_verify tells the lines of two.
 use block_order::Label;
 
 /// A label, and the line of its block. The place past a program's last block has that block's line,
-/// or that of the O number where there is none.
+/// or that of the O number if the program has no block.
 #[derive(Clone, Copy, Debug, PartialEq, Eq)]
 pub struct Labelled {
     /// A wait, `End`, `Again` (M99 of the main program) or `Off` (past the last block).

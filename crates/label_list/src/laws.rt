@@ -1,5 +1,5 @@
-//! What holds of every tape, for the crates above: a caller of the function has the law.
-//! nc_verify and wait_verify use it.
+//! What holds of the labels of every tape: a caller of the function has the law. nc_verify and
+//! wait_verify call `a_pair_is_accepted_by_its_lists`; the other two say what the list is.
 ghost use Rattle.std.specs.Prelude.{◌≡◌, ◌≤◌, ◌↔◌, ℕ, List};
 ghost use Rattle.block_order.specs.declared.program.ControlProgram.{ControlProgram};
 ghost use Rattle.block_order.specs.Labels.{IsUnforked, list};
@@ -21,8 +21,8 @@ pub fn labels_hang_on_no_number_of_calls()
         → whole tape n program back ≡ whole tape m program back }
 {}
 
-/// Two tapes that have one list of labels each are an accepted pair exactly where the lists with
-/// their lines are short enough and agree, lines aside.
+/// Two tapes that have one list of labels each are an accepted pair exactly if the lists with their
+/// lines are short enough and agree, lines aside.
 pub fn a_pair_is_accepted_by_its_lists()
     ensures { (left right : List ControlProgram) → IsUnforked left → IsUnforked right
         → IsAcceptedPair left right ↔ AgreeOnLabels left right }

@@ -2,7 +2,7 @@
 //!
 //! [`labels`] unfolds every call of a flow, and makes the list of each program once. [`compare`]
 //! tells whether two paths come to the same labels, and where they first differ. Two flows whose
-//! lists agree are an accepted pair: the crates above rest on that.
+//! lists agree are an accepted pair: nc_verify and wait_verify rest on that.
 #![tactic(auto)]
 
 mod comparison;

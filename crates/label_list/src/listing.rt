@@ -1,5 +1,5 @@
-//! The list of labels of a flow: each program's once, joined by the calls.
-//! No other crate calls `labels`; nc_verify takes the same list from ordered.rt.
+//! The list of labels of a path: that of each program is made once, and they are joined as the
+//! calls lead. No other crate calls `labels`; nc_verify takes the same list from ordered.rt.
 ghost use Rattle.std.specs.Prelude.{◌≡◌, ◌≤◌, ◌++◌, ◌∷◌, [], Some, length, IfOk, IfErr, OnOk};
 ghost use Rattle.nc_number.specs.declared.limits.TheConstants.{MOST_LABELS};
 ghost use Rattle.block_order.specs.declared.control.Control.TheVariants as Control;
@@ -22,7 +22,8 @@ use nc_number::Failing;
 use std::alloc::Global;
 use tape_flow::{Flow, last_line};
 
-/// The line at which a path runs off the program.
+/// The line of the place past a program's last block: that block's, or the O number's if the
+/// program has no block.
 fn off_line(order: &BlockOrder, number: u16) -> u32
     ensures { result ≡ off_line (program_of order.now number) }
 {
@@ -32,7 +33,8 @@ fn off_line(order: &BlockOrder, number: u16) -> u32
     }
 }
 
-/// Adds the labels of a call; how the calling program ends there, if it does.
+/// Adds the labels of a call to those of the calling program. The answer is how that program ends
+/// there, if it does.
 fn take_call(
     order: &BlockOrder,
     known: &KnownPrograms<Piece>,
@@ -61,7 +63,8 @@ fn take_call(
     }
 }
 
-/// Adds what a block gives to the labels of its program; how the program ends there, if it does.
+/// Adds what a block gives to the labels of its program. The answer is how the program ends there,
+/// if it does.
 fn take_block(
     order: &BlockOrder,
     known: &KnownPrograms<Piece>,
@@ -97,7 +100,7 @@ fn take_block(
     }
 }
 
-/// Makes the labels of the program that a block calls, where they are not made yet.
+/// Makes and keeps the labels of the program that a block calls, if they are not made yet.
 #[cycle(calls)]
 fn learn_call(
     alloc: Global,
@@ -161,7 +164,8 @@ fn piece_of(
     }
 }
 
-/// The labels of the main program, behind whose M99 the path begins anew.
+/// The labels of a path, made of those of its main program: behind its M99 there is `Again`, as the
+/// path begins anew.
 fn with_start(piece: Piece) -> Result<Vec<Labelled>, Failing<PairFault>>
     requires { length piece.labels.items ≤ MOST_LABELS }
     ensures list { IfOk result (λ labels. labels.items ≡ piece.labels.items
@@ -204,7 +208,7 @@ pub(crate) fn main_labels(
 ///
 /// The list of each program is made once, and repeats of an empty one are skipped.
 ///
-/// Errors: 70 where there are more than 65,536 labels; the path is left to the caller.
+/// Errors: 70 if there are more than 65,536 labels; the path is left to the caller.
 pub fn labels(alloc: Global, flow: &Flow) -> Result<LabelList, Failing<PairFault>>
     ensures list { IfOk result (λ list. list ≡ path_labels flow.now.order) }
     ensures many { IfErr result (λ error. IfFault error (IsListTooLong (path_labels flow.now.order))) }

@@ -1,5 +1,5 @@
-//! The labels of one program, as they grow, and how it ends; listing.rt joins them.
-//! For this crate alone.
+//! The labels of one program, as they grow, and how it ends. For this crate alone: listing.rt makes
+//! and joins pieces.
 ghost use Rattle.std.specs.Prelude.{◌≡◌, ◌≤◌, ◌∷◌, [], length, OnOk, IfOk, IfErr};
 ghost use Rattle.nc_number.specs.declared.limits.TheConstants.{MOST_LABELS};
 ghost use Rattle.block_order.specs.Answers.{IfFault};
@@ -23,11 +23,13 @@ pub(crate) enum Ending {
 /// The labels of a program, and what comes behind them.
 #[derive(Debug, Drop)]
 pub(crate) struct Piece {
+    /// Its labels with their lines, in their order.
     pub(crate) labels: Vec<Labelled>,
+    /// Whether the path ends with the program or the caller goes on.
     pub(crate) ending: Ending,
 }
 
-/// Adds a label, while there may be more.
+/// Adds a label, or refuses it with 70 if there are 65,536 already.
 pub(crate) fn push_label(
     labels: &mut Vec<Labelled>,
     label: Labelled,
@@ -42,7 +44,8 @@ pub(crate) fn push_label(
     Ok(())
 }
 
-/// Adds a label at a line, behind which the program ends so, if it does.
+/// Adds a label at a line. The answer is the given ending: how the program ends behind it, if it
+/// does.
 pub(crate) fn push_at(
     labels: &mut Vec<Labelled>,
     label: Label,
@@ -98,7 +101,7 @@ fn append_times(
 
 impl Piece {
     /// Adds these labels to those of the program that makes the call so many times, at least once.
-    /// The ending of that program, where nothing comes behind these labels.
+    /// The answer is the ending of that program, if nothing comes behind these labels.
     pub(crate) fn append_to(
         &self,
         labels: &mut Vec<Labelled>,

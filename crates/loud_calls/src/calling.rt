@@ -1,5 +1,5 @@
-//! The loud program that a block calls, and whether its piece is still to be made.
-//! label_list and part_lines use it.
+//! The loud program that a block calls, and whether its piece is still to be made: what label_list
+//! and part_lines ask before they read a block.
 ghost use Rattle.std.specs.Prelude.{ℕ, IfSome, IfNone};
 ghost use Rattle.loud_calls.specs.Calls.{IsCallOf, IsReady};
 ghost use Rattle.loud_calls.specs.Known.{piece_known};
@@ -22,7 +22,8 @@ pub fn loud_call(order: &BlockOrder, control: &Control) -> Option<u16>
     }
 }
 
-/// The same if the piece of that program is still to be made.
+/// The loud program that a block calls at least once, if the piece of that program is still to be
+/// made.
 pub fn unknown_call<P: Drop>(
     order: &BlockOrder,
     known: &KnownPrograms<P>,

@@ -1,5 +1,5 @@
--- No open refusal holds of a block of words that reads in full.
--- wait_verify uses these lemmas.
+-- No refusal of the open reading holds of a block of words that reads in full, and it leads where
+-- the full reading says. For Widened; wait_verify takes `IsAccepted` and `accepted`.
 use Rattle.std.proofs.Common.{◌≡◌, ℕ, Bool, true, false, cond, not, ◌&&◌, ◌||◌, ◌*◌, ◌==◌, List, [], ℤ, pos, Option, Some, None, refl, sym, ◌∙◌, ap, subst}
 use Rattle.std.specs.Prelude.{codes, if◌then◌else◌}
 use Rattle.std.specs.List.{list_any, list_all, filter_map}
@@ -35,17 +35,24 @@ use Rattle.open_forms.proofs.TableRows.{in_each, same_kind, macro_is, setting_is
 use Rattle.nc_number.proofs.Bools.{and_false, neither, not_false, or_true}
 use Rattle.open_forms.proofs.AmongLetters.{HaveRange, AreAmong, one_among, front_among, fewer_computed, none_of, none_computed, range_of_one, range_of_two, all_fit, all_within, within_more, no_parameters}
 
--- no refusal of the full reading holds
+-- No refusal of the full reading holds of the words.
 pub record IsAccepted (dialect : Dialect) (words : List FlowWord) : Type 0 where
+  -- 54 does not hold.
   pub fixed : closed.is_not_fixed dialect words ≡ false
+  -- 56 does not hold.
   pub known : closed.is_unknown dialect.system words ≡ false
+  -- 57 does not hold.
   pub alone : closed.is_wait_not_alone dialect words ≡ false
+  -- 58 does not hold.
   pub both : closed.is_wait_of_others dialect words ≡ false
+  -- 59 does not hold.
   pub one_m : closed.has_two_m dialect.system words ≡ false
+  -- 61 does not hold.
   pub good_call : closed.is_bad_call dialect words ≡ false
+  -- 64 does not hold.
   pub ranges : closed.is_out_of_range dialect words ≡ false
 
--- if the full reading refuses nothing, none of its refusals holds
+-- If the full reading refuses nothing, none of its refusals holds.
 pub accepted : (dialect : Dialect) (words : List FlowWord) → closed.refusal_of dialect words ≡ None → IsAccepted dialect words
 accepted dialect words e =
     go (closed.is_not_fixed dialect words) (closed.is_unknown dialect.system words) (closed.is_wait_not_alone dialect words) (closed.is_wait_of_others dialect words) (closed.has_two_m dialect.system words) (closed.is_bad_call dialect words) (closed.has_axis_twice dialect.system words) (closed.is_out_of_range dialect words) refl refl refl refl refl refl refl e
@@ -66,14 +73,15 @@ accepted dialect words e =
     go false false false false false false true h _ _ _ _ _ _ _ open_all = absurd (cc)
     go false false false false false false false true _ _ _ _ _ _ _ open_all = absurd (cc)
 
--- what P and L are for beside no call and no wait
+-- The purpose is one of a block that is no call, no return and no wait: a dwell, a setting, or
+-- none.
 abbrev pub is_left : Purpose → Bool
 is_left purpose.Dwell = true
 is_left purpose.Setting = true
 is_left purpose.Other = true
 is_left _ = false
 
--- a block of no macro call, call, return or wait has such a purpose
+-- What the one-shot code in force makes of P and L is such a purpose.
 left : (k : Option CodeKind) → is_left (purpose_by k) ≡ true
 left None = refl
 left (Some kind.Rapid) = refl
@@ -103,27 +111,38 @@ left (Some kind.Absolute) = refl
 left (Some kind.Incremental) = refl
 left (Some kind.Idle) = refl
 
--- the role of the open reading beside the purpose of the full one
+-- The role of a block in the open reading and its purpose in the full one are of the same kind.
 pub data IsSame (system : System) (words : List FlowWord) : Role → Purpose → Type 0 where
-  -- both are a macro call, and so on for each kind of block
+  -- Both are a macro call.
   macro : gives system is_macro_call words ≡ true → IsSame system words role.MacroCall purpose.MacroCall
+  -- Both are a call of a subprogram.
   subprogram : gives system is_macro_call words ≡ false → has_code 98 words ≡ true → IsSame system words role.Subprogram purpose.Subprogram
+  -- Both are a return.
   returns : gives system is_macro_call words ≡ false → has_code 99 words ≡ true → IsSame system words role.Return purpose.Return
+  -- Both are a wait.
   wait : gives system is_macro_call words ≡ false → IsSame system words role.Wait purpose.Wait
+  -- The role is an end, and the purpose is left.
   ends : (p : Purpose) → gives system is_macro_call words ≡ false → (has_code 2 words || has_code 30 words) ≡ true → is_left p ≡ true
       → IsSame system words role.End p
+  -- The block goes on to the next one, and the purpose is left.
   onward : (p : Purpose) → gives system is_macro_call words ≡ false → (has_code 2 words || has_code 30 words) ≡ false → is_left p ≡ true
       → IsSame system words role.Other p
 
--- the role of a block in the open reading, and its purpose in the full one, which are the same
+-- The role of a block in the open reading and its purpose in the full one, which are of the same
+-- kind.
 pub record HaveRole (dialect : Dialect) (texts : List Word) (words : List FlowWord) : Type 0 where
+  -- The role in the open reading.
   pub role : Role
+  -- The purpose in the full one.
   pub purpose : Purpose
+  -- It is the role of the block.
   pub role_is : role_of dialect texts ≡ role
+  -- It is the purpose of the block.
   pub purpose_is : purpose_of dialect words ≡ purpose
+  -- Both are of the same kind.
   pub same : IsSame dialect.system words role purpose
 
--- such a purpose is no macro call
+-- A purpose that is left is no macro call.
 left_plain : (p : Purpose) → is_left p ≡ true → read_codes.is_macro p ≡ false
 left_plain purpose.MacroCall e = absurd (cc)
 left_plain purpose.Subprogram e = refl
@@ -133,7 +152,7 @@ left_plain purpose.Dwell e = refl
 left_plain purpose.Setting e = refl
 left_plain purpose.Other e = refl
 
--- P and L are among the letters that must be written out
+-- P and L are among the letters that must be written out.
 pl_among : AreAmong (codes "PL") (codes "GNOPL")
 pl_among letter is = go (80 == letter) (76 == letter) is
   where
@@ -146,7 +165,7 @@ pl_among letter is = go (80 == letter) (76 == letter) is
         last false false true = refl
         last false false false = refl
 
--- the letters of each system are among those of system A
+-- The letters of each system are among those of system A.
 known_among : (system : System) → AreAmong (closed.known_letters system) (codes "XZUWIKRFSTNOMGPL")
 known_among A letter is = is
 known_among B letter is =
@@ -160,7 +179,7 @@ known_among B letter is =
     go false false false false rest e = e
 
 module _ (dialect : Dialect) (words : List FlowWord) where
-  -- a block of such a purpose ends the path or goes on
+  -- A block of a purpose that is left ends the path or goes on to the next block.
   left_leads : (p : Purpose) → is_left p ≡ true → full_control_by p dialect words ≡ end_or_next words
   left_leads purpose.MacroCall e = absurd (cc)
   left_leads purpose.Subprogram e = absurd (cc)
@@ -171,19 +190,19 @@ module _ (dialect : Dialect) (words : List FlowWord) where
   left_leads purpose.Other e = refl
 
 module _ (dialect : Dialect) (texts : List Word) (words : List FlowWord) (are : AreSaid texts words) (given : IsAccepted dialect words) where
-  -- both readings see the same macro call,
+  -- Both readings see the same macro call.
   macro_same : is_macro texts ≡ gives dialect.system is_macro_call words
   macro_same = same_kind dialect.system is_macro_call 65 (macro_is dialect.system) _ _ (same_words_of (codes "G") texts words are)
 
-  -- the same setting of an offset (10,000,000 millionths are G10),
+  -- Both readings see the same setting of an offset (10,000,000 millionths are G10).
   setting_same : has_g 10000000 texts ≡ gives dialect.system is_setting words
   setting_same = same_kind dialect.system is_setting 10 (setting_is dialect.system) _ _ (same_words_of (codes "G") texts words are)
 
-  -- and the same M codes
+  -- Both readings see the same M codes.
   pub codes_same : m_codes texts ≡ read_codes.m_codes words
   codes_same = same_numbers (codes "M") texts words are
 
-  -- outside macro calls the G codes are those of the table
+  -- The G words of the block are written out.
   g_plain : read.has_computed (codes "G") words ≡ false
   g_plain = go (purpose_of dialect words) given.fixed
     where
@@ -196,12 +215,12 @@ module _ (dialect : Dialect) (texts : List Word) (words : List FlowWord) (are : 
       go purpose.Dwell e = fewer_computed (codes "G") (codes "GNOM") (one_among 71 (codes "GNOM") refl) words e
       go purpose.Other e = fewer_computed (codes "G") (codes "GNOM") (one_among 71 (codes "GNOM") refl) words e
 
-  -- the system knows each code and each letter of the block
+  -- The system knows each code and each letter of the block.
   record IsKnown : Type 0 where
     codes_are : list_any (closed.is_unknown_code dialect.system) (read.words_of (codes "G") words) ≡ false
     letters_are : list_any (λ (w : FlowWord). closed.is_unknown_letter dialect.system words w.letter) words ≡ false
 
-  -- outside macro calls it does
+  -- Outside macro calls the system knows each code and each letter of the block.
   known_there : gives dialect.system is_macro_call words ≡ false → IsKnown
   known_there no_macro = go (gives dialect.system is_macro_call words) refl given.known
     where
@@ -212,7 +231,7 @@ module _ (dialect : Dialect) (texts : List Word) (words : List FlowWord) (are : 
       go true e all = absurd (cc)
       go false e all = let both = neither _ _ (neither _ _ all).0 in record { codes_are = both.0; letters_are = both.1 }
 
-  -- no G code of the block is one that the table lacks
+  -- A test that no code of either table passes, no G code of the block passes.
   no_g : gives dialect.system is_macro_call words ≡ false → (p : ℤ → Bool)
       → list_all (λ (row : Row). not (p (pos (row.code * 1000000)))) (rows_of_system A) ≡ true
       → list_all (λ (row : Row). not (p (pos (row.code * 1000000)))) (rows_of_system B) ≡ true
@@ -221,12 +240,12 @@ module _ (dialect : Dialect) (texts : List Word) (words : List FlowWord) (are : 
       no_such_g dialect.system p (in_each (λ (row : Row). not (p (pos (row.code * 1000000)))) in_a in_b dialect.system) _ _
       (same_words_of (codes "G") texts words are) (known_there no_macro).codes_are g_plain
 
-  -- so the block is no cycle along a contour (G70 to G73)
+  -- Outside macro calls the block is no cycle along a contour (G70 to G73).
   no_cycle : gives dialect.system is_macro_call words ≡ false → cycle_of texts ≡ role.Other
   no_cycle no_macro =
       rw (no_g no_macro (is_g 70000000) refl refl, no_g no_macro (is_g 71000000) refl refl, no_g no_macro (is_g 72000000) refl refl, no_g no_macro (is_g 73000000) refl refl) refl
 
-  -- the roles of both readings agree
+  -- The role of the block and its purpose are of the same kind.
   pub roles : HaveRole dialect texts words
   roles =
       go (gives dialect.system is_macro_call words) (has_code 98 words) (has_code 99 words) (read_codes.has_wait dialect words) (has_code 2 words || has_code 30 words)
@@ -286,7 +305,7 @@ module _ (dialect : Dialect) (texts : List Word) (words : List FlowWord) (are : 
         same = onward (purpose_by (one_shot dialect.system words)) is1 is5 (left (one_shot dialect.system words));
       }
 
-  -- a block of another purpose than a macro call is none
+  -- A block of another purpose than a macro call calls no macro.
   not_macro : (p : Purpose) → purpose_of dialect words ≡ p → read_codes.is_macro p ≡ false → gives dialect.system is_macro_call words ≡ false
   not_macro p is other = go (gives dialect.system is_macro_call words) refl
     where
@@ -298,7 +317,7 @@ module _ (dialect : Dialect) (texts : List Word) (words : List FlowWord) (are : 
           let apart : read_codes.is_macro purpose.MacroCall ≡ false = subst (λ q. read_codes.is_macro q ≡ false) same other in
           absurd (cc)
 
-  -- outside macro calls the P and L of the block have a meaning,
+  -- Outside macro calls the P and L of the block break no rule.
   good_block : (p : Purpose) → purpose_of dialect words ≡ p → gives dialect.system is_macro_call words ≡ false → closed.is_bad_block dialect.system p words ≡ false
   good_block p is no_macro = go (gives dialect.system is_macro_call words) no_macro given.good_call
     where
@@ -307,11 +326,11 @@ module _ (dialect : Dialect) (texts : List Word) (words : List FlowWord) (are : 
       go true e all = absurd (cc)
       go false e all = subst (λ q. closed.is_bad_block dialect.system q words ≡ false) is all
 
-  -- nothing stands beside a call that may not,
+  -- No dwell and no setting stands beside a call or a return.
   not_crowded : (p : Purpose) → purpose_of dialect words ≡ p → gives dialect.system is_macro_call words ≡ false → closed.is_crowded_call dialect.system words ≡ false
   not_crowded p is no_macro = (neither _ _ (neither _ _ (good_block p is no_macro)).0).1
 
-  -- and there is no L that has no meaning
+  -- The block has no L that has no meaning.
   l_free : (p : Purpose) → purpose_of dialect words ≡ p → gives dialect.system is_macro_call words ≡ false → asked.is_idle_l p ≡ true → read.has (codes "L") words ≡ false
   l_free p is no_macro idle = go (read.has (codes "L") words) (asked.is_idle_l p) idle (neither _ _ (neither _ _ (good_block p is no_macro)).1).1
     where
@@ -320,11 +339,12 @@ module _ (dialect : Dialect) (texts : List Word) (words : List FlowWord) (are : 
       go true true e all = absurd (cc)
       go true false e all = absurd (cc)
 
-  -- the letters that must be written out are so,
+  -- The words of the letters that must be written out are so.
   fixed_by : (p : Purpose) → purpose_of dialect words ≡ p → read.has_computed (asked.fixed_letters p) words ≡ false
   fixed_by p is = subst (λ q. read.has_computed (asked.fixed_letters q) words ≡ false) is given.fixed
 
-  -- among them L,
+  -- The L words of a block that calls, returns or sets an offset are written out, and in any other
+  -- block there is none.
   l_plain : (p : Purpose) → purpose_of dialect words ≡ p → read.has_computed (codes "L") words ≡ false
   l_plain purpose.MacroCall is = fewer_computed (codes "L") (codes "GNOPL") (one_among 76 (codes "GNOPL") refl) words (fixed_by purpose.MacroCall is)
   l_plain purpose.Subprogram is = fewer_computed (codes "L") (codes "GNOMPL") (one_among 76 (codes "GNOMPL") refl) words (fixed_by purpose.Subprogram is)
@@ -334,11 +354,11 @@ module _ (dialect : Dialect) (texts : List Word) (words : List FlowWord) (are : 
   l_plain purpose.Dwell is = none_computed (codes "L") words (l_free purpose.Dwell is (not_macro purpose.Dwell is refl) refl)
   l_plain purpose.Other is = none_computed (codes "L") words (l_free purpose.Other is (not_macro purpose.Other is refl) refl)
 
-  -- and P if it is one of them
+  -- The P words of the block are written out, if P is among the letters that must be.
   p_plain : (p : Purpose) → purpose_of dialect words ≡ p → read.is_one_of (asked.fixed_letters p) 80 ≡ true → read.has_computed (codes "P") words ≡ false
   p_plain p is there = fewer_computed (codes "P") (asked.fixed_letters p) (one_among 80 (asked.fixed_letters p) there) words (fixed_by p is)
 
-  -- 54: the letters G, N, O and M are written out
+  -- The G, N, O and M words of a block whose purpose is left are written out.
   plain_by : (p : Purpose) → is_left p ≡ true → read.has_computed (asked.fixed_letters p) words ≡ false → read.has_computed (codes "GNOM") words ≡ false
   plain_by purpose.Dwell kind e = e
   plain_by purpose.Other kind e = e
@@ -348,7 +368,7 @@ module _ (dialect : Dialect) (texts : List Word) (words : List FlowWord) (are : 
   plain_by purpose.Return kind e = absurd (cc)
   plain_by purpose.Wait kind e = absurd (cc)
 
-  -- so those are that the open reading needs
+  -- The words that the open reading needs written out are so.
   letters_plain : (r : Role) (p : Purpose) → IsSame dialect.system words r p → read.has_computed (asked.fixed_letters p) words ≡ false → has_computed (fixed_letters r) texts ≡ false
   letters_plain _ _ (macro is) e = same_computed (codes "GNOPL") texts words are ∙ e
   letters_plain _ _ (subprogram apart is) e = same_computed (codes "GNOMPL") texts words are ∙ e
@@ -357,7 +377,7 @@ module _ (dialect : Dialect) (texts : List Word) (words : List FlowWord) (are : 
   letters_plain _ _ (ends p apart is kind) e = same_computed (codes "GNOM") texts words are ∙ plain_by p kind e
   letters_plain _ _ (onward p apart is kind) e = same_computed (codes "GNOM") texts words are ∙ plain_by p kind e
 
-  -- so 54 doesn't hold
+  -- 54 of the open reading does not hold.
   fixed_there : HaveRole dialect texts words → is_not_fixed dialect texts ≡ false
   fixed_there r =
       let letters : has_computed (fixed_letters (role_of dialect texts)) texts ≡ false =
@@ -365,13 +385,13 @@ module _ (dialect : Dialect) (texts : List Word) (words : List FlowWord) (are : 
       let l_alone : has_computed (codes "L") texts ≡ false = same_computed (codes "L") texts words are ∙ l_plain r.purpose r.purpose_is in
       rw (letters, l_alone) (and_false (has_g 10000000 texts) false refl)
 
-  -- 56: both readings see the same beginning of a macro call
+  -- Both readings see the same beginning of a macro call.
   begins_same : (texts : List Word) (words : List FlowWord) → AreSaid texts words → begins_macro_call dialect.system texts ≡ closed.begins_macro_call dialect.system words
   begins_same _ _ none = refl
   begins_same _ _ (one_more text word texts words is further) =
       rw (is.letter, same_row dialect.system text word is, same_has (codes "GNO") texts words further) refl
 
-  -- beside a call or a return stands no dwell and no setting
+  -- Beside a call or a return stands no dwell and no setting.
   sets_nothing : (p : Purpose) → purpose_of dialect words ≡ p → gives dialect.system is_macro_call words ≡ false → (has_code 98 words || has_code 99 words) ≡ true
       → (gives dialect.system is_dwell words ≡ false) × (gives dialect.system is_setting words ≡ false)
   sets_nothing p is no_macro call = neither _ _ (go (has_code 98 words || has_code 99 words) call (not_crowded p is no_macro))
@@ -380,7 +400,7 @@ module _ (dialect : Dialect) (texts : List Word) (words : List FlowWord) (are : 
       go true e all = all
       go false e all = absurd (cc)
 
-  -- no L writes parameters if it has no meaning,
+  -- If L has no meaning in the block, no L says 50 to 52.
   l_numbers : (p : Purpose) → purpose_of dialect words ≡ p → asked.is_idle_l p ≡ true → gives dialect.system is_macro_call words ≡ false → list_any is_parameter (numbers_of (codes "L") texts) ≡ false
   l_numbers p is idle no_macro =
       let none_there : read.words_of (codes "L") words ≡ [] = none_of (codes "L") words (l_free p is no_macro idle) in
@@ -390,7 +410,7 @@ module _ (dialect : Dialect) (texts : List Word) (words : List FlowWord) (are : 
           → read.words_of (codes "L") words ≡ [] → list_any is_parameter (numbers_of (codes "L") texts) ≡ false
       same_any e empty = rw (e, empty) refl
 
-  -- nor beside a setting, whose L is 2,
+  -- The L of a setting is 2, so it writes no parameters.
   setting_numbers : purpose_of dialect words ≡ purpose.Setting → list_any is_parameter (numbers_of (codes "L") texts) ≡ false
   setting_numbers is =
       let ranges : list_any (λ (w : FlowWord). not (is_in_range purpose.Setting w)) words ≡ false =
@@ -398,7 +418,7 @@ module _ (dialect : Dialect) (texts : List Word) (words : List FlowWord) (are : 
       no_parameters _ _ (same_words_of (codes "L") texts words are)
       (all_fit purpose.Setting 2 2 (codes "L") (range_of_one purpose.Setting 2 2 76 refl) words ranges)
 
-  -- nor beside any block that goes on
+  -- In a block whose purpose is left no L says 50 to 52.
   by_left : (p : Purpose) → purpose_of dialect words ≡ p → is_left p ≡ true → gives dialect.system is_macro_call words ≡ false → list_any is_parameter (numbers_of (codes "L") texts) ≡ false
   by_left purpose.Setting is kind apart = setting_numbers is
   by_left purpose.Dwell is kind apart = l_numbers purpose.Dwell is refl apart
@@ -408,7 +428,7 @@ module _ (dialect : Dialect) (texts : List Word) (words : List FlowWord) (are : 
   by_left purpose.Return is kind apart = absurd (cc)
   by_left purpose.Wait is kind apart = absurd (cc)
 
-  -- so no parameters are written
+  -- Outside macro calls the block writes no parameters.
   no_writing : (r : Role) (p : Purpose) → IsSame dialect.system words r p → purpose_of dialect words ≡ p → gives dialect.system is_macro_call words ≡ false → writes_parameters texts ≡ false
   no_writing _ _ (macro held) is apart = absurd (cc)
   no_writing _ _ (subprogram apart held) is _ = rw (setting_same, (sets_nothing purpose.Subprogram is apart (rw held refl)).1) refl
@@ -417,7 +437,8 @@ module _ (dialect : Dialect) (texts : List Word) (words : List FlowWord) (are : 
   no_writing _ _ (ends p apart held kind) is _ = rw (by_left p is kind apart) (and_false (has_g 10000000 texts) false refl)
   no_writing _ _ (onward p apart held kind) is _ = rw (by_left p is kind apart) (and_false (has_g 10000000 texts) false refl)
 
-  -- no code leads elsewhere
+  -- If the block calls no macro, names no interrupt and writes no parameters, no code of it leads
+  -- elsewhere.
   elsewhere : gives dialect.system is_macro_call words ≡ false → names_interrupt dialect texts ≡ false → writes_parameters texts ≡ false
       → ((list_any is_refused_g (g_values texts) || list_any (is_refused_m dialect) (m_codes texts)) || writes_parameters texts) ≡ false
   elsewhere apart plain writes =
@@ -427,7 +448,7 @@ module _ (dialect : Dialect) (texts : List Word) (words : List FlowWord) (are : 
       go true b e all = absurd (cc)
       go false b e all = all
 
-  -- so no code is unknown to the open reading
+  -- If the block names no interrupt, no code of it is unknown to the open reading.
   unknown_by : (r : Role) (p : Purpose) → IsSame dialect.system words r p → purpose_of dialect words ≡ p → names_interrupt dialect texts ≡ false → is_unknown_by r dialect texts ≡ false
   unknown_by r p (macro held) is plain = rw (begins_same texts words are) (go (gives dialect.system is_macro_call words) held given.known)
     where
@@ -442,7 +463,7 @@ module _ (dialect : Dialect) (texts : List Word) (words : List FlowWord) (are : 
   unknown_by r p (ends q apart held kind) is plain = elsewhere apart plain (no_writing r p (ends q apart held kind) is apart)
   unknown_by r p (onward q apart held kind) is plain = elsewhere apart plain (no_writing r p (onward q apart held kind) is apart)
 
-  -- beside a call stand letters only that say no more of it,
+  -- Beside a call stand only letters that say no more of it.
   letters_beside : (texts : List Word) (own : List FlowWord) → AreSaid texts own → gives dialect.system is_setting words ≡ false
       → list_any (λ (w : FlowWord). closed.is_unknown_letter dialect.system words w.letter) own ≡ false
       → list_all (λ (t : Word). read.is_one_of (codes "XZUWIKRFSTNOMGPLABCEVY") t.letter) texts ≡ true
@@ -462,7 +483,7 @@ module _ (dialect : Dialect) (texts : List Word) (words : List FlowWord) (are : 
       first false true false e all = absurd (cc)
       first false false c e all = absurd (cc)
 
-  -- and G codes of the system only
+  -- Beside a call or a return stand only such letters and G codes of the system.
   beside_call : (p : Purpose) → purpose_of dialect words ≡ p → gives dialect.system is_macro_call words ≡ false → (has_code 98 words || has_code 99 words) ≡ true
       → not (is_beside_a_call dialect.system texts) ≡ false
   beside_call p is apart call =
@@ -471,7 +492,7 @@ module _ (dialect : Dialect) (texts : List Word) (words : List FlowWord) (are : 
       let have_rows = each_has_row dialect.system _ _ (same_words_of (codes "G") texts words are) known.codes_are g_plain in
       rw (letters, have_rows) refl
 
-  -- so no call is crowded
+  -- No call, return or end of the block is crowded.
   crowded_by : (r : Role) (p : Purpose) → IsSame dialect.system words r p → purpose_of dialect words ≡ p → is_crowded r dialect.system texts ≡ false
   crowded_by _ _ (macro held) is = refl
   crowded_by _ _ (subprogram apart held) is = beside_call purpose.Subprogram is apart (rw held refl)
@@ -480,36 +501,36 @@ module _ (dialect : Dialect) (texts : List Word) (words : List FlowWord) (are : 
   crowded_by _ _ (ends p apart held kind) is = ap is_contour (no_cycle apart)
   crowded_by _ _ (onward p apart held kind) is = refl
 
-  -- so 56 doesn't hold
+  -- If the block names no interrupt, 56 of the open reading does not hold.
   known_codes : HaveRole dialect texts words → names_interrupt dialect texts ≡ false → is_unknown dialect texts ≡ false
   known_codes r plain =
       subst (λ q. (is_unknown_by q dialect texts || is_crowded q dialect.system texts) ≡ false) (sym r.role_is)
       (rw (unknown_by r.role r.purpose r.same r.purpose_is plain, crowded_by r.role r.purpose r.same r.purpose_is) refl)
 
-  -- 57, 58 and 59: both readings see the same wait
+  -- Both readings see the same wait.
   there_same : waits_there dialect texts ≡ closed.waits_there dialect words
   there_same = rw (macro_same, codes_same) refl
 
-  -- nor does 57,
+  -- 57 of the open reading does not hold.
   alone_there : is_wait_not_alone dialect texts ≡ false
   alone_there = rw (there_same, same_count (codes "ABCDEFGHIJKLMNOQRSTUVWXYZ") texts words are) (given.alone)
 
-  -- nor 58,
+  -- 58 of the open reading does not hold.
   both_there : is_wait_of_others dialect texts ≡ false
   both_there =
       rw (there_same, same_has (codes "P") texts words are, same_computed (codes "P") texts words are, same_last (codes "P") texts words are) (given.both)
 
-  -- nor 59
+  -- 59 of the open reading does not hold.
   one_m_there : has_two_m texts ≡ false
   one_m_there = rw (macro_same, same_count (codes "M") texts words are, given.one_m) refl
 
-  -- 61: beside a call or a return no G code takes the P
+  -- Beside a call or a return no G code takes the P.
   takes_nothing : (p : Purpose) → purpose_of dialect words ≡ p → gives dialect.system is_macro_call words ≡ false → (has_code 98 words || has_code 99 words) ≡ true → uses_p dialect.system texts ≡ false
   takes_nothing p is apart call =
       let nothing = sets_nothing p is apart call in
       same_takes dialect.system _ _ (same_words_of (codes "G") texts words are) ∙ (rw (nothing.0, nothing.1) refl)
 
-  -- the call of each role is good
+  -- The call or the return of the block is no bad one.
   bad_call_by : (r : Role) (p : Purpose) → IsSame dialect.system words r p → purpose_of dialect words ≡ p → is_bad_call_by r dialect.system texts ≡ false
   bad_call_by _ _ (macro held) is = rw (same_has (codes "P") texts words are) (go (gives dialect.system is_macro_call words) held given.good_call)
     where
@@ -527,21 +548,22 @@ module _ (dialect : Dialect) (texts : List Word) (words : List FlowWord) (are : 
   bad_call_by _ _ (ends p apart held kind) is = refl
   bad_call_by _ _ (onward p apart held kind) is = refl
 
-  -- so 61 doesn't hold
+  -- 61 of the open reading does not hold.
   good_there : HaveRole dialect texts words → is_bad_call dialect texts ≡ false
   good_there r = subst (λ q. is_bad_call_by q dialect.system texts ≡ false) (sym r.role_is) (bad_call_by r.role r.purpose r.same r.purpose_is)
 
-  -- 64: each word is in its range
+  -- Each word of the block is in its range.
   ranges_by : (p : Purpose) → purpose_of dialect words ≡ p → list_any (λ (w : FlowWord). not (is_in_range p w)) words ≡ false
   ranges_by p is = subst (λ q. list_any (λ (w : FlowWord). not (is_in_range q w)) words ≡ false) is given.ranges
 
-  -- a number in the range of the full reading is in that of the open one
+  -- Words of letters with a range in the full reading, which are written out, are in that range in
+  -- the open one.
   within : (p : Purpose) (least greatest : ℕ) (letters : List ℕ) → purpose_of dialect words ≡ p → HaveRange p least greatest letters
       → read.has_computed letters words ≡ false → are_in least greatest letters texts ≡ true
   within p least greatest letters is range plain =
       all_within least greatest _ _ (same_words_of letters texts words are) (all_fit p least greatest letters range words (ranges_by p is)) plain
 
-  -- so are P, L and Q of each role,
+  -- The P, L and Q of the block are in the range of its role.
   range_by : (r : Role) (p : Purpose) → IsSame dialect.system words r p → purpose_of dialect words ≡ p → is_in_range_by r texts ≡ true
   range_by _ _ (macro held) is =
       within purpose.MacroCall 1 9999 (codes "PL") is (range_of_two purpose.MacroCall 1 9999 80 76 refl refl)
@@ -555,7 +577,7 @@ module _ (dialect : Dialect) (texts : List Word) (words : List FlowWord) (are : 
   range_by _ _ (ends p apart held kind) is = refl
   range_by _ _ (onward p apart held kind) is = refl
 
-  -- the M codes are written out
+  -- Outside macro calls the M words are written out.
   m_plain : (p : Purpose) → purpose_of dialect words ≡ p → read_codes.is_macro p ≡ false → read.has_computed (codes "M") words ≡ false
   m_plain p is other = fewer_computed (codes "M") (asked.fixed_letters p) (one_among 77 (asked.fixed_letters p) (there p other)) words (fixed_by p is)
     where
@@ -568,7 +590,7 @@ module _ (dialect : Dialect) (texts : List Word) (words : List FlowWord) (are : 
       there purpose.Setting e = refl
       there purpose.Other e = refl
 
-  -- and in their range,
+  -- Outside macro calls the M codes are 0 to 99,999,999.
   m_within : (p : Purpose) → purpose_of dialect words ≡ p → read_codes.is_macro p ≡ false → are_in 0 99999999 (codes "M") texts ≡ true
   m_within p is other =
       within_more 0 999 99999999 refl (words_of (codes "M") texts)
@@ -583,7 +605,7 @@ module _ (dialect : Dialect) (texts : List Word) (words : List FlowWord) (are : 
       range_m purpose.Setting e = refl
       range_m purpose.Other e = refl
 
-  -- of each role
+  -- Whatever its role, no M code of the block is out of its range.
   m_by : (r : Role) (p : Purpose) → IsSame dialect.system words r p → purpose_of dialect words ≡ p → (not (is_macro texts) && not (are_in 0 99999999 (codes "M") texts)) ≡ false
   m_by _ _ (macro held) is = rw (macro_same, held) refl
   m_by _ p (subprogram apart held) is = rw (m_within p is refl) (and_false (not (is_macro texts)) false refl)
@@ -592,14 +614,14 @@ module _ (dialect : Dialect) (texts : List Word) (words : List FlowWord) (are : 
   m_by _ p (ends q apart held kind) is = rw (m_within p is (left_plain q kind)) (and_false (not (is_macro texts)) false refl)
   m_by _ p (onward q apart held kind) is = rw (m_within p is (left_plain q kind)) (and_false (not (is_macro texts)) false refl)
 
-  -- so 64 doesn't hold
+  -- 64 of the open reading does not hold.
   ranges_there : HaveRole dialect texts words → is_out_of_range dialect texts ≡ false
   ranges_there r =
       let own : is_in_range_by (role_of dialect texts) texts ≡ true =
       subst (λ q. is_in_range_by q texts ≡ true) (sym r.role_is) (range_by r.role r.purpose r.same r.purpose_is) in
       rw (own, m_by r.role r.purpose r.same r.purpose_is) refl
 
-  -- so the open reading refuses nothing,
+  -- The open reading refuses nothing, if the block names no interrupt.
   pub no_refusal : names_interrupt dialect texts ≡ false → refusal_of dialect texts ≡ None
   no_refusal plain =
       let r = roles in
@@ -613,7 +635,7 @@ module _ (dialect : Dialect) (texts : List Word) (words : List FlowWord) (are : 
           else if f then Some TwoM else if g then Some BadCall else if h then Some WordRange else None) ≡ None
       all_false a b c d e f g h is1 is2 is3 is4 is5 is6 is7 is8 = rw (is1, is2, is3, is4, is5, is6, is7, is8) refl
 
-  -- where a block of each role leads
+  -- A block of each role leads where the full reading says by its purpose.
   leads_by : (r : Role) (p : Purpose) → IsSame dialect.system words r p → control_by r dialect texts ≡ full_control_by p dialect words
   leads_by _ _ (macro held) = rw (same_last (codes "P") texts words are, same_last (codes "L") texts words are) refl
   leads_by _ _ (subprogram apart held) = rw (same_last (codes "P") texts words are, same_last (codes "L") texts words are) refl
@@ -622,7 +644,7 @@ module _ (dialect : Dialect) (texts : List Word) (words : List FlowWord) (are : 
   leads_by _ _ (ends p apart held kind) = sym (left_leads dialect words p kind ∙ (rw held refl))
   leads_by _ _ (onward p apart held kind) = sym (left_leads dialect words p kind ∙ (rw held refl))
 
-  -- and leads where the full one does
+  -- The block leads in the open reading where it does in the full one.
   pub leads_there : control_by (role_of dialect texts) dialect texts ≡ control_of_words dialect words
   leads_there =
       let r = roles in

@@ -1,6 +1,5 @@
--- Words of some letters among those of more. What holds of the words of more letters holds of
--- those of fewer.
--- wait_verify uses these lemmas.
+-- Words of some letters among those of more: what holds of the words of more letters holds of those
+-- of fewer. For Accepts and LastWithin; wait_verify takes `fewer_computed` and `one_among`.
 use Rattle.std.proofs.Common.{◌≡◌, ℕ, ◌==◌, Bool, true, false, cond, not, ◌&&◌, ◌||◌, List, [], ◌∷◌, ◌++◌, Option, Some, None, ℤ, pos, negsuc, refl, sym, ◌∙◌, ap, subst, arith, eqb-true}
 use Rattle.std.specs.Prelude.{nat_le}
 use Rattle.std.specs.List.{list_any, list_all, filter_map, cons_option}
@@ -21,11 +20,11 @@ use Rattle.open_forms.specs.Words.{number}
 use Rattle.open_forms.specs.Refusals.{is_parameter, is_within, is_in}
 use Rattle.open_forms.proofs.ReadWords.{AreSaid, none, one_more, same_number}
 
--- each of the first letters is one of the second
+-- Each of the first letters is one of the second.
 abbrev pub AreAmong : List ℕ → List ℕ → Type 0
 AreAmong few many = (letter : ℕ) → is_one_of few letter ≡ true → is_one_of many letter ≡ true
 
--- one letter is among these if it is one of them
+-- A single letter is among these if it is one of them.
 pub one_among : (own : ℕ) (many : List ℕ) → is_one_of many own ≡ true → AreAmong (own ∷ []) many
 one_among own many there letter is = go (own == letter) refl is
   where
@@ -33,11 +32,11 @@ one_among own many there letter is = go (own == letter) refl is
     go true e here = subst (λ l. is_one_of many l ≡ true) (eqb-true own letter e) there
     go false e here = absurd (cc)
 
--- the same letters are among themselves,
+-- Letters are among themselves.
 pub same_among : (letters : List ℕ) → AreAmong letters letters
 same_among letters letter is = is
 
--- and so are those in front of more
+-- Letters are among themselves with more behind them.
 pub front_among : (few more : List ℕ) → AreAmong few (few ++ more)
 front_among [] more letter is = absurd (cc)
 front_among (l ∷ few) more letter is = go (l == letter) is (front_among few more letter)
@@ -47,7 +46,7 @@ front_among (l ∷ few) more letter is = go (l == letter) is (front_among few mo
     go true e further = refl
     go false e further = further e
 
--- none of more words is computed, so none of fewer
+-- If no word of more letters is computed, none of fewer is.
 pub fewer_computed : (few many : List ℕ) → AreAmong few many → (words : List FlowWord) → has_computed many words ≡ false → has_computed few words ≡ false
 fewer_computed few many among [] all = refl
 fewer_computed few many among (w ∷ words) all =
@@ -62,20 +61,20 @@ fewer_computed few many among (w ∷ words) all =
     go false true first second further all = further (neither _ _ all).1
     go false false first second further all = further all
 
--- if no word is of these letters, their list is empty
+-- If no word is of these letters, their list is empty.
 pub none_of : (letters : List ℕ) (words : List FlowWord) → has letters words ≡ false → words_of letters words ≡ []
 none_of letters [] all = refl
 none_of letters (w ∷ words) all = let both = neither (is_one_of letters w.letter) (has letters words) all in rw both.0 (none_of letters words both.1)
 
--- so none of them is computed
+-- If no word is of these letters, none of them is computed.
 pub none_computed : (letters : List ℕ) (words : List FlowWord) → has letters words ≡ false → has_computed letters words ≡ false
 none_computed letters words all = ap (list_any (λ (v : FlowWord). is_computed v.value)) (none_of letters words all)
 
--- each word of these letters is in the range that its letter has
+-- Each of these letters has this range in a block of this purpose.
 abbrev pub HaveRange : Purpose → ℕ → ℕ → List ℕ → Type 0
 HaveRange purpose least greatest letters = (letter : ℕ) → is_one_of letters letter ≡ true → range_of purpose letter ≡ Between least greatest
 
--- one letter with this range,
+-- If a letter has the range, the list of it alone has.
 pub range_of_one : (purpose : Purpose) (least greatest own : ℕ) → range_of purpose own ≡ Between least greatest → HaveRange purpose least greatest (own ∷ [])
 range_of_one purpose least greatest own range letter is = go (own == letter) refl is
   where
@@ -83,7 +82,7 @@ range_of_one purpose least greatest own range letter is = go (own == letter) ref
     go true e here = subst (λ l. range_of purpose l ≡ Between least greatest) (eqb-true own letter e) range
     go false e here = absurd (cc)
 
--- and two letters with it
+-- If two letters have the range, the list of both has.
 pub range_of_two : (purpose : Purpose) (least greatest own other : ℕ) → range_of purpose own ≡ Between least greatest
     → range_of purpose other ≡ Between least greatest → HaveRange purpose least greatest (own ∷ other ∷ [])
 range_of_two purpose least greatest own other first second letter is = go (own == letter) refl is
@@ -92,7 +91,7 @@ range_of_two purpose least greatest own other first second letter is = go (own =
     go true e here = subst (λ l. range_of purpose l ≡ Between least greatest) (eqb-true own letter e) first
     go false e here = range_of_one purpose least greatest other second letter here
 
--- if no word is out of its range, each word of these letters fits it
+-- If no word is out of its range, each word of letters with this range fits it.
 pub all_fit : (purpose : Purpose) (least greatest : ℕ) (letters : List ℕ) → HaveRange purpose least greatest letters
     → (words : List FlowWord) → list_any (λ (w : FlowWord). not (is_in_range purpose w)) words ≡ false
     → list_all (λ (w : FlowWord). fits_value (Between least greatest) w.value) (words_of letters words) ≡ true
@@ -109,7 +108,7 @@ all_fit purpose least greatest letters range (w ∷ words) all =
         rw own rest
     go false e fits rest = rest
 
--- a value that fits, and is written out, is within
+-- The number of a value that fits a range, and is written out, lies within it.
 value_within : (least greatest : ℕ) (value : WordValue) → fits_value (Between least greatest) value ≡ true → is_computed value ≡ false
     → is_within least greatest (natural (whole_value value)) ≡ true
 value_within least greatest (Fixed literal) fits plain = go (whole_of literal.value) fits
@@ -120,7 +119,7 @@ value_within least greatest (Fixed literal) fits plain = go (whole_of literal.va
     go (Some (negsuc n)) e = absurd (cc)
 value_within least greatest (Computed minus tree) fits plain = absurd (cc)
 
--- so all words that are said are
+-- If the words fit a range and are written out, their texts write numbers within it.
 pub all_within : (least greatest : ℕ) (texts : List Word) (words : List FlowWord) → AreSaid texts words
     → list_all (λ (w : FlowWord). fits_value (Between least greatest) w.value) words ≡ true
     → list_any (λ (w : FlowWord). is_computed w.value) words ≡ false → list_all (is_in least greatest) texts ≡ true
@@ -132,7 +131,7 @@ all_within least greatest _ _ (one_more text word texts words is others) fit pla
     ap (is_within least greatest) (same_number text word is) ∙ value_within least greatest word.value fits.0 plains.0 in
     rw own (all_within least greatest texts words others fits.1 plains.1)
 
--- numbers in a range are so up to a greater number too
+-- Numbers within a range are within one with a greater end.
 pub within_more : (least greatest more : ℕ) → nat_le greatest more ≡ true → (texts : List Word)
     → list_all (is_in least greatest) texts ≡ true → list_all (is_in least more) texts ≡ true
 within_more least greatest more larger [] all = refl
@@ -144,7 +143,7 @@ within_more least greatest more larger (t ∷ texts) all =
     go None e = absurd (cc)
     go (Some n) e = grind (arith, nat_tests)
 
--- an L of 2 writes no parameters
+-- An L of 2 does not say 50 to 52.
 no_parameter : (value : WordValue) → fits_value (Between 2 2) value ≡ true → (n : Option ℕ) → natural (whole_value value) ≡ n → list_any is_parameter (cons_option n []) ≡ false
 no_parameter value fits None e = refl
 no_parameter (Computed minus tree) fits (Some n) e = absurd (cc)
@@ -158,7 +157,7 @@ no_parameter (Fixed literal) fits (Some n) e = go (whole_of literal.value) fits 
         let two : n ≡ 2 = (let own : (nat_le 2 m && nat_le m 2) ≡ true = fits in grind (arith, nat_tests)) in
         rw two refl
 
--- so no L of a setting writes parameters
+-- If all L words are 2, none says 50 to 52.
 pub no_parameters : (texts : List Word) (words : List FlowWord) → AreSaid texts words
     → list_all (λ (w : FlowWord). fits_value (Between 2 2) w.value) words ≡ true → list_any is_parameter (filter_map number texts) ≡ false
 no_parameters _ _ none fit = refl

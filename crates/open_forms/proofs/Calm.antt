@@ -1,4 +1,5 @@
--- A text of the grammar of expressions closes each bracket that it opens, and hides no word.
+-- A text of the grammar of expressions closes each bracket that it opens, and hides no G or M word:
+-- it is calm. For Sentences.
 use Rattle.std.proofs.Common.{arith, ◌≡◌, ℕ, zero, suc, ◌-◌, ◌==◌, Bool, true, false, cond, not, ◌&&◌, ◌||◌, List, [], ◌∷◌, ◌++◌, refl, sym, ◌∙◌, ap, subst, append_assoc}
 use Rattle.std.specs.Prelude.{codes}
 use Rattle.std.specs.Char.{is_ascii_digit}
@@ -16,47 +17,50 @@ use Rattle.macro_expr.specs.Grammar.{IsWord, IsBracketed, closed, IsVariable, fi
 use Rattle.macro_expr.proofs.Heads.{◌also◌, each}
 use Rattle.open_forms.specs.Statements.{behind_close, closed as closes, hides_word, is_own_m}
 
--- what stands behind it decides where the open brackets close
+-- A bracket that is open before the text closes where it would without the text: what stands behind
+-- it decides.
 abbrev pub IsBalanced : List ℕ → Type 0
 IsBalanced t = (n : ℕ) (rest : List ℕ) → behind_close n (t ++ rest) ≡ behind_close n rest
 
--- nothing hides in the rest, whatever stands before it
+-- No word hides in the text, whatever two bytes stand before it.
 abbrev pub HidesNone : List ℕ → Type 0
 HidesNone rest = (far near : ℕ) → hides_word far near rest ≡ false
 
--- no word hides in it either, if none hides behind it
+-- If no word hides behind the text, none hides in it either.
 abbrev pub IsQuiet : List ℕ → Type 0
 IsQuiet t = (rest : List ℕ) → HidesNone rest → HidesNone (t ++ rest)
 
--- both: its brackets are balanced, and it hides no word
+-- The brackets of the text are balanced, and it hides no word.
 pub record IsCalm (t : List ℕ) : Type 0 where
+  -- Its brackets are balanced.
   pub balanced : IsBalanced t
+  -- It hides no word.
   pub quiet : IsQuiet t
 
--- two texts one after the other are balanced,
+-- Two balanced texts, one after the other, are balanced.
 pub balanced_join : (t u : List ℕ) → IsBalanced t → IsBalanced u → IsBalanced (t ++ u)
 balanced_join t u first second n rest = rw (append_assoc t u rest) (first n (u ++ rest) ∙ second n rest)
 
--- hide nothing,
+-- Two quiet texts, one after the other, are quiet.
 quiet_join : (t u : List ℕ) → IsQuiet t → IsQuiet u → IsQuiet (t ++ u)
 quiet_join t u first second rest none = subst HidesNone (sym (append_assoc t u rest)) (first (u ++ rest) (second rest none))
 
--- and so are calm, if both are
+-- Two calm texts, one after the other, are calm.
 pub calm_join : (t u : List ℕ) → IsCalm t → IsCalm u → IsCalm (t ++ u)
 calm_join t u first second = record {
   balanced = balanced_join t u first.balanced second.balanced;
   quiet = quiet_join t u first.quiet second.quiet;
 }
 
--- a byte that is no bracket
+-- The byte is no bracket.
 abbrev is_flat : ℕ → Bool
 is_flat b = not (b == 91) && not (b == 93)
 
--- a byte that is no G and no M
+-- The byte is no G and no M.
 abbrev is_mild : ℕ → Bool
 is_mild b = not (b == 71) && not (b == 77)
 
--- one such byte is balanced,
+-- A byte that is no bracket is balanced.
 balanced_byte : (b : ℕ) → is_flat b ≡ true → IsBalanced (b ∷ [])
 unfolding behind_close
 balanced_byte b flat n rest = go (b == 91) (b == 93) flat
@@ -66,14 +70,14 @@ balanced_byte b flat n rest = go (b == 91) (b == 93) flat
     go false true e = absurd (cc)
     go false false e = refl
 
--- and so are many
+-- A text without brackets is balanced.
 pub balanced_flat : (t : List ℕ) → list_all is_flat t ≡ true → IsBalanced t
 balanced_flat [] all = λ n rest. refl
 balanced_flat (b ∷ t) all =
     let parts = and_parts (is_flat b) (list_all is_flat t) all in
     balanced_join (b ∷ []) t (balanced_byte b parts.0) (balanced_flat t parts.1)
 
--- one such byte hides nothing,
+-- A byte that is no G and no M is quiet.
 quiet_byte : (b : ℕ) → is_mild b ≡ true → IsQuiet (b ∷ [])
 unfolding hides_word
 quiet_byte b mild rest none far near = go (b == 71) (b == 77) (not (is_own_m far near rest)) mild
@@ -83,18 +87,18 @@ quiet_byte b mild rest none far near = go (b == 71) (b == 77) (not (is_own_m far
     go false true z e = absurd (cc)
     go false false z e = none near b
 
--- and so do many
+-- A text without G and M is quiet.
 pub quiet_mild : (t : List ℕ) → list_all is_mild t ≡ true → IsQuiet t
 quiet_mild [] all = λ rest none. none
 quiet_mild (b ∷ t) all =
     let parts = and_parts (is_mild b) (list_all is_mild t) all in
     quiet_join (b ∷ []) t (quiet_byte b parts.0) (quiet_mild t parts.1)
 
--- bytes that are neither are calm
+-- A text without brackets, G and M is calm.
 pub calm_bytes : (t : List ℕ) → list_all is_flat t ≡ true → list_all is_mild t ≡ true → IsCalm t
 calm_bytes t flat mild = record { balanced = balanced_flat t flat; quiet = quiet_mild t mild }
 
--- an M before OD is no word
+-- The word MOD hides no word: its M stands before OD.
 quiet_mod : IsQuiet (codes "MOD")
 unfolding hides_word
 quiet_mod rest none far near = go (far == 80) (near == 82)
@@ -104,18 +108,18 @@ quiet_mod rest none far near = go (far == 80) (near == 82)
     go true false = none 79 68
     go false y = none 79 68
 
--- so MOD is calm
+-- The word MOD is calm.
 calm_mod : IsCalm (codes "MOD")
 calm_mod = record { balanced = balanced_flat (codes "MOD") refl; quiet = quiet_mod }
 
--- a balanced text in brackets is balanced
+-- A balanced text in brackets is balanced.
 pub balanced_bracketed : (t : List ℕ) → IsBalanced t → IsBalanced (codes "[" ++ (t ++ codes "]"))
 unfolding behind_close
 balanced_bracketed t inner n rest =
     let same : suc n - 1 ≡ n = omega arith in
     rw (append_assoc t (codes "]") rest) (inner (suc n) (93 ∷ rest) ∙ ap (λ k. behind_close k rest) same)
 
--- and a calm text in brackets is calm
+-- A calm text in brackets is calm.
 calm_bracketed : (t : List ℕ) → IsCalm t → IsCalm (codes "[" ++ (t ++ codes "]"))
 calm_bracketed t inner = record {
   balanced = balanced_bracketed t inner.balanced;
@@ -123,36 +127,36 @@ calm_bracketed t inner = record {
       (quiet_join t (codes "]") inner.quiet (quiet_mild (codes "]") refl));
 }
 
--- if each byte that passes one test passes another, so do all bytes of a text
+-- If each byte that passes one test passes another, so do all bytes of a text.
 all_by : (p q : ℕ → Bool) → ((b : ℕ) → p b ≡ true → q b ≡ true) → (t : List ℕ) → list_all p t ≡ true → list_all q t ≡ true
 all_by p q each [] all = refl
 all_by p q each (b ∷ t) all =
     let parts = and_parts (p b) (list_all p t) all in
     rw (each b parts.0) (all_by p q each t parts.1)
 
--- digits are neither a bracket nor a G or M,
+-- A digit is no bracket, no G and no M.
 digit_calm : (b : ℕ) → is_ascii_digit b ≡ true → (is_flat b ≡ true) × (is_mild b ≡ true)
 digit_calm b digit = (grind (arith, nat_tests), grind (arith, nat_tests))
 
--- nor are the other bytes of a number
+-- A byte of a number is no bracket, no G and no M.
 number_calm : (b : ℕ) → is_number_byte b ≡ true → (is_flat b ≡ true) × (is_mild b ≡ true)
 number_calm b own = (grind (arith, nat_tests), grind (arith, nat_tests))
 
--- so digits are calm,
+-- A text of digits is calm.
 pub calm_digits : (t : List ℕ) → list_all is_ascii_digit t ≡ true → IsCalm t
 calm_digits t all =
     calm_bytes t (all_by is_ascii_digit is_flat (λ b e. (digit_calm b e).0) t all) (all_by is_ascii_digit is_mild (λ b e. (digit_calm b e).1) t all)
 
--- and so are numbers
+-- A text of bytes of a number is calm.
 calm_number : (t : List ℕ) → list_all is_number_byte t ≡ true → IsCalm t
 calm_number t all =
     calm_bytes t (all_by is_number_byte is_flat (λ b e. (number_calm b e).0) t all) (all_by is_number_byte is_mild (λ b e. (number_calm b e).1) t all)
 
--- a word of the grammar is calm
+-- A word of the grammar is calm.
 abbrev Calms : {A : Type 0} → List ℕ → A → Type 0
 Calms word meaning = IsCalm word
 
--- so are the words of operators,
+-- The words of operators are calm.
 calm_operator : (rank : Rank) (word : List ℕ) (op : Op) → IsWord (operator_words rank) word op → IsCalm word
 calm_operator Product word op is =
     each (operator_words Product) Calms
@@ -161,70 +165,70 @@ calm_operator Sum word op is =
     each (operator_words Sum) Calms
     (calm_bytes (codes "+") refl refl also calm_bytes (codes "-") refl refl also calm_bytes (codes "OR") refl refl also calm_bytes (codes "XOR") refl refl also tt) word op is
 
--- of signs,
+-- Signs are calm.
 calm_sign : (word : List ℕ) (minus : Bool) → IsWord sign_words word minus → IsCalm word
 calm_sign word minus is =
     each sign_words Calms (calm_bytes (codes "+") refl refl also calm_bytes (codes "-") refl refl also tt) word minus is
 
--- and of functions
+-- The words of functions are calm.
 calm_function : (word : List ℕ) (f : Fun) → IsWord function_words word f → IsCalm word
 calm_function word f is =
     each function_words Calms
     (calm_bytes (codes "SQRT") refl refl also calm_bytes (codes "ABS") refl refl also calm_bytes (codes "FIX") refl refl
     also calm_bytes (codes "FUP") refl refl also calm_bytes (codes "ROUND") refl refl also tt) word f is
 
--- a word of the grammar is balanced
+-- A word of the grammar is balanced.
 abbrev Balances : {A : Type 0} → List ℕ → A → Type 0
 Balances word meaning = IsBalanced word
 
--- those of relations are balanced: EQ, NE, GT ..
+-- The words of relations are balanced: EQ, NE, GT ..
 pub balanced_relation : (word : List ℕ) (rel : Rel) → IsWord relation_words word rel → IsBalanced word
 balanced_relation word rel is =
     each relation_words Balances
     (balanced_flat (codes "EQ") refl also balanced_flat (codes "NE") refl also balanced_flat (codes "GT") refl
     also balanced_flat (codes "GE") refl also balanced_flat (codes "LT") refl also balanced_flat (codes "LE") refl also tt) word rel is
 
--- each text that this grammar reads is calm
+-- Each text that this grammar reads is calm.
 abbrev AreCalm : (List ℕ → Tree → Type 0) → Type 0
 AreCalm Is = (t : List ℕ) (e : Tree) → Is t e → IsCalm t
 
 module _ (Inner : List ℕ → Tree → Type 0) (inner : AreCalm Inner) where
-  -- a bracketed expression is calm if what stands in it is,
+  -- A bracketed expression is calm if what stands in it is.
   pub bracketed_calm : AreCalm (IsBracketed Inner)
   bracketed_calm _ _ (closed t e is) = calm_bracketed t (inner t e is)
 
-  -- a variable is calm
+  -- A variable is calm.
   pub variable_calm : (t : List ℕ) (v : Named) → IsVariable Inner t v → IsCalm t
   variable_calm _ _ (fixed t n is) = calm_join (codes "#") t (calm_bytes (codes "#") refl refl) (calm_digits t is.bytes)
   variable_calm _ _ (computed t e is) = calm_join (codes "#") t (calm_bytes (codes "#") refl refl) (bracketed_calm t e is)
 
-  -- and so is a value,
+  -- A number, a variable and a bracketed expression are calm.
   prim_calm : AreCalm (IsPrim Inner)
   prim_calm _ _ (number t micro is) = calm_number t is.bytes
   prim_calm _ _ (variable t v is) = variable_calm t v is
   prim_calm _ _ (bracket t e is) = bracketed_calm t e is
   prim_calm _ _ (function name t f e is_name is) = calm_join name t (calm_function name f is_name) (bracketed_calm t e is)
 
-  -- one with a sign,
+  -- A value with a sign is calm.
   signed_calm : AreCalm (IsSigned Inner)
   signed_calm _ _ (plain t e is) = prim_calm t e is
   signed_calm _ _ (signed word t minus e is_word is) = calm_join word t (calm_sign word minus is_word) (prim_calm t e is)
 
-  -- operands in a row,
+  -- Operands in a row with operators between them are calm if each operand is.
   chain_calm : (rank : Rank) (First Operand : List ℕ → Tree → Type 0) → AreCalm First → AreCalm Operand → AreCalm (IsChain rank First Operand)
   chain_calm rank First Operand first operand _ _ (one t e is) = first t e is
   chain_calm rank First Operand first operand _ _ (more t word u op left right before is_word is) =
       calm_join t (word ++ u) (chain_calm rank First Operand first operand t left before)
       (calm_join word u (calm_operator rank word op is_word) (operand u right is))
 
-  -- and a sum
+  -- A sum is calm.
   pub sum_calm : AreCalm (IsSum Inner)
   sum_calm =
       chain_calm Sum (IsChain Product (IsSigned Inner) (IsPrim Inner)) (IsChain Product (IsPrim Inner) (IsPrim Inner))
       (chain_calm Product (IsSigned Inner) (IsPrim Inner) signed_calm prim_calm)
       (chain_calm Product (IsPrim Inner) (IsPrim Inner) prim_calm prim_calm)
 
--- so an expression is calm, however deep its brackets are
+-- An expression is calm, however deep its brackets are.
 pub within_calm : (n : ℕ) → AreCalm (IsWithin n)
 within_calm zero t e is = absurd is
 within_calm (suc n) t e is = sum_calm (IsWithin n) (within_calm n) t e is

@@ -1,4 +1,5 @@
--- The statements of a tape that was read have no blanks, no comments and no lower case.
+-- The statements of a tape that was read have no blanks, no comments and no lower case. For the law
+-- `the_statements_of_a_tape_are_clean` (src/laws.rt).
 use Rattle.std.proofs.Common.{◌≡◌, ℕ, zero, suc, ◌+◌, ◌-◌, ◌==◌, Bool, true, false, cond, not, ◌&&◌, List, [], ◌∷◌, ◌++◌, length, drop, filter, Option, Some, None, is_some, Result, Ok, Err, refl, sym, subst, arith}
 use Rattle.std.specs.Prelude.{nat_lt}
 use Rattle.std.specs.Char.{to_ascii_uppercase}
@@ -26,15 +27,15 @@ use Rattle.nc_text.specs.Tape.{Before, nothing_read, programs_of, unless_refused
 use Rattle.line_text.proofs.Judged.{judged_ok}
 use Rattle.open_forms.specs.Widening.{IsClean, AreClean, IsCleanTape}
 
--- a sign as a scan gives it: no blank, and in upper case
+-- The sign of a scan is no blank and in upper case.
 abbrev is_plain : Sign → Bool
 is_plain sign = not (is_blank sign.byte) && (to_ascii_uppercase sign.byte == sign.byte)
 
--- each sign is so
+-- Each of these signs is no blank and in upper case.
 abbrev ArePlain : List Sign → Type 0
 ArePlain signs = list_all is_plain signs ≡ true
 
--- a byte in upper case is no blank, and stays as it is
+-- A byte in upper case is no blank, and stays as it is.
 upper_twice : (b : ℕ) → is_blank b ≡ false → (not (is_blank (to_ascii_uppercase b)) && (to_ascii_uppercase (to_ascii_uppercase b) == to_ascii_uppercase b)) ≡ true
 upper_twice b other = go (nat_lt b 97) (nat_lt b 123) refl refl
   where
@@ -50,7 +51,7 @@ upper_twice b other = go (nat_lt b 97) (nat_lt b 123) refl refl
         same (b - 32) no_blank (rw below refl)
     go false false low middle = same b other (rw (low, middle) refl)
 
--- the signs of a scan are plain,
+-- The signs that a scan gives are plain.
 scan_plain : (bs : List ℕ) (inside : Bool) (place : ℕ) → ArePlain (scan_of bs inside place).list
 scan_plain [] inside place = refl
 scan_plain (b ∷ bs) inside place =
@@ -64,13 +65,13 @@ scan_plain (b ∷ bs) inside place =
     go true true other more = more
     go false y other more = more
 
--- and those of the rest,
+-- Plain signs without the first n are plain.
 drop_plain : (n : ℕ) (signs : List Sign) → ArePlain signs → ArePlain (drop n signs)
 drop_plain zero signs all = all
 drop_plain (suc n) [] all = refl
 drop_plain (suc n) (sign ∷ signs) all = drop_plain n signs (and_parts (is_plain sign) (list_all is_plain signs) all).1
 
--- those behind a digit,
+-- Plain signs behind a digit are plain.
 digit_plain : (signs : List Sign) → ArePlain signs → ArePlain (behind_digit signs)
 digit_plain [] all = refl
 digit_plain (sign ∷ signs) all = go (is_switch sign.byte)
@@ -79,7 +80,7 @@ digit_plain (sign ∷ signs) all = go (is_switch sign.byte)
     go true = (and_parts (is_plain sign) (list_all is_plain signs) all).1
     go false = all
 
--- and those behind a switch (/1 to /9)
+-- Plain signs behind a switch (/1 to /9) are plain.
 switch_plain : (signs : List Sign) → ArePlain signs → ArePlain (behind_switch signs)
 switch_plain [] all = refl
 switch_plain (sign ∷ signs) all = go (sign.byte == 47)
@@ -88,7 +89,8 @@ switch_plain (sign ∷ signs) all = go (sign.byte == 47)
     go true = digit_plain signs (and_parts (is_plain sign) (list_all is_plain signs) all).1
     go false = all
 
--- a text of plain signs without comments is clean
+-- The text of plain signs is clean: to leave out blanks and comments and to make it upper case
+-- changes nothing.
 sentence_clean : (signs : List Sign) → ArePlain signs → cleaned false (sentence_of signs) ≡ sentence_of signs
 sentence_clean [] all = refl
 sentence_clean (sign ∷ signs) all =
@@ -109,13 +111,13 @@ sentence_clean (sign ∷ signs) all =
         let no_blank : is_blank sign.byte ≡ false = not_true (is_blank sign.byte) other in
         rw (is, no_blank, upper, rest) refl
 
--- what a line says has a clean statement, if it says one
+-- The statement that a line says is clean, if it says one.
 abbrev IsCleanSaid : Said → Type 0
 IsCleanSaid said.Nothing = Unit {0}
 IsCleanSaid (said.Program number) = Unit {0}
 IsCleanSaid (said.Block block) = IsClean block.body
 
--- a line of words says nothing but words,
+-- A line of words says no statement.
 words_clean : (slash : Bool) (pieces : List Piece) → IsCleanSaid (said_by slash pieces)
 words_clean slash pieces = go (is_program slash pieces)
   where
@@ -124,7 +126,7 @@ words_clean slash pieces = go (is_program slash pieces)
     go true = tt
     go false = tt
 
--- a block has clean statements,
+-- The statement of a line that is a block is clean.
 block_clean : (slash : Bool) (signs : List Sign) → ArePlain signs → IsCleanSaid (read_block slash signs).said
 unfolding read_block read_numbered read_statement read_words
 block_clean slash signs all = go (is_numbered signs) (is_statement (sentence_of signs)) (value_len signs 0 == 0)
@@ -140,7 +142,7 @@ block_clean slash signs all = go (is_numbered signs) (is_statement (sentence_of 
     go false false true = words_clean slash (pieces_of signs)
     go false false false = tt
 
--- a program's head too,
+-- The statement of a line that may begin a program is clean.
 head_clean : (signs : List Sign) → ArePlain signs → IsCleanSaid (read_head signs).said
 unfolding read_head
 head_clean [] all = tt
@@ -148,7 +150,7 @@ head_clean (sign ∷ signs) all =
     block_clean (is_some (switch_of (sign ∷ signs))) (behind_comments (behind_switch (sign ∷ signs)))
     (drop_plain (prefix_len is_comment (behind_switch (sign ∷ signs))) (behind_switch (sign ∷ signs)) (switch_plain (sign ∷ signs) all))
 
--- and so has each line
+-- Whatever a line says, its statement is clean.
 line_clean : (skips : ℕ) (line : List ℕ) (ended : Bool) (says : Said) → line_says skips line ended ≡ Ok says → IsCleanSaid says
 unfolding line_says signs_of
 line_clean skips line ended says e =
@@ -162,26 +164,28 @@ line_clean skips line ended says e =
     go true what clean = tt
     go false what clean = clean
 
--- one block more that is clean leaves all so
+-- Clean blocks with one clean block more are clean.
 more_clean : (blocks : List Block) (block : Block) → AreClean blocks → IsClean block.body → AreClean (blocks ++ block ∷ [])
 more_clean [] block all own = (own, tt)
 more_clean (b ∷ blocks) block all own = (all.0, more_clean blocks block all.1 own)
 
--- two lists of programs, one after the other
+-- Clean programs and clean programs behind them are clean.
 joined_clean : (done more : List Program) → IsCleanTape done → IsCleanTape more → IsCleanTape (done ++ more)
 joined_clean [] more first second = second
 joined_clean (p ∷ done) more first second = (first.0, joined_clean done more first.1 second)
 
--- the programs that were read so far are clean
+-- The programs that were read so far are clean: those that are done and the current one.
 record IsCleanBefore (before : Before) : Type 0 where
+  -- The programs that are done are clean.
   done : IsCleanTape before.done
+  -- The current program is clean, if there is one.
   current : IsCleanTape (option_to_list before.current)
 
--- the programs so far are clean,
+-- All programs that were read so far are clean.
 programs_clean : (before : Before) → IsCleanBefore before → IsCleanTape (programs_of before)
 programs_clean before clean = joined_clean before.done (option_to_list before.current) clean.done clean.current
 
--- also with what one line says,
+-- With what one line more says, the programs so far are clean.
 said_clean : (before : Before) (what : Said) → IsCleanBefore before → IsCleanSaid what → IsCleanBefore (with_said before what)
 said_clean before said.Nothing clean own = clean
 said_clean before (said.Program None) clean own = clean
@@ -194,12 +198,12 @@ said_clean before (said.Block block) clean own =
     go None all = tt
     go (Some program) all = (more_clean program.blocks (block_at (before.lines + 1) block) all.0 own, tt)
 
--- and if it is not refused
+-- If the reading goes on unless it is refused, the programs so far are clean when it does.
 unless_clean : (refusal : Option Refusal) (after now : Before) → IsCleanBefore after → unless_refused refusal after ≡ Ok now → IsCleanBefore now
 unless_clean (Some refusal) after now clean e = absurd (cc)
 unless_clean None after now clean e = let same : after ≡ now = cc in subst IsCleanBefore same clean
 
--- so one line more keeps it so,
+-- After one line more the programs so far are clean.
 line_after : (skips : ℕ) (before now : Before) (bytes : List ℕ) (ended : Bool) → IsCleanBefore before → after_line skips before bytes ended ≡ Ok now → IsCleanBefore now
 line_after skips before now bytes ended clean e = go (line_says skips bytes ended) refl e
   where
@@ -210,23 +214,23 @@ line_after skips before now bytes ended clean e = go (line_says skips bytes ende
         unless_clean (said_refusal before (length bytes) ended what) (next (with_said before what) (length bytes) ended) now
         (record { done = told.done; current = told.current }) e
 
--- and so does one that says nothing
+-- After a line that says nothing the programs so far are clean.
 same_after : (refusal : Option Refusal) (before now : Before) (len : ℕ) (ended : Bool) → IsCleanBefore before → unless_refused refusal (next before len ended) ≡ Ok now → IsCleanBefore now
 same_after refusal before now len ended clean e =
     unless_clean refusal (next before len ended) now (record { done = clean.done; current = clean.current }) e
 
--- the tape that is answered in the end is clean
+-- The tape that is answered in the end is clean, if one is.
 abbrev IsCleanAnswer : Answer → Type 0
 IsCleanAnswer (Ok tape) = IsCleanTape tape
 IsCleanAnswer (Err fault) = Unit {0}
 
--- what is answered is clean if what goes on is,
+-- If what goes on behind a line answers a clean tape, so does the reading from that line on.
 goes_clean : (before : Before) (after : Result Before Refusal) (rest : Before → Answer)
     → ((now : Before) → after ≡ Ok now → IsCleanBefore now) → ((now : Before) → IsCleanBefore now → IsCleanAnswer (rest now)) → IsCleanAnswer (goes_on before after rest)
 goes_clean before (Ok now) rest clean further = further now (clean now refl)
 goes_clean before (Err refusal) rest clean further = tt
 
--- at the end of the tape,
+-- The tape that is answered at the end of the text is clean.
 finished_clean : (before : Before) → IsCleanBefore before → IsCleanAnswer (finished before)
 finished_clean before clean = go (is_none before.current)
   where
@@ -234,7 +238,7 @@ finished_clean before clean = go (is_none before.current)
     go true = tt
     go false = programs_clean before clean
 
--- at a tape without an end,
+-- What is answered for a text without the second `%` is clean.
 unfinished_clean : (before : Before) → IsCleanAnswer (unfinished before)
 unfinished_clean before = go (is_none before.current)
   where
@@ -242,7 +246,7 @@ unfinished_clean before = go (is_none before.current)
     go true = tt
     go false = tt
 
--- behind the last sign,
+-- What is read behind the second `%` gives a clean tape.
 rest_clean : (lines : List Line) (before : Before) → IsCleanBefore before → IsCleanAnswer (in_rest lines before)
 rest_clean [] before clean = finished_clean before clean
 rest_clean (line ∷ lines) before clean =
@@ -250,7 +254,7 @@ rest_clean (line ∷ lines) before clean =
     (λ now e. same_after (outer_refusal before (length line.bytes) line.ended) before now (length line.bytes) line.ended clean e)
     (λ now more. rest_clean lines now more)
 
--- in the programs,
+-- What is read between the two `%`, and behind them, gives a clean tape.
 body_clean : (skips : ℕ) (lines : List Line) (before : Before) → IsCleanBefore before → IsCleanAnswer (in_body skips lines before)
 body_clean skips [] before clean = unfinished_clean before
 body_clean skips (line ∷ lines) before clean = go (is_percent line.bytes) (λ now more. body_clean skips lines now more)
@@ -266,7 +270,7 @@ body_clean skips (line ∷ lines) before clean = go (is_percent line.bytes) (λ 
         goes_clean before (after_line skips before line.bytes line.ended) (in_body skips lines)
         (λ now e. line_after skips before now line.bytes line.ended clean e) further
 
--- and before the first sign
+-- What is read from before the first `%` on gives a clean tape.
 leader_clean : (skips : ℕ) (lines : List Line) (before : Before) → IsCleanBefore before → IsCleanAnswer (in_leader skips lines before)
 leader_clean skips [] before clean = tt
 leader_clean skips (line ∷ lines) before clean = go (is_percent line.bytes) (λ now more. leader_clean skips lines now more)
@@ -282,7 +286,7 @@ leader_clean skips (line ∷ lines) before clean = go (is_percent line.bytes) (�
         goes_clean before (after_outer before (length line.bytes) line.ended) (in_leader skips lines)
         (λ now e. same_after (outer_refusal before (length line.bytes) line.ended) before now (length line.bytes) line.ended clean e) further
 
--- so each tape that reads has clean statements
+-- Each tape that reads has clean statements.
 pub tape_clean : (skips : ℕ) (text : List ℕ) (tape : List Program) → tape_of skips text ≡ Ok tape → IsCleanTape tape
 unfolding tape_of
 tape_clean skips text tape e =

@@ -1,4 +1,6 @@
--- The number of the last word of a letter, where all words of the letter are in their range.
+-- In a block that is not refused the P and the L of a macro call, and the L alone of a call of a
+-- subprogram, are at most 9,999. So they fit the 16 bits of a control. For `control_by`
+-- (src/controls.rt).
 use Rattle.std.proofs.Common.{◌≡◌, ℕ, ◌≤◌, Bool, true, false, cond, List, [], ◌∷◌, Option, Some, None, IfSome, unwrap_or, refl, sym, ◌∙◌, subst, arith}
 use Rattle.std.specs.Prelude.{codes, if◌then◌else◌}
 use Rattle.std.specs.List.{list_all}
@@ -17,16 +19,17 @@ use Rattle.open_forms.specs.Refusals.{is_long, is_not_fixed, is_unknown, is_wait
 use Rattle.nc_number.proofs.Bools.{neither, not_false}
 use Rattle.open_forms.proofs.AmongLetters.{AreAmong, one_among, same_among}
 
--- the number is at most so much, if there is one
+-- The number is at most so much, if there is one.
 abbrev IsAtMost : ℕ → Option ℕ → Type 0
 IsAtMost greatest n = IfSome n (λ n. n ≤ greatest)
 
--- a number in its range is at most the greatest of it
+-- A number in its range is at most the greatest of it.
 at_most : (least greatest : ℕ) (n : Option ℕ) → is_within least greatest n ≡ true → IsAtMost greatest n
 at_most least greatest None e = tt
 at_most least greatest (Some n) e = grind (arith, nat_tests)
 
--- so is that of the last word of letters that are among these
+-- If the words of these letters are in a range, the number of the last word of some of the letters
+-- is at most the greatest of it.
 last_in : (least greatest : ℕ) (few letters : List ℕ) → AreAmong few letters → (words : List Word)
     → are_in least greatest letters words ≡ true → IsAtMost greatest (last_number few words)
 last_in least greatest few letters among [] all = tt
@@ -49,7 +52,7 @@ last_in least greatest few letters among (w ∷ words) all =
     go false true first second further all = further (and_parts (is_in least greatest w) (are_in least greatest letters words) all).1
     go false false first second further all = further all
 
--- a block that is not refused has no word out of its range
+-- A block that is not refused has no word out of its range.
 in_range : (dialect : Dialect) (words : List Word) → refusal_of dialect words ≡ None → is_out_of_range dialect words ≡ false
 in_range dialect words accepted =
     go (is_long dialect words) (is_not_fixed dialect words) (is_unknown dialect words) (is_wait_not_alone dialect words) (is_wait_of_others dialect words) (has_two_m words) (is_bad_call dialect words) (is_out_of_range dialect words) accepted
@@ -66,20 +69,22 @@ in_range dialect words accepted =
     go false false false false false false false true is = absurd (cc)
     go false false false false false false false false is = refl
 
--- so none of its role is
+-- The P, L and Q of a block that is not refused are in the range of its role.
 ranges_of : (dialect : Dialect) (words : List Word) (role kind : Role) → refusal_of dialect words ≡ None → role ≡ role_of dialect words → role ≡ kind
     → is_in_range_by kind words ≡ true
 ranges_of dialect words role kind accepted is same =
     let own : is_in_range_by (role_of dialect words) words ≡ true = not_false _ (neither _ _ (in_range dialect words accepted)).0 in
     subst (λ r. is_in_range_by r words ≡ true) (sym is ∙ same) own
 
--- the P and L of a macro call are 9,999 at most
+-- In a macro call that is not refused the number of the last word of the letter, which is P or L,
+-- is at most 9,999.
 pub macro_at_most : (dialect : Dialect) (words : List Word) (role : Role) (letter : ℕ) → refusal_of dialect words ≡ None → role ≡ role_of dialect words
     → role ≡ MacroCall → is_one_of (codes "PL") letter ≡ true → IfSome (last_number (letter ∷ []) words) (λ n. n ≤ 9999)
 macro_at_most dialect words role letter accepted is same there =
     last_in 1 9999 (letter ∷ []) (codes "PL") (one_among letter (codes "PL") there) words (ranges_of dialect words role MacroCall accepted is same)
 
--- the repeats of a call of a subprogram are 9,999 at most
+-- In a call of a subprogram that is not refused the number of the last L is at most 9,999. This is
+-- of the L alone: the P may have repeats of its own, and up to eight digits.
 pub repeats_at_most : (dialect : Dialect) (words : List Word) (role : Role) → refusal_of dialect words ≡ None → role ≡ role_of dialect words
     → role ≡ Subprogram → IfSome (last_number (codes "L") words) (λ n. n ≤ 9999)
 repeats_at_most dialect words role accepted is same =

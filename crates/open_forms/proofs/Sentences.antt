@@ -1,4 +1,4 @@
--- A statement of the grammar leads where its open reading says.
+-- A statement of the grammar leads where its open reading says. For Widened.
 use Rattle.std.proofs.Common.{arith, drop, ◌≤◌, ◌%◌, ◌≡◌, ℕ, suc, ◌+◌, ◌*◌, ◌/◌, ◌^◌, ◌==◌, true, false, cond, not, List, [], ◌∷◌, ◌++◌, Some, Ok, pos, unsigned_abs, refl, sym, ◌∙◌, ap, subst, append_assoc, append-nil}
 use Rattle.std.specs.Prelude.{codes, nat_le}
 use Rattle.std.specs.Char.{is_ascii_digit}
@@ -19,7 +19,7 @@ use Rattle.macro_expr.proofs.Heads.{◌also◌, each}
 use Rattle.open_forms.specs.Statements.{behind_close, hides_word, behind_condition, assignment, fixed_target, is_computed, target, loop_number, behind_if, behind_while, control_of_statement}
 use Rattle.open_forms.proofs.Calm.{IsBalanced, HidesNone, IsQuiet, balanced_join, balanced_relation, quiet_mild, within_calm, calm_digits, bracketed_calm}
 
--- behind a condition of the grammar stands the rest
+-- Behind a condition of the grammar the open reading finds the rest.
 behind_test : (c : List ℕ) (test : Test) (rest : List ℕ) → IsTest c test → behind_condition (c ++ rest) ≡ Some rest
 unfolding behind_close
 behind_test _ _ rest (compares t word u rel left right first is_word second) =
@@ -29,16 +29,16 @@ behind_test _ _ rest (compares t word u rel left right first is_word second) =
     let shape : (t ++ (word ++ (u ++ codes "]"))) ++ rest ≡ (t ++ (word ++ u)) ++ (93 ∷ rest) = simp (append_assoc) in
     ap (behind_close 0) shape ∙ balanced 0 (93 ∷ rest)
 
--- an empty text hides nothing
+-- An empty text hides nothing.
 nothing_hides : HidesNone []
 unfolding hides_word
 nothing_hides far near = refl
 
--- an assignment of the grammar, behind its sign
+-- The text is `#` (35) and a rest that hides no word.
 abbrev IsHead : List ℕ → List ℕ → Type 0
 IsHead t rest = (t ≡ 35 ∷ rest) × IsQuiet rest
 
--- a variable is a `#` (35), and then a number or a bracket
+-- A variable is a `#` (35), and then a number or a bracket, which hides no word.
 variable_head : (t : List ℕ) (v : Named) → IsVariable (IsWithin 5) t v → (rest : List ℕ) × IsHead t rest
 variable_head _ _ (fixed t n is) = (t, (refl, quiet_of_digits t is))
   where
@@ -46,7 +46,7 @@ variable_head _ _ (fixed t n is) = (t, (refl, quiet_of_digits t is))
     quiet_of_digits t is = (calm_digits t is.bytes).quiet
 variable_head _ _ (computed t e is) = (t, (refl, (bracketed_calm (IsWithin 5) (within_calm 5) t e is).quiet))
 
--- so an assignment of the grammar leads to the next block
+-- An assignment of the grammar leads to the next block. The name stands for the assignment.
 assigned : (t : List ℕ) (v : Named) (e : Tree) → IsAssignment t v e
     → (rest : List ℕ) × ((t ≡ 35 ∷ rest) × (assignment rest ≡ Ok control.Next))
 assigned _ _ _ (assigns t u v e is_variable is) =
@@ -55,11 +55,11 @@ assigned _ _ _ (assigns t u v e is_variable is) =
     head.1.1 (61 ∷ u) (quiet_mild (61 ∷ []) refl u (subst HidesNone (append-nil u) ((within_calm 6 u e is).quiet [] nothing_hides))) in
     (head.0 ++ (61 ∷ u), (ap (λ x. x ++ (codes "=" ++ u)) head.1.0, rw (quiet 0 0) refl))
 
--- a number that digits alone write is whole
+-- A number of millionths that is a multiple of 1,000,000 is whole.
 whole_is : (a : ℕ) → a % 1000000 ≡ 0 → natural (whole_of (pos a)) ≡ Some (a / 1000000)
 whole_is a multiple = rw multiple refl
 
--- digits alone have no fraction,
+-- A text of digits alone has no fraction.
 no_fraction : (t : List ℕ) → list_all is_ascii_digit t ≡ true → after_first is_point t ≡ []
 no_fraction [] all = refl
 no_fraction (b ∷ t) all =
@@ -70,7 +70,7 @@ no_fraction (b ∷ t) all =
     ap (λ x. drop (cond (not x) (1 + count) 0 + 1) (b ∷ t)) other
     ∙ ap (λ n. drop n (b ∷ t)) more ∙ no_fraction t parts.1
 
--- and no sign
+-- A text of digits alone has no sign.
 unsigned_digits : (t : List ℕ) → list_all is_ascii_digit t ≡ true → (has_minus t ≡ false) × (behind_sign t ≡ t)
 unsigned_digits [] all = (refl, refl)
 unsigned_digits (b ∷ t) all =
@@ -80,11 +80,11 @@ unsigned_digits (b ∷ t) all =
     let minus : (b == 45) ≡ false = grind (arith, nat_tests) in
     (minus, rw (plus, minus) refl)
 
--- whole units are a multiple of 1,000,000 millionths,
+-- So many whole units are a multiple of 1,000,000 millionths.
 multiple : (k : ℕ) → (k * 1000000 + 0 * 10 ^ 6) % 1000000 ≡ 0
 multiple k = omega arith
 
--- so digits alone write a whole number
+-- A text of digits alone writes a whole number.
 digits_number : (t : List ℕ) → list_all is_ascii_digit t ≡ true → (a : ℕ) × ((literal_micro t ≡ pos a) × (a % 1000000 ≡ 0))
 digits_number t all =
     let plain = unsigned_digits t all in
@@ -92,7 +92,7 @@ digits_number t all =
     let fraction : fraction_part t ≡ [] = rw plain.1 (no_fraction t all) in
     (whole * 1000000 + 0 * 10 ^ 6, (rw (plain.0, fraction) refl, multiple whole))
 
--- a sequence number that is written out is the target of a jump
+-- A sequence number up to 99,999 that is written out is the target of a jump.
 written_target : (t : List ℕ) (n : ℕ) → IsWhole t n → n ≤ 99999 → fixed_target (word_literal t) ≡ Ok (control.Goto (Some n))
 written_target t n is small =
     let number = digits_number t is.bytes in
@@ -102,34 +102,34 @@ written_target t n is small =
     let within : nat_le n 99999 ≡ true = grind (arith, nat_tests) in
     rw (is.short, whole, within) refl
 
--- a number is no variable and no bracket
+-- A text of digits begins with no `#` and no bracket, so as a target it is not computed.
 first_digit : (t : List ℕ) → list_all is_ascii_digit t ≡ true → is_computed t ≡ false
 first_digit [] all = refl
 first_digit (b ∷ t) all =
     let parts = and_parts (is_ascii_digit b) (list_all is_ascii_digit t) all in
     let digit = parts.0 in grind (arith, nat_tests)
 
--- the target of the grammar is that of the open reading
+-- A target of the grammar is that of the open reading.
 target_is : (t : List ℕ) (aim : Aim) → IsTarget t aim → target t ≡ Ok (control.Goto (number_of_aim aim))
 target_is _ _ (line t n is small) = rw (first_digit t is.bytes, is.literal, is.bytes) (written_target t n is small)
 target_is _ _ (line_of _ _ (fixed t n is)) = refl
 target_is _ _ (line_of _ _ (computed t e is)) = refl
 target_is _ _ (line_in _ _ (closed t e is)) = refl
 
--- the text is the number of a loop, which leads so
+-- The text writes the number of a loop, which leads so.
 abbrev LoopIs : (ℕ → Control) → List ℕ → ℕ → Type 0
 LoopIs kind word m = loop_number kind word ≡ Ok (kind m)
 
--- the number of a loop is 1 to 3
+-- The number of a loop is 1 to 3.
 loop_is : (kind : ℕ → Control) (word : List ℕ) (m : ℕ) → IsWord loop_words word m → LoopIs kind word m
 loop_is kind word m is = each loop_words (LoopIs kind) (refl also refl also refl also tt) word m is
 
--- IF with a jump goes to its target,
+-- An IF with a jump leads to its target.
 jump_behind : (c t : List ℕ) (test : Test) (aim : Aim) → IsTest c test → IsTarget t aim
     → control_of_statement (codes "IF" ++ (c ++ (codes "GOTO" ++ t))) ≡ Ok (control.Goto (number_of_aim aim))
 jump_behind c t test aim is_test is = ap behind_if (behind_test c test (codes "GOTO" ++ t) is_test) ∙ target_is t aim is
 
--- IF with an assignment goes on,
+-- An IF with an assignment leads to the next block.
 assignment_behind : (c t : List ℕ) (test : Test) (v : Named) (e : Tree) → IsTest c test → IsAssignment t v e
     → control_of_statement (codes "IF" ++ (c ++ (codes "THEN" ++ t))) ≡ Ok control.Next
 assignment_behind c t test v e is_test is =
@@ -137,7 +137,7 @@ assignment_behind c t test v e is_test is =
     ap behind_if (behind_test c test (codes "THEN" ++ t) is_test)
     ∙ ap (λ t. behind_if (Some (codes "THEN" ++ t))) head.1.0 ∙ head.1.1
 
--- and WHILE begins its loop
+-- A WHILE begins its loop.
 loop_behind : (c word : List ℕ) (test : Test) (m : ℕ) → IsTest c test → IsWord loop_words word m
     → control_of_statement (codes "WHILE" ++ (c ++ (codes "DO" ++ word))) ≡ Ok (control.While m)
 loop_behind c word test m is_test is =

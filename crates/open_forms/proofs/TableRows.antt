@@ -1,5 +1,5 @@
--- The G codes of a block that reads in full are those of its system's table.
--- wait_verify uses these lemmas.
+-- The G codes of a block that reads in full are those of its system's table. For Accepts;
+-- wait_verify takes `in_each`, `macro_is`, `no_such_g` and `same_kind`.
 use Rattle.std.proofs.Common.{◌≡◌, ℕ, zero, suc, ◌*◌, ◌/◌, ◌%◌, ◌==◌, Bool, true, false, cond, not, ◌&&◌, ◌||◌, List, [], ◌∷◌, Option, Some, None, ℤ, pos, negsuc, neg_ℤ, unsigned_abs, refl, sym, ◌∙◌, ap, subst, arith, eqb-true, eq-eqb}
 use Rattle.std.specs.List.{list_any, list_all, filter_map, cons_option, find}
 use Rattle.std.proofs.lemmas.Bool.{and_parts}
@@ -22,7 +22,7 @@ use Rattle.open_forms.specs.Codes.{is_g}
 use Rattle.open_forms.specs.Refusals.{row_of_word, is_no_row, takes_p}
 use Rattle.open_forms.proofs.ReadWords.{IsSaid, AreSaid, none, one_more, same_row}
 
--- what is found passes the test, and what all of the list pass
+-- What a search finds passes its test, and each test that all of the list pass.
 found_passes : {X : Type 0} (p q : X → Bool) (xs : List X) (x : X) → find p xs ≡ Some x → list_all q xs ≡ true → (p x ≡ true) × (q x ≡ true)
 found_passes p q [] x found all = absurd (cc)
 found_passes {X} p q (y ∷ ys) x found all = go (p y) refl (λ rest. found_passes p q ys x rest parts.1) found
@@ -35,20 +35,20 @@ found_passes {X} p q (y ∷ ys) x found all = go (p y) refl (λ rest. found_pass
     go true e further here = let same : y ≡ x = cc in (subst (λ z. p z ≡ true) same e, subst (λ z. q z ≡ true) same parts.0)
     go false e further rest = further rest
 
--- a row of the table is of its code, and passes what all rows pass
+-- The row that the table has for a code is of this code, and passes what all rows pass.
 row_passes : (system : System) (q : Row → Bool) (code : ℕ) (row : Row) → row_of (rows_of_system system) code ≡ Some row
     → list_all q (rows_of_system system) ≡ true → (row.code ≡ code) × (q row ≡ true)
 row_passes system q code row found all =
     let both = found_passes (λ (r : Row). r.code == code) q (rows_of_system system) row found all in
     (eqb-true row.code code both.0, both.1)
 
--- what all rows pass in each system
+-- What all rows of both tables pass, all rows of each system's table pass.
 pub in_each : (q : Row → Bool) → list_all q (rows_of_system A) ≡ true → list_all q (rows_of_system B) ≡ true → (system : System)
     → list_all q (rows_of_system system) ≡ true
 in_each q in_a in_b A = in_a
 in_each q in_a in_b B = in_b
 
--- a whole number is so many millionths
+-- A number of millionths with the whole number k is k times 1,000,000.
 whole_pos : (a k : ℕ) → natural (whole_of (pos a)) ≡ Some k → a ≡ k * 1000000
 whole_pos a k is = go (a % 1000000 == 0) refl is
   where
@@ -56,7 +56,7 @@ whole_pos a k is = go (a % 1000000 == 0) refl is
     go true e is = let same : a / 1000000 ≡ k = cc in let none : a % 1000000 ≡ 0 = eqb-true _ _ e in omega (arith, same, none)
     go false e is = absurd (cc)
 
--- a number below 0 is no code
+-- A number below 0 has no whole number that is a code.
 whole_neg : (a k : ℕ) → natural (whole_of (negsuc a)) ≡ Some k → ⊥
 whole_neg a k is = go (suc a % 1000000) (suc a / 1000000) refl refl is
   where
@@ -68,42 +68,42 @@ whole_neg a k is = go (suc a % 1000000) (suc a / 1000000) refl refl is
         let some : (suc m == 0) ≡ false = grind (arith, nat_tests) in
         let no : natural None ≡ Some k = rw some at is in absurd (cc)
 
--- a whole number that is written is so many millionths,
+-- If a word writes out the whole number k, it writes k times 1,000,000 millionths.
 written_whole : (w : Option ℤ) (k : ℕ) → whole_of_written w ≡ Some k → w ≡ Some (pos (k * 1000000))
 written_whole None k is = absurd (cc)
 written_whole (Some (pos a)) k is = ap (λ n. Some (pos n)) (whole_pos a k is)
 written_whole (Some (negsuc a)) k is = absurd (whole_neg a k is)
 
--- and the other way round
+-- k times 1,000,000 millionths are the whole number k.
 whole_written : (k : ℕ) → whole_of_written (Some (pos (k * 1000000))) ≡ Some k
 whole_written k =
     let none : (k * 1000000) % 1000000 ≡ 0 = omega arith in
     let same : (k * 1000000) / 1000000 ≡ k = omega arith in
     rw (none, same) refl
 
--- of a code of the table: of this kind are the rows of this code alone
+-- Both tests say the same.
 abbrev agree : Bool → Bool → Bool
 agree true b = b
 agree false b = not b
 
--- a row is of this kind; no row is not
+-- There is a row, and it is of this kind.
 abbrev of_kind : (CodeKind → Bool) → Option Row → Bool
 of_kind is_kind None = false
 of_kind is_kind (Some row) = is_kind row.kind
 
--- a number passes the test; no number does not
+-- There is a number, and it passes the test.
 abbrev of_number : (ℤ → Bool) → Option ℤ → Bool
 of_number p None = false
 of_number p (Some z) = p z
 
--- this code is the one code of the kind in this system
+-- In the table of the system this code, and no other, is of the kind.
 pub record IsKindOf (system : System) (is_kind : CodeKind → Bool) (code : ℕ) : Type 0 where
-  -- each row is of the kind just if it is of the code,
+  -- Each row is of the kind exactly if it is of the code.
   pub alone : list_all (λ (row : Row). agree (is_kind row.kind) (row.code == code)) (rows_of_system system) ≡ true
-  -- and there is one
+  -- The table has a row of the code, and it is of the kind.
   pub there : of_kind is_kind (row_of (rows_of_system system) code) ≡ true
 
--- so a G word is of the kind just if it is of that code
+-- A G word is of the kind exactly if it is of that code.
 kind_of_word : (system : System) (is_kind : CodeKind → Bool) (code : ℕ) → IsKindOf system is_kind code → (w : Option ℤ)
     → of_number (is_g (code * 1000000)) w ≡ of_kind is_kind (row_of_number system (whole_of_written w))
 kind_of_word system is_kind code of None = refl
@@ -135,7 +135,7 @@ kind_of_word system is_kind code of (Some z) = go (is_g (code * 1000000) z) refl
     go false e None whole = refl
     go false e (Some k) whole = is_none k e whole (row_of (rows_of_system system) k) refl
 
--- of the words of a block: G codes of so many millionths, and rows of the kind
+-- A text of the words is a G code of so many millionths exactly if a word has a row of the kind.
 pub same_kind : (system : System) (is_kind : CodeKind → Bool) (code : ℕ) → IsKindOf system is_kind code → (texts : List Word) (words : List FlowWord)
     → AreSaid texts words
     → list_any (is_g (code * 1000000)) (filter_map written texts) ≡ list_any (λ (row : Row). is_kind row.kind) (filter_map (row_of_read system) words)
@@ -154,17 +154,17 @@ same_kind system is_kind code of _ _ (one_more text word texts words is others) 
     go (Some z) None e rest = rw e rest
     go (Some z) (Some row) e rest = rw (e, rest) refl
 
--- 65 is the code of a macro call,
+-- In both systems 65 is the one code of a macro call.
 pub macro_is : (system : System) → IsKindOf system is_macro_call 65
 macro_is A = record { alone = refl; there = refl }
 macro_is B = record { alone = refl; there = refl }
 
--- and 10 that of a setting
+-- In both systems 10 is the one code of a setting.
 pub setting_is : (system : System) → IsKindOf system is_setting 10
 setting_is A = record { alone = refl; there = refl }
 setting_is B = record { alone = refl; there = refl }
 
--- both readings see the same dwell or setting
+-- A G text takes the P exactly if a word is a dwell or a setting.
 pub same_takes : (system : System) (texts : List Word) (words : List FlowWord) → AreSaid texts words
     → list_any (λ (t : Word). takes_p (row_of_word system t)) texts
     ≡ (list_any (λ (row : Row). is_dwell row.kind) (filter_map (row_of_read system) words)
@@ -191,26 +191,30 @@ same_takes system _ _ (one_more text word texts words is others) =
     go None = refl
     go (Some row) = either (is_dwell row.kind) (is_setting row.kind) dwells sets
 
--- the G words of a block that reads in full have rows
+-- The G word of the text has a row in the table of the system.
 record HasRow (system : System) (text : Word) : Type 0 where
+  -- Its row.
   row : Row
+  -- It is the row of the word.
   found : row_of_word system text ≡ Some row
+  -- The text writes out the row's code.
   written : written text ≡ Some (pos (row.code * 1000000))
+  -- The row passes what all rows pass.
   passes : (q : Row → Bool) → list_all q (rows_of_system system) ≡ true → q row ≡ true
 
--- a row that is found has its number
+-- A row that is found for a number has this number as its code.
 number_row : (system : System) (n : Option ℕ) (row : Row) → row_of_number system n ≡ Some row → n ≡ Some row.code
 number_row system None row e = absurd (cc)
 number_row system (Some k) row e =
     ap Some (sym (row_passes system (λ _. true) k row e (in_each (λ _. true) refl refl system)).0)
 
--- and passes what all rows pass
+-- A row that is found for a number passes what all rows pass.
 row_passes_all : (system : System) (n : Option ℕ) (row : Row) → row_of_number system n ≡ Some row → (q : Row → Bool)
     → list_all q (rows_of_system system) ≡ true → q row ≡ true
 row_passes_all system None row e q all = absurd (cc)
 row_passes_all system (Some k) row e q all = (row_passes system q k row e all).1
 
--- so a G word that is known has a row
+-- A G word that is written out and known has a row.
 has_row : (system : System) (text : Word) (word : FlowWord) → IsSaid text word → is_computed word.value ≡ false
     → is_unknown_code system word ≡ false → HasRow system text
 has_row system text word is plain known = go (row_of_read system word) refl
@@ -227,7 +231,7 @@ has_row system text word is plain known = go (row_of_read system word) refl
           passes = row_passes_all system (number text) row here;
         }
 
--- what no code of the table is, none of the block is
+-- A test that no code of the table passes, no G text of words that are known passes.
 pub no_such_g : (system : System) (p : ℤ → Bool) → list_all (λ (row : Row). not (p (pos (row.code * 1000000)))) (rows_of_system system) ≡ true
     → (texts : List Word) (words : List FlowWord) → AreSaid texts words → list_any (is_unknown_code system) words ≡ false
     → list_any (λ (w : FlowWord). is_computed w.value) words ≡ false → list_any p (filter_map written texts) ≡ false
@@ -239,7 +243,7 @@ no_such_g system p all _ _ (one_more text word texts words is others) known plai
     let not_this : p (pos (own.row.code * 1000000)) ≡ false = not_true _ (own.passes (λ (row : Row). not (p (pos (row.code * 1000000)))) all) in
     rw (own.written, not_this) (no_such_g system p all texts words others knows.1 plains.1)
 
--- so each G word of the block has one
+-- Each G text of words that are known and written out has a row.
 pub each_has_row : (system : System) (texts : List Word) (words : List FlowWord) → AreSaid texts words → list_any (is_unknown_code system) words ≡ false
     → list_any (λ (w : FlowWord). is_computed w.value) words ≡ false → list_any (λ (t : Word). is_no_row (row_of_word system t)) texts ≡ false
 each_has_row system _ _ none known plain = refl

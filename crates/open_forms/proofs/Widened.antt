@@ -1,5 +1,5 @@
--- A block that reads in full leads where its open reading says.
--- wait_verify uses these lemmas.
+-- A block that reads in full leads where its open reading says. For the law
+-- `what_reads_in_full_leads_where_it_said` (src/laws.rt); wait_verify takes `judged_words`.
 use Rattle.std.proofs.Common.{◌≡◌, ℕ, false, Bool, true, cond, List, Option, Some, None, Result, Ok, Err, refl, ◌∙◌, ap, subst}
 use Rattle.nc_number.specs.declared.cause.Cause.{Cause}
 use Rattle.nc_number.specs.declared.cause.Cause.TheVariants.{TooManyVariables}
@@ -28,7 +28,7 @@ use Rattle.open_forms.proofs.Sentences.{statement_leads}
 use Rattle.open_forms.proofs.ReadWords.{are_said}
 use Rattle.open_forms.proofs.Accepts.{accepted, no_refusal, leads_there}
 
--- what is answered for a text that reads is its tree
+-- If a tree is answered for a text, reading gave it.
 answered : (text : List ℕ) (read : Result Sentence Stop) (sentence : Sentence) → answer text read ≡ Ok sentence → read ≡ Ok sentence
 answered text (Err stop) sentence e = absurd (cc)
 answered text (Ok tree) sentence e = go (has_many_variables text) e
@@ -37,14 +37,14 @@ answered text (Ok tree) sentence e = go (has_many_variables text) e
     go true e = absurd (cc)
     go false e = let same : tree ≡ sentence = cc in ap Ok same
 
--- so a clean statement leads where its tree says
+-- A clean statement that reads leads where its tree says.
 sentence_widened : (text : List ℕ) (sentence : Sentence) → cleaned false text ≡ text → statement_of text ≡ Ok sentence
     → control_of_statement text ≡ Ok (control_of_sentence sentence)
 sentence_widened text sentence clean reads =
     let whole_reads : whole (statement_at (cleaned false text)) ≡ Ok sentence = answered (cleaned false text) (whole (statement_at (cleaned false text))) sentence reads in
     statement_leads text sentence (subst (λ t. IsStatement t sentence) clean (whole-statement-sound (cleaned false text) sentence whole_reads))
 
--- words that are not refused all read, and no refusal holds of them
+-- Words that are not refused all read, and no refusal holds of them.
 pub judged_words : (dialect : Dialect) (texts : List Word) (words : List FlowWord) → words_or_refusal dialect texts ≡ Ok words
     → (all_words texts ≡ Ok words) × (closed.refusal_of dialect words ≡ None)
 judged_words dialect texts words reads = go (all_words texts) (closed_many texts) reads
@@ -60,7 +60,7 @@ judged_words dialect texts words reads = go (all_words texts) (closed_many texts
         let both = refused own (closed.refusal_of dialect own) e in
         (ap Ok both.0, subst (λ ws. closed.refusal_of dialect ws ≡ None) both.0 both.1)
 
--- words that are not refused lead where the full reading says
+-- Words that are not refused and name no interrupt lead where the full reading says.
 words_widened : (dialect : Dialect) (texts : List Word) (words : List FlowWord) → words_or_refusal dialect texts ≡ Ok words
     → names_interrupt dialect texts ≡ false → open_control_of_words dialect texts ≡ Ok (control_of_words dialect words)
 words_widened dialect texts words reads plain =
@@ -70,7 +70,7 @@ words_widened dialect texts words reads plain =
     ap (λ r. with_refusal r (control_by (role_of dialect texts) dialect texts)) (no_refusal dialect texts words are given plain)
     ∙ ap Ok (leads_there dialect texts words are given)
 
--- a block that reads has the control of what it says
+-- A block that reads has the control of what it says.
 form_control : (block : Block) (read : Result Form ℕ) (form : BlockForm) → block_at block read ≡ Ok form
     → (own : Form) × ((read ≡ Ok own) × (control_of_form own ≡ form.control))
 form_control block (Err number) form e = absurd (cc)
@@ -78,7 +78,7 @@ form_control block (Ok own) form e =
     let same : form_at block.line block.sequence own (control_of_form own) ≡ form = cc in
     (own, (refl, ap (λ f. f.control) same))
 
--- so the body of a block leads there, words or a statement
+-- The body of a block that is not refused, words or a statement, leads where the full reading says.
 body_widened : (dialect : Dialect) (body : Body) (own : Form) → form_or_refusal dialect body ≡ Ok own → has_interrupt dialect body ≡ false
     → IsClean body → open_control dialect body ≡ Ok (control_of_form own)
 body_widened dialect (Words texts) own reads plain clean = go (words_or_refusal dialect texts) refl reads
@@ -98,7 +98,7 @@ body_widened dialect (Statement text) own reads plain clean = go (statement_of t
         let same : OfSentence sentence ≡ own = cc in
         sentence_widened text sentence clean at ∙ ap (λ f. Ok (control_of_form f)) same
 
--- and so does each block that reads in full
+-- Each block that reads in full leads there in the open reading too.
 pub widened : (dialect : Dialect) (block : Block) (form : BlockForm) → IsWidened dialect block form
 widened dialect block form reads plain clean =
     let own = form_control block (form_or_refusal dialect block.body) form reads in

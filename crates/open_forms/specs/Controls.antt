@@ -1,6 +1,5 @@
--- The control of a block, read for its control alone. The full reading's control is in
--- block_forms.
--- open_order and wait_verify use these words.
+-- The control of a block, read for its control alone: the definition that `open_control` answers.
+-- The full reading's control is in block_forms. open_order and wait_verify cite this.
 use Rattle.std.specs.Prelude.{ℕ, List, Option, Some, None, Result, Ok, Err, codes}
 use Rattle.nc_number.specs.declared.cause.Cause.{Cause}
 use Rattle.nc_number.specs.Causes.{cause_number}
@@ -20,12 +19,13 @@ use Rattle.open_forms.specs.Codes.{m_codes, role_of}
 use Rattle.open_forms.specs.Refusals.{refusal_of}
 use Rattle.open_forms.specs.Statements.{control_of_statement}
 
--- the repeats of a call: L, or once
+-- The repeats of a call: L, or once.
 abbrev pub repeats_of : List Word → ℕ
 repeats_of words = or_number 1 (last_number (codes "L") words)
 
--- A block that is none of these goes on to the next one. Behind a roughing cycle the path goes on
--- behind its contour, which it passes: to the next block, or to the contour's last one.
+-- What a block of this role does to the order of blocks; one without a role goes on to the next.
+-- Behind a roughing cycle the path goes on behind its contour, which it passes: to the next block,
+-- or to the contour's last one.
 abbrev pub control_by : Role → Dialect → List Word → Control
 control_by MacroCall dialect words = control.Call (or_number 0 (last_number (codes "P") words)) (repeats_of words)
 control_by Subprogram dialect words = call_of_p (or_number 0 (last_number (codes "P") words)) (repeats_of words)
@@ -36,21 +36,21 @@ control_by Roughing dialect words = control.Goto (last_number (codes "Q") words)
 control_by Finishing dialect words = control.Next
 control_by Other dialect words = control.Next
 
--- this control, or the refusal that holds
+-- This control, or the refusal that holds.
 abbrev pub with_refusal : Option Cause → Control → Result Control Cause
 with_refusal None c = Ok c
 with_refusal (Some cause) c = Err cause
 
--- where a block of words leads, or the least refusal that holds of it
+-- What a block of words does to the order of blocks, or the least refusal that holds of it.
 abbrev pub control_of_words : Dialect → List Word → Result Control Cause
 control_of_words dialect words = with_refusal (refusal_of dialect words) (control_by (role_of dialect words) dialect words)
 
--- what a block does to the order of blocks, or the least refusal that holds of it
+-- What a block does to the order of blocks, or the least refusal that holds of it.
 abbrev pub open_control : Dialect → Body → Result Control Cause
 open_control dialect (Words words) = control_of_words dialect words
 open_control dialect (Statement text) = control_of_statement text
 
--- the control, or the number of the refusal
+-- The control, or the refusal by its number.
 abbrev pub numbered : Result Control Cause → Result Control FormFault
 numbered (Ok control) = Ok control
 numbered (Err cause) = Err (record { number = cause_number cause })

@@ -1,6 +1,5 @@
 -- The words of a block as they stand on the tape, of which only those are read that its control
--- hangs on.
--- open_order and wait_verify use these words.
+-- hangs on. open_order and wait_verify cite this.
 use Rattle.std.specs.Prelude.{ℕ, Bool, not, ◌&&◌, List, Option, Some, None, ℤ, filter, if◌then◌else◌}
 use Rattle.std.specs.List.{list_any, filter_map}
 use Rattle.nc_number.specs.Arithmetic.{whole_of}
@@ -10,45 +9,45 @@ use Rattle.line_text.specs.declared.body.Word.{Word}
 use Rattle.block_words.specs.Words.{is_one_of}
 use Rattle.block_words.specs.Codes.{natural}
 
--- the words of these letters, in their order
+-- The words of these letters, in their order.
 abbrev pub words_of : List ℕ → List Word → List Word
 words_of letters words = filter (λ word. is_one_of letters word.letter) words
 
--- a word of one of these letters is there
+-- The block has a word of one of these letters.
 abbrev pub has : List ℕ → List Word → Bool
 has letters words = list_any (λ word. is_one_of letters word.letter) words
 
--- the millionths of a number that is written out, with not too many digits; an expression is not
--- looked into
+-- The millionths of the number that a word writes out, with not too many digits; an expression is
+-- not looked into.
 abbrev pub written : Word → Option ℤ
 written word = if is_literal word.text then value_of_literal (word_literal word.text) else None
 
--- a whole number that is written out, if it is none below 0
+-- The whole number of so many millionths, if it is whole and not below 0.
 abbrev pub whole_of_written : Option ℤ → Option ℕ
 whole_of_written None = None
 whole_of_written (Some micro) = natural (whole_of micro)
 
--- the whole number that is written out, not below 0
+-- The whole number that a word writes out, if it is not below 0.
 abbrev pub number : Word → Option ℕ
 number word = whole_of_written (written word)
 
--- the numbers of the words of these letters, where each is written out
+-- The whole numbers that words of these letters write out; a word that writes none is left out.
 abbrev pub numbers_of : List ℕ → List Word → List ℕ
 numbers_of letters words = filter_map number (words_of letters words)
 
--- the number of the last word, if there is one
+-- The number of a word, if there is one.
 abbrev pub number_of_last : Option Word → Option ℕ
 number_of_last None = None
 number_of_last (Some word) = number word
 
--- the number of the last word of these letters: it is the one in force
+-- The number of the last word of these letters: it is the one in force.
 abbrev pub last_number : List ℕ → List Word → Option ℕ
 last_number letters words = number_of_last (last_of (words_of letters words))
 
--- a word of one of these letters is computed
+-- A word of one of these letters is computed.
 abbrev pub has_computed : List ℕ → List Word → Bool
 has_computed letters words = list_any (λ word. not (is_literal word.text)) (words_of letters words)
 
--- a word of one of these letters has too many digits
+-- A word of one of these letters has too many digits.
 abbrev pub has_long : List ℕ → List Word → Bool
 has_long letters words = list_any (λ word. is_literal word.text && has_too_many_digits word.text) (words_of letters words)

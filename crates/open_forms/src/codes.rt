@@ -1,5 +1,5 @@
-//! The G and M codes of a block, as numbers alone. Words by their letters are in letters.rt.
-//! For this crate alone: controls.rt and refusals.rt use it.
+//! The G and M codes of a block, as numbers alone, and what they make the block. Words by their
+//! letters are in letters.rt. For this crate alone: controls.rt and refusals.rt ask for them.
 ghost use Rattle.std.specs.Prelude.{◌≡◌};
 ghost use Rattle.block_words.specs.Codes.{first_waiting};
 ghost use Rattle.open_forms.specs.Codes.{is_g, has_g, leads_elsewhere, is_refused_g, m_codes, has_m, has_wait, is_refused_m, is_lone_m, is_roughing, has_contour, cycle_of, role_of};
@@ -9,14 +9,14 @@ use crate::role::Role;
 use block_forms::{Dialect, is_one_of};
 use nc_text::Word;
 
-/// Whether so many millionths are those.
+/// Whether a G code of these millionths is the one of so many.
 fn is_g(micro: u32, own: i64) -> bool
     ensures { result ≡ is_g micro own }
 {
     own == i64::from(micro)
 }
 
-/// Whether a G code of so many millionths is given.
+/// Whether the block has a G word of so many millionths.
 pub(crate) fn has_g(words: &[Word], micro: u32) -> bool
     ensures { result ≡ has_g micro words.now }
 {
@@ -37,7 +37,7 @@ fn leads_elsewhere(micro: u64) -> bool
         || (72_100_000 <= micro && micro <= 72_200_000)
 }
 
-/// Whether the G code may lead elsewhere, or is none.
+/// Whether the G code, in millionths, may call or wait, or is below 0 and so none.
 pub(crate) fn is_refused_g(micro: i64) -> bool
     ensures { result ≡ is_refused_g micro }
 {
@@ -77,7 +77,8 @@ fn find_waiting(words: &[Word], dialect: Dialect) -> Option<u32>
         .find(|code| dialect.is_waiting(*code))
 }
 
-/// The first waiting M code of the block, which is none above the last waiting code.
+/// The first waiting M code of the block. It fits 16 bits, since it is none above the last waiting
+/// code.
 #[tactic(auto, using(block_words::proofs::Waiting::first_waiting_is_below))]
 pub(crate) fn first_waiting(words: &[Word], dialect: Dialect) -> Option<u16>
     ensures { result ≡ first_waiting dialect (m_codes words.now) }
@@ -88,8 +89,8 @@ pub(crate) fn first_waiting(words: &[Word], dialect: Dialect) -> Option<u16>
     }
 }
 
-/// Whether the M code is an interrupt, M96 or M97, or calls a program of another memory, M198, and
-/// no wait of the settings.
+/// Whether the M code is no wait of the settings, and an interrupt, M96 or M97, or the call of a
+/// program of another memory, M198.
 pub(crate) fn is_refused_m(dialect: Dialect, code: u32) -> bool
     ensures { result ≡ is_refused_m dialect code }
 {
@@ -103,21 +104,22 @@ pub(crate) fn is_lone_m(code: u32) -> bool
     (code == 2 || code == 30) || (code == 98 || code == 99)
 }
 
-/// Whether a roughing cycle is given.
+/// Whether the block has G71, G72 or G73.
 fn is_roughing(words: &[Word]) -> bool
     ensures { result ≡ is_roughing words.now }
 {
     has_g(words, 71_000_000) || has_g(words, 72_000_000) || has_g(words, 73_000_000)
 }
 
-/// Whether the block names a contour. The first block of a cycle says depths alone.
+/// Whether the block names a contour, by P or Q. The first block of a cycle says depths alone.
 fn has_contour(words: &[Word]) -> bool
     ensures { result ≡ has_contour words.now }
 {
     has(words, b"PQ")
 }
 
-/// The cycle that the block is, if it is one.
+/// The role of a block that neither calls, returns, waits nor ends: a cycle along a contour, or
+/// none.
 pub(crate) fn cycle_of(words: &[Word]) -> Role
     ensures { result ≡ cycle_of words.now }
 {
@@ -130,7 +132,7 @@ pub(crate) fn cycle_of(words: &[Word]) -> Role
     }
 }
 
-/// What decides where the block leads.
+/// What the block is there for, which decides where it leads.
 pub(crate) fn role_of(dialect: Dialect, words: &[Word]) -> Role
     ensures { result ≡ role_of dialect words.now }
 {

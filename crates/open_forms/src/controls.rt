@@ -1,5 +1,5 @@
-//! What a block does to the order of blocks. A statement's control is in statement.rt.
-//! For this crate alone: reading.rt uses it.
+//! What a block of words does to the order of blocks. A statement's control is in statement.rt. For
+//! this crate alone: reading.rt calls `control_of_words`; the definition is specs/Controls.antt.
 ghost use Rattle.std.specs.Prelude.{◌≡◌, ◌≤◌, IfSome, None};
 ghost use Rattle.block_forms.specs.Controls.{or_number, call_of_p, back_to, wait_at};
 ghost use Rattle.open_forms.specs.Words.{last_number};
@@ -16,7 +16,7 @@ use block_order::Control;
 use nc_number::Cause;
 use nc_text::Word;
 
-/// The number that the last word of these letters says, or another one.
+/// The number that the last word of these letters says, or the other number if it says none.
 fn number_or(words: &[Word], letters: &[u8], other: u16) -> u16
     requires { IfSome (last_number letters.now words.now) (λ n. n ≤ 9999) }
     ensures { result ≡ or_number other (last_number letters.now words.now) }
@@ -27,7 +27,8 @@ fn number_or(words: &[Word], letters: &[u8], other: u16) -> u16
     }
 }
 
-/// The call of a program, with its repeats before the program's four digits or apart.
+/// The call that a P says: of more than four digits it has the repeats before the program's four
+/// digits, else they stand apart.
 fn call_of_p(p: u32, repeats: u16) -> Control
     requires { p ≤ 99999999 }
     ensures { result ≡ call_of_p p repeats }
@@ -45,7 +46,7 @@ fn call_of_p(p: u32, repeats: u16) -> Control
     }
 }
 
-/// Back to a sequence number, or to the call.
+/// M99: back to a sequence number, or without one to the call.
 fn back_to(sequence: Option<u32>) -> Control
     ensures { result ≡ back_to sequence }
 {
@@ -55,7 +56,7 @@ fn back_to(sequence: Option<u32>) -> Control
     }
 }
 
-/// Words that wait have a waiting code, so the other case is never asked.
+/// A wait of this code. Words that wait have a waiting code, so there is no case without one.
 fn wait_at(code: Option<u16>) -> Control
     ensures { result ≡ wait_at code }
 {
@@ -65,7 +66,7 @@ fn wait_at(code: Option<u16>) -> Control
     }
 }
 
-/// Where a block of this role leads, where it is not refused.
+/// What a block of this role does to the order of blocks, if it is not refused.
 fn control_by(role: Role, dialect: Dialect, words: &[Word]) -> Control
     requires role { role ≡ role_of dialect words.now }
     requires accepted { refusal_of dialect words.now ≡ None }

@@ -1,6 +1,5 @@
-//! What the open reading has to do with the full one. Each is the contract of a function that does
-//! nothing: who calls it has the law.
-//! wait_verify uses them.
+//! What the open reading of a block has to do with the full one of block_forms. Each law is the
+//! contract of a function that does nothing: who calls it has the law. wait_verify calls both.
 ghost use Rattle.std.specs.Prelude.{◌≡◌, ℕ, List, Ok};
 ghost use Rattle.nc_text.specs.declared.tape.Block.{Block};
 ghost use Rattle.nc_text.specs.declared.tape.Program.{Program};
@@ -15,8 +14,8 @@ pub fn what_reads_in_full_leads_where_it_said()
     ensures { (dialect : Dialect) (block : Block) (form : BlockForm) → IsWidened dialect block form }
 {}
 
-/// In each tape that was read the statements stand without blanks and comments and in upper case,
-/// as the law above wants them.
+/// In each tape that was read the statements stand without blanks and comments and in upper case.
+/// Only of such statements `what_reads_in_full_leads_where_it_said` speaks.
 pub fn the_statements_of_a_tape_are_clean()
     ensures { (skips : ℕ) (text : List ℕ) (tape : List Program) → tape_of skips text ≡ Ok tape
         → IsCleanTape tape }

@@ -1,5 +1,5 @@
-//! The words of a block by their letters. What their codes mean is in codes.rt.
-//! open_order uses what it exports.
+//! The words of a block by their letters, as they stand on the tape. What their codes mean is in
+//! codes.rt. open_order too asks for the numbers of words.
 ghost use Rattle.std.specs.Prelude.{◌≡◌, ◌≤◌, ◌&&◌, not, IfSome, length, if◌then◌else◌};
 ghost use Rattle.nc_number.specs.Literals.{is_literal, has_too_many_digits};
 ghost use Rattle.block_words.specs.Words.{is_one_of};
@@ -23,7 +23,7 @@ pub fn written(word: &Word) -> Option<i64>
     }
 }
 
-/// The whole number that a word writes out, where it is not below 0.
+/// The whole number that a word writes out, if it is not below 0.
 pub fn number(word: &Word) -> Option<u32>
     ensures value { result ≡ number word.now }
     ensures range { IfSome result (λ n. n ≤ 99999999) }
@@ -93,7 +93,7 @@ pub(crate) fn count_of(words: &[Word], letters: &[u8]) -> usize
         .count()
 }
 
-/// What the word says, if it is of these letters; else what was said before.
+/// The number that this word says, if it is of these letters; else the number that was said before.
 fn later_number(before: Option<u32>, word: &Word, letters: &[u8]) -> Option<u32>
     requires { IfSome before (λ n. n ≤ 99999999) }
     ensures value { result ≡ (if is_one_of letters.now word.now.letter then number word.now else before) }
@@ -106,7 +106,7 @@ fn later_number(before: Option<u32>, word: &Word, letters: &[u8]) -> Option<u32>
     }
 }
 
-/// The number of the last word of these letters, where it is written out, whole and not below 0.
+/// The number of the last word of these letters, if it is written out, whole and not below 0.
 #[tactic(auto, using(crate::proofs::LastWord::last_number_more))]
 pub fn last_number(words: &[Word], letters: &[u8]) -> Option<u32>
     ensures value { result ≡ last_number letters.now words.now }

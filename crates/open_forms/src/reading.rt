@@ -1,6 +1,5 @@
-//! A block, read for its control alone. Its words are read by controls.rt, its statement by
-//! statement.rt.
-//! open_order uses what it exports.
+//! A block, read for its control alone: its words by controls.rt, its statement by statement.rt.
+//! open_order calls `open_control` for each block of a tape.
 ghost use Rattle.std.specs.Prelude.{◌≡◌};
 ghost use Rattle.open_forms.specs.Controls.{open_control, numbered};
 
@@ -11,7 +10,7 @@ use block_order::Control;
 use nc_number::Cause;
 use nc_text::{Block, Body};
 
-/// What is answered: a refusal by its number.
+/// The control, or the refusal by its number.
 fn numbered(read: Result<Control, Cause>) -> Result<Control, FormFault>
     ensures { result ≡ numbered read }
 {
@@ -25,9 +24,9 @@ fn numbered(read: Result<Control, Cause>) -> Result<Control, FormFault>
 
 /// What a block does to the order of blocks.
 ///
-/// Nothing else that it says is looked into. It is refused where its control can't be told, and
-/// where a code of it may call or wait in a way that is not known here: of several refusals with
-/// the one of the least number, 5, 20, 22, 24, 54, 56 to 59, 61 or 64.
+/// Nothing else that it says is looked into. It is refused if its control can't be told, and if a
+/// code of it may call or wait in a way that is not known here: of several refusals with the one of
+/// the least number, 5, 20, 22, 24, 54, 56 to 59, 61 or 64.
 pub fn open_control(block: &Block, dialect: &Dialect) -> Result<Control, FormFault>
     ensures { result ≡ numbered (open_control dialect.now block.now.body) }
 {

@@ -1,5 +1,6 @@
-//! The conditions that refuse a block which leads somewhere.
-//! For this crate alone: controls.rt uses it.
+//! When a block of words is refused by the open reading, each refusal apart from the others. For
+//! this crate alone: controls.rt asks for the least that holds. The definitions, of the same names,
+//! are in specs/Refusals.antt.
 ghost use Rattle.std.specs.Prelude.{◌≡◌, codes};
 ghost use Rattle.std.specs.List.{list_any, list_all};
 ghost use Rattle.block_words.specs.Words.{is_one_of};
@@ -36,7 +37,8 @@ fn fixed_letters(role: Role) -> &'static [u8]
     }
 }
 
-/// 54: a word that must be written out is computed, or the L of G10, which may write parameters.
+/// 54: whether a word that must be written out is computed, or the L of G10, which may write
+/// parameters.
 fn is_not_fixed(role: Role, dialect: Dialect, words: &[Word]) -> bool
     requires { role ≡ role_of dialect words.now }
     ensures { result ≡ is_not_fixed dialect words.now }
@@ -44,7 +46,7 @@ fn is_not_fixed(role: Role, dialect: Dialect, words: &[Word]) -> bool
     has_computed(words, fixed_letters(role)) || (has_computed(words, b"L") && has_g(words, SETTING))
 }
 
-/// The kinds of G10 that write parameters.
+/// Whether a G10 with this L writes parameters: it does with 50 to 52.
 fn is_parameter(kind: u32) -> bool
     ensures { result ≡ is_parameter kind }
 {
@@ -58,7 +60,7 @@ fn writes_parameters(words: &[Word]) -> bool
     names_parameters(words) && has_g(words, SETTING)
 }
 
-/// Whatever the block is: without G10 an L of 50 is no parameter.
+/// Whether an L word says 50 to 52. Without G10 this writes no parameters.
 fn names_parameters(words: &[Word]) -> bool
     ensures { result ≡ list_any is_parameter (numbers_of (codes "L") words.now) }
 {
@@ -79,14 +81,14 @@ fn row_of_word(system: System, word: &Word) -> Option<Row>
     }
 }
 
-/// A computed code has no row either.
+/// Whether the system has no row for the G word; for a computed code there is none either.
 fn has_no_row(system: System, word: &Word) -> bool
     ensures { result ≡ is_no_row (row_of_word system word.now) }
 {
     row_of_word(system, word).is_none()
 }
 
-/// A code that no row has may hide a call.
+/// Whether a G word has no row in the system's table: such a code may hide a call.
 fn has_code_without_row(system: System, words: &[Word]) -> bool
     ensures { result ≡ list_any (λ word. is_no_row (row_of_word system word)) (words_of (codes "G") words.now) }
 {
@@ -120,7 +122,7 @@ fn is_macro_row(row: Option<Row>) -> bool
     }
 }
 
-/// Whether the first word is the G65, and no other is a G word, or a computed N or O.
+/// Whether the first word is the G65, and no other is a G, N or O word.
 fn begins_macro_call(system: System, words: &[Word]) -> bool
     ensures { result ≡ begins_macro_call system words.now }
 {
@@ -134,7 +136,8 @@ fn begins_macro_call(system: System, words: &[Word]) -> bool
     }
 }
 
-/// A G word counts by its millionths: G10.1 is another code than G10.
+/// Whether a G code that is written out may call or wait, or is none. It counts by its millionths:
+/// G10.1 is another code than G10.
 fn has_refused_g(words: &[Word]) -> bool
     ensures { result ≡ list_any is_refused_g (g_values words.now) }
 {
@@ -145,7 +148,8 @@ fn has_refused_g(words: &[Word]) -> bool
         .any(|micro| is_refused_g(micro))
 }
 
-/// A computed M code is refused before, so it is no matter of this.
+/// Whether an M code that is written out is an interrupt or a call of another memory. A computed
+/// one is refused before, as not written out.
 fn has_refused_m(dialect: Dialect, words: &[Word]) -> bool
     ensures { result ≡ list_any (is_refused_m dialect) (m_codes words.now) }
 {
@@ -166,7 +170,7 @@ fn is_unknown_by(role: Role, dialect: Dialect, words: &[Word]) -> bool
     }
 }
 
-/// The blocks whose P and Q name the lines of a contour.
+/// Whether the P and Q of a block of this role name the lines of a contour.
 fn is_contour(role: Role) -> bool
     ensures { result ≡ is_contour role }
 {
@@ -184,7 +188,7 @@ fn is_crowded(role: Role, system: System, words: &[Word]) -> bool
     }
 }
 
-/// 56: a code that may lead elsewhere, or words that may.
+/// 56: whether a code may lead elsewhere, or words may say more of a call.
 fn is_unknown(role: Role, dialect: Dialect, words: &[Word]) -> bool
     requires { role ≡ role_of dialect words.now }
     ensures { result ≡ is_unknown dialect words.now }
@@ -199,7 +203,7 @@ fn waits_there(dialect: Dialect, words: &[Word]) -> bool
     has_wait(words, dialect) && !has_g(words, MACRO_CALL)
 }
 
-/// 57: a wait beside another word than P.
+/// 57: whether a wait stands beside another word than P.
 fn is_wait_not_alone(dialect: Dialect, words: &[Word]) -> bool
     ensures { result ≡ is_wait_not_alone dialect words.now }
 {
@@ -227,7 +231,7 @@ fn is_both(bits: bool, words: &[Word]) -> bool
     }
 }
 
-/// 58: the P of a wait is computed, or the last one does not name both paths.
+/// 58: whether the P of a wait is computed, or the last one does not name both paths.
 fn is_wait_of_others(dialect: Dialect, words: &[Word]) -> bool
     ensures { result ≡ is_wait_of_others dialect words.now }
 {
@@ -236,7 +240,7 @@ fn is_wait_of_others(dialect: Dialect, words: &[Word]) -> bool
         && (has_computed(words, b"P") || !is_both(dialect.bits, words))
 }
 
-/// M codes that must stand alone among those of their block.
+/// Whether an M code of the block is one that must stand alone among its M codes.
 fn has_lone_m(words: &[Word]) -> bool
     ensures { result ≡ list_any is_lone_m (m_codes words.now) }
 {
@@ -247,7 +251,7 @@ fn has_lone_m(words: &[Word]) -> bool
         .any(|code| is_lone_m(code))
 }
 
-/// 59: an end, a call or a return beside another M code.
+/// 59: whether an end, a call or a return stands beside another M code.
 fn has_two_m(words: &[Word]) -> bool
     ensures { result ≡ has_two_m words.now }
 {
@@ -264,7 +268,7 @@ fn takes_p(system: System, word: &Word) -> bool
     }
 }
 
-/// Then the P is not that of a call or a return.
+/// Whether a G word of the block takes the P, which then is not that of a call or a return.
 fn uses_p(system: System, words: &[Word]) -> bool
     ensures { result ≡ uses_p system words.now }
 {
@@ -291,8 +295,9 @@ fn has_repeats(words: &[Word]) -> bool
     }
 }
 
-/// 61: a call without its program, repeats twice over, L of a return, P of a dwell or an offset
-/// beside a call, half a contour.
+/// 61: whether the block is a call without its program or with its repeats twice, a return with L,
+/// a call or a return beside a G code that takes the P, or a contour without one P, one Q and one
+/// G.
 fn is_bad_call(role: Role, system: System, words: &[Word]) -> bool
     ensures { result ≡ is_bad_call_by role system words.now }
 {
@@ -317,7 +322,8 @@ fn is_in(word: &Word, least: u32, greatest: u32) -> bool
     }
 }
 
-/// A word that writes no whole number is in no range.
+/// Whether each word of these letters writes a whole number from the one to the other. A word that
+/// writes none is in no range.
 fn are_in(words: &[Word], letters: &[u8], least: u32, greatest: u32) -> bool
     ensures { result ≡ are_in least greatest letters.now words.now }
 {
@@ -327,7 +333,8 @@ fn are_in(words: &[Word], letters: &[u8], least: u32, greatest: u32) -> bool
         .all(|word| is_in(word, least, greatest))
 }
 
-/// The words of calls, returns and contours alone; no other word decides where a block leads.
+/// Whether the P, L and Q of a call, a return or a contour are in their range; no other word
+/// decides where a block leads.
 fn is_in_range(role: Role, words: &[Word]) -> bool
     ensures { result ≡ is_in_range_by role words.now }
 {
@@ -340,7 +347,8 @@ fn is_in_range(role: Role, words: &[Word]) -> bool
     }
 }
 
-/// 64: an M code that is none; the P, L or Q of a call, a return or a contour out of its range.
+/// 64: whether an M code is none, or the P, L or Q of a call, a return or a contour is out of its
+/// range.
 fn is_out_of_range(role: Role, dialect: Dialect, words: &[Word]) -> bool
     requires { role ≡ role_of dialect words.now }
     ensures { result ≡ is_out_of_range dialect words.now }
@@ -348,7 +356,7 @@ fn is_out_of_range(role: Role, dialect: Dialect, words: &[Word]) -> bool
     !is_in_range(role, words) || (!are_in(words, b"M", 0, 99_999_999) && !has_g(words, MACRO_CALL))
 }
 
-/// 5: a word that must be written out has too many digits, or the L of G10, which may write
+/// 5: whether a word that must be written out has too many digits, or the L of G10, which may write
 /// parameters.
 fn is_long(role: Role, dialect: Dialect, words: &[Word]) -> bool
     requires { role ≡ role_of dialect words.now }

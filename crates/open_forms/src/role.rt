@@ -1,4 +1,4 @@
-//! What a block of words is there for. codes.rt finds it.
+//! What a block of words is there for. codes.rt finds it; controls.rt and refusals.rt go by it.
 
 /// What decides where a block of words leads.
 #[derive(Clone, Copy, Debug, PartialEq, Eq)]

@@ -1,5 +1,6 @@
-//! A statement, of which neither the condition nor what it assigns is looked into.
-//! For this crate alone: reading.rt uses it.
+//! What a statement does to the order of blocks, of which neither the condition nor what it assigns
+//! is looked into. For this crate alone: reading.rt calls `control_of_statement`; the definition is
+//! specs/Statements.antt.
 ghost use Rattle.std.specs.Prelude.{◌≡◌};
 ghost use Rattle.std.specs.Option.{option_map};
 ghost use Rattle.nc_number.specs.Literals.{all_digits};
@@ -9,14 +10,14 @@ ghost use Rattle.open_forms.specs.Statements.{assignment, begins, is_own_m, hide
 use block_order::Control;
 use nc_number::{Cause, is_literal, parse_word};
 
-/// What stands behind the word, where the text begins with it.
+/// What stands behind the word, if the text begins with it.
 fn behind<'a>(text: &'a [u8], word: &[u8]) -> Option<&'a [u8]>
     ensures { option_map (λ rest. rest.now) result ≡ behind word.now text.now }
 {
     text.strip_prefix(word)
 }
 
-/// The text behind the bracket that closes the first one.
+/// The text behind the bracket that closes the one before the text, if one does.
 #[tactic(auto, unfolding(crate::specs::Statements::behind_close))]
 fn behind_close(text: &[u8]) -> Option<&[u8]>
     ensures { option_map (λ rest. rest.now) result ≡ behind_close 0 text.now }
@@ -35,7 +36,7 @@ fn behind_close(text: &[u8]) -> Option<&[u8]>
     None
 }
 
-/// The text behind a condition.
+/// The text behind a condition, if the text begins with one in brackets.
 fn behind_condition(text: &[u8]) -> Option<&[u8]>
     ensures { option_map (λ rest. rest.now) result ≡ behind_condition text.now }
 {
@@ -45,7 +46,7 @@ fn behind_condition(text: &[u8]) -> Option<&[u8]>
     }
 }
 
-/// As `behind`, where what follows does not matter.
+/// Whether the text begins with the word.
 fn begins(text: &[u8], word: &[u8]) -> bool
     ensures { result ≡ begins word.now text.now }
 {
@@ -59,7 +60,7 @@ fn is_own_m(two: u8, one: u8, rest: &[u8]) -> bool
     two == b'P' && one == b'R' || begins(rest, b"OD")
 }
 
-/// Whether a G or M word may hide in the text.
+/// Whether a G or M word may hide in the text: a G, or an M that is not that of MOD or PRM.
 #[tactic(auto, unfolding(crate::specs::Statements::hides_word))]
 fn hides_word(text: &[u8]) -> bool
     ensures { result ≡ hides_word 0 0 text.now }
@@ -78,7 +79,8 @@ fn hides_word(text: &[u8]) -> bool
     false
 }
 
-/// An assignment, whose value is not looked into.
+/// The control of an assignment, whose value is not looked into: the next block, unless a word may
+/// hide in it. The name stands for what was assigned.
 fn assigned(text: &[u8]) -> Result<Control, Cause>
     ensures { result ≡ assignment text.now }
 {
@@ -89,21 +91,21 @@ fn assigned(text: &[u8]) -> Result<Control, Cause>
     }
 }
 
-/// A jump goes to digits alone: no sign and no point.
+/// Whether the text has digits alone, as the target of a jump must: no sign and no point.
 fn are_digits(text: &[u8]) -> bool
     ensures { result ≡ all_digits text.now }
 {
     text.iter().all(|b| b.is_ascii_digit())
 }
 
-/// A target that is a variable or an expression may be any number.
+/// Whether the target of a jump is a variable or an expression, and so may be any number.
 fn is_computed(text: &[u8]) -> bool
     ensures { result ≡ is_computed text.now }
 {
     matches!(text, [b'#' | b'[', ..])
 }
 
-/// The jump to a target.
+/// The control of a jump to the target that the text writes, or its refusal.
 fn jump_to(text: &[u8]) -> Result<Control, Cause>
     ensures { result ≡ target text.now }
 {
@@ -128,7 +130,7 @@ fn jump_to(text: &[u8]) -> Result<Control, Cause>
     }
 }
 
-/// The number of a loop.
+/// The number of a loop that the text writes: 1, 2 or 3.
 fn loop_name(text: &[u8]) -> Option<u8>
     ensures do_is { result ≡ number_of_loop text.now }
 {
@@ -138,7 +140,7 @@ fn loop_name(text: &[u8]) -> Option<u8>
     }
 }
 
-/// What stands behind IF.
+/// The control of an IF by what stands behind its condition; refused if it has none.
 fn behind_if(rest: Option<&[u8]>) -> Result<Control, Cause>
     ensures { result ≡ behind_if (option_map (λ text. text.now) rest.entry) }
 {
@@ -154,7 +156,7 @@ fn behind_if(rest: Option<&[u8]>) -> Result<Control, Cause>
     }
 }
 
-/// What stands behind WHILE.
+/// The control of a WHILE by what stands behind its condition; refused if it has none.
 fn behind_while(rest: Option<&[u8]>) -> Result<Control, Cause>
     ensures { result ≡ behind_while (option_map (λ text. text.now) rest.entry) }
 {

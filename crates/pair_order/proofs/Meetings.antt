@@ -1,6 +1,6 @@
 -- Two paths over tapes whose lists of labels are equal: the labels ahead of both agree, and each
--- step leaves it so.
--- two_path uses these lemmas.
+-- step leaves it so. For the law `no_pair_waits_in_vain` and for Machines; two_path takes the
+-- lemmas on `Agree`.
 use Rattle.std.proofs.Common.{◌≡◌, ℕ, ◌⊎◌, inl, inr, List, [], ◌∷◌, refl, sym, subst, ◌∙◌}
 use Rattle.block_order.specs.declared.control.Control.{Control}
 use Rattle.block_order.specs.declared.control.Control.TheVariants as control
@@ -12,39 +12,40 @@ use Rattle.block_order.specs.Labels.{ahead, list}
 use Rattle.block_order.specs.Steps.{Step, IsPlace, place_behind, Kept, KeepsLabels}
 use Rattle.pair_order.specs.Pairs.{Paths, IsAtWait, Goes, one, two, meet, IsBeginning, AreMet, none, one_more, anew, IsFree, IsReached, begun, gone, IsNeverStuck}
 
--- the labels ahead are the same, or one path has gone back to its start and the other is about to
+-- The labels ahead of two paths are the same; or one path has gone back to its start, and the other
+-- has `Again` alone ahead.
 abbrev pub Agree : List Label → List Label → List Label → Type 0
 Agree all xs ys = (xs ≡ ys) ⊎ (((xs ≡ all) × (ys ≡ label.Again ∷ [])) ⊎ ((xs ≡ label.Again ∷ []) × (ys ≡ all)))
 
--- it holds with the paths changed over
+-- The agreement holds with the paths exchanged.
 pub agree_swap : (all xs ys : List Label) → Agree all xs ys → Agree all ys xs
 agree_swap all xs ys (inl e) = inl (sym e)
 agree_swap all xs ys (inr (inl p)) = inr (inr (p.1, p.0))
 agree_swap all xs ys (inr (inr p)) = inr (inl (p.1, p.0))
 
--- it holds if the labels ahead of one path are the same as before,
+-- The agreement holds if the labels ahead of one path stay as they were.
 agree_same : (all xs ys xs' : List Label) → xs' ≡ xs → Agree all xs ys → Agree all xs' ys
 agree_same all xs ys xs' e a = subst (λ zs. Agree all zs ys) (sym e) a
 
--- or if this path has gone back to its start
+-- The agreement holds if one path, with `Again` alone ahead, goes back to its start.
 agree_again : (all xs ys xs' : List Label) → xs ≡ label.Again ∷ [] → xs' ≡ all → Agree all xs ys → Agree all xs' ys
 agree_again all xs ys xs' again new (inl e) = inr (inl (new, sym e ∙ again))
 agree_again all xs ys xs' again new (inr (inl p)) = inr (inl (new, p.1))
 agree_again all xs ys xs' again new (inr (inr p)) = inl (new ∙ sym p.1)
 
--- two waits that are next are of one code, and the rest agrees
+-- Two waits that are next are of one code, and the rest agrees.
 pub agree_waits : (all xs ys : List Label) (code other : ℕ) → Agree all (label.Wait code ∷ xs) (label.Wait other ∷ ys) → (code ≡ other) × (xs ≡ ys)
 agree_waits all xs ys code other (inl e) = (cc, cc)
 agree_waits all xs ys code other (inr (inl p)) = absurd (cc (p.1))
 agree_waits all xs ys code other (inr (inr p)) = absurd (cc (p.0))
 
--- no wait is next while the other path is at its end
+-- No wait is next while the other path is at its end.
 pub agree_end : (all xs : List Label) (code : ℕ) → Agree all (label.Wait code ∷ xs) (label.End ∷ []) → ⊥
 agree_end all xs code (inl e) = cc
 agree_end all xs code (inr (inl p)) = cc (p.1)
 agree_end all xs code (inr (inr p)) = cc (p.0)
 
--- a step that keeps the labels keeps the agreement
+-- A step that does to the labels ahead what `Kept` says keeps the agreement.
 kept_agree : (tape : List ControlProgram) (ys : List Label) (f : Frame) (stack : List Frame) (c : Control) (to : List Frame)
     → Kept tape f stack c to → Agree (list tape) (ahead tape (f ∷ stack)) ys → Agree (list tape) (ahead tape to) ys
 kept_agree tape ys f stack control.Next to k a = agree_same (list tape) (ahead tape (f ∷ stack)) ys (ahead tape to) k a
@@ -59,14 +60,15 @@ kept_agree tape ys f stack (control.BackTo n) to k a = agree_same (list tape) (a
 kept_agree tape ys f (g ∷ stack) control.Back to k a = agree_same (list tape) (ahead tape (f ∷ g ∷ stack)) ys (ahead tape to) k a
 kept_agree tape ys f [] control.Back to k a = agree_again (list tape) (ahead tape (f ∷ [])) ys (ahead tape to) k.0 k.1 a
 
--- a step leads to a place, and leaves the agreement
+-- A step of a path leads to a place and keeps the agreement.
 pub step_keeps : (tape : List ControlProgram) → KeepsLabels tape → (ys : List Label) (from to : List Frame) → IsPlace tape from → Step tape from to
     → Agree (list tape) (ahead tape from) ys → IsPlace tape to × Agree (list tape) (ahead tape to) ys
 step_keeps tape law ys [] to place step a = absurd place
 step_keeps tape law ys (f ∷ stack) to place (c, is, goes) a =
     let k = law.step f stack place c is to goes in (k.0, kept_agree tape ys f stack c to k.1 a)
 
--- a step leaves what was met, also one back to the start
+-- A step that does to the labels ahead what `Kept` says leaves what was met as it was, also if it
+-- leads back to the start.
 kept_met : (tape : List ControlProgram) (met : List ℕ) (f : Frame) (stack : List Frame) (c : Control) (to : List Frame)
     → Kept tape f stack c to → AreMet (list tape) met (ahead tape (f ∷ stack)) → AreMet (list tape) met (ahead tape to)
 kept_met tape met f stack control.Next to k a = rw k a
@@ -82,33 +84,41 @@ kept_met tape met f (g ∷ stack) control.Back to k a = rw k a
 kept_met tape met f [] control.Back to k a =
     rw k.1 (anew met (subst (λ xs. AreMet (list tape) met xs) k.0 a))
 
--- so does each step of a path
+-- A step of a path leaves what was met as it was.
 step_met : (tape : List ControlProgram) → KeepsLabels tape → (met : List ℕ) (from to : List Frame) → IsPlace tape from → Step tape from to
     → AreMet (list tape) met (ahead tape from) → AreMet (list tape) met (ahead tape to)
 step_met tape law met [] to place step a = absurd place
 step_met tape law met (f ∷ stack) to place (c, is, goes) a = kept_met tape met f stack c to (law.step f stack place c is to goes).1 a
 
--- both stand at places of their tapes, the labels ahead agree, and those before were met
+-- What each step of the pair keeps.
 record IsSound (left right : List ControlProgram) (p : Paths) : Type 0 where
+  -- Path 1 stands at a place of its tape.
   first : IsPlace left p.first
+  -- Path 2 stands at a place of its tape.
   second : IsPlace right p.second
+  -- The labels ahead of both agree.
   agree : Agree (list left) (ahead left p.first) (ahead right p.second)
+  -- The waits before those ahead were met.
   met : AreMet (list left) p.met (ahead left p.first)
 
--- the laws of both tapes, and that their lists are equal
+-- The law of one path holds of both tapes, and their lists of labels are equal.
 pub record IsLawfulPair (left right : List ControlProgram) : Type 0 where
+  -- The law of one path holds of the tape of path 1.
   pub first : KeepsLabels left
+  -- The law of one path holds of the tape of path 2.
   pub second : KeepsLabels right
+  -- Their lists of labels are equal.
   pub equal : list left ≡ list right
 
--- waits at which both stand are of one code, and after them the labels are the same
+-- Two waits at which both paths stand are of one code, and behind them the labels ahead are the
+-- same.
 meeting : (left right : List ControlProgram) → IsLawfulPair left right → (p : Paths) → IsSound left right p → (code there : ℕ)
     → IsAtWait left p.first code → IsAtWait right p.second there → (code ≡ there) × (ahead left (place_behind p.first) ≡ ahead right (place_behind p.second))
 meeting left right pair p s code there is other =
     agree_waits (list left) (ahead left (place_behind p.first)) (ahead right (place_behind p.second)) code there
     (rw (← (pair.first.wait p.first code s.first is).1, ← (pair.second.wait p.second there s.second other).1) (s.agree))
 
--- each step of the pair keeps all that,
+-- Each step of the pair keeps `IsSound`.
 goes_sound : (left right : List ControlProgram) → IsLawfulPair left right → (from to : Paths) → IsSound left right from
     → Goes left right from to → IsSound left right to
 goes_sound left right pair from to s (one step stays same) =
@@ -138,7 +148,7 @@ goes_sound left right pair from to s (meet code there is other here beyond more)
           (subst (λ xs. AreMet (list left) from.met xs) k.1 s.met));
     }
 
--- and it holds at a beginning
+-- At a beginning `IsSound` holds.
 beginning_sound : (left right : List ControlProgram) → IsLawfulPair left right → (p : Paths) → IsBeginning left right p
     → IsSound left right p
 beginning_sound left right pair p at = record {
@@ -148,7 +158,7 @@ beginning_sound left right pair p at = record {
   met = rw (at.first, at.met) none;
 }
 
--- then neither path waits in vain,
+-- If `IsSound` holds, neither path waits in vain.
 free : (left right : List ControlProgram) → IsLawfulPair left right → (p : Paths) → IsSound left right p → IsFree left right p
 free left right pair p s = record {
   same = λ code there is other. (meeting left right pair p s code there is other).0;
@@ -160,12 +170,12 @@ free left right pair p s = record {
   met = s.met;
 }
 
--- wherever steps lead,
+-- `IsSound` holds wherever steps lead from a beginning.
 reached_sound : (left right : List ControlProgram) → IsLawfulPair left right → (p : Paths) → IsReached left right p → IsSound left right p
 reached_sound left right pair _ (begun p begins) = beginning_sound left right pair p begins
 reached_sound left right pair _ (gone from to before goes) =
     goes_sound left right pair from to (reached_sound left right pair from before) goes
 
--- so it is of the whole pair
+-- A pair that is lawful never waits in vain.
 pub never_stuck : (left right : List ControlProgram) → IsLawfulPair left right → IsNeverStuck left right
 never_stuck left right pair p reached = free left right pair p (reached_sound left right pair p reached)

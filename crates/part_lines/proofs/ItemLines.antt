@@ -1,4 +1,4 @@
--- The lines of a path as its blocks come are those of the stretches in its list.
+-- The lines of a path as its blocks come are those of the stretches in its list. For PartsLeast.
 use Rattle.std.proofs.Common.{◌≡◌, ◌==◌, ℕ, zero, suc, ◌<◌, ◌+◌, Bool, true, false, List, [], ◌∷◌, ◌++◌, length, Option, None, refl, ap, sym, ◌∙◌, arith, if◌then◌else◌}
 use Rattle.std.proofs.lemmas.Bool.{eq-eqb, ne_eqb}
 use Rattle.block_order.specs.declared.control.Control.{Control}
@@ -17,15 +17,15 @@ use Rattle.part_lines.proofs.Lesser.{lesser_none, with_both}
 use Rattle.part_lines.proofs.StretchLines.{next_number, stretch_line, none_behind}
 use Rattle.part_lines.proofs.Segments.{ends_anew}
 
--- the lines of the items, where each stretch has its own, and end is what comes once they begin
--- anew
+-- The lines of these items, if each stretch has its own line. `end` is what comes once the items
+-- begin anew.
 abbrev pub item_lines : (ℕ → ℕ → Option ℕ) → Lines → List Item → Lines
 item_lines own end [] = None ∷ []
 item_lines own end (Stretch p s ∷ xs) = with_first (own p s) (item_lines own end xs)
 item_lines own end (Meets ∷ xs) = None ∷ item_lines own end xs
 item_lines own end (Anew ∷ xs) = end
 
--- the items behind the stretch that these marks end
+-- The items behind the stretch that these marks end.
 abbrev pub after : (ℕ → List Item → List Item) → ℕ → ℕ → List Mark → List Item → List Item
 after called p t [] rest = []
 after called p t (mark.Wait code ∷ ms) rest = Meets ∷ items called p (suc t) ms rest
@@ -34,7 +34,7 @@ after called p t (mark.Call q r ∷ ms) rest = parts.times r (called q) (items c
 after called p t (mark.Back ∷ ms) rest = rest
 after called p t (mark.Past ∷ ms) rest = []
 
--- the items from a block on begin with its stretch
+-- The items of a program from a stretch on are that stretch and what is behind it.
 items_are : (called : ℕ → List Item → List Item) (p t : ℕ) (ms : List Mark) (rest : List Item)
     → items called p t ms rest ≡ Stretch p t ∷ after called p t ms rest
 items_are called p t [] rest = refl
@@ -44,56 +44,67 @@ items_are called p t (mark.Call q r ∷ ms) rest = refl
 items_are called p t (mark.Back ∷ ms) rest = refl
 items_are called p t (mark.Past ∷ ms) rest = refl
 
--- a program that is called many times gives its lines as often
+-- If a function on items adds what one on lines does, it does so n times over.
 times_lines : (own : ℕ → ℕ → Option ℕ) (end : Lines) (f : List Item → List Item) (g : Lines → Lines)
     → ((xs : List Item) → item_lines own end (f xs) ≡ g (item_lines own end xs))
     → (n : ℕ) (xs : List Item) → item_lines own end (parts.times n f xs) ≡ times n g (item_lines own end xs)
 times_lines own end f g same zero xs = refl
 times_lines own end f g same (suc n) xs = same (parts.times n f xs) ∙ ap g (times_lines own end f g same n xs)
 
--- one program: its loud calls, how each block is seen, and what follows its return
+-- One program: its loud calls, how each block is seen, and what follows its return.
 module _ (ld : ℕ → Bool) (quiet : ℕ → Option ℕ) (line : ℕ → Option ℕ) (own : ℕ → ℕ → Option ℕ) (end : Lines)
     (called : ℕ → List Item → List Item) (given : ℕ → Lines → Lines)
     (same : (q : ℕ) (xs : List Item) → item_lines own end (called q xs) ≡ given q (item_lines own end xs))
     (p : ℕ) (rest : List Item) (back : Lines) (returns : item_lines own end rest ≡ back) where
+  -- The line that is seen at block i, of this control. The name stands for that line.
   abbrev seen : ℕ → Control → Option ℕ
   seen i c = seen_line ld quiet (line i) c
 
-  -- the stretches ahead have all their blocks ahead
+  -- Each stretch after t has as its own line that of the blocks from i on: all its blocks are among
+  -- them.
   abbrev AreAhead : List ControlBlock → ℕ → ℕ → Type 0
   AreAhead bs i t = (s : ℕ) → t < s → own p s ≡ stretch_line ld seen bs i t s
 
+  -- The lines of the blocks from i on, of which the first lies in stretch t, are those of the items
+  -- from t on.
   abbrev IsSame : List ControlBlock → ℕ → ℕ → Type 0
   IsSame bs i t =
       blocks_lines ld quiet given line back i bs
       ≡ with_first (stretch_line ld seen bs i t t) (item_lines own end (after called p t (marks ld bs) rest))
 
+  -- The lines of the blocks behind block i.
   abbrev lines_behind : List ControlBlock → ℕ → Lines
   lines_behind bs i = blocks_lines ld quiet given line back (suc i) bs
 
+  -- The items behind stretch t, if these marks come before those of the blocks.
   abbrev items_behind : List Mark → List ControlBlock → ℕ → List Item
   items_behind ms bs t = after called p t (ms ++ marks ld bs) rest
 
-  -- the same of blocks of which the first has this control
+  -- What `IsSame` says, of blocks of which the first, at i, has this control.
   abbrev IsSameFrom : Control → List ControlBlock → ℕ → ℕ → Type 0
   IsSameFrom c bs i t =
       with_first (seen i c) (block_lines ld given back c (lines_behind bs i))
       ≡ with_first (lesser (if t == t then seen i c else None) (stretch_line ld seen bs (suc i) (next_number (mark_of ld c) t) t))
       (item_lines own end (items_behind (mark_of ld c) bs t))
 
+  -- What `AreAhead` says, of blocks of which the first, at i, has this control.
   abbrev AreAheadFrom : Control → List ControlBlock → ℕ → ℕ → Type 0
   AreAheadFrom c bs i t = (s : ℕ) → t < s
       → own p s ≡ lesser (if t == s then seen i c else None) (stretch_line ld seen bs (suc i) (next_number (mark_of ld c) t) s)
 
+  -- Each stretch after t has as its own line that of the blocks behind the first one.
   ahead_after : (c : Control) (bs : List ControlBlock) (i t u : ℕ) → AreAheadFrom c bs i t → next_number (mark_of ld c) t ≡ u
       → (s : ℕ) → t < s → own p s ≡ stretch_line ld seen bs (suc i) u s
   ahead_after c bs i t u ahead next s less =
       let apart : (t == s) ≡ false = ne_eqb t s (λ e. omega arith) in
       ahead s less ∙ rw (apart, next) refl
 
+  -- A number tests as equal to itself.
   same_first : (t : ℕ) → (t == t) ≡ true
   same_first t = eq-eqb t t refl
 
+  -- A block that is no mark and adds nothing behind it: if the lines are those of the items behind
+  -- it, they are so from it on.
   unmarked : (c : Control) (bs : List ControlBlock) (i t : ℕ) → mark_of ld c ≡ []
       → block_lines ld given back c (lines_behind bs i) ≡ lines_behind bs i → IsSame bs (suc i) t → IsSameFrom c bs i t
   unmarked c bs i t none on more =
@@ -102,13 +113,15 @@ module _ (ld : ℕ → Bool) (quiet : ℕ → Option ℕ) (line : ℕ → Option
       rw (same_first t, none)
       (ap (with_first (seen i c)) (on ∙ more) ∙ sym (with_both (seen i c) line_here there))
 
+  -- A block that is a mark: if what comes behind it are the lines of the items behind its stretch,
+  -- they are so from it on.
   marked : (c : Control) (bs : List ControlBlock) (i t : ℕ) (m : Mark) → mark_of ld c ≡ m ∷ []
       → block_lines ld given back c (lines_behind bs i) ≡ item_lines own end (items_behind (m ∷ []) bs t) → IsSameFrom c bs i t
   marked c bs i t m one on =
       rw (same_first t, one, none_behind ld seen bs (suc i) (suc t) t (omega arith))
       (ap (with_first (seen i c)) on ∙ ap (λ o. with_first o (item_lines own end (items_behind (m ∷ []) bs t))) (sym (lesser_none (seen i c))))
 
-  -- the lines from the next stretch on
+  -- Behind a mark the lines of the blocks are those of the items from the next stretch on.
   next_lines : (c : Control) (bs : List ControlBlock) (i t : ℕ) → next_number (mark_of ld c) t ≡ suc t → AreAheadFrom c bs i t
       → ((u : ℕ) → AreAhead bs (suc i) u → IsSame bs (suc i) u)
       → lines_behind bs i ≡ item_lines own end (items called p (suc t) (marks ld bs) rest)
@@ -119,6 +132,8 @@ module _ (ld : ℕ → Bool) (quiet : ℕ → Option ℕ) (line : ℕ → Option
       ∙ (ap (λ o. with_first o (item_lines own end (after called p (suc t) (marks ld bs) rest))) (sym there)
       ∙ ap (item_lines own end) (sym (items_are called p (suc t) (marks ld bs) rest)))
 
+  -- A block that is no mark and adds nothing behind it keeps the lines those of the items, if they
+  -- are so behind it.
   plain : (c : Control) (bs : List ControlBlock) (i t : ℕ) → mark_of ld c ≡ []
       → block_lines ld given back c (lines_behind bs i) ≡ lines_behind bs i → AreAheadFrom c bs i t
       → ((u : ℕ) → AreAhead bs (suc i) u → IsSame bs (suc i) u) → IsSameFrom c bs i t
@@ -126,6 +141,7 @@ module _ (ld : ℕ → Bool) (quiet : ℕ → Option ℕ) (line : ℕ → Option
       let next : next_number (mark_of ld c) t ≡ t = rw none refl in
       unmarked c bs i t none on (more t (ahead_after c bs i t t ahead next))
 
+  -- From a block of any control on the lines are those of the items, if they are so behind it.
   block_same : (c : Control) (bs : List ControlBlock) (i t : ℕ) → AreAheadFrom c bs i t
       → ((u : ℕ) → AreAhead bs (suc i) u → IsSame bs (suc i) u) → IsSameFrom c bs i t
   block_same Next bs i t ahead more = plain Next bs i t refl refl ahead more
@@ -151,16 +167,17 @@ module _ (ld : ℕ → Bool) (quiet : ℕ → Option ℕ) (line : ℕ → Option
           (on ∙ (ap (times r (given q)) (next_lines (Call q r) bs i t next ahead more)
           ∙ sym (times_lines own end (called q) (given q) (same q) r (items called p (suc t) (marks ld bs) rest))))
 
+  -- The lines of these blocks are those of the items from their first stretch on.
   blocks_same : (bs : List ControlBlock) (i t : ℕ) → AreAhead bs i t → IsSame bs i t
   blocks_same [] i t ahead = refl
   blocks_same (b ∷ bs) i t ahead = block_same b.control bs i t ahead (λ u on. blocks_same bs (suc i) u on)
 
--- the least line of a stretch, by what is seen of the blocks of its program
+-- The least line of a stretch of a program, by what is seen at its blocks.
 abbrev pub own_line : List ControlProgram → (ℕ → ℕ → Option ℕ) → (ℕ → Option ℕ) → ℕ → ℕ → Option ℕ
 own_line tape line quiet p s =
     stretch_line (loud tape) (λ b c. seen_line (loud tape) quiet (line p b) c) (blocks tape p) 0 0 s
 
--- the lines of a program with all its calls are those of its items
+-- The lines of a program with all its calls are those of its items.
 whole_same : (tape : List ControlProgram) (line : ℕ → ℕ → Option ℕ) (quiet : ℕ → Option ℕ) (end : Lines) (n p : ℕ)
     (rest : List Item) (back : Lines) → item_lines (own_line tape line quiet) end rest ≡ back
     → item_lines (own_line tape line quiet) end (parts.whole tape n p rest) ≡ whole tape line quiet n p back
@@ -174,24 +191,25 @@ whole_same tape line quiet end (suc n) p rest back returns =
     ∙ sym (blocks_same (loud tape) quiet (line p) own end called given
     (λ q xs. whole_same tape line quiet end n q xs (item_lines own end xs) refl) p rest back returns (blocks tape p) 0 0 (λ s less. refl))
 
--- the items of a path are those of its main program, and that it begins anew
+-- The items of a path are those of its main program, and that it begins anew.
 list_whole : (tape : List ControlProgram) → path_items tape ≡ parts.whole tape 9 (main_number tape) (Anew ∷ [])
 unfolding parts.whole
 list_whole tape = refl
 
--- the lines of a path are those of its list
+-- The lines of a path are those of its list.
 pub path_same : (tape : List ControlProgram) (line : ℕ → ℕ → Option ℕ) (quiet : ℕ → Option ℕ) (end : Lines)
     → item_lines (own_line tape line quiet) end (path_items tape) ≡ whole tape line quiet 9 (main_number tape) end
 path_same tape line quiet end =
     ap (item_lines (own_line tape line quiet) end) (list_whole tape)
     ∙ whole_same tape line quiet end 9 (main_number tape) (Anew ∷ []) end refl
 
--- a line in the first part adds no part
+-- A line more in the first part adds no part.
 with_length : (o : Option ℕ) (lines : Lines) → length (with_first o lines) ≡ length lines
 with_length o [] = refl
 with_length o (x ∷ lines) = refl
 
--- how many lines there are: one more than waits, or as many as come once the items begin anew
+-- There is one line more than the items have waits; if they begin anew, as many as waits and the
+-- lines that come then.
 pub lines_length : (own : ℕ → ℕ → Option ℕ) (end : Lines) (xs : List Item)
     → length (item_lines own end xs) ≡ waits_in xs + (if ends_anew xs then length end else 1)
 lines_length own end [] = refl

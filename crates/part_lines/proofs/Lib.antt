@@ -1,4 +1,4 @@
--- The lemmas of this crate, each file by its subject.
+-- The lemmas of this crate, each file by its subject. No other crate takes them.
 mod Lesser
 mod Segments
 mod InParts

@@ -1,4 +1,6 @@
--- What was found of programs and what they open, as it grows, and when it is the least.
+-- What was found of programs and of what is opened from them, as it grows, and when it is the
+-- least. For the proofs of src/quiet.rt. The file's name stands for the programs that are opened by
+-- calls.
 use Rattle.std.proofs.Common.{◌≡◌, ℕ, ◌≤◌, ◌⊎◌, inl, inr, Bool, true, false, List, Option, Some, None, slice_get, get_or, length, ◌+◌, ◌<◌, refl, sym, subst, ◌∙◌, arith, if◌then◌else◌}
 use Rattle.nc_number.proofs.Counts.{last_or_before, lesser_is}
 use Rattle.block_order.specs.declared.control.Control.{Control}
@@ -16,12 +18,12 @@ use Rattle.part_lines.specs.Lines.{called_line, seen_line, IsOpened, itself, cal
 use Rattle.part_lines.specs.Pieces.{IsBelow, AreFound, IsClosedAt, IsClosed, AreQuietLines}
 use Rattle.part_lines.proofs.InParts.{block_from}
 
--- what was found is no more than itself
+-- What was found is at most itself.
 below_same : (a : Option ℕ) → IsBelow a a
 below_same None = tt
 below_same (Some a) = omega arith
 
--- and what is below what is below is below
+-- What is at most a line that is at most another is at most that one.
 below_on : (a b c : Option ℕ) → IsBelow a b → IsBelow b c → IsBelow a c
 below_on a b None one two = tt
 below_on None None (Some c) one two = absurd two
@@ -29,7 +31,7 @@ below_on (Some a) None (Some c) one two = absurd two
 below_on None (Some b) (Some c) one two = absurd one
 below_on (Some a) (Some b) (Some c) one two = omega arith
 
--- what is below two is below each
+-- What is at most the lesser of two lines is at most each of them.
 below_parts : (x a b : Option ℕ) → IsBelow x (lesser a b) → IsBelow x a × IsBelow x b
 below_parts x None b below = (tt, below)
 below_parts x (Some a) None below = (below, tt)
@@ -37,6 +39,8 @@ below_parts None (Some a) (Some b) below = absurd below
 below_parts (Some x) (Some a) (Some b) below = (omega arith, omega arith)
 
 module _ (tape : List ControlProgram) (line : ℕ → ℕ → Option ℕ) (found : ℕ → Option ℕ) where
+  -- If all programs are closed, what was found of a program is at most what was found of each
+  -- program that is opened from it.
   opened_below : IsClosed tape line found → (p q : ℕ) → IsOpened tape p q → IsBelow (found p) (found q)
   opened_below closed p _ itself = below_same (found p)
   opened_below closed p _ (calls caller there q r before is quiet) =
@@ -45,12 +49,14 @@ module _ (tape : List ControlProgram) (line : ℕ → ℕ → Option ℕ) (found
       let next = (below_parts (found caller) (line caller there) (called_line (loud tape) found (Call q r)) at).1 in
       below_on (found p) (found caller) (found q) (opened_below closed p caller before) (subst (IsBelow (found caller)) called next)
 
+  -- If all programs are closed, what was found of a program is at most each line of it and of what
+  -- is opened from it.
   from_below : IsClosed tape line found → (p k : ℕ) → LineFrom tape line p k → IsBelow (found p) (Some k)
   from_below closed p k (program, block, c, opened, is, e) =
       let at = (below_parts (found program) (line program block) (called_line (loud tape) found c) (closed program block c is)).0 in
       below_on (found p) (found program) (Some k) (opened_below closed p program opened) (subst (IsBelow (found program)) e at)
 
-  -- what was found is the least, once no block has a line that is less
+  -- If all programs are closed, the lines that were found are the least ones.
   pub quiet_least : AreFound tape line found → IsClosed tape line found → AreQuietLines tape line found
   quiet_least are closed p = go (found p) refl
     where
@@ -58,7 +64,7 @@ module _ (tape : List ControlProgram) (line : ℕ → ℕ → Option ℕ) (found
       go None e = λ k from. subst (λ x. IsBelow x (Some k)) e (from_below closed p k from)
       go (Some l) e = (are p l e, λ k from. subst (λ x. IsBelow x (Some k)) e (from_below closed p k from))
 
-  -- what is seen of a block is a line of its program
+  -- A line that is seen at a block is one of its program or of what is opened from there.
   pub seen_from : AreFound tape line found → (p b : ℕ) (c : Control) → control_at (blocks tape p) b ≡ Some c
       → (k : ℕ) → seen_line (loud tape) found (line p b) c ≡ Some k → LineFrom tape line p k
   seen_from are p b c is k e = go (lesser_is (line p b) (called_line (loud tape) found c) k e)
@@ -83,7 +89,7 @@ module _ (tape : List ControlProgram) (line : ℕ → ℕ → Option ℕ) (found
       go (inl own) = block_from tape line p b c k is (inl own)
       go (inr other) = called c is other
 
--- where each program of the tape is closed, all are
+-- If each program of the tape is closed, so is every O number.
 pub all_closed : (tape : List ControlProgram) (line : ℕ → ℕ → Option ℕ) (found : ℕ → Option ℕ)
     → ((j : ℕ) (p : ControlProgram) → slice_get tape j ≡ Some p → IsClosedAt tape line found p.number) → IsClosed tape line found
 all_closed tape line found each q = go (program_of tape q) refl
@@ -95,11 +101,12 @@ all_closed tape line found each q = go (program_of tape q) refl
         let at = found_stands tape q p e in
         subst (IsClosedAt tape line found) at.2 (each at.0 p at.1)
 
--- no block before a place has a line that is less
+-- No block before a place has a line that is less than this one.
 abbrev pub AreBelow : Option ℕ → (ℕ → Control → Option ℕ) → List ControlBlock → ℕ → Type 0
 AreBelow least seen bs i = (block : ℕ) (c : Control) → block < i → control_at bs block ≡ Some c → IsBelow least (seen block c)
 
--- one block more has no lesser line,
+-- If the blocks before a place have no lesser line, and the block there has none, the blocks up to
+-- it have none.
 pub below_more : (least : Option ℕ) (seen : ℕ → Control → Option ℕ) (bs : List ControlBlock) (i : ℕ) (d : ControlBlock) → i < length bs
     → AreBelow least seen bs i → IsBelow least (seen i (get_or bs i d).control) → AreBelow least seen bs (i + 1)
 below_more least seen bs i d within before here block c less is = go (last_or_before block i less)
@@ -112,7 +119,7 @@ below_more least seen bs i d within before here block c less is = go (last_or_be
         let same : (get_or bs i d).control ≡ c = cc in
         subst (λ k. IsBelow least (seen k c)) (sym e) (subst (λ x. IsBelow least (seen i x)) same here)
 
--- and at the end no block has
+-- If the blocks before the end have no lesser line, no block has.
 pub all_below : (least : Option ℕ) (seen : ℕ → Control → Option ℕ) (bs : List ControlBlock) (i : ℕ) → length bs ≤ i
     → AreBelow least seen bs i → (block : ℕ) (c : Control) → control_at bs block ≡ Some c → IsBelow least (seen block c)
 all_below least seen bs i past before block c is = before block c (let within = within_control bs block c is in omega arith) is

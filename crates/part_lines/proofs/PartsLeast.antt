@@ -1,4 +1,5 @@
--- The lines of a path, closed where it begins anew, are the least lines of its parts.
+-- The lines of a path, closed where it begins anew, are the least lines of its parts. For the proof
+-- of `least_lines` (src/listing.rt).
 use Rattle.std.proofs.Common.{◌≡◌, ℕ, zero, suc, ◌+◌, ◌<◌, ◌≤◌, min, ◌⊎◌, inl, inr, Bool, true, false, List, [], ◌∷◌, ◌++◌, length, Option, Some, None, slice_get, refl, ap, sym, subst, ◌∙◌, arith, if◌then◌else◌}
 use Rattle.std.proofs.lemmas.List.{length-append}
 use Rattle.block_order.specs.declared.program.ControlProgram.{ControlProgram}
@@ -19,20 +20,25 @@ use Rattle.part_lines.proofs.InParts.{StretchLine, ListedLine, part_listed, list
 use Rattle.part_lines.proofs.StretchLines.{stretch_least}
 use Rattle.part_lines.proofs.ItemLines.{item_lines, own_line, path_same, lines_length}
 
--- a stretch that stands there in the items has the line
+-- A stretch that stands behind n waits of the items has this line.
 abbrev SegLine : List ControlProgram → (ℕ → ℕ → Option ℕ) → List Item → ℕ → ℕ → Type 0
 SegLine tape line xs n k = (p s : ℕ) × Seg xs n p s × StretchLine tape line p s k
 
 module _ (tape : List ControlProgram) (line : ℕ → ℕ → Option ℕ) (quiet : ℕ → Option ℕ) (are : AreQuietLines tape line quiet) where
+  -- The least line of stretch s of program p.
   abbrev own : ℕ → ℕ → Option ℕ
   own p s = own_line tape line quiet p s
 
+  -- If no stretch behind n waits has a line, none is the least there.
   none_there : (xs : List Item) (n : ℕ) (o : Option ℕ) → ((k : ℕ) → SegLine tape line xs n k → ⊥) → o ≡ None → IsLeast (SegLine tape line xs n) o
   none_there xs n o never e = rw e never
 
+  -- The lines of these items are, behind each number of waits, the least of the stretches that
+  -- stand there.
   abbrev HaveLeast : List Item → Type 0
   HaveLeast xs = (n : ℕ) (o : Option ℕ) → slice_get (item_lines own (None ∷ []) xs) n ≡ Some o → IsLeast (SegLine tape line xs n) o
 
+  -- The lines of items with a stretch in front are the least ones, if those without it are.
   stretch_have : (p s : ℕ) (xs : List Item) (lines : Lines) → item_lines own (None ∷ []) xs ≡ lines → HaveLeast xs
       → (n : ℕ) (o : Option ℕ) → slice_get (with_first (own p s) lines) n ≡ Some o → IsLeast (SegLine tape line (Stretch p s ∷ xs) n) o
   stretch_have p s xs [] e have n o is = absurd cc
@@ -61,6 +67,7 @@ module _ (tape : List ControlProgram) (line : ℕ → ℕ → Option ℕ) (quiet
       from k (q, t, inl (none, one, two), there) = absurd cc
       from k (q, t, inr seg, there) = (q, t, seg, there)
 
+  -- The lines of any items are the least of the stretches that stand there.
   items_have : (xs : List Item) → HaveLeast xs
   items_have [] zero o is = none_there [] 0 o (λ k there. there.2) (cc)
   items_have [] (suc n) o is = absurd cc
@@ -70,7 +77,8 @@ module _ (tape : List ControlProgram) (line : ℕ → ℕ → Option ℕ) (quiet
   items_have (Anew ∷ xs) zero o is = none_there (Anew ∷ xs) 0 o (λ k there. there.2) (cc)
   items_have (Anew ∷ xs) (suc n) o is = absurd cc
 
-  -- before the last wait, and where the path does not begin anew
+  -- Before the last wait, and behind it if the path does not begin anew, the line of the items is
+  -- the least of the part.
   middle_least : (n : ℕ) (o : Option ℕ) → n ≤ path_waits tape → ((n ≡ path_waits tape) → ends_anew (path_items tape) ≡ true → ⊥)
       → slice_get (item_lines own (None ∷ []) (path_items tape)) n ≡ Some o → IsLeast (LineInPart tape line n) o
   middle_least n o few apart is =
@@ -87,7 +95,8 @@ module _ (tape : List ControlProgram) (line : ℕ → ℕ → Option ℕ) (quiet
           go (inl seg) = (p, s, seg, there)
           go (inr (e, anew, seg)) = absurd (apart e anew)
 
-  -- behind the last wait, where the path begins anew
+  -- Behind the last wait of a path that begins anew, the lesser of the last and the first line is
+  -- the least of the part.
   last_least : (first last : Option ℕ) → ends_anew (path_items tape) ≡ true
       → slice_get (item_lines own (None ∷ []) (path_items tape)) 0 ≡ Some first
       → slice_get (item_lines own (None ∷ []) (path_items tape)) (path_waits tape) ≡ Some last
@@ -116,9 +125,10 @@ module _ (tape : List ControlProgram) (line : ℕ → ℕ → Option ℕ) (quiet
           go (inl seg) = inl (p, s, seg, there)
           go (inr (e, is, seg)) = inr (p, s, seg, there)
 
-  -- what the piece of the main program says of the list
+  -- What the piece of the main program says of the list.
   module _ (lines : PieceLines) (ending : Ending) (short : IsShort tape 9 (main_number tape))
       (piece : IsPiece tape line quiet (main_number tape) lines ending) where
+    -- The lines of the path's items are those of the piece of the main program.
     path_is : (end : Lines) → item_lines own end (path_items tape) ≡ coming lines (Some ending) end []
     path_is end = path_same tape line quiet end ∙ piece 9 end short
 
@@ -147,7 +157,7 @@ module _ (tape : List ControlProgram) (line : ℕ → ℕ → Option ℕ) (quiet
     with_length o [] = refl
     with_length o (x ∷ xs) = refl
 
-    -- the list begins anew where the program returns
+    -- The list begins anew exactly if the main program returns.
     anew_is : (e : Ending) → ending ≡ e → (ends_anew (path_items tape) ≡ true → e ≡ Returns) × (e ≡ Returns → ends_anew (path_items tape) ≡ true)
     anew_is e is = go e is (ends_anew (path_items tape)) refl
       where
@@ -173,29 +183,29 @@ module _ (tape : List ControlProgram) (line : ℕ → ℕ → Option ℕ) (quiet
             let waits = waits_are in
             absurd (omega arith)
 
--- the entries of a list with one more at its end
+-- A list with one entry more has its old entries at their places.
 get_front : (xs : Lines) (x : Option ℕ) (n : ℕ) → n < length xs → slice_get (xs ++ x ∷ []) n ≡ slice_get xs n
 get_front [] x n less = absurd (omega arith)
 get_front (y ∷ xs) x zero less = refl
 get_front (y ∷ xs) x (suc n) less = get_front xs x n (omega arith)
 
--- the last of some lines
+-- The last entry of a list with one entry more is the new one.
 get_end : (xs : Lines) (x : Option ℕ) → slice_get (xs ++ x ∷ []) (length xs) ≡ Some x
 get_end [] x = refl
 get_end (y ∷ xs) x = get_end xs x
 
--- where a line stands the list goes on
+-- A place that has an entry lies within the list.
 get_past : (xs : Lines) (n : ℕ) (o : Option ℕ) → slice_get xs n ≡ Some o → n < length xs
 get_past [] n o is = absurd cc
 get_past (y ∷ xs) zero o is = omega arith
 get_past (y ∷ xs) (suc n) o is = let rest = get_past xs n o is in omega arith
 
--- the first of some lines
+-- The first entry of a list with one entry more is the first of the old ones, if there is one.
 get_first : (xs : Lines) (x : Option ℕ) → 0 < length xs → slice_get (xs ++ x ∷ []) 0 ≡ Some (first_of xs)
 get_first [] x some = absurd (omega arith)
 get_first (y ∷ xs) x some = refl
 
--- the piece of the main program, closed, is what is asked for
+-- The lines of the main program's piece, closed, are the least line of each part.
 pub closed_least : (tape : List ControlProgram) (line : ℕ → ℕ → Option ℕ) (quiet : ℕ → Option ℕ) → AreQuietLines tape line quiet
     → (lines : PieceLines) (ending : Ending) → IsShort tape 9 (main_number tape)
     → IsPiece tape line quiet (main_number tape) lines ending → AreLeastLines tape line (closed lines ending)
@@ -233,7 +243,7 @@ closed_least tape line quiet are lines ending short piece = record {
         ap (λ xs. slice_get xs (path_waits tape)) same
         ∙ subst (λ i. slice_get (lines.done.items ++ lines.last ∷ []) i ≡ Some lines.last) waits (get_end lines.done.items lines.last)
 
-    -- the last part
+    -- The last of them is the least line of the part behind the last wait.
     end : (e : Ending) → ending ≡ e → (o : Option ℕ) → slice_get (closed lines e) (length lines.done.items) ≡ Some o
         → IsLeast (LineInPart tape line (path_waits tape)) o
     end Stops is o at =

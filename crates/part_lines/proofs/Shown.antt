@@ -1,4 +1,6 @@
--- The lines of a program as they grow.
+-- The lines of a program as they grow by a line, a wait and a call, and that they come to the lines
+-- of the whole program. For the proofs of src/piece.rt and src/listing.rt. The file's name stands
+-- for the lines that a piece shows (`shown`).
 use Rattle.std.proofs.Common.{◌≡◌, ℕ, zero, suc, ◌+◌, ◌-◌, ◌<◌, true, false, Bool, List, [], ◌∷◌, ◌++◌, length, drop, get_or, Option, Some, None, refl, ap, sym, ◌∙◌, arith, append_assoc}
 use Rattle.std.proofs.Math.Seq.{drop-cons}
 use Rattle.block_order.specs.declared.control.Control.{Control}
@@ -16,47 +18,48 @@ use Rattle.loud_calls.specs.Calls.{IsShort, IsShortCall}
 use Rattle.part_lines.specs.Pieces.{shown, coming, stop_of, IsSeen, AreJoined, AreAdded, IsPiece, IsTaken, IsSoFar, from_block}
 use Rattle.part_lines.proofs.Lesser.{lesser_none, with_none, with_both, with_again}
 
--- a piece without lines shows what comes behind it
+-- A piece without a line and a wait shows only what comes behind it.
 pub new_shown : (lines : PieceLines) → lines.done.items ≡ [] → lines.last ≡ None → (behind : Lines) → shown lines behind ≡ behind
 new_shown lines none last behind = rw (none, last) (with_none behind)
 
--- one line more is seen in its last part
+-- With the lesser of its last line and one more, a piece shows one line more in its last part.
 pub seen_shown : (old new : PieceLines) (line : Option ℕ) → new.done.items ≡ old.done.items → new.last ≡ lesser old.last line
     → IsSeen old new line
 seen_shown old new line done last behind =
     rw (done, last) (ap (λ xs. old.done.items ++ xs) (with_both old.last line behind))
 
--- a wait that is passed begins a part more
+-- With its last line put to the others a piece shows one part more, without a line.
 pub passed_shown : (old new : PieceLines) → new.done.items ≡ old.done.items ++ old.last ∷ [] → new.last ≡ None
     → (behind : Lines) → shown new behind ≡ shown old (None ∷ behind)
 passed_shown old new done last behind =
     rw (done, last) (append_assoc old.done.items (old.last ∷ []) (with_first None behind)
     ∙ ap (λ xs. old.done.items ++ xs) (ap (λ xs. old.last ∷ xs) (with_none behind) ∙ ap (λ o. o ∷ behind) (sym (lesser_none old.last))))
 
--- the same line many times is the line once
+-- To join a line n times, at least once, is to join it once.
 pub times_again : (n : ℕ) (line : Option ℕ) (behind : Lines) → 0 < n → times n (with_first line) behind ≡ with_first line behind
 times_again zero line behind some = absurd (omega arith)
 times_again (suc zero) line behind some = refl
 times_again (suc (suc n)) line behind some =
     ap (with_first line) (times_again (suc n) line behind (omega arith)) ∙ with_again line behind
 
--- two functions that agree give the same, however often
+-- Two functions that agree on all lines give the same n times over.
 pub times_same : (n : ℕ) (f g : Lines → Lines) (behind : Lines) → ((xs : Lines) → f xs ≡ g xs) → times n f behind ≡ times n g behind
 times_same zero f g behind same = refl
 times_same (suc n) f g behind same = ap f (times_same n f g behind same) ∙ same (times n g behind)
 
--- once more at the end is once more
+-- A function n times after once is the function n + 1 times.
 pub times_more : (n : ℕ) (f : Lines → Lines) (behind : Lines) → times n f (f behind) ≡ times (n + 1) f behind
 times_more zero f behind = refl
 times_more (suc n) f behind =
     let e : suc (n + 1) ≡ suc n + 1 = omega arith in
     ap f (times_more n f behind) ∙ ap (λ k. times k f behind) e
 
--- what is joined so far of the lines of a piece, with those that are left
+-- The lines so far, with the parts of a piece that are left to join, are those before with the
+-- whole piece.
 abbrev pub IsJoinedSoFar : PieceLines → PieceLines → Lines → PieceLines → Type 0
 IsJoinedSoFar old now rest more = (behind : Lines) → shown now (rest ++ with_first more.last behind) ≡ shown old (shown more behind)
 
--- one part more of a called program is joined
+-- One part more of a called program is joined.
 pub joined_next : (old now seen next more : PieceLines) (bs : Lines) (i : ℕ) (line : Option ℕ) → i < length bs
     → IsSeen now seen (get_or bs i line) → ((behind : Lines) → shown next behind ≡ shown seen (None ∷ behind))
     → IsJoinedSoFar old now (drop i bs) more → IsJoinedSoFar old next (drop (i + 1) bs) more
@@ -69,22 +72,22 @@ joined_next old now seen next more bs i line within one two so behind =
     ∙ (ap (λ o. shown now (o ∷ rest)) (lesser_none (get_or bs i line))
     ∙ (ap (λ xs. shown now (xs ++ with_first more.last behind)) (sym own) ∙ so behind)))
 
--- a list of no length is empty
+-- A list of no length is empty.
 pub empty_is : (xs : Lines) → length xs ≡ 0 → xs ≡ []
 empty_is [] e = refl
 empty_is (x ∷ xs) e = absurd (omega arith)
 
--- without a wait a program gives its line once
+-- A program without a wait that is run n times, at least once, gives its line once.
 pub waitless_joined : (old new more : PieceLines) (n : ℕ) → 0 < n → more.done.items ≡ [] → IsSeen old new more.last → AreJoined old new n more
 waitless_joined old new more n some none is behind =
     is behind ∙ ap (shown old) (sym (times_same n (shown more) (with_first more.last) behind (λ xs. rw none refl) ∙ times_again n more.last behind some))
 
 module _ (tape : List ControlProgram) (line : ℕ → ℕ → Option ℕ) (quiet : ℕ → Option ℕ) where
-  -- a call of a quiet program, and one without a repeat, give nothing
+  -- A call of a quiet program puts nothing behind its block.
   pub quiet_taken : (q r : ℕ) (old : PieceLines) → loud tape q ≡ false → IsTaken tape line quiet (Call q r) old old None
   quiet_taken q r old e n back behind short = rw e refl
 
-  -- a call that runs its program no time gives nothing
+  -- A call that runs its program no time puts nothing behind its block.
   pub unrepeated_taken : (q : ℕ) (old : PieceLines) → IsTaken tape line quiet (Call q 0) old old None
   unrepeated_taken q old n back behind short = go (loud tape q) refl
     where
@@ -92,7 +95,7 @@ module _ (tape : List ControlProgram) (line : ℕ → ℕ → Option ℕ) (quiet
       go true e = rw e refl
       go false e = rw e refl
 
-  -- a call of a loud program gives its lines, as often as it runs
+  -- A call of a loud program puts the program's lines behind its block, as often as it runs.
   pub loud_taken : (q r : ℕ) (old new piece : PieceLines) (ending : Ending) → loud tape q ≡ true → 0 < r
       → IsPiece tape line quiet q piece ending → AreAdded ending old new r piece
       → IsTaken tape line quiet (Call q r) old new (stop_of ending)
@@ -103,12 +106,12 @@ module _ (tape : List ControlProgram) (line : ℕ → ℕ → Option ℕ) (quiet
       rw noisy (ap (shown old) (times_same (suc r) (λ k. whole tape line quiet n q k) (shown piece) behind (λ k. is n k (short noisy)))
       ∙ sym (added behind))
 
-  -- a wait ends the part
+  -- A wait ends the part.
   pub wait_taken : (code : ℕ) (old new : PieceLines) → ((behind : Lines) → shown new behind ≡ shown old (None ∷ behind))
       → IsTaken tape line quiet (Wait code) old new None
   wait_taken code old new is n back behind short = sym (is behind)
 
-  -- before the first block no line is known
+  -- Before the first block the lines so far are none, and all blocks are left.
   pub so_far_start : (p : ℕ) (own : PieceLines) → ((behind : Lines) → shown own behind ≡ behind)
       → IsSoFar tape line quiet p own 0 (blocks tape p)
   unfolding whole
@@ -117,7 +120,8 @@ module _ (tape : List ControlProgram) (line : ℕ → ℕ → Option ℕ) (quiet
     are = λ n back short. sym (none (blocks_lines (loud tape) quiet (λ q behind. whole tape line quiet n q behind) (line p) back 0 (blocks tape p)));
   }
 
-  -- the chains of a called program are shorter by the call
+  -- If no chain of n + 1 calls begins in a program, none of n calls begins in a program that a
+  -- block of it calls.
   short_call : (n p : ℕ) (own : PieceLines) (i : ℕ) (b : ControlBlock) (rest : List ControlBlock)
       → IsSoFar tape line quiet p own i (b ∷ rest) → IsShort tape (suc n) p → IsShortCall tape n b.control
   short_call n p own i b rest so short = go b.control refl
@@ -136,11 +140,12 @@ module _ (tape : List ControlProgram) (line : ℕ → ℕ → Option ℕ) (quiet
       go Back is = tt
       go (BackTo n) is = tt
 
-  -- the lines of the blocks that are left
+  -- The lines of the blocks that are left.
   abbrev pub left_lines : ℕ → ℕ → Lines → ℕ → List ControlBlock → Lines
   left_lines p n back i rest = blocks_lines (loud tape) quiet (λ q behind. whole tape line quiet n q behind) (line p) back i rest
 
-  -- the block is seen and taken
+  -- If a block's line is seen and what comes behind it is taken, the lines of the program are the
+  -- new ones with those of the blocks that are left.
   taken_on : (n p : ℕ) (back : Lines) (old mid new : PieceLines) (i : ℕ) (b : ControlBlock) (rest : List ControlBlock) (ending : Option Ending)
       → IsSoFar tape line quiet p old i (b ∷ rest) → IsSeen old mid (seen_line (loud tape) quiet (line p i) b.control)
       → IsTaken tape line quiet b.control mid new ending → IsShort tape (suc n) p
@@ -150,7 +155,8 @@ module _ (tape : List ControlProgram) (line : ℕ → ℕ → Option ℕ) (quiet
       ∙ (sym (seen (block_lines (loud tape) (λ q behind. whole tape line quiet n q behind) back b.control (left_lines p n back (suc i) rest)))
       ∙ taken n back (left_lines p n back (suc i) rest) (short_call n p old i b rest so short))
 
-  -- one block more is taken
+  -- If the program goes on at a block that was taken, the lines so far are the new ones, with one
+  -- block less left.
   pub so_far_next : (p : ℕ) (old mid new : PieceLines) (i : ℕ) (b : ControlBlock) (rest : List ControlBlock)
       → IsSoFar tape line quiet p old i (b ∷ rest) → IsSeen old mid (seen_line (loud tape) quiet (line p i) b.control)
       → IsTaken tape line quiet b.control mid new None → IsSoFar tape line quiet p new (suc i) rest
@@ -159,12 +165,13 @@ module _ (tape : List ControlProgram) (line : ℕ → ℕ → Option ℕ) (quiet
     are = λ n back short. taken_on n p back old mid new i b rest None so seen taken short;
   }
 
+  -- If a program ends, its lines do not hang on what would come if it went on.
   ending_alone : (new : PieceLines) (ending : Ending) (back behind : Lines)
       → coming new (Some ending) back behind ≡ coming new (Some ending) back []
   ending_alone new Stops back behind = refl
   ending_alone new Returns back behind = refl
 
-  -- the block is taken and the program ends
+  -- If the program ends at a block that was taken, the new lines are its piece.
   pub piece_at : (p : ℕ) (old mid new : PieceLines) (i : ℕ) (b : ControlBlock) (rest : List ControlBlock) (ending : Ending)
       → IsSoFar tape line quiet p old i (b ∷ rest) → IsSeen old mid (seen_line (loud tape) quiet (line p i) b.control)
       → IsTaken tape line quiet b.control mid new (Some ending) → IsPiece tape line quiet p new ending
@@ -173,12 +180,13 @@ module _ (tape : List ControlProgram) (line : ℕ → ℕ → Option ℕ) (quiet
       taken_on n p back old mid new i b rest (Some ending) so seen taken short
       ∙ ending_alone new ending back (left_lines p n back (suc i) rest)
 
-  -- all blocks are taken
+  -- If no block is left, the lines so far are the piece of a program that stops.
   pub piece_off : (p i : ℕ) (own : PieceLines) → IsSoFar tape line quiet p own i [] → IsPiece tape line quiet p own Stops
   piece_off p i own so zero back short = absurd (short tt)
   piece_off p i own so (suc n) back short = so.are n back short
 
-  -- the chains of what this program calls are shorter by one
+  -- If no chain of n calls begins in a program, none of n - 1 calls begins in a program that a
+  -- block of it calls.
   pub short_left : (n p : ℕ) (own : PieceLines) (i : ℕ) (b : ControlBlock) (rest : List ControlBlock)
       → IsSoFar tape line quiet p own i (b ∷ rest) → IsShort tape n p → IsShortCall tape (n - 1) b.control
   short_left zero p own i b rest so short = absurd (short tt)

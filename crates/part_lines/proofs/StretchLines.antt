@@ -1,4 +1,5 @@
--- The least line of a stretch, as its blocks come one after another.
+-- The least line of a stretch, as the blocks of its program come one after another. For ItemLines
+-- and PartsLeast.
 use Rattle.std.proofs.Common.{◌≡◌, ◌==◌, ℕ, zero, suc, ◌+◌, ◌<◌, ◌⊎◌, inl, inr, Bool, true, false, List, [], ◌∷◌, length, take, Option, Some, None, refl, sym, subst, arith, if◌then◌else◌}
 use Rattle.std.proofs.lemmas.Bool.{eqb-true, eq-eqb, ne_eqb}
 use Rattle.std.proofs.lemmas.List.{length-append}
@@ -17,18 +18,19 @@ use Rattle.part_lines.specs.Pieces.{AreQuietLines}
 use Rattle.part_lines.proofs.Lesser.{least_either, least_same, least_one}
 use Rattle.part_lines.proofs.InParts.{CalledLine, BlockLine, StretchLine}
 
--- the number of the next stretch behind these marks
+-- The number of the stretch behind stretch t and these marks of one block.
 abbrev pub next_number : List Mark → ℕ → ℕ
 next_number [] t = t
 next_number (m ∷ ms) t = suc t
 
--- among the blocks from a place on, of which the first is in stretch t, the least line of stretch s
+-- The least line of stretch s among the blocks from place i on, of which the first lies in stretch
+-- t.
 abbrev pub stretch_line : (ℕ → Bool) → (ℕ → Control → Option ℕ) → List ControlBlock → ℕ → ℕ → ℕ → Option ℕ
 stretch_line ld seen [] i t s = None
 stretch_line ld seen (b ∷ bs) i t s =
     lesser (if t == s then seen i b.control else None) (stretch_line ld seen bs (suc i) (next_number (mark_of ld b.control) t) s)
 
--- a block gives at most one mark
+-- A block is at most one mark.
 one_mark : (ld : ℕ → Bool) (c : Control) → (mark_of ld c ≡ []) ⊎ ((m : Mark) × (mark_of ld c ≡ m ∷ []))
 one_mark ld Next = inl refl
 one_mark ld (Goto n) = inl refl
@@ -45,7 +47,7 @@ one_mark ld (Call q r) = go (ld q) refl
     go true e = inr (mark.Call q r, rw e refl)
     go false e = inl (rw e refl)
 
--- the stretch behind a block is one more if it gives a mark
+-- The stretch behind a block is one more if the block is a mark.
 next_is : (ld : ℕ → Bool) (c : Control) (t : ℕ) → next_number (mark_of ld c) t ≡ length (mark_of ld c) + t
 next_is ld c t = go (one_mark ld c)
   where
@@ -53,11 +55,11 @@ next_is ld c t = go (one_mark ld c)
     go (inl e) = rw e (omega arith)
     go (inr (m, e)) = rw e (omega arith)
 
--- so it is above each that is less
+-- A stretch before that of a block is before the one behind the block.
 next_above : (ld : ℕ → Bool) (c : Control) (t s : ℕ) → s < t → s < next_number (mark_of ld c) t
 next_above ld c t s less = let e = next_is ld c t in omega arith
 
--- a stretch that is behind has no line any more
+-- A stretch before that of the first block has no line among the blocks.
 pub none_behind : (ld : ℕ → Bool) (seen : ℕ → Control → Option ℕ) (bs : List ControlBlock) (i t s : ℕ) → s < t
     → stretch_line ld seen bs i t s ≡ None
 none_behind ld seen [] i t s less = refl
@@ -65,13 +67,13 @@ none_behind ld seen (b ∷ bs) i t s less =
     let apart : (t == s) ≡ false = ne_eqb t s (λ e. omega arith) in
     rw apart (none_behind ld seen bs (suc i) (next_number (mark_of ld b.control) t) s (next_above ld b.control t s less))
 
--- the stretch of the block at a place, where the first is in stretch t
+-- The stretch of the block at place j, if the first block lies in stretch t.
 abbrev pub number_at : (ℕ → Bool) → List ControlBlock → ℕ → ℕ → ℕ
 number_at ld [] t j = t
 number_at ld (b ∷ bs) t zero = t
 number_at ld (b ∷ bs) t (suc j) = number_at ld bs (next_number (mark_of ld b.control) t) j
 
--- the number of the stretch at a place counts the marks before it
+-- The stretch of the block at a place counts the marks before it.
 number_is : (ld : ℕ → Bool) (bs : List ControlBlock) (t j : ℕ) → number_at ld bs t j ≡ stretch ld bs j + t
 number_is ld [] t zero = omega arith
 number_is ld [] t (suc j) = omega arith
@@ -83,9 +85,11 @@ number_is ld (b ∷ bs) t (suc j) =
     omega arith
 
 module _ (tape : List ControlProgram) (line : ℕ → ℕ → Option ℕ) (quiet : ℕ → Option ℕ) (are : AreQuietLines tape line quiet) where
+  -- A block that calls nothing has no line of a called program.
   called_none : (c : Control) → ((q r : ℕ) → c ≡ Call q r → ⊥) → IsLeast (CalledLine tape line c) None
   called_none c other = λ k is. other is.0 is.1 is.2
 
+  -- The line that is found for a block's call is the least of those that it calls.
   called_least : (c : Control) → IsLeast (CalledLine tape line c) (called_line (loud tape) quiet c)
   called_least Next = called_none Next (λ q r e. absurd cc)
   called_least (Goto n) = called_none (Goto n) (λ q r e. absurd cc)
@@ -109,20 +113,22 @@ module _ (tape : List ControlProgram) (line : ℕ → ℕ → Option ℕ) (quiet
           (λ k from. (q, r, refl, e, from))
           (λ k is. subst (λ p. LineFrom tape line p k) (sym (use_same is.0 is.1 is.2)) is.4) (are q)
 
+  -- The line that is seen at a block is the least of its own and of those that it calls.
   block_least : (p b : ℕ) (c : Control) → IsLeast (BlockLine tape line p b c) (seen_line (loud tape) quiet (line p b) c)
   block_least p b c =
       least_either (λ k. line p b ≡ Some k) (CalledLine tape line c) (line p b) (called_line (loud tape) quiet c)
       (least_one (line p b)) (called_least c)
 
-  -- the line of a block, if it is looked for, or the least line of what it calls
+  -- The line that is seen at block b, of this control, of program p.
   abbrev pub seen_in : ℕ → ℕ → Control → Option ℕ
   seen_in p b c = seen_line (loud tape) quiet (line p b) c
 
-  -- a line of stretch s among the blocks from a place on
+  -- It is a line of stretch s among the blocks from place i on.
   abbrev TailLine : ℕ → List ControlBlock → ℕ → ℕ → ℕ → ℕ → Type 0
   TailLine p bs i t s k =
       (j : ℕ) × (c : Control) × (number_at (loud tape) bs t j ≡ s) × (control_at bs j ≡ Some c) × BlockLine tape line p (i + j) c k
 
+  -- The line that is seen at the first block counts exactly if that lies in the stretch.
   first_least : (p i : ℕ) (c : Control) (same : Bool) (P : Type 0) → ((same ≡ true → P) × (P → same ≡ true))
       → IsLeast (λ k. P × BlockLine tape line p i c k) (if same then seen_in p i c else None)
   first_least p i c true P is =
@@ -130,6 +136,7 @@ module _ (tape : List ControlProgram) (line : ℕ → ℕ → Option ℕ) (quiet
       (λ k own. (is.0 refl, own)) (λ k both. both.1) (block_least p i c)
   first_least p i c false P is = λ k both. let e = is.1 both.0 in absurd cc
 
+  -- The line of stretch s that is found among the blocks from place i on is the least of them.
   tail_least : (p : ℕ) (bs : List ControlBlock) (i t s : ℕ)
       → IsLeast (TailLine p bs i t s) (stretch_line (loud tape) (seen_in p) bs i t s)
   tail_least p [] i t s = λ k is. let e = is.3 in absurd cc
@@ -161,11 +168,11 @@ module _ (tape : List ControlProgram) (line : ℕ → ℕ → Option ℕ) (quiet
           let there : i + suc j ≡ suc i + j = omega arith in
           inr (j, c, at, is, subst (λ x. BlockLine tape line p x c k) there own)
 
-  -- the least line of a stretch
+  -- The line that is found of stretch s of program p.
   abbrev pub line_of_stretch : ℕ → ℕ → Option ℕ
   line_of_stretch p s = stretch_line (loud tape) (seen_in p) (blocks tape p) 0 0 s
 
-  -- what was found of a stretch is the least of its lines
+  -- The line that is found of a stretch is the least of its lines.
   pub stretch_least : (p s : ℕ) → IsLeast (StretchLine tape line p s) (line_of_stretch p s)
   stretch_least p s =
       least_same (TailLine p (blocks tape p) 0 0 s) (StretchLine tape line p s) (line_of_stretch p s)

@@ -1,6 +1,6 @@
-//! Which programs call a quiet program. Only time depends on it: what is found by it is looked at
-//! again.
-//! For this crate alone.
+//! Which programs call a quiet program. quiet.rt looks at them again when it found something of
+//! that program, and that look decides. So what this table holds changes the time that it takes,
+//! and not its answer.
 
 use block_order::{BlockOrder, Callers, Control, ControlProgram};
 use nc_number::NoMemory;

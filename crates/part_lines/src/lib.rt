@@ -2,6 +2,7 @@
 //!
 //! [`least_lines`] goes through a tape as its calls are unfolded, and makes the lines of each
 //! program once. What is looked for, a [`BlockLines`] tells: this crate knows of no variable.
+//! race_report calls it for the blocks that may use a shared variable.
 #![tactic(auto)]
 
 mod callers;

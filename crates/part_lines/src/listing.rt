@@ -1,5 +1,5 @@
-//! The least lines of a path: each program's once, joined by the calls.
-//! race_report uses it.
+//! The least lines of a path: those of each program are made once and joined as the calls lead.
+//! race_report calls `least_lines`.
 ghost use Rattle.std.specs.Prelude.{◌≡◌, Some, None, Option, IfOk, OnOk};
 ghost use Rattle.block_order.specs.declared.control.Control.TheVariants as Control;
 ghost use Rattle.loud_calls.specs.Calls.{IsReady, IsShort, IsShortCall};
@@ -15,7 +15,8 @@ use loud_calls::{KnownPrograms, runs_have_one_list, unknown_call};
 use nc_number::{NoMemory, lesser};
 use std::alloc::Global;
 
-/// Adds the lines of a call; how the calling program ends there, if it does.
+/// Adds the lines of a call to those of the calling program. The answer is how that program ends
+/// there, if it does.
 fn take_call<L: BlockLines>(
     order: &BlockOrder,
     lines: &L,
@@ -42,8 +43,8 @@ fn take_call<L: BlockLines>(
     }
 }
 
-/// Adds what comes behind a block to the lines of its program; how the program ends there, if it
-/// does.
+/// Adds what comes behind a block to the lines of its program. The answer is how the program ends
+/// there, if it does.
 fn take_block<L: BlockLines>(
     order: &BlockOrder,
     lines: &L,
@@ -70,7 +71,7 @@ fn take_block<L: BlockLines>(
     }
 }
 
-/// Makes the lines of the program that a block calls, where they are not made yet.
+/// Makes and keeps the lines of the program that a block calls, if they are not made yet.
 #[cycle(calls)]
 fn learn_call<L: BlockLines>(
     alloc: Global,
@@ -128,8 +129,8 @@ fn piece_of<L: BlockLines>(
     })
 }
 
-/// The lines of the main program. Behind its M99 the last part goes on with the blocks of the
-/// first.
+/// The lines of a whole path, made of those of its main program: its round is closed. Behind its
+/// M99 the last part goes on with the blocks of the first.
 fn closed(piece: Piece) -> Result<Vec<Option<u32>>, NoMemory>
     ensures { IfOk result (λ found. found.items ≡ closed piece.lines piece.ending) }
 {

@@ -1,5 +1,5 @@
-//! The least lines of one program, part by part, as they grow; listing.rt joins them.
-//! For this crate alone.
+//! The least lines of one program, part by part, as they grow: its blocks' lines, its waits, and
+//! the lines of what it calls. For this crate alone: listing.rt makes and joins pieces.
 ghost use Rattle.std.specs.Prelude.{◌≡◌, ◌<◌, ◌∷◌, None, OnOk, IfOk};
 ghost use Rattle.part_lines.specs.Lines.{Lines};
 ghost use Rattle.part_lines.specs.Pieces.{shown, stop_of, IsSeen, AreJoined, AreAdded};
@@ -19,14 +19,18 @@ pub(crate) enum Ending {
 /// The least line of each part that ends in a program, and of the part in which the program ends.
 #[derive(Debug, Drop)]
 pub(crate) struct PieceLines {
+    /// The least line of each part that a wait of the program, or of what it calls, has ended.
     pub(crate) done: Vec<Option<u32>>,
+    /// The least line so far of the part that goes on.
     pub(crate) last: Option<u32>,
 }
 
 /// The lines of a program, and what comes behind them.
 #[derive(Debug, Drop)]
 pub(crate) struct Piece {
+    /// The least line of each of its parts.
     pub(crate) lines: PieceLines,
+    /// Whether the path ends with the program or the caller goes on.
     pub(crate) ending: Ending,
 }
 
@@ -41,14 +45,14 @@ impl PieceLines {
         }
     }
 
-    /// Takes a line.
+    /// Takes a line into the part that goes on.
     pub(crate) fn see(&mut self, line: Option<u32>)
         ensures { IsSeen self.old self.new line }
     {
         self.last = lesser(self.last, line);
     }
 
-    /// Takes a wait.
+    /// Takes a wait: the part that went on is done, and the next one has no line.
     pub(crate) fn pass(&mut self) -> Result<(), NoMemory>
         ensures { OnOk result ((behind : Lines) → shown self.new behind ≡ shown self.old (None ∷ behind)) }
     {
@@ -88,7 +92,7 @@ impl PieceLines {
 
 impl Piece {
     /// Adds these lines to those of the program that makes the call so many times, at least once.
-    /// The ending of that program, where nothing comes behind these lines.
+    /// The answer is the ending of that program, if nothing comes behind these lines.
     pub(crate) fn add_to(
         &self,
         lines: &mut PieceLines,

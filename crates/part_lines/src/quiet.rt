@@ -1,8 +1,8 @@
 //! The least line of each program and of the quiet ones that are called from there.
 //!
 //! A path may come to any block of a quiet program that it calls, and none of them waits: all that
-//! is opened from a block is in the part of that block.
-//! For this crate alone.
+//! is opened from a block is in the part of that block. For this crate alone: listing.rt asks for
+//! these lines.
 ghost use Rattle.std.specs.Prelude.{◌≡◌, ◌≢◌, ◌↔◌, ℕ, true, Some, None, Option, IsTrue, IfOk, OnOk};
 ghost use Rattle.block_order.specs.Loud.{loud};
 ghost use Rattle.block_order.specs.Order.{blocks};
@@ -48,7 +48,8 @@ impl QuietLines {
         Ok(())
     }
 
-    /// The line of a block, or of the quiet program that it calls.
+    /// The line that is seen at a block: its own, or that of the quiet program that it calls if
+    /// that is less.
     pub(crate) fn seen(
         &self,
         order: &BlockOrder,
@@ -67,7 +68,8 @@ impl QuietLines {
     }
 }
 
-/// Whether no line is less than what was found.
+/// Whether what was found is no greater than the line. Without a line this is so; if nothing was
+/// found, only without a line.
 fn is_below(found: Option<u32>, line: Option<u32>) -> bool
     ensures { IsTrue result ↔ IsBelow found line }
 {
@@ -99,7 +101,8 @@ fn is_closed_at<L: BlockLines>(
     true
 }
 
-/// Whether no line is less than what was found.
+/// Whether no block of any program has or calls a line that is less than what was found of its
+/// program.
 fn is_closed<L: BlockLines>(order: &BlockOrder, lines: &L, found: &QuietLines) -> bool
     ensures { IsTrue result → IsClosed order.now (L.line lines.now) (quiet_known found.now) }
 {
@@ -151,7 +154,8 @@ fn lower_all<L: BlockLines>(
     Ok(())
 }
 
-/// Lowers a program of which nothing was found so far. Whether something is found of it now.
+/// Lowers a program of which nothing was found so far. The answer is whether something is found of
+/// it now.
 fn find<L: BlockLines>(
     order: &BlockOrder,
     lines: &L,
@@ -168,8 +172,8 @@ fn find<L: BlockLines>(
     Ok(found.get(program).is_some())
 }
 
-/// The same of each of these programs. Those of which something is found only now are put behind
-/// the others.
+/// Lowers those of these programs of which nothing was found so far. Those of which something is
+/// found only now are put behind the others in `fresh`.
 fn find_each<L: BlockLines>(
     order: &BlockOrder,
     lines: &L,
@@ -188,7 +192,8 @@ fn find_each<L: BlockLines>(
     Ok(())
 }
 
-/// Goes from the programs of which something was found last to those that call them, and so on.
+/// Goes from the programs of which something was found last to those that call them, and on to the
+/// callers of what is found there.
 fn find_callers<L: BlockLines>(
     order: &BlockOrder,
     lines: &L,
@@ -209,7 +214,7 @@ fn find_callers<L: BlockLines>(
 }
 
 /// What is found program by program, as they stand in the text: of each all that call it are found
-/// before the next one. Where the lines rise along the text, the line by which a program is found
+/// before the next one. If the lines rise along the text, the line by which a program is found
 /// is its least.
 fn found_in_order<L: BlockLines>(
     alloc: Global,

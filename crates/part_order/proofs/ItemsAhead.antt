@@ -1,5 +1,5 @@
 -- The items ahead of a place, as its running frame moves. A frame is an open program: its number,
--- its block and its repeats left.
+-- its block and its repeats left. For KeepsItems and Standing.
 use Rattle.std.proofs.Common.{◌≡◌, ℕ, zero, suc, ◌+◌, Bool, true, false, List, [], ◌∷◌, ◌++◌, length, take, drop, Some, refl, ap, sym, ◌∙◌, arith}
 use Rattle.std.proofs.lemmas.List.{length-append}
 use Rattle.block_order.specs.declared.control.Control.{Control}
@@ -16,18 +16,18 @@ use Rattle.block_order.specs.Moves.{at}
 use Rattle.block_order.proofs.MarksFrom.{marks-at, marks-drop}
 use Rattle.part_order.specs.Parts.{Item, Stretch, Meets, times, items, whole, items_from, stretch_at, behind, ahead}
 
--- the items ahead of a frame that counts: its own, and what comes once it has returned
+-- The items ahead of a frame that counts are its own, and then what comes once it has returned.
 pub ahead-counts : (tape : List ControlProgram) (f : Frame) (stack : List Frame) → counts tape f.program stack ≡ true
     → ahead tape (f ∷ stack)
     ≡ items_from tape (room stack) f.program (stretch_at tape f.program f.block) f.left (behind tape stack)
 ahead-counts tape f stack e = rw e
 
--- a frame of a quiet program has none of its own
+-- The items ahead of a frame of a quiet program are those of its callers' frames.
 pub ahead-quiet : (tape : List ControlProgram) (f : Frame) (stack : List Frame) → counts tape f.program stack ≡ false
     → ahead tape (f ∷ stack) ≡ ahead tape stack
 ahead-quiet tape f stack e = rw e
 
--- after a block stand the marks before it and its own
+-- Before the next block stand the marks before a block and its own.
 pub stretch_next : (ld : ℕ → Bool) (bs : List ControlBlock) (i : ℕ) (c : Control) → control_at bs i ≡ Some c
     → stretch ld bs (suc i) ≡ length (mark_of ld c) + stretch ld bs i
 stretch_next ld [] i c e = absurd cc
@@ -40,7 +40,7 @@ stretch_next ld (b ∷ bs) (suc i) c e =
     let short = length-append (mark_of ld b.control) (marks ld (take i bs)) in
     omega arith
 
--- a frame that stays in its stretch keeps the items ahead; a quiet one may move anywhere
+-- A frame that stays in its stretch keeps the items ahead; a quiet one may move anywhere.
 pub moves_kept : (tape : List ControlProgram) (f : Frame) (stack : List Frame) (block : ℕ)
     → (counts tape f.program stack ≡ true → stretch_at tape f.program block ≡ stretch_at tape f.program f.block)
     → ahead tape (at f block ∷ stack) ≡ ahead tape (f ∷ stack)
@@ -51,7 +51,7 @@ moves_kept tape f stack block same = go (counts tape f.program stack) refl
         rw e (ap (λ k. items_from tape (room stack) f.program k f.left (behind tape stack)) (same e))
     go false e = rw e refl
 
--- the block after one that is no mark is in the same stretch
+-- The block after one that is no mark is in the same stretch.
 pub unmarked_next : (tape : List ControlProgram) (p block : ℕ) (c : Control) → control_at (blocks tape p) block ≡ Some c
     → mark_of (loud tape) c ≡ [] → stretch_at tape p (suc block) ≡ stretch_at tape p block
 unmarked_next tape p block c is none =
@@ -59,7 +59,7 @@ unmarked_next tape p block c is none =
     let none' = ap length none in
     omega arith
 
--- after a mark begins the next stretch
+-- The block behind a mark lies in the next stretch.
 pub marked_next : (tape : List ControlProgram) (p block : ℕ) (c : Control) (m : Mark) → control_at (blocks tape p) block ≡ Some c
     → mark_of (loud tape) c ≡ m ∷ [] → stretch_at tape p (suc block) ≡ suc (stretch_at tape p block)
 marked_next tape p block c m is one =
@@ -67,7 +67,7 @@ marked_next tape p block c m is one =
     let one' = ap length one in
     omega arith
 
--- the marks from a block's stretch on begin with the block's own
+-- The marks from a block's stretch on begin with the block's own.
 pub marks_here : (tape : List ControlProgram) (p block : ℕ) (c : Control) → control_at (blocks tape p) block ≡ Some c
     → drop (stretch_at tape p block) (marks (loud tape) (blocks tape p))
     ≡ mark_of (loud tape) c ++ drop (stretch_at tape p (suc block)) (marks (loud tape) (blocks tape p))
@@ -76,7 +76,7 @@ marks_here tape p block c is =
     ∙ (marks-at (loud tape) (blocks tape p) block c is
     ∙ ap (λ ms. mark_of (loud tape) c ++ ms) (marks-drop (loud tape) (blocks tape p) (suc block)))
 
--- a block's stretch comes first
+-- The items of a program from a stretch on begin with that stretch.
 pub stretch_first : (tape : List ControlProgram) (called : ℕ → List Item → List Item) (p s : ℕ) (ms : List Mark) (rest : List Item)
     → (xs : List Item) × (items called p s ms rest ≡ Stretch p s ∷ xs)
 stretch_first tape called p s [] rest = ([], refl)
@@ -86,7 +86,8 @@ stretch_first tape called p s (mark.Call q r ∷ ms) rest = (times r (called q) 
 stretch_first tape called p s (mark.Back ∷ ms) rest = (rest, refl)
 stretch_first tape called p s (mark.Past ∷ ms) rest = ([], refl)
 
--- a call of a loud program opens after its stretch
+-- At a call of a loud program the items are its stretch, those of the called program, and those
+-- after the call.
 pub call_opens : (tape : List ControlProgram) (n m p block left q more : ℕ) (rest : List Item) → n ≡ suc m
     → control_at (blocks tape p) block ≡ Some (Call q (suc more)) → loud tape q ≡ true
     → items_from tape n p (stretch_at tape p block) left rest
@@ -102,7 +103,7 @@ call_opens tape n m p block left q more rest e is noisy =
       noisy,
     ) refl
 
--- a return with a repeat left begins the program anew
+-- At an M99 with a repeat left the items are its stretch and those of the program begun anew.
 pub repeat_begins : (tape : List ControlProgram) (n p block left : ℕ) (rest : List Item)
     → control_at (blocks tape p) block ≡ Some Back
     → items_from tape n p (stretch_at tape p block) (suc left) rest
@@ -110,13 +111,13 @@ pub repeat_begins : (tape : List ControlProgram) (n p block left : ℕ) (rest : 
 unfolding whole
 repeat_begins tape n p block left rest is = rw (marks_here tape p block Back is) refl
 
--- a last return leads to what comes after it
+-- At an M99 with no repeat left the items are its stretch and what comes after the return.
 pub last_returns : (tape : List ControlProgram) (n p block : ℕ) (rest : List Item)
     → control_at (blocks tape p) block ≡ Some Back
     → items_from tape n p (stretch_at tape p block) 0 rest ≡ Stretch p (stretch_at tape p block) ∷ rest
 last_returns tape n p block rest is = rw (marks_here tape p block Back is) refl
 
--- at a wait the items are its stretch, the wait, and those after it
+-- At a wait the items are its stretch, the wait, and those after it.
 pub wait_begins : (tape : List ControlProgram) (n p block left code : ℕ) (rest : List Item)
     → control_at (blocks tape p) block ≡ Some (Wait code)
     → items_from tape n p (stretch_at tape p block) left rest

@@ -1,5 +1,5 @@
 -- Each step leads on in the items, past no wait: an invariant of a path's steps, a case for each
--- kind of block.
+-- kind of block. For Standing.
 use Rattle.std.proofs.Common.{◌≡◌, ℕ, zero, suc, ◌<◌, inl, inr, Bool, true, false, List, [], ◌∷◌, length, Some, Ok, refl, ap, sym, subst, ◌∙◌, arith}
 use Rattle.block_order.specs.declared.control.Control.{Control}
 use Rattle.block_order.specs.declared.control.Control.TheVariants.{Next, Goto, While, Do, EndLoop, Wait, End, Call, Back, BackTo}
@@ -19,27 +19,27 @@ use Rattle.block_order.proofs.Moved.{jump_leads, exit_leads, head_leads, call_le
 use Rattle.part_order.specs.Parts.{Stretch, Meets, Anew, Follows, behind_stretch, behind_wait, anew, stretch_at, behind, ahead, path_items}
 use Rattle.part_order.proofs.ItemsAhead.{ahead-counts, ahead-quiet, moves_kept, unmarked_next, call_opens, repeat_begins, last_returns, wait_begins}
 
--- after n waits of the list the items ahead of the place follow
+-- The items ahead of the place follow n waits of the list.
 abbrev pub Stands : List ControlProgram → ℕ → List Frame → Type 0
 Stands tape n place = Follows (path_items tape) n (ahead tape place)
 
--- a place with the same items ahead stands in the same part
+-- A place with the same items ahead stands in the same part.
 same : (tape : List ControlProgram) (n : ℕ) (from to : List Frame) → ahead tape to ≡ ahead tape from → Stands tape n from → Stands tape n to
 same tape n from to e s = subst (Follows (path_items tape) n) (sym e) s
 
--- a stretch is left behind
+-- A step that leaves a stretch behind stands in the same part.
 leaves : (tape : List ControlProgram) (n p s : ℕ) (from to : List Frame) → ahead tape from ≡ Stretch p s ∷ ahead tape to
     → Stands tape n from → Stands tape n to
 leaves tape n p s from to e st =
     behind_stretch n p s (ahead tape to) (subst (Follows (path_items tape) n) e st)
 
--- a step to the next block of the stretch keeps the items ahead
+-- A step to the next block of the stretch keeps the items ahead.
 next_kept : (tape : List ControlProgram) (f : Frame) (stack : List Frame) (c : Control)
     → control_at (blocks tape f.program) f.block ≡ Some c → mark_of (loud tape) c ≡ []
     → ahead tape (at f (suc f.block) ∷ stack) ≡ ahead tape (f ∷ stack)
 next_kept tape f stack c is none = moves_kept tape f stack (suc f.block) (λ _. unmarked_next tape f.program f.block c is none)
 
--- a jump keeps the items ahead
+-- A jump keeps the items ahead.
 jump_kept : (tape : List ControlProgram) → IsUnforked tape → (f : Frame) (stack : List Frame)
     → IsPlace tape (f ∷ stack) → (c : Control) → control_at (blocks tape f.program) f.block ≡ Some c
     → (target : ℕ) → IsTarget tape f.program f.block c target
@@ -47,7 +47,7 @@ jump_kept : (tape : List ControlProgram) → IsUnforked tape → (f : Frame) (st
 jump_kept tape un f stack place c is target to =
     moves_kept tape f stack target (λ e. sym (un.jumps f.program f.block target c (Counts-from tape f stack place e) is to))
 
--- a step out of a loop keeps the items ahead
+-- A step out of a loop keeps the items ahead.
 exit_kept : (tape : List ControlProgram) → IsUnforked tape → (f : Frame) (stack : List Frame)
     → IsPlace tape (f ∷ stack) → (close : ℕ) → IsLoop (blocks tape f.program) f.block close
     → ahead tape (at f (suc close) ∷ stack) ≡ ahead tape (f ∷ stack)
@@ -57,14 +57,14 @@ exit_kept tape un f stack place close loop =
     (λ e. unmarked_next tape f.program close (EndLoop facts.name) facts.is_close refl
     ∙ sym (un.loops f.program f.block close (Counts-from tape f stack place e) loop))
 
--- a step back to a loop's head keeps the items ahead
+-- A step back to a loop's head keeps the items ahead.
 loop_kept : (tape : List ControlProgram) → IsUnforked tape → (f : Frame) (stack : List Frame)
     → IsPlace tape (f ∷ stack) → (head : ℕ) → IsLoop (blocks tape f.program) head f.block
     → ahead tape (at f head ∷ stack) ≡ ahead tape (f ∷ stack)
 loop_kept tape un f stack place head loop =
     moves_kept tape f stack head (λ e. un.loops f.program head f.block (Counts-from tape f stack place e) loop)
 
--- a call leads on in the items
+-- A call leads on in the items.
 call_stands : (tape : List ControlProgram) → AreLoud tape → (n : ℕ) (f : Frame) (stack : List Frame) (q more : ℕ)
     → control_at (blocks tape f.program) f.block ≡ Some (Call q (suc more)) → length stack < 8
     → Stands tape n (f ∷ stack) → Stands tape n (record { program = q; block = 0; left = more } ∷ f ∷ stack)
@@ -82,7 +82,7 @@ call_stands tape are n f stack q more is few s = go (loud tape q) refl
         ∙ (call_opens tape (room stack) (room (f ∷ stack)) f.program f.block f.left q more (behind tape stack) deep is e
         ∙ ap (λ xs. Stretch f.program (stretch_at tape f.program f.block) ∷ xs) (sym (ahead-counts tape inner (f ∷ stack) e)))) s
 
--- a return leads on in the items
+-- A return leads on in the items.
 back_stands : (tape : List ControlProgram) → AreLoud tape → (n : ℕ) (f g : Frame) (stack : List Frame)
     → IsPlace tape (f ∷ g ∷ stack) → control_at (blocks tape f.program) f.block ≡ Some Back
     → (left : ℕ) → f.left ≡ left
@@ -117,7 +117,7 @@ back_stands tape are n f g stack place is (suc left) l s = go (loud tape f.progr
         ∙ (rw l (repeat_begins tape (room (g ∷ stack)) f.program f.block left (behind tape (g ∷ stack)) is)
         ∙ ap (λ xs. Stretch f.program (stretch_at tape f.program f.block) ∷ xs) (sym (ahead-counts tape again (g ∷ stack) e)))) s
 
--- a return to a sequence number (M99 P) keeps the items ahead
+-- A return to a sequence number (M99 P) keeps the items ahead.
 back_to_kept : (tape : List ControlProgram) → AreLoud tape → IsUnforked tape → (f : Frame) (stack : List Frame)
     → IsPlace tape (f ∷ stack) → (k : ℕ) → control_at (blocks tape f.program) f.block ≡ Some (BackTo k)
     → (to : List Frame) → place_of_jump_back tape k (f ∷ stack) ≡ Ok to → ahead tape to ≡ ahead tape (f ∷ stack)
@@ -135,7 +135,7 @@ back_to_kept tape are un f (g ∷ stack) place k is to e =
         jump_kept tape un g stack place.3 (Call f.program place.0) place.1 target (quiet, f.block, k, is, leads)
         ∙ sym (ahead-quiet tape f (g ∷ stack) quiet)
 
--- a return of the main program begins the list anew
+-- A return of the main program begins the list anew.
 restart_stands : (tape : List ControlProgram) (n : ℕ) (f : Frame) → IsPlace tape (f ∷ [])
     → control_at (blocks tape f.program) f.block ≡ Some Back
     → (to : List Frame) → Goes tape (f ∷ []) Back to → Stands tape n (f ∷ []) → Stands tape n to
@@ -147,7 +147,7 @@ restart_stands tape n f place is to e s =
     (anew n [] (behind_stretch n f.program (stretch_at tape f.program f.block) (Anew ∷ [])
     (subst (Follows (path_items tape) n) here s)))
 
--- each step that a block may lead to leads on in the items
+-- Each step that a block may lead to leads on in the items.
 pub goes_stands : (tape : List ControlProgram) → AreLoud tape → IsUnforked tape → (n : ℕ) (f : Frame) (stack : List Frame)
     → IsPlace tape (f ∷ stack) → (c : Control) → control_at (blocks tape f.program) f.block ≡ Some c
     → (to : List Frame) → Goes tape (f ∷ stack) c to → Stands tape n (f ∷ stack) → Stands tape n to
@@ -180,7 +180,7 @@ goes_stands tape are un n f (g ∷ stack) place Back is to e s =
 goes_stands tape are un n f stack place (BackTo k) is to e s =
     same tape n (f ∷ stack) to (back_to_kept tape are un f stack place k is to e) s
 
--- past a wait the path stands one part further
+-- Past a wait the path stands one part further.
 pub passed_stands : (tape : List ControlProgram) → AreLoud tape → (n code : ℕ) (place : List Frame)
     → standing tape place ≡ Some (Wait code) → Stands tape n place → Stands tape (suc n) (place_behind place)
 passed_stands tape are n code [] is s = absurd cc

@@ -1,5 +1,5 @@
 -- After n waits a path stands in part n: the law `each_block_stands_in_its_part` (src/laws.rt).
--- race_order takes the facts too.
+-- race_order takes `reached_stands` and `stands_in_parts`.
 use Rattle.std.proofs.Common.{◌≡◌, ℕ, suc, Bool, true, false, List, [], ◌∷◌, drop, refl, subst, ◌∙◌}
 use Rattle.block_order.specs.declared.frame.Frame.{Frame}
 use Rattle.block_order.specs.declared.program.ControlProgram.{ControlProgram}
@@ -13,7 +13,7 @@ use Rattle.part_order.specs.Parts.{Follows, first, times, whole, stretch_at, beh
 use Rattle.part_order.proofs.ItemsAhead.{ahead-counts, ahead-quiet, stretch_first}
 use Rattle.part_order.proofs.KeepsItems.{Stands, goes_stands, passed_stands}
 
--- the block at the place is in the part
+-- If the items ahead of a place follow n waits, its running block is in part n.
 pub in_part : (tape : List ControlProgram) (n : ℕ) (f : Frame) (stack : List Frame) → IsPlace tape (f ∷ stack)
     → Stands tape n (f ∷ stack) → IsInPart tape n f.program f.block
 in_part tape n f [] place s =
@@ -34,13 +34,13 @@ in_part tape n f (g ∷ stack) place s =
         listed f.program f.block own.0 (subst (Follows (path_items tape) n) (ahead-counts tape f (g ∷ stack) e ∙ own.1) s)
     go false e below = called g.program g.block f.program f.block place.0 (below e) place.1 e
 
--- a step leads on in the items
+-- A step leads on in the items, past no wait.
 step_stands : (tape : List ControlProgram) → IsUnforked tape → (n : ℕ) (from to : List Frame) → IsPlace tape from
     → Step tape from to → Stands tape n from → Stands tape n to
 step_stands tape un n [] to place step s = absurd place
 step_stands tape un n (f ∷ stack) to place (c, is, goes) s = goes_stands tape (are_loud tape) un n f stack place c is to goes s
 
--- wherever a path comes after n waits, it stands in part n
+-- Wherever a path comes after n waits, it stands in part n.
 pub reached_stands : (tape : List ControlProgram) → IsUnforked tape → (n : ℕ) (place : List Frame) → IsReached tape n place
     → IsPlace tape place × Stands tape n place
 reached_stands tape un _ _ starts = ((refl, refl), first)
@@ -51,7 +51,7 @@ reached_stands tape un _ _ (passes n code from before is) =
     let at = reached_stands tape un n from before in
     (next_stays tape from at.0, passed_stands tape (are_loud tape) n code from is at.1)
 
--- the law: each block that a path comes to after n waits is in part n
+-- The law: each block that a path comes to after n waits is in part n.
 pub stands_in_parts : (tape : List ControlProgram) → IsUnforked tape → StandsInParts tape
 stands_in_parts tape un n f stack reached =
     let at = reached_stands tape un n (f ∷ stack) reached in in_part tape n f stack at.0 at.1

@@ -16,20 +16,20 @@ use Rattle.block_order.specs.Steps.{Step, standing, place_behind}
 
 -- What stands in the list: a stretch of a program, a wait, or that the list begins anew.
 pub data Item : Type 0 where
-  -- a stretch: the program and its number there, from 0
+  -- A stretch: the program and its number there, from 0.
   Stretch : (program number : ℕ) → Item
-  -- a wait
+  -- A wait.
   Meets : Item
-  -- the main program returns, and the list begins anew
+  -- The main program returns, and the list begins anew.
   Anew : Item
 
--- what the program gives n times, one after another
+-- The items that f puts before others, put n times before `rest`.
 abbrev pub times : ℕ → (List Item → List Item) → List Item → List Item
 times zero f rest = rest
 times (suc n) f rest = f (times n f rest)
 
--- The items of a program's marks from a stretch on, where called gives those of a called program,
--- and rest follows after the return. Each mark ends a stretch.
+-- The items of a program's marks from a stretch on. `called` gives those of a called program, and
+-- `rest` follows after the return. Each mark ends a stretch.
 abbrev pub items : (ℕ → List Item → List Item) → ℕ → ℕ → List Mark → List Item → List Item
 items called program number [] rest = Stretch program number ∷ []
 items called program number (mark.Wait code ∷ ms) rest =
@@ -40,28 +40,32 @@ items called program number (mark.Call q repeats ∷ ms) rest =
 items called program number (mark.Back ∷ ms) rest = Stretch program number ∷ rest
 items called program number (mark.Past ∷ ms) rest = Stretch program number ∷ []
 
--- the items of a program that is called with n further calls left, and rest after them
+-- The items of a program that is called while n calls may still be opened, its own one of them, and
+-- then `rest`; `rest` alone if none may be opened.
 unfoldable pub whole : List ControlProgram → ℕ → ℕ → List Item → List Item
 whole tape zero program rest = rest
 whole tape (suc n) program rest = items (λ q k. whole tape n q k) program 0 (marks (loud tape) (blocks tape program)) rest
 
--- from a stretch of the program on, with n further calls left
+-- The items of a frame: of its program from this stretch on, then of its repeats still to come,
+-- then `rest`. Its program may open n further calls.
 abbrev pub items_from : List ControlProgram → ℕ → ℕ → ℕ → ℕ → List Item → List Item
 items_from tape n program number left rest =
     items (λ q k. whole tape n q k) program number (drop number (marks (loud tape) (blocks tape program)))
     (times left (λ k. whole tape (suc n) program k) rest)
 
--- the stretch of a block
+-- The number of the stretch in which a block of the program lies.
 abbrev pub stretch_at : List ControlProgram → ℕ → ℕ → ℕ
 stretch_at tape program block = stretch (loud tape) (blocks tape program) block
 
--- what comes once the running program has returned to these frames, the inner first
+-- The items that come once the running program has returned to these frames, its caller first;
+-- behind the main program the list begins anew.
 abbrev pub behind : List ControlProgram → List Frame → List Item
 behind tape [] = Anew ∷ []
 behind tape (f ∷ stack) =
     items_from tape (room stack) f.program (stretch_at tape f.program (suc f.block)) f.left (behind tape stack)
 
--- the items from a place on; a quiet program has none of its own
+-- The items from a place on, which is a list of frames, the running one first. A quiet program has
+-- none of its own.
 abbrev pub ahead : List ControlProgram → List Frame → List Item
 ahead tape [] = []
 ahead tape (f ∷ stack) =
@@ -69,61 +73,61 @@ ahead tape (f ∷ stack) =
     then items_from tape (room stack) f.program (stretch_at tape f.program f.block) f.left (behind tape stack)
     else ahead tape stack
 
--- the list of a path
+-- The list of a path: the items from its start on.
 abbrev pub path_items : List ControlProgram → List Item
 path_items tape = ahead tape (start tape)
 
--- how many waits the items have, before they begin anew
+-- How many waits the items have, before they begin anew.
 abbrev pub waits_in : List Item → ℕ
 waits_in [] = 0
 waits_in (Stretch program number ∷ xs) = waits_in xs
 waits_in (Meets ∷ xs) = suc (waits_in xs)
 waits_in (Anew ∷ xs) = 0
 
--- how many waits the list of a path has
+-- How many waits the list of a path has.
 abbrev pub path_waits : List ControlProgram → ℕ
 path_waits tape = waits_in (path_items tape)
 
--- After n waits of the list, which begins anew wherever it says so, these items follow.
+-- After n waits of the list, which begins anew if it ends so, these items follow.
 pub data Follows (all : List Item) : ℕ → List Item → Type 0 where
-  -- before the first wait all items follow
+  -- Before the first wait all items follow.
   first : Follows all 0 all
-  -- past a stretch the items after it follow
+  -- Past a stretch the items after it follow.
   behind_stretch : (n program number : ℕ) (rest : List Item) → Follows all n (Stretch program number ∷ rest) → Follows all n rest
-  -- past a wait those after it follow, and one wait more is passed
+  -- Past a wait the items after it follow, and one wait more is passed.
   behind_wait : (n : ℕ) (rest : List Item) → Follows all n (Meets ∷ rest) → Follows all (suc n) rest
-  -- where the list begins anew, all items follow
+  -- At the end of a round that begins anew, all items follow.
   anew : (n : ℕ) (rest : List Item) → Follows all n (Anew ∷ rest) → Follows all n all
 
 -- The block is in part n of the path: its stretch stands after n waits of the list, or it is a
 -- block of a quiet program that a block of part n calls.
 pub data IsInPart (tape : List ControlProgram) (n : ℕ) : ℕ → ℕ → Type 0 where
-  -- its stretch stands after n waits of the list
+  -- Its stretch stands after n waits of the list.
   listed : (program block : ℕ) (rest : List Item)
       → Follows (path_items tape) n (Stretch program (stretch_at tape program block) ∷ rest) → IsInPart tape n program block
-  -- a block of part n calls its program, which is quiet
+  -- A block of part n calls its program, which is quiet.
   called : (caller there program block repeats : ℕ) → IsInPart tape n caller there
       → control_at (blocks tape caller) there ≡ Some (Call program repeats) → loud tape program ≡ false → IsInPart tape n program block
 
--- some steps of the path, and n waits that it passed, lead from its start to the place
+-- Some steps of the path, with n waits that it passed, lead from its start to the place.
 pub data IsReached (tape : List ControlProgram) : ℕ → List Frame → Type 0 where
-  -- at the start no wait is passed
+  -- At the start no wait is passed.
   starts : IsReached tape 0 (start tape)
-  -- a step passes no wait
+  -- A step passes no wait.
   steps : (n : ℕ) (from to : List Frame) → IsReached tape n from → Step tape from to → IsReached tape n to
-  -- at a wait the path goes on, and one wait more is passed
+  -- At a wait the path goes on, and one wait more is passed.
   passes : (n code : ℕ) (from : List Frame) → IsReached tape n from → standing tape from ≡ Some (Wait code)
       → IsReached tape (suc n) (place_behind from)
 
--- after n waits each block that a path may come to is in part n
+-- After n waits each block that a path may come to is in part n.
 abbrev pub StandsInParts : List ControlProgram → Type 0
 StandsInParts tape =
     (n : ℕ) (f : Frame) (stack : List Frame) → IsReached tape n (f ∷ stack) → IsInPart tape n f.program f.block
 
--- After more waits than the list has, the parts are those of a round before; without a wait all is
--- part 0.
+-- A part after more waits than the list has is that of a round before; without a wait all is part
+-- 0.
 pub record PartsRepeat (tape : List ControlProgram) : Type 0 where
-  -- a part after more waits than the list has is that of a round before
+  -- A part after more waits than the list has is that of a round before.
   pub before : (n program block : ℕ) → 0 < n → IsInPart tape (n + path_waits tape) program block → IsInPart tape n program block
-  -- without a wait there is part 0 alone
+  -- Without a wait there is part 0 alone.
   pub alone : (n program block : ℕ) → path_waits tape ≡ 0 → IsInPart tape n program block → n ≡ 0

@@ -1,5 +1,6 @@
-//! What holds of every tape. race_order, race_report and part_lines take the proofs of these laws
-//! instead of calling them.
+//! The laws of the parts of a path, which hold of every tape. race_order, race_report and
+//! part_lines take the proofs of these laws (proofs/Standing, Counted, Folded) instead of calling
+//! them.
 ghost use Rattle.std.specs.Prelude.{◌≡◌, List};
 ghost use Rattle.block_order.specs.declared.program.ControlProgram.{ControlProgram};
 ghost use Rattle.block_order.specs.Labels.{IsUnforked, list};
@@ -11,8 +12,8 @@ pub fn each_block_stands_in_its_part()
     ensures { (tape : List ControlProgram) → IsUnforked tape → StandsInParts tape }
 {}
 
-/// Parts repeat with the waits of the list, so that no more of them need be looked at than it has
-/// waits, and one.
+/// Parts repeat with the waits of the list: no more of them need be looked at than it has waits,
+/// and one.
 pub fn parts_repeat_with_the_waits()
     ensures { (tape : List ControlProgram) → PartsRepeat tape }
 {}

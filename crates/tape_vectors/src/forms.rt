@@ -1,5 +1,5 @@
-//! What a block says: its refusal, what it does to the order of blocks, the call that it is, and
-//! what its codes mean.
+//! Tests of block_forms: what a block says, that is its refusal, what it does to the order of
+//! blocks, the call that it is, and what its codes mean.
 use crate::tape::{first_block, read};
 use block_forms::{Dialect, FlowBlock, FlowBody, read_block};
 use code_tables::System;
@@ -9,7 +9,7 @@ use std::alloc::{AllocError, Global};
 use std::process::Abort;
 use std::test::Fail;
 
-/// How a tape is read by the settings of an empty text, but for the system of its G codes.
+/// How a tape is read by the settings of an empty text, with the G codes of this system.
 fn dialect_of(system: System) -> Dialect {
     Dialect {
         low: 100,
@@ -19,7 +19,7 @@ fn dialect_of(system: System) -> Dialect {
     }
 }
 
-/// A block and the number of its refusal, 0 where it is accepted.
+/// A block and the number of its refusal, 0 if it is accepted.
 const REFUSALS: &str = "\
 M101 G00|57
 M101 P1|58
@@ -167,7 +167,8 @@ G90 U1. W1.|1 CycleTurn
 U1.|none
 W1.|none";
 
-/// The same of system B.
+/// A block of system B, and the group and the kind of its first G code, or the number of its
+/// refusal.
 const CODES_OF_B: &str = "\
 G00|1 Rapid
 G01|1 Feed
@@ -253,7 +254,7 @@ M101 G90|57
 M101 U1.|56
 Q1|56";
 
-/// The group and the kind of the first G code.
+/// The group and the kind of the first G code of a block, or `none`.
 fn first_code(alloc: Global, body: &FlowBody) -> Result<String, AllocError> {
     let FlowBody::Words(words) = body else {
         return String::from_str(alloc, "none");

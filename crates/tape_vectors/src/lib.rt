@@ -1,5 +1,6 @@
-//! Tables of tests of the parts of a tape: its text, the order of its blocks, what each block says,
-//! and the tape as a whole.
+//! Tables of tests of the parts of a tape: its text (nc_text), the order of its blocks
+//! (block_order, wait_order), what each block says (block_forms, open_forms), and the tape as a
+//! whole (tape_flow). No crate uses it.
 //!
 //! The answers that are expected are worked by hand from the rules of tapes, and never from what a
 //! call answered.

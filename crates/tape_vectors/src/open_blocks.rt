@@ -1,5 +1,5 @@
-//! What a block does to the order of blocks, where nothing else that it says is looked into; or its
-//! refusal.
+//! Tests of open_forms: what a block does to the order of blocks if nothing else that it says is
+//! looked into, or its refusal.
 use crate::tape::{first_block, read};
 use block_forms::Dialect;
 use code_tables::System;
@@ -9,6 +9,7 @@ use std::alloc::{AllocError, Global};
 use std::process::Abort;
 use std::test::Fail;
 
+/// System A; the waiting codes are 100 to 197, and P names the paths by bits.
 const BITS: Dialect = Dialect {
     low: 100,
     high: 197,
@@ -16,6 +17,7 @@ const BITS: Dialect = Dialect {
     system: System::A,
 };
 
+/// System A; 198 and 199 are waiting codes too, and P names the paths by their numbers.
 const NUMBERS: Dialect = Dialect {
     low: 100,
     high: 199,
@@ -23,6 +25,7 @@ const NUMBERS: Dialect = Dialect {
     system: System::A,
 };
 
+/// System B; the waiting codes are 100 to 197, and P names the paths by bits.
 const SYSTEM_B: Dialect = Dialect {
     low: 100,
     high: 197,
@@ -262,7 +265,8 @@ DO0|24
 END2|EndLoop(2)
 END4|24";
 
-/// The same where 198 is a waiting code, and P names the paths by their numbers.
+/// A block, and its control or the number of its refusal, if 198 is a waiting code and P names the
+/// paths by their numbers.
 const BLOCKS_BY_NUMBERS: &str = "\
 M198|Wait(198)
 M198 P12|Wait(198)
@@ -274,7 +278,8 @@ M96|56
 M97|56
 M198 X1.|57";
 
-/// The same in system B: beside a call its own codes alone are known.
+/// A block, and its control or the number of its refusal, in system B: beside a call its own codes
+/// alone are known.
 const BLOCKS_OF_B: &str = "\
 G90 M98 P5|Call { program: 5, repeats: 1 }
 G91 M98 P5|Call { program: 5, repeats: 1 }

@@ -1,4 +1,5 @@
-//! The order of the blocks of small tapes, or their first fault.
+//! Tests of block_order and wait_order: the order of the blocks of small tapes, or their first
+//! fault. The proofs of this file say that each tape is one that may be checked.
 ghost use Rattle.std.specs.Prelude.{◌≡◌, ◌++◌, true, IfOk, OnOk};
 ghost use Rattle.block_order.specs.Shape.{IsListed, lines_of_program, lines_in};
 ghost use Rattle.nc_number.specs.Rising.{RiseFrom};
@@ -64,7 +65,7 @@ O1 1: X1., DO 1, N10 X1., X1., END 1, X1. | target 2 10 = Some(2)
 O1 1: X1., DO 1, N10 X1., X1., END 1, X1. | target 4 10 = Some(2)
 O1 1: X1., DO 1, N10 X1., X1., END 1, X1. | target 5 10 = None";
 
-/// Puts the line of a program and those of its blocks.
+/// Puts the line of a program's O number and those of its blocks to the others.
 fn push_lines(lines: &mut Vec<u32>, program: &ControlProgram) -> Result<(), NoMemory>
     ensures { OnOk result (lines.new.items ≡ lines.old.items ++ lines_of_program program.now) }
 {
@@ -100,7 +101,7 @@ fn is_rising(lines: &[u32]) -> bool
     true
 }
 
-/// Whether the tape may be handed on: it has a program, its lines rise, and they are not too many.
+/// Whether the tape may be checked: it has a program, its lines rise, and they are not too many.
 fn is_listed(alloc: Global, tape: &[ControlProgram]) -> Result<bool, NoMemory>
     ensures { IfOk result (λ listed. listed ≡ true → IsListed tape.now) }
 {
@@ -112,7 +113,7 @@ fn is_listed(alloc: Global, tape: &[ControlProgram]) -> Result<bool, NoMemory>
     Ok(rising)
 }
 
-/// A head or an end of a loop, and nothing for any other name.
+/// A head or an end of a loop, by its name; any other name goes on to the next block.
 fn loop_part_of(call: Call) -> Control {
     let name = u8::try_from(call.first).unwrap_or(0);
     match call.name {
@@ -123,7 +124,7 @@ fn loop_part_of(call: Call) -> Control {
     }
 }
 
-/// A jump to a sequence number, which is computed where it does not read.
+/// A jump to a sequence number; to a computed one if the number is 0, as it is if it does not read.
 fn jump_to(number: u16) -> Control {
     if number == 0 {
         Control::Goto(None)
@@ -132,7 +133,7 @@ fn jump_to(number: u16) -> Control {
     }
 }
 
-/// M99, with the sequence number behind its P where it has one.
+/// M99, with the sequence number behind its P; without one if the number is 0.
 fn return_to(number: u16) -> Control {
     if number == 0 {
         Control::Back
@@ -141,7 +142,7 @@ fn return_to(number: u16) -> Control {
     }
 }
 
-/// What a block does to the order of blocks.
+/// What a block that is written as this call does to the order of blocks.
 fn control_of(call: Call) -> Control {
     match call.name {
         "GOTO" => jump_to(call.first),
@@ -156,7 +157,7 @@ fn control_of(call: Call) -> Control {
     }
 }
 
-/// The block at a line, with its sequence number where it has one.
+/// The block at a line, with its sequence number if one is written.
 fn block_of(line: u32, text: &str) -> ControlBlock {
     let (sequence, said) = match text.strip_prefix('N') {
         Some(numbered) => numbered.split_once(' ').unwrap_or((numbered, "")),
@@ -201,12 +202,12 @@ fn tape_of(alloc: Global, text: &str) -> Result<Vec<ControlProgram>, NoMemory> {
     Ok(tape)
 }
 
-/// Where a jump leads.
+/// The place to which a jump leads, as text.
 fn shown(alloc: Global, led: Option<u32>) -> Result<String, AllocError> {
     format!(in alloc; "{led:?}")
 }
 
-/// Where a jump of the first program leads, or `none` where nothing is asked.
+/// Where a jump of the first program leads, or `none` if nothing is asked.
 fn told(alloc: Global, order: &BlockOrder, call: Call) -> Result<String, AllocError> {
     let (block, number) = (u32::from(call.first), u32::from(call.second));
     match call.name {
@@ -227,7 +228,7 @@ fn answer(alloc: Global, tape: Vec<ControlProgram>, call: Call) -> Result<String
     }
 }
 
-/// Whether a row holds; one whose lines do not rise does not.
+/// Whether a row holds; one whose tape may not be checked does not.
 fn holds(alloc: Global, row: &str) -> Result<bool, Fail> {
     let (asked, wanted) = row.split_once(" = ").ok_or("a tape and what is told")?;
     let (text, call) = asked.split_once(" | ").unwrap_or((asked, ""));

@@ -1,4 +1,5 @@
-//! The steps of a place, and what a flow says of a place and of its blocks.
+//! Tests of places (block_order) and of a flow (tape_flow): the steps of a place, and what a flow
+//! says of a place and of its blocks.
 use crate::call::{Call, call_of};
 use crate::tape::read;
 use block_order::Place;
@@ -73,12 +74,13 @@ to 2 = 1 2 2 0
 label = Some(Off)
 line = 9";
 
-/// Whether the path stands at a block behind which there may be a call, and the call is opened.
+/// Opens a call. Whether there was room for it: the running block is below 99, the call runs its
+/// program, and fewer than eight are open.
 fn opens(place: &mut Place, program: u16, repeats: u16) -> bool {
     repeats > 0 && place.running().block < 99 && place.call(program, repeats).is_ok()
 }
 
-/// Goes to the next block.
+/// Goes to the next block, if the running one is below 99; whether it is.
 fn goes_on(place: &mut Place) -> bool {
     if place.running().block < 99 {
         place.next();
@@ -88,7 +90,7 @@ fn goes_on(place: &mut Place) -> bool {
     }
 }
 
-/// Makes a step, where it is one; whether it was not refused.
+/// Makes the step that the call names, if it names one. The answer is whether it was not refused.
 fn step(place: &mut Place, flow: &Flow, call: Call) -> bool {
     match call.name {
         "begin" => *place = flow.start(),
@@ -110,7 +112,7 @@ fn shown(alloc: Global, place: &Place) -> Result<String, AllocError> {
     format!(in alloc; "{depth} {program} {block} {left}")
 }
 
-/// The line of a block.
+/// The line of a block of the flow, if there is such a block.
 fn line_of(flow: &Flow, program: u16, block: u32) -> Option<u32> {
     match flow.block(program, block) {
         Some(block) => Some(block.line),
@@ -118,7 +120,7 @@ fn line_of(flow: &Flow, program: u16, block: u32) -> Option<u32> {
     }
 }
 
-/// What the place or the flow says to a question, or where the place stands.
+/// What the place or the flow answers to a question; for a step, where the place stands then.
 fn told(alloc: Global, flow: &Flow, place: &Place, call: Call) -> Result<String, AllocError> {
     let (program, block) = (call.first, u32::from(call.second));
     match call.name {
@@ -141,14 +143,14 @@ fn answer(alloc: Global, flow: &Flow, place: &mut Place, call: Call) -> Result<S
     }
 }
 
-/// Whether a row holds where the place stands.
+/// Whether a row holds of the place as the rows before left it.
 fn holds(alloc: Global, flow: &Flow, place: &mut Place, row: &str) -> Result<bool, AllocError> {
     let (call, wanted) = row.split_once(" = ").unwrap_or((row, ""));
     let got = answer(alloc, flow, place, call_of(call))?;
     Ok(got.as_str() == wanted)
 }
 
-/// Makes each row's step, or asks its question.
+/// Makes each row's step, or asks its question, one after another on one place.
 fn walk(rt: &impl Abort, alloc: Global, flow: &Flow) -> Result<(), Fail> {
     let mut place = flow.start();
     for row in ROWS.lines() {

@@ -1,9 +1,11 @@
-//! The tapes that rows write.
+//! The tapes that rows of a table write, with `~` for the end of a line, and their refusals as
+//! text. forms.rt, open_blocks.rt, places.rt and texts.rt read their tapes with it; orders.rt takes
+//! the text of a refusal.
 use nc_number::Failing;
 use nc_text::{Block, Reader, Tape, TextFault};
 use std::alloc::{AllocError, Global};
 
-/// A byte of a tape: the end of a line for a `~`.
+/// A byte of a tape: the end of a line if it is a `~`.
 fn byte_of(byte: u8) -> u8 {
     if byte == b'~' { b'\n' } else { byte }
 }
@@ -17,7 +19,8 @@ fn lines_of(alloc: Global, text: &str) -> Result<Vec<u8>, AllocError> {
     Ok(bytes)
 }
 
-/// The tape of these bytes, which come in pieces of that length.
+/// The tape of these bytes, which come in pieces of that length; `skips` are the switches that are
+/// set.
 fn tape_of(
     alloc: Global,
     skips: u16,
@@ -31,7 +34,8 @@ fn tape_of(
     reader.finish()
 }
 
-/// The tape of a text in which `~` stands for the end of a line, in pieces of that length.
+/// The tape of a text in which `~` stands for the end of a line, in pieces of that length; `skips`
+/// are the switches that are set.
 pub(crate) fn read_in(
     alloc: Global,
     skips: u16,
@@ -47,7 +51,7 @@ pub(crate) fn read(alloc: Global, text: &str) -> Result<Tape, Failing<TextFault>
     read_in(alloc, 0, text, 1_000_000)
 }
 
-/// The number and the line of a refusal.
+/// The text of a refusal: its number and its line.
 pub(crate) fn refusal(alloc: Global, number: u8, line: u32) -> Result<String, AllocError> {
     format!(in alloc; "refused {number} line {line}")
 }

@@ -1,4 +1,5 @@
-//! Texts, and the programs, blocks and words that are read in them.
+//! Tests of nc_text: texts, and the programs, blocks and words that are read in them, in whatever
+//! pieces they come.
 use crate::call::number;
 use crate::tape::{read_in, refusal};
 use nc_number::Failing;

@@ -1,4 +1,5 @@
--- The lists of the blocks that search are filled from the last place back: one place more.
+-- The lists of the blocks that search are filled from the last place back: one place more. For the
+-- proof of `later_searchers` (src/searchers.rt).
 use Rattle.std.proofs.Common.{◌≡◌, ◌≢◌, ℕ, suc, ◌<◌, ◌≤◌, ◌⊎◌, inl, inr, Bool, List, ◌∷◌, length, drop, slice_index, slice_index_or, slice_set, refl, sym, subst, ◌∙◌, arith}
 use Rattle.std.proofs.Math.Seq.{drop-cons}
 use Rattle.std.proofs.Math.ListN.{length-set}
@@ -13,7 +14,8 @@ use Rattle.wait_order.specs.Searchers.{next_searcher, later_searcher, behind_mar
 pub at_or_above : (m n : ℕ) → m ≤ n → (n ≡ m) ⊎ (suc m ≤ n)
 at_or_above m n h = grind arith
 
--- With the entry of one place more the list of later searchers holds from that place on.
+-- If the entry of a place is right and the list of later searchers holds from the next place on, it
+-- holds from that place on.
 later_step : (ld : ℕ → Bool) (q : Control → Bool) (bs : List ControlBlock) (next later : List ℕ) (place value : ℕ) (d : ControlBlock)
     → AreNext q bs 0 next → AreLater ld q bs (suc place) later → place < length bs
     → value ≡ behind_marks (length (mark_of ld (slice_index_or bs place d).control)) (slice_index next (suc place)) (slice_index later (suc place))

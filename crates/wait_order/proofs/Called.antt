@@ -1,5 +1,6 @@
 -- What the flags of the called programs stand for after one block, one program, or one call more. A
--- loud program comes to a wait or an end, itself or by its calls; the others are quiet.
+-- loud program comes to a wait or an end, itself or by its calls; the others are quiet. For the
+-- proofs of src/depth.rt.
 use Rattle.std.proofs.Common.{◌≡◌, ◌↔◌, ℕ, zero, suc, ◌+◌, ◌<◌, ◌⊎◌, inl, inr, Bool, true, false, ◌==◌, List, [], ◌∷◌, ◌++◌, take, drop, length, replicate, Option, Some, None, slice_get, slice_index_or, slice_set, refl, ap, sym, subst, ◌∙◌, arith}
 use Rattle.std.proofs.lemmas.Bool.Decides.{nat_tests}
 use Rattle.block_order.specs.declared.control.Control.{Control}
@@ -158,12 +159,12 @@ no_flag : (n : ℕ) (o : Option ℕ) → flag_at (replicate n false) o ≡ false
 no_flag n None = refl
 no_flag n (Some i) = none_flagged n i
 
--- Such a list has its length.
+-- A list of n false entries has n entries.
 length_none : (n : ℕ) → length (replicate n false) ≡ n
 length_none zero = refl
 length_none (suc n) = let e = length_none n in omega arith
 
--- The flags stand for the called programs, if none was set before.
+-- If the list had no flag before, it flags exactly the programs that one call more reaches.
 pub called_new : (tape : List ControlProgram) (reached old new next : List Bool) → AreProgramsOf tape → old ≡ replicate (length tape) false
     → length next ≡ length tape → next ≡ new
     → ((q : ℕ) → (flagged tape new q ≡ true) ↔ ((flagged tape old q ≡ true) ⊎ IsCalledBelow tape reached (length tape) q))

@@ -1,5 +1,6 @@
 -- The first line of a tape that may pass a wait is the least of its programs' first ones. A loud
--- program comes to a wait or an end, itself or by its calls; the others are quiet.
+-- program comes to a wait or an end, itself or by its calls; the others are quiet. For the proof of
+-- `stray_line` (src/waiting.rt), and for Called, Deepest and Strayed.
 use Rattle.std.proofs.Common.{◌≡◌, ℕ, suc, ◌+◌, ◌<◌, ◌⊎◌, inl, inr, Bool, true, false, ◌==◌, List, [], ◌∷◌, length, Option, Some, None, slice_get, refl, ap, sym, subst, ◌∙◌, arith}
 use Rattle.std.proofs.lemmas.Bool.Decides.{nat_tests}
 use Rattle.block_order.specs.declared.program.ControlBlock.{ControlBlock}
@@ -48,16 +49,21 @@ least_program tape i p a b at l r =
       | inr less ↦ inl (t, q, less, is, h)
     ]
 
--- No programs have no such line.
+-- Of no programs there is no line that may pass a wait.
 pub least_no_program : (tape : List ControlProgram) → IsLeast (IsStrayLineBelow tape 0) None
 least_no_program tape = least_none {P = IsStrayLineBelow tape 0} (λ n h. (let below = h.2 in absurd (omega arith)))
 
 -- A program of this O number stands on the tape.
 pub record IsOnTape (tape : List ControlProgram) (q : ℕ) : Type 0 where
+  -- The place of the program.
   pub place : ℕ
+  -- The program.
   pub program : ControlProgram
+  -- The place is one of the tape's.
   pub within : place < length tape
+  -- The program stands there.
   pub at : slice_get tape place ≡ Some program
+  -- Its O number is q.
   pub number : program.number ≡ q
 
 -- A number whose program has a block is that of a program on the tape.

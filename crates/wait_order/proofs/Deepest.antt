@@ -1,5 +1,5 @@
 -- The first ninth call of a chain is the least of its programs' first ones. A loud program comes to
--- a wait or an end, itself or by its calls; the others are quiet.
+-- a wait or an end, itself or by its calls; the others are quiet. For the proofs of src/deep.rt.
 use Rattle.std.proofs.Common.{◌≡◌, ◌↔◌, ℕ, ◌+◌, ◌<◌, ◌≤◌, ◌⊎◌, inl, inr, Bool, true, false, List, length, Option, Some, None, slice_get, slice_index_or, ap, sym, subst, ◌∙◌, arith}
 use Rattle.std.specs.Prelude.{IsTrue}
 use Rattle.block_order.specs.declared.program.ControlBlock.{ControlBlock}

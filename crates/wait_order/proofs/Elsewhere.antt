@@ -1,6 +1,7 @@
 -- The tests of src/ways.rt on numbers, and what they say of stretches. A stretch is the run of
 -- blocks up to a mark: a wait, an end, an M99 without a number, or a loud call. A loud program
--- comes to a wait or an end, itself or by its calls; the others are quiet.
+-- comes to a wait or an end, itself or by its calls; the others are quiet. For the proofs of
+-- src/ways.rt and of `returns_elsewhere` (src/view.rt).
 use Rattle.std.proofs.Common.{◌≡◌, ◌≢◌, ◌↔◌, ℕ, ◌-◌, ◌<◌, Bool, true, false, not, nat_eq, List, length, Option, Some, None, Result, Ok, Err, slice_index, sym, refl, ap, ◌∙◌, arith, zero-add}
 use Rattle.std.specs.Prelude.{IsTrue}
 use Rattle.std.proofs.lemmas.Bool.Decides.{nat_tests}
@@ -92,6 +93,6 @@ pub closes_nowhere : (ld : ℕ → Bool) (bs : List ControlBlock) (close : ℕ)
     → ((other : ℕ) → (◌≡◌ {A = Option ℕ} None (Some other)) ↔ IsLoop bs other close) → IsTrue false ↔ ClosesElsewhere ld bs close
 closes_nowhere ld bs close heads = (λ t. absurd cc, λ l. absurd (let e : ◌≡◌ {A = Option ℕ} None (Some l.0) = (heads l.0).1 l.1 in cc))
 
--- False is not true.
+-- A test that says no does not say yes.
 pub false_is_not_true : IsTrue false → ⊥
 false_is_not_true t = absurd cc

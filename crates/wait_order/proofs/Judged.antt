@@ -1,5 +1,6 @@
--- The faults of waits are the strays and the ninth calls, and the first of them is the lesser
--- line's, or the jump's on one line.
+-- The faults of waits are the lines that may pass a wait, 65, and the ninth calls, 66; the first of
+-- them is that of the lesser line, and on one line the 65. For the proof of `first_fault`
+-- (src/waiting.rt).
 use Rattle.std.proofs.Common.{◌≡◌, ℕ, suc, ◌<◌, ◌≤◌, ◌⊎◌, inl, inr, List, Option, Some, None, refl, subst, arith}
 use Rattle.nc_number.specs.declared.cause.Cause.{Cause}
 use Rattle.nc_number.specs.declared.cause.Cause.TheVariants.{BranchAtWait, WaitTooDeep}
@@ -15,7 +16,7 @@ abbrev pub Judged : List ControlProgram → ℕ → Cause → Type 0
 Judged tape line cause =
     (IsTapeStrayLine tape line × (cause ≡ BranchAtWait)) ⊎ (IsDeepLine tape line × (cause ≡ WaitTooDeep))
 
--- Each fault of that stage is one of these two.
+-- Each fault of the stage of waits is a line that may pass a wait or that of a ninth call.
 judged : (tape : List ControlProgram) (stage : Stage) (line : ℕ) (cause : Cause) → HasFault tape stage line cause → stage ≡ Waiting
     → Judged tape line cause
 judged tape _ _ _ (twice before after program is again) e = absurd cc
@@ -52,7 +53,7 @@ at_or_before m n h = grind arith
 no_later : (line l : ℕ) (cause c : Cause) → line ≤ l → cause_number cause ≤ cause_number c → IsNoLater line cause l c
 no_later line l cause c le least = elim (at_or_before line l le) [ inl lt ↦ inl lt | inr e ↦ inr (e, least) ]
 
--- each other line of the kind is no lower
+-- If m is found as the least number, each number of the kind is at least m.
 at_most : (o : Option ℕ) (m n : ℕ) → o ≡ Some m → IsAtMost o n → m ≤ n
 at_most o m n e h = subst (λ x. IsAtMost x n) e h
 

@@ -1,7 +1,8 @@
 -- The blocks from which a search for a number leads to a target lie in at most two rows of places:
 -- one before the target, and one after from which the search begins anew at the program's start. A
 -- stretch is the run of blocks up to a mark: a wait, an end, an M99 without a number, or a loud
--- call. A loud program comes to a wait or an end, itself or by its calls; the others are quiet.
+-- call. A loud program comes to a wait or an end, itself or by its calls; the others are quiet. For
+-- the proofs of src/search_strays.rt, and for Called, Deepest, Listed and Strayed.
 use Rattle.std.proofs.Common.{◌≡◌, ◌↔◌, ℕ, zero, suc, ◌+◌, ◌<◌, ◌≤◌, ◌⊎◌, inl, inr, Bool, true, false, List, [], ◌∷◌, length, slice_get, slice_index_or, Option, Some, None, refl, ap, sym, subst, ◌∙◌, arith}
 use Rattle.block_order.specs.declared.control.Control.{Control}
 use Rattle.block_order.specs.declared.loops.Reach.{Reach}
@@ -17,8 +18,9 @@ use Rattle.block_order.proofs.Searches.{led, leads_to}
 use Rattle.block_order.proofs.Targets.{seek_stands}
 use Rattle.wait_order.proofs.Nearest.{searcher_within}
 
--- What the tables of block_order say of the searches that lead to a target.
+-- What the tables of block_order say of the searches for n that lead to a target.
 pub record Known (ld : ℕ → Bool) (bs : List ControlBlock) (n target : ℕ) (finders : Finders) (reach : Reach) : Type 0 where
+  -- There are at most 20,000 blocks.
   pub few : length bs ≤ 20000
   -- Which blocks a search for n leads to the target.
   pub finds : (block : ℕ) → (seek bs block n ≡ Some target) ↔ IsFinder finders block
@@ -169,7 +171,8 @@ least_all ld q may bs a p = least_same {R = IsSearchStray ld q may bs} a p to ba
     back : (k : ℕ) → IsSearchStray ld q may bs k → MayLeadBelow ld q may bs (length bs) k
     back k (at, n, is_so, (target, leads, apart)) = (target, (seek_stands bs k n target (led bs k n target leads).0).0, (n, is_so, (at, leads, apart)))
 
--- The same step as the loop over the blocks makes it, with its count of places.
+-- After one target more the lesser of the first blocks is the first for all targets so far; the
+-- loop of `first_search_stray` counts its places so.
 pub target_step : (ld : ℕ → Bool) (q : Control → Bool) (may : ℕ → Bool) (bs : List ControlBlock) (i place : ℕ) (d : ControlBlock) (first nearest : Option ℕ)
     → i < length bs → place ≡ i → IsLeast (MayLeadBelow ld q may bs i) first
     → (place < length bs → ((n : ℕ) → IsNumbered bs place n ↔ ((slice_index_or bs i d).sequence ≡ Some n))

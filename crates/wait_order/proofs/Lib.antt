@@ -1,3 +1,5 @@
+-- The lemmas of this crate, each file by its subject, each after those that it takes. No other
+-- crate takes them.
 pub mod Stretched
 pub mod Elsewhere
 pub mod Ahead

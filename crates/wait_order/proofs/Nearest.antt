@@ -1,6 +1,8 @@
 -- The lists of blocks that search say which is the nearest one in another stretch than a target. A
 -- stretch is the run of blocks up to a mark: a wait, an end, an M99 without a number, or a loud
--- call. A loud program comes to a wait or an end, itself or by its calls; the others are quiet.
+-- call. A loud program comes to a wait or an end, itself or by its calls; the others are quiet. For
+-- the proofs of `first_other` (src/searchers.rt) and `first_in` (src/search_strays.rt), and for
+-- Leading.
 use Rattle.std.proofs.Common.{◌≡◌, ◌≢◌, ℕ, zero, suc, ◌+◌, ◌-◌, ◌<◌, ◌≤◌, Bool, true, false, List, [], ◌∷◌, length, drop, Some, None, slice_index, refl, ap, sym, subst, ◌∙◌, arith, zero-add, length-drop}
 use Rattle.block_order.specs.declared.control.Control.{Control}
 use Rattle.block_order.specs.declared.program.ControlBlock.{ControlBlock}
@@ -33,12 +35,12 @@ stretch_drop ld (b ∷ bs) (suc n) i =
     ap (λ k. stretch ld (b ∷ bs) k) e
     ∙ omega (arith, stretch_behind ld b bs (n + i), stretch_behind ld b bs n, stretch_drop ld bs n i)
 
--- A block that searches after the first n searches, counted from the start.
+-- A block that searches among those after the first n is one of all, n places further on.
 searcher_behind : (q : Control → Bool) (bs : List ControlBlock) (n i k : ℕ) → k ≡ n + i → IsSearcherAt q (drop n bs) i
     → IsSearcherAt q bs k
 searcher_behind q bs n i k e (c, at, is) = (c, ap (λ j. control_at bs j) e ∙ (sym (control_drop bs n i) ∙ at), is)
 
--- The same the other way round.
+-- A block that searches behind the first n is one of those after them, n places nearer.
 searcher_ahead : (q : Control → Bool) (bs : List ControlBlock) (n i k : ℕ) → n + i ≡ k → IsSearcherAt q bs k
     → IsSearcherAt q (drop n bs) i
 searcher_ahead q bs n i k e (c, at, is) = (c, control_drop bs n i ∙ (ap (λ j. control_at bs j) e ∙ at), is)
@@ -56,13 +58,18 @@ not_searcher q b bs e (c, at, is) =
 
 -- `found` is the nearest block that searches, `ahead` places from `place` on, or the end.
 record IsNext (q : Control → Bool) (bs : List ControlBlock) (place found : ℕ) : Type 0 where
+  -- How many places it is ahead.
   ahead : ℕ
+  -- Its place, counted from `place`.
   at : found ≡ place + ahead
+  -- It is one of the blocks or the end.
   within : ahead ≤ length bs
+  -- If it is a block, it searches.
   is : ahead < length bs → IsSearcherAt q bs ahead
+  -- No block before it searches.
   first : (k : ℕ) → IsSearcherAt q bs k → ahead ≤ k
 
--- That is what `next_searcher` gives.
+-- What `next_searcher` gives is the nearest block that searches, or the end.
 next_is : (q : Control → Bool) (bs : List ControlBlock) (place : ℕ) → IsNext q bs place (next_searcher q bs place)
 next_is q [] place = record { ahead = 0; at = omega arith; within = omega arith; is = λ lt. absurd (omega arith); first = λ k e. omega arith }
 next_is q (b ∷ bs) place = go (next_is q bs (suc place)) (q b.control) refl
@@ -92,13 +99,18 @@ next_is q (b ∷ bs) place = go (next_is q bs (suc place)) (q b.control) refl
 -- `found` is the nearest block that searches after the stretch, `ahead` places from `place` on, or
 -- the end.
 record IsLater (ld : ℕ → Bool) (q : Control → Bool) (bs : List ControlBlock) (place found : ℕ) : Type 0 where
+  -- How many places it is ahead.
   ahead : ℕ
+  -- Its place, counted from `place`.
   at : found ≡ place + ahead
+  -- It is one of the blocks or the end.
   within : ahead ≤ length bs
+  -- If it is a block, it searches and lies after the stretch.
   is : ahead < length bs → (IsSearcherAt q bs ahead) × (0 < stretch ld bs ahead)
+  -- No block before it searches and lies after the stretch.
   first : (k : ℕ) → IsSearcherAt q bs k → 0 < stretch ld bs k → ahead ≤ k
 
--- That is what `later_searcher` gives.
+-- What `later_searcher` gives is the nearest block that searches after the stretch, or the end.
 later_is : (ld : ℕ → Bool) (q : Control → Bool) (bs : List ControlBlock) (place : ℕ) → IsLater ld q bs place (later_searcher ld q bs place)
 later_is ld q [] place = record { ahead = 0; at = omega arith; within = omega arith; is = λ lt. absurd (omega arith); first = λ k e s. omega arith }
 later_is ld q (b ∷ bs) place = go (later_is ld q bs (suc place)) (length (mark_of ld b.control)) refl
@@ -135,12 +147,17 @@ later_is ld q (b ∷ bs) place = go (later_is ld q bs (suc place)) (length (mark
 
 -- `near` is the nearest block that searches at `from` or after it, or the end.
 record IsNear (q : Control → Bool) (bs : List ControlBlock) (from near : ℕ) : Type 0 where
+  -- It is one of the blocks or the end.
   within : near ≤ length bs
+  -- It is not before `from`.
   behind : from ≤ near
+  -- If it is a block, it searches.
   is : near < length bs → IsSearcherAt q bs near
+  -- No block between them searches.
   first : (block : ℕ) → from ≤ block → IsSearcherAt q bs block → near ≤ block
 
--- That is what the list has for a place.
+-- What the list has for a place is the nearest block that searches at that place or after it, or
+-- the end.
 near_is : (q : Control → Bool) (bs : List ControlBlock) (next : List ℕ) (from near : ℕ) → AreNext q bs 0 next → from ≤ length bs
     → near ≡ slice_index next from → IsNear q bs from near
 near_is q bs next from near nexts to e =
@@ -180,7 +197,8 @@ near_other ld q bs next ss from target near x y nexts e to within en ex ey diffe
       first = λ b le c d. n.first b le c;
     }
 
--- If it lies in the stretch of the target, the first such is the one listed after that stretch.
+-- If the nearest block that searches lies in the stretch of the target, the first in another
+-- stretch is the one listed after that stretch.
 pub near_same : (ld : ℕ → Bool) (q : Control → Bool) (bs : List ControlBlock) (next later ss : List ℕ) (from target near x y found : ℕ) → AreNext q bs 0 next
     → AreLater ld q bs 0 later → ss ≡ stretches_from ld 0 bs → from ≤ length bs → target < length bs → near ≡ slice_index next from
     → x ≡ slice_index ss near → y ≡ slice_index ss target → x ≡ y → found ≡ slice_index later near → IsFirstOther ld q bs from target found
@@ -248,7 +266,8 @@ first_inside ld q bs low high target from found reach first above above_reach wi
         let under = below.1 in
         (omega arith, below.0, (omega arith, under), is.1, is.2)
 
--- If it lies beyond them, there is none within.
+-- If the first block in another stretch lies beyond the bounds or out of reach, there is none
+-- within.
 pub none_inside : (ld : ℕ → Bool) (q : Control → Bool) (bs : List ControlBlock) (low high target from found : ℕ) (reach : Reach)
     → IsFirstOther ld q bs from target found → ((b : ℕ) → low ≤ b → reach.low ≤ b → from ≤ b)
     → ((b : ℕ) → b < length bs → found ≤ b → b < high → b ≤ reach.high → ⊥)

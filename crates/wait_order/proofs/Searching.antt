@@ -1,7 +1,8 @@
 -- Which blocks search alike, the numbers of a program's returns, and the searches of a tape, each
 -- with one block, program or search more. A stretch is the run of blocks up to a mark: a wait, an
 -- end, an M99 without a number, or a loud call. A loud program comes to a wait or an end, itself or
--- by its calls; the others are quiet.
+-- by its calls; the others are quiet. For the proofs of src/search.rt, src/searches.rt and
+-- src/view.rt, and for Strayed.
 use Rattle.std.proofs.Common.{◌≡◌, ℕ, zero, suc, ◌+◌, ◌<◌, ◌⊎◌, inl, inr, Bool, true, false, ◌||◌, ◌==◌, List, [], ◌∷◌, ◌++◌, length, drop, Option, Some, None, slice_get, slice_index_or, refl, ap, sym, subst, ◌∙◌, arith}
 use Rattle.std.specs.List.{list_any}
 use Rattle.std.proofs.lemmas.Bool.Decides.{nat_tests}
@@ -21,7 +22,7 @@ use Rattle.wait_order.specs.Waiting.{HasBack, IsSearchStray, IsLeast}
 use Rattle.nc_number.specs.Options.{lesser}
 use Rattle.wait_order.proofs.Least.{least_none, least_either}
 
--- Either of three, in either grouping.
+-- Of three tests one holds, however they are grouped.
 or_or : (x y z : Bool) → ((x || y) || z) ≡ (x || (y || z))
 or_or true y z = refl
 or_or false y z = refl
@@ -124,13 +125,13 @@ get_push [] y x (suc i) e = absurd cc
 get_push (z ∷ xs) y x zero e = inl e
 get_push (z ∷ xs) y x (suc i) e = get_push xs y x i e
 
--- It keeps its old entries.
+-- A list with one entry more keeps its old entries.
 get_kept : {X : Type 0} (xs : List X) (y x : X) (i : ℕ) → slice_get xs i ≡ Some x → slice_get (xs ++ y ∷ []) i ≡ Some x
 get_kept [] y x i e = absurd cc
 get_kept (z ∷ xs) y x zero e = e
 get_kept (z ∷ xs) y x (suc i) e = get_kept xs y x i e
 
--- Its last entry is the new one.
+-- The last entry of a list with one entry more is the new one.
 get_last : {X : Type 0} (xs : List X) (y : X) → slice_get (xs ++ y ∷ []) (length xs) ≡ Some y
 get_last [] y = refl
 get_last (z ∷ xs) y = get_last xs y
@@ -155,7 +156,8 @@ searches_same tape n p searches at not_so are = record {
   ];
 }
 
--- If it is one, the search of its calls is added at the end.
+-- If one program more is a long quiet one, and the search of its calls is added, the searches are
+-- those of the first n + 1.
 pub searches_more : (tape : List ControlProgram) (n : ℕ) (p : ControlProgram) (searches : List Search) (search : Search)
     → slice_get tape n ≡ Some p → IsLongQuiet tape p.number → IsCallSearch p.number (blocks tape p.number) search
     → AreSearchesBelow tape n searches → AreSearchesBelow tape (n + 1) (searches ++ search ∷ [])
@@ -182,7 +184,7 @@ searches_more tape n p searches search at long serves are = record {
     each i s (inl e) = are.each i s e
     each i s (inr e) = inr (p.number, subst (λ x. IsReturnSearch tape p.number x) (sym e) own)
 
--- The search of the computed GOTOs is that of no programs.
+-- Of no programs the searches are that of the computed GOTOs alone.
 pub searches_none : (tape : List ControlProgram) → AreSearchesBelow tape 0 (Computed ∷ [])
 searches_none tape = record {
   each = λ i s e. inl (first i s e);

@@ -1,7 +1,8 @@
 -- A block that may lead to another stretch does so by one of the tape's searches, or by its one
 -- number or few returns. So the first of both kinds is the first of all. A stretch is the run of
 -- blocks up to a mark: a wait, an end, an M99 without a number, or a loud call. A loud program
--- comes to a wait or an end, itself or by its calls; the others are quiet.
+-- comes to a wait or an end, itself or by its calls; the others are quiet. For the proofs of
+-- src/view.rt.
 use Rattle.std.proofs.Common.{◌≡◌, ◌≢◌, IsTrue, ℕ, ◌+◌, ◌<◌, ◌≤◌, ◌⊎◌, inl, inr, false, List, length, Option, Some, None, slice_get, slice_index_or, refl, ap, sym, subst, ◌∙◌, arith}
 use Rattle.std.proofs.lemmas.Option.{slice_get_within}
 use Rattle.nc_number.proofs.Counts.{last_or_before}
@@ -52,7 +53,7 @@ fixed_strays tape program place b (Wait code) e counts h = absurd h
 fixed_strays tape program place b End e counts h = absurd h
 fixed_strays tape program place b Back e counts h = absurd h
 
--- There are at most 64, or more.
+-- A number is at most 64, or it is more.
 few_or_many : (n : ℕ) → (n ≤ 64) ⊎ (64 < n)
 few_or_many n = grind arith
 
@@ -99,7 +100,7 @@ call_searched tape searches program place called repeats are at long quiet n inn
       ),
     )
 
--- A jump to another stretch is of one of the two kinds.
+-- A jump to another stretch is by one number or few returns, or by one of the tape's searches.
 split_jump : (tape : List ControlProgram) (searches : List Search) (program place target : ℕ) (c : Control) → AreSearches tape searches
     → control_at (blocks tape program) place ≡ Some c → IsTarget tape program place c target
     → stretch (loud tape) (blocks tape program) place ≢ stretch (loud tape) (blocks tape program) target
@@ -123,7 +124,8 @@ split_jump tape searches program place target (Wait code) are at is apart = absu
 split_jump tape searches program place target End are at is apart = absurd is
 split_jump tape searches program place target Back are at is apart = absurd is
 
--- So is each block that may pass a wait.
+-- Each block that may pass a wait does so by one number or few returns, or by one of the tape's
+-- searches.
 split_strays : (tape : List ControlProgram) (searches : List Search) (program place : ℕ) (b : ControlBlock) → AreSearches tape searches
     → Stands tape program place b → Strays tape program place b
     → IsFixedStrayAt tape program place ⊎ IsSearchStrayBelow (loud tape) searches (length searches) (blocks tape program) place

@@ -1,6 +1,7 @@
 -- The list of the stretches of a program's blocks has the stretch of each; and stretches rise. A
 -- stretch is the run of blocks up to a mark: a wait, an end, an M99 without a number, or a loud
--- call. A loud program comes to a wait or an end, itself or by its calls; the others are quiet.
+-- call. A loud program comes to a wait or an end, itself or by its calls; the others are quiet. For
+-- Elsewhere and Nearest.
 use Rattle.std.proofs.Common.{◌≡◌, ℕ, zero, suc, ◌+◌, ◌<◌, ◌≤◌, Bool, List, [], ◌∷◌, length, take, slice_index_or, ◌∙◌, arith, length-append}
 use Rattle.block_order.specs.declared.program.ControlBlock.{ControlBlock}
 use Rattle.block_order.specs.Loud.{mark_of, marks, stretch}

@@ -1,5 +1,6 @@
--- The ninth call of a chain of calls of loud programs, and its line. A loud program has a wait or
--- an end, or calls one that has. For this crate alone.
+-- The ninth call of a chain of calls of loud programs, and its line: the fault 66. A loud program
+-- has a wait or an end, or calls one that has. For this crate alone: src/deep.rt answers these
+-- lines.
 use Rattle.std.specs.Prelude.{◌≡◌, ℕ, ◌<◌, Bool, true, List, Some, slice_get}
 use Rattle.block_order.specs.declared.program.ControlBlock.{ControlBlock}
 use Rattle.block_order.specs.declared.program.ControlProgram.{ControlProgram}
@@ -14,11 +15,12 @@ IsCallLine tape bs line =
     (place : ℕ) × (block : ControlBlock) × (called : ℕ) × (slice_get bs place ≡ Some block) × IsLoudCall tape block.control called
     × (block.line ≡ line)
 
--- The same of the blocks of a program that is flagged as reached.
+-- This is the line of a call of a loud program in a program that is flagged as reached.
 abbrev pub IsReachedLine : List ControlProgram → List Bool → ControlProgram → ℕ → Type 0
 IsReachedLine tape reached program line = (flagged tape reached program.number ≡ true) × IsCallLine tape program.blocks line
 
--- The same of one of the first n programs of the tape.
+-- This is the line of a call of a loud program in one of the first n programs of the tape that is
+-- flagged as reached.
 abbrev pub IsDeepBelow : List ControlProgram → List Bool → ℕ → ℕ → Type 0
 IsDeepBelow tape reached n line =
     (place : ℕ) × (program : ControlProgram) × (place < n) × (slice_get tape place ≡ Some program)

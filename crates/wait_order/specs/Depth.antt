@@ -1,6 +1,6 @@
 -- Which programs chains of calls reach, of the loud ones: those that have a wait or an end, or call
 -- one that has. A program's flag is its entry in a list that has one for each program of the tape.
--- For this crate alone.
+-- For this crate alone: src/depth.rt sets these flags.
 use Rattle.std.specs.Prelude.{◌≡◌, ◌↔◌, ℕ, ◌<◌, Bool, true, List, length, Some, slice_get}
 use Rattle.block_order.specs.declared.control.Control.{Control}
 use Rattle.block_order.specs.declared.control.Control.TheVariants.{Call}
@@ -26,13 +26,17 @@ HasLoudCall tape bs program = HasLoudCallBelow tape bs (length bs) program
 
 -- `next` flags exactly the loud programs that a program flagged in `reached` calls.
 pub record IsCalledFrom (tape : List ControlProgram) (reached next : List Bool) : Type 0 where
+  -- There is a flag for each program.
   pub count : length next ≡ length tape
+  -- A program is flagged exactly if a program flagged in `reached` calls it, and it is loud.
   pub each : (program : ℕ) → (flagged tape next program ≡ true)
       ↔ ((caller : ℕ) × (flagged tape reached caller ≡ true) × HasLoudCall tape (blocks tape caller) program)
 
 -- The flags are those of the programs that n calls of loud programs reach from the main one.
 pub record AreReached (tape : List ControlProgram) (n : ℕ) (flags : List Bool) : Type 0 where
+  -- There is a flag for each program.
   pub count : length flags ≡ length tape
+  -- A program is flagged exactly if n calls of loud programs lead to it from the main one.
   pub each : (program : ℕ) → (flagged tape flags program ≡ true) ↔ IsReachedBy tape n (main_number tape) program
 
 -- One of the first n programs is flagged as reached and calls the program, which is loud.

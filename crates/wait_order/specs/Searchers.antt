@@ -52,7 +52,7 @@ abbrev pub next_searcher : (Control → Bool) → List ControlBlock → ℕ → 
 next_searcher searches [] place = place
 next_searcher searches (b ∷ bs) place = if searches b.control then place else next_searcher searches bs (suc place)
 
--- `next` if the block is a mark, else `later`.
+-- `later` if the block is no mark, else `next`.
 abbrev pub behind_marks : ℕ → ℕ → ℕ → ℕ
 behind_marks zero next later = later
 behind_marks (suc marks) next later = next
@@ -67,11 +67,15 @@ later_searcher loud searches (b ∷ bs) place =
 -- The list has the next block that searches for each place from `from` on, and for the place after
 -- the last block.
 pub record AreNext (searches : Control → Bool) (bs : List ControlBlock) (from : ℕ) (next : List ℕ) : Type 0 where
+  -- There is an entry for each block and one for the place after the last.
   pub count : length next ≡ length bs + 1
+  -- The entry of a place is the next block that searches from there.
   pub each : (place : ℕ) → from ≤ place → place ≤ length bs → slice_index next place ≡ next_searcher searches (drop place bs) place
 
 -- The list has the next block that searches after the stretch of each place from `from` on, and of
 -- the place after the last block.
 pub record AreLater (loud : ℕ → Bool) (searches : Control → Bool) (bs : List ControlBlock) (from : ℕ) (later : List ℕ) : Type 0 where
+  -- There is an entry for each block and one for the place after the last.
   pub count : length later ≡ length bs + 1
+  -- The entry of a place is the next block that searches after its stretch.
   pub each : (place : ℕ) → from ≤ place → place ≤ length bs → slice_index later place ≡ later_searcher loud searches (drop place bs) place

@@ -16,17 +16,23 @@ use Rattle.wait_order.specs.Waiting.{IsSearchStray}
 -- The program is quiet (it comes to no wait and no end) and has more than 64 blocks, so that its
 -- returns are gathered once for all its calls.
 pub record IsLongQuiet (tape : List ControlProgram) (called : ℕ) : Type 0 where
+  -- It has more than 64 blocks.
   pub long : 64 < length (blocks tape called)
+  -- It comes to no wait and no end.
   pub quiet : loud tape called ≡ false
 
 -- The search is that of the calls of this program of these blocks, for the numbers of its M99.
 pub record IsCallSearch (called : ℕ) (bs : List ControlBlock) (search : Search) : Type 0 where
+  -- The blocks that search are the calls of the program.
   pub calls : (c : Control) → is_searcher search c ≡ is_call_of called c
+  -- The numbers that are sought are those of the program's M99.
   pub numbers : (n : ℕ) → is_sought search n ≡ has_back_to bs n
 
 -- The search is that of the calls of a long quiet program.
 pub record IsReturnSearch (tape : List ControlProgram) (called : ℕ) (search : Search) : Type 0 where
+  -- The program is quiet and long.
   pub program : IsLongQuiet tape called
+  -- The search is that of its calls.
   pub serves : IsCallSearch called (blocks tape called) search
 
 -- One of these searches is that of the program's calls.
@@ -37,9 +43,12 @@ HasReturnSearch tape called searches =
 -- The searches are that of the computed GOTOs and those of the calls of each long quiet program
 -- among the first n.
 pub record AreSearchesBelow (tape : List ControlProgram) (n : ℕ) (searches : List Search) : Type 0 where
+  -- Each search is that of the computed GOTOs or of the calls of a long quiet program.
   pub each : (i : ℕ) (search : Search) → slice_get searches i ≡ Some search
       → (search ≡ Computed) ⊎ ((called : ℕ) × IsReturnSearch tape called search)
+  -- That of the computed GOTOs is among them.
   pub computed : (i : ℕ) × (slice_get searches i ≡ Some Computed)
+  -- That of each long quiet program among the first n is among them.
   pub calls : (i : ℕ) (program : ControlProgram) → i < n → slice_get tape i ≡ Some program
       → IsLongQuiet tape program.number → HasReturnSearch tape program.number searches
 

@@ -1,6 +1,6 @@
--- The stretch of each block of a program, one after another. A stretch is the run of blocks up to a
--- mark (a wait, an end, an M99 without a number, or a call that leads to a wait or an end). For
--- this crate alone.
+-- The stretch of each block of a program, one after another: the list of src/stretch.rt. A stretch
+-- is the run of blocks up to a mark (a wait, an end, an M99 without a number, or a call that leads
+-- to a wait or an end). For this crate alone.
 use Rattle.std.specs.Prelude.{ℕ, ◌+◌, Bool, List, [], ◌∷◌, length}
 use Rattle.block_order.specs.declared.program.ControlBlock.{ControlBlock}
 use Rattle.block_order.specs.Loud.{mark_of}

@@ -1,6 +1,7 @@
 -- Which blocks may pass a wait: those that may lead to another stretch of their program. A stretch
--- is the run of blocks up to a mark. Deep chains of calls: Deep. For this crate alone. A loud
--- program comes to a wait or an end, itself or by its calls; the others are quiet.
+-- is the run of blocks up to a mark. Deep chains of calls are in Deep. For this crate alone:
+-- src/ways.rt, src/view.rt and src/search_strays.rt ask for these. A loud program comes to a wait
+-- or an end, itself or by its calls; the others are quiet.
 use Rattle.std.specs.Prelude.{◌≡◌, ◌≢◌, ◌⊎◌, ◌<◌, ◌≤◌, ℕ, Bool, true, false, List, length, Option, Some, None, slice_get}
 use Rattle.block_order.specs.declared.control.Control.{Control}
 use Rattle.block_order.specs.declared.control.Control.TheVariants.{Goto, Call, EndLoop, BackTo}
@@ -62,7 +63,7 @@ IsFixedStray tape program place other = ⊥
 abbrev pub IsStray : List ControlProgram → ℕ → ℕ → Type 0
 IsStray tape program place = (block : ControlBlock) × Stands tape program place block × Strays tape program place block
 
--- A number is found, and it is at most n.
+-- A number was found, and it is at most n.
 abbrev pub IsAtMost : Option ℕ → ℕ → Type 0
 IsAtMost None n = ⊥
 IsAtMost (Some m) n = m ≤ n
@@ -90,7 +91,8 @@ IsLedTo loud searches bs n target block =
 abbrev pub MayLeadTo : (ℕ → Bool) → (Control → Bool) → (ℕ → Bool) → List ControlBlock → ℕ → ℕ → Type 0
 MayLeadTo loud searches sought bs target block = (n : ℕ) × (sought n ≡ true) × IsLedTo loud searches bs n target block
 
--- The same for one of the first targets of the program.
+-- The block searches, and for one of the numbers sought it is led to one of the first targets of
+-- the program, in another stretch.
 abbrev pub MayLeadBelow : (ℕ → Bool) → (Control → Bool) → (ℕ → Bool) → List ControlBlock → ℕ → ℕ → Type 0
 MayLeadBelow loud searches sought bs targets block =
     (target : ℕ) × (target < targets) × MayLeadTo loud searches sought bs target block

@@ -8,6 +8,9 @@ use Rattle.block_order.specs.TapeTable.{IsProgramTables}
 
 -- The stretches and tables are those of the program's blocks, of which there are at most 20,000.
 pub record AreWays (loud : ℕ → Bool) (ways : ProgramWays) : Type 0 where
+  -- There are at most 20,000 blocks.
   pub few : length ways.blocks.now ≤ 20000
+  -- The stretches are those of the blocks, one after another.
   pub stretches : ways.stretches.now ≡ stretches_from loud 0 ways.blocks.now
+  -- The tables are those of the blocks.
   pub tables : IsProgramTables ways.blocks.now ways.tables.now

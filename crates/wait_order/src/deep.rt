@@ -1,5 +1,6 @@
 //! The first call that is the ninth of a chain of calls of loud programs (a loud program has a wait
-//! or an end, or calls one that has). Which programs eight calls reach: `depth`.
+//! or an end, or calls one that has). Which programs eight calls reach: depth.rt. waiting.rt calls
+//! `deep_line` for the fault 66.
 ghost use Rattle.std.specs.Prelude.{◌↔◌, ℕ, IsTrue, List};
 ghost use Rattle.wait_order.specs.Deep.{IsCallLine, IsReachedLine, IsDeepLine};
 ghost use Rattle.wait_order.specs.Depth.{IsLoudCall, AreReached};

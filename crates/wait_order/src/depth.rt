@@ -1,6 +1,6 @@
 //! Which programs are reached by eight calls of loud programs from the main one. A program's flag
 //! is its entry in a list with one for each program of the tape. A loud program comes to a wait or
-//! an end, itself or by its calls; the others are quiet.
+//! an end, itself or by its calls; the others are quiet. waiting.rt calls `reached_by_eight`.
 ghost use Rattle.std.specs.Prelude.{◌≡◌, ◌↔◌, ◌⊎◌, ◌<◌, ℕ, true, List, IfOk, length};
 ghost use Rattle.wait_order.specs.Depth.{IsLoudCall, HasLoudCall, IsCalledBelow, IsCalledFrom, AreReached};
 ghost use Rattle.block_order.specs.ProgramPlaces.{flagged};

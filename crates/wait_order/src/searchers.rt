@@ -46,7 +46,7 @@ fn next_searchers(
     Ok(next)
 }
 
-/// `next` if the block is a mark, else `later`.
+/// `later` if the block is no mark, else `next`.
 fn behind_marks(marks: usize, next: usize, later: usize) -> usize
     ensures { result ≡ behind_marks marks next later }
 {

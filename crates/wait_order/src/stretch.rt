@@ -1,5 +1,6 @@
 //! The stretches of a program. A stretch is the run of blocks up to a mark; a mark is a wait, an
-//! end, an M99 without a number or a call that leads to a wait or an end.
+//! end, an M99 without a number or a call that leads to a wait or an end. waiting.rt makes the list
+//! of a program's stretches, searchers.rt counts marks.
 ghost use Rattle.std.specs.Prelude.{◌≡◌, ◌≤◌, length, IfOk};
 ghost use Rattle.block_order.specs.Loud.{mark_of};
 ghost use Rattle.block_order.specs.Heard.{heard};

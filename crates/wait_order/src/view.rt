@@ -1,7 +1,7 @@
 //! One program of a tape, the main one or a loud one, and its first block that may pass a wait.
-//! What a single jump of it leads to: `ways`. A stretch is the run of blocks up to a mark: a wait,
-//! an end, an M99 without a number, or a loud call. A loud program comes to a wait or an end,
-//! itself or by its calls; the others are quiet.
+//! waiting.rt calls `stray_line`. What a single jump of it leads to is in ways.rt. A stretch is the
+//! run of blocks up to a mark: a wait, an end, an M99 without a number, or a loud call. A loud
+//! program comes to a wait or an end, itself or by its calls; the others are quiet.
 ghost use Rattle.std.specs.Prelude.{◌↔◌, ◌<◌, ℕ, Bool, IsTrue, length};
 ghost use Rattle.block_order.specs.Order.{blocks};
 ghost use Rattle.wait_order.specs.Waiting.{ReturnsElsewhere};

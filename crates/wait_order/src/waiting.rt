@@ -73,8 +73,8 @@ fn program_line<'a>(
     Ok(line)
 }
 
-/// The same of any program; if it is neither the main one nor loud, none of its blocks passes a
-/// wait.
+/// The line of the first block of a program that may pass a wait. If the program is neither the
+/// main one nor loud, none of its blocks passes a wait. The only error is out of memory.
 fn counted_line<'a>(
     alloc: Global,
     programs: &'a [ControlProgram],

@@ -1,11 +1,12 @@
 //! Where the jumps of one program lead, and in which stretch its blocks lie. A stretch is the run
-//! of blocks up to a mark.
+//! of blocks up to a mark. view.rt asks which of them leave their stretch.
 
 use block_order::{ControlBlock, ProgramTables};
 
 /// One program's blocks, their stretches, and its tables.
 #[derive(Clone, Copy)]
 pub(crate) struct ProgramWays<'a> {
+    /// The blocks of the program.
     pub(crate) blocks: &'a [ControlBlock],
     /// The stretch of each block: how many marks stand before it.
     pub(crate) stretches: &'a [usize],

@@ -1,5 +1,5 @@
--- Of the refusals that hold of a block of words the least is answered, or none if none holds
--- (src/laws.rt).
+-- Of the refusals that hold of a block of words the least is answered, or none if none holds. For
+-- the law `the_least_refusal_is_answered` (src/laws.rt).
 use Rattle.block_forms.proofs.LeastRefusal.{least_refusal, no_refusal}
 use Rattle.block_forms.proofs.laws.the_least_refusal_is_answered.Goals as goal
 

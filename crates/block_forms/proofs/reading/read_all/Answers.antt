@@ -1,4 +1,4 @@
--- One word more is gathered, whether it reads or not (loop of src/reading.rt).
+-- One word more is gathered, whether it reads or not. For the loop of `read_all` (src/reading.rt).
 use Rattle.std.proofs.Common.{◌∙◌, ◌+◌, drop, sym, ap}
 use Rattle.macro_expr.specs.Limits.{variable_signs}
 use Rattle.block_forms.specs.Forms.{word_of, all_words, gathered}

@@ -1,5 +1,5 @@
--- What is gathered so far and the words ahead give the answer of all words (loop of
--- src/reading.rt).
+-- What is gathered so far and the words ahead give the answer of all words. What the loop of
+-- `read_all` keeps (src/reading.rt).
 use Rattle.std.proofs.Common.{◌≡◌, ◌≤◌, ◌+◌, drop}
 use Rattle.block_forms.specs.Forms.{all_words, gathered, signs_in}
 use Rattle.block_forms.specs.Variables.{variables_of_words}

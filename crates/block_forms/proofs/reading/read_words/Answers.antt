@@ -1,5 +1,5 @@
--- Words that read are the block's words, or are refused by the first refusal that holds
--- (src/reading.rt).
+-- Words that read are the block's words, or are refused by the first refusal that holds. For the
+-- contract of `read_words` (src/reading.rt).
 use Rattle.std.proofs.Common.{◌∙◌, sym}
 use Rattle.block_forms.proofs.Judged.{refused_words, accepted_words}
 use Rattle.block_forms.proofs.reading.read_words.Goals as goal

@@ -1,4 +1,5 @@
--- I, J and K so far rise, and one that doesn't ends the search (src/refusals.rt).
+-- I, J and K so far rise, and one that doesn't ends the search. For the contract of `are_in_order`
+-- (src/refusals.rt).
 use Rattle.std.proofs.Common.{◌≡◌, ◌∙◌, ◌+◌, true, false, codes, sym, ap, drop, rules}
 use Rattle.std.proofs.Math.ListN.{drop_of_length-le}
 use Rattle.block_words.specs.Words.{is_one_of}

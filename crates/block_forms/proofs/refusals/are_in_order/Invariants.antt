@@ -1,5 +1,5 @@
--- Whether I, J and K of all words rise hangs on the words ahead and the last letter (loop of
--- src/refusals.rt).
+-- Whether I, J and K of all words rise hangs on the words ahead and the last letter. What the loop
+-- of `are_in_order` keeps (src/refusals.rt).
 use Rattle.std.proofs.Common.{◌≡◌, drop}
 use Rattle.block_forms.specs.Refusals.{are_in_order}
 use Rattle.block_forms.proofs.InOrder.{in_order_behind}

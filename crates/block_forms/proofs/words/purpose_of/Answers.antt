@@ -1,4 +1,5 @@
--- A block with M98 that calls no macro calls a subprogram (src/words.rt).
+-- A block that calls no macro and has M98 has the purpose of a call of a subprogram. For the
+-- contract of `purpose_of` (src/words.rt).
 use Rattle.std.proofs.Common.{◌≡◌, true, false, refl, sym, ◌∙◌, ap}
 use Rattle.std.specs.List.{list_any}
 use Rattle.block_words.specs.Codes.{gives, is_macro_call, has_code}

@@ -1,5 +1,5 @@
--- A block's fault is that of its fixed GOTO, of the main program's M99 P, or of its call
--- (src/finding.rt).
+-- A block's fault is that of its fixed GOTO, of the main program's M99 P, or of its call. For the
+-- contract of `block_fault` (src/finding.rt).
 use Rattle.std.proofs.Common.{◌≡◌, Some, sym, ap, ◌∙◌}
 use Rattle.block_order.specs.declared.control.Control.TheVariants.{Goto, BackTo, Call}
 use Rattle.block_order.specs.Faults.{fixed_number}

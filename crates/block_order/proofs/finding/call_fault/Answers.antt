@@ -1,4 +1,5 @@
--- A call fails exactly if its O number has no place on the tape (src/finding.rt).
+-- A call fails exactly if its O number has no place on the tape. For the contract of `call_fault`
+-- (src/finding.rt).
 use Rattle.std.proofs.Common.{cond, None, Some, sym, ap, ◌∙◌}
 use Rattle.std.specs.Option.{is_some}
 use Rattle.nc_number.specs.declared.cause.Cause.TheVariants.{NoProgram}

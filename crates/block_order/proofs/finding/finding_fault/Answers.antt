@@ -1,5 +1,5 @@
 -- The first program with a fault has the first fault of its stage; if none has one, the stage is
--- clear (src/finding.rt).
+-- clear. For the contract of `finding_fault` (src/finding.rt).
 use Rattle.std.proofs.Common.{◌≡◌, length, refl, sym, ap, ◌∙◌, arith, subst}
 use Rattle.std.proofs.lemmas.Option.{slice_get_read, get_or_from_slice_get}
 use Rattle.block_order.specs.declared.tables.ProgramTables.{ProgramTables}

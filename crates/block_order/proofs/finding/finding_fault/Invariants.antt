@@ -1,4 +1,5 @@
--- The programs so far have no fault in what jumps and calls find (loop of src/finding.rt).
+-- The programs so far have no fault in what jumps and calls find. What the loop of `finding_fault`
+-- keeps (src/finding.rt).
 use Rattle.block_order.proofs.Findable.{ClearFinds}
 use Rattle.block_order.proofs.finding.finding_fault.Given as goal
 

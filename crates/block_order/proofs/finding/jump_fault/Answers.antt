@@ -1,4 +1,5 @@
--- A jump fails for the cause that the program's tables tell, or leads to a block (src/finding.rt).
+-- A jump fails for the cause that the program's tables tell, or leads to a block. For the contract
+-- of `jump_fault` (src/finding.rt).
 use Rattle.std.proofs.Common.{sym, ◌∙◌}
 use Rattle.block_order.proofs.finding.jump_fault.Goals as goal
 

@@ -1,4 +1,5 @@
--- The block that is found is the program's first one with a fault (src/finding.rt).
+-- The block that is found is the program's first one with a fault. For the contract of
+-- `program_fault` (src/finding.rt).
 use Rattle.std.proofs.Common.{◌≡◌, ◌<◌, ℕ, List, length, get_or, Some, None, refl, sym, ap, arith, subst}
 use Rattle.std.specs.List.{slice_get}
 use Rattle.std.proofs.lemmas.Option.{slice_get-get_or}

@@ -1,4 +1,5 @@
--- The blocks so far have no fault, and `place` counts them (loop of src/finding.rt).
+-- The blocks so far have no fault, and `place` counts them. What the loop of `program_fault` keeps
+-- (src/finding.rt).
 use Rattle.std.proofs.Common.{◌≡◌, List}
 use Rattle.block_order.specs.declared.program.ControlProgram.{ControlProgram}
 use Rattle.block_order.specs.Order.{main_number}

@@ -1,5 +1,5 @@
--- The first program whose number is known or whose loops don't fit has the first fault
--- (src/fitting.rt).
+-- The first program whose number is known or whose loops don't fit has the first fault. For the
+-- contract of `fitting_fault` (src/fitting.rt).
 use Rattle.std.proofs.Common.{◌≡◌, true, false, nat_eq, map, take, length, refl, sym, ◌∙◌, arith, subst}
 use Rattle.std.specs.List.{list_any, Contains}
 use Rattle.std.specs.HashSet.{contains}

@@ -1,5 +1,5 @@
--- The set holds the O numbers of the programs so far, and none of them has a fault (loop of
--- src/fitting.rt).
+-- The set holds the O numbers of the programs so far, and none of them has a fault. What the loop
+-- of `fitting_fault` keeps (src/fitting.rt).
 use Rattle.std.proofs.Common.{◌≡◌, ℕ, nat_eq, map, take}
 use Rattle.std.specs.List.{list_any}
 use Rattle.std.specs.HashSet.{contains}

@@ -1,4 +1,5 @@
--- The line is that of the program's first mismatch (src/fitting.rt).
+-- The line is that of the program's first mismatch. For the contract of `mismatch_line`
+-- (src/fitting.rt).
 use Rattle.std.proofs.Common.{List, Some, None, get_or, subst}
 use Rattle.block_order.specs.declared.control.Control.TheVariants.{Next}
 use Rattle.block_order.specs.declared.program.ControlBlock.{ControlBlock}

@@ -1,4 +1,5 @@
--- Loops whose heads and ends fit are nested (src/fitting_law.rt).
+-- Loops whose heads and ends fit are nested. For the law `loops_that_fit_are_nested`
+-- (src/fitting_law.rt).
 use Rattle.block_order.proofs.Nested.{loops-nested}
 use Rattle.block_order.proofs.fitting_law.loops_that_fit_are_nested.Goals as goal
 

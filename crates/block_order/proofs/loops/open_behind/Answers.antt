@@ -1,5 +1,5 @@
--- Behind a head its loop is innermost, behind an END the one around it, else the same as before
--- (src/loops.rt).
+-- Behind a head its loop is innermost, behind an END the one around it, else the same as before.
+-- For the contract of `open_behind` (src/loops.rt).
 use Rattle.std.proofs.Common.{◌≡◌, suc, Some, refl, sym, ap, ◌∙◌, arith, subst}
 use Rattle.std.specs.Option.{option_flatten}
 use Rattle.block_order.specs.declared.control.Control.TheVariants.{While, Do, EndLoop}

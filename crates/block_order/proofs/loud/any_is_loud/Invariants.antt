@@ -1,4 +1,5 @@
--- None of the blocks so far is loud: the rest decides (loop of src/loud.rt).
+-- None of the blocks so far is loud: the rest decides. What the loop of `any_is_loud` keeps
+-- (src/loud.rt).
 use Rattle.std.proofs.Common.{◌≡◌, drop}
 use Rattle.block_order.specs.Loud.{has_loud_block}
 use Rattle.block_order.specs.Heard.{flag_known}

@@ -1,9 +1,10 @@
--- Two lists of flags that test as equal are equal (src/loud.rt).
+-- Two lists of flags that test as equal are equal. For the contract of `are_same` (src/loud.rt).
 use Rattle.std.proofs.Common.{◌≡◌, Bool, true, false, List, [], ◌∷◌, refl, ap}
 use lib.Pointwise.{pointwise}
 use mathlib.Core.Bool.{beq}
 use Rattle.block_order.proofs.loud.are_same.Goals as goal
 
+-- Two lists that test as equal entry by entry are equal.
 equal : (xs ys : List Bool) → pointwise beq xs ys ≡ true → xs ≡ ys
 equal [] [] e = refl
 equal [] (y ∷ ys) e = absurd cc

@@ -1,4 +1,5 @@
--- The flags hold what so many rounds find, and only loud programs (loop of src/loud.rt).
+-- The flags hold what so many rounds find, and only loud programs. What the loop of `loud_flags`
+-- keeps (src/loud.rt).
 use Rattle.block_order.proofs.HeardFirst.{AreBetween}
 use Rattle.block_order.proofs.loud.loud_flags.Given as goal
 

@@ -1,5 +1,5 @@
--- The latest open loop of the name is taken from the stack, or none is if none has it
--- (src/mismatch.rt).
+-- The latest open loop of the name is taken from the stack, or none is if none has it. For the
+-- contract of `close` (src/mismatch.rt).
 use Rattle.std.proofs.Common.{◌≡◌, ◌≢◌, ◌+◌, ◌-◌, ◌++◌, length, take, drop, get_or, refl, sym, ap, ◌∙◌, arith}
 use Rattle.block_order.specs.Loops.{closed}
 use Rattle.block_order.specs.Misplaced.{seen}

@@ -1,4 +1,5 @@
--- The stack is as it was, and no loop from `at` on has the name (loop of src/mismatch.rt).
+-- The stack is as it was, and no loop from `at` on has the name. What the loop of `close` keeps
+-- (src/mismatch.rt).
 use Rattle.std.proofs.Common.{◌≡◌, ◌≤◌, ◌++◌, length, take, drop}
 use Rattle.block_order.specs.Loops.{closed}
 use Rattle.block_order.specs.Misplaced.{seen}

@@ -1,4 +1,5 @@
--- The bottom of the stack is the loop opened first (src/mismatch.rt).
+-- The bottom of the stack is the loop opened first. For the contract of `earliest`
+-- (src/mismatch.rt).
 use Rattle.std.proofs.Common.{sym, ap, ◌∙◌}
 use Rattle.std.specs.Option.{option_copied, option_map}
 use Rattle.block_order.proofs.Seen.{seen-earliest}

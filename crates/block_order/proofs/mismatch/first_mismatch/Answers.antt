@@ -1,5 +1,5 @@
--- The lesser of the first misplaced block and the first unclosed head is the first mismatch
--- (src/mismatch.rt).
+-- The lesser of the first misplaced block and the first unclosed head is the first mismatch. For
+-- the contract of `first_mismatch` (src/mismatch.rt).
 use Rattle.std.proofs.Common.{◌≡◌, [], ◌∙◌, drop, refl, sym, ap, arith, subst}
 use Rattle.std.proofs.lemmas.List.{drop_all}
 use Rattle.nc_number.specs.Options.{lesser}

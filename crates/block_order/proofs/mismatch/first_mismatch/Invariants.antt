@@ -1,5 +1,5 @@
--- The blocks so far and the rest have together the misplaced block and the open loops of the whole
--- (loop of src/mismatch.rt).
+-- The blocks so far and the rest have together the misplaced block and the open loops of the whole.
+-- What the loop of `first_mismatch` keeps (src/mismatch.rt).
 use Rattle.std.proofs.Common.{◌≡◌, [], drop}
 use Rattle.block_order.specs.Order.{or_else}
 use Rattle.block_order.specs.Loops.{open_after}

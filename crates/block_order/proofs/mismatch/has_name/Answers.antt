@@ -1,4 +1,5 @@
--- A loop of the stack has the name exactly if an open loop has it (src/mismatch.rt).
+-- A loop of the stack has the name exactly if an open loop has it. For the contract of `has_name`
+-- (src/mismatch.rt).
 use Rattle.std.proofs.Common.{◌==◌, rules, tests, ◌∙◌}
 use Rattle.std.proofs.lemmas.Iterator.{YieldsList-from_slice}
 use Rattle.std.proofs.lemmas.Iterator.Search.{any_from_yields_List}

@@ -1,4 +1,5 @@
--- The last loop of the stack is the latest open one (src/mismatch.rt).
+-- The last loop of the stack is the latest open one. For the contract of `is_latest`
+-- (src/mismatch.rt).
 use Rattle.std.proofs.Common.{sym, ap, ◌∙◌}
 use Rattle.std.specs.Option.{option_copied}
 use Rattle.block_order.proofs.Seen.{latest-some, latest-none}

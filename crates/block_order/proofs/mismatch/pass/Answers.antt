@@ -1,4 +1,4 @@
--- A head that is pushed is the latest open loop (src/mismatch.rt).
+-- A head that is pushed is the latest open loop. For the contract of `pass` (src/mismatch.rt).
 use Rattle.std.proofs.Common.{sym, ap, ◌∙◌}
 use Rattle.block_order.specs.Misplaced.{seen}
 use Rattle.block_order.specs.Loops.{open_behind}

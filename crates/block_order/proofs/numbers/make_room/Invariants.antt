@@ -1,5 +1,5 @@
--- No number's place changes while room is made, and less room is lacking each time (loop of
--- src/numbers.rt).
+-- No number's place changes while room is made, and less room is lacking each time. What the loop
+-- of `make_room` keeps (src/numbers.rt).
 use Rattle.std.proofs.Common.{◌≡◌, ℕ, suc, ◌-◌, length}
 use Rattle.block_order.specs.Numbers.{place_kept}
 use Rattle.block_order.proofs.numbers.make_room.Given as goal

@@ -1,4 +1,5 @@
--- The loops of the program fit, so they have a table (src/tables.rt).
+-- The loops of the program fit, so they have a table. For the contract of `program_tables`
+-- (src/tables.rt).
 use Rattle.std.proofs.Common.{sym, subst}
 use Rattle.block_order.specs.Fitting.{Fits}
 use Rattle.block_order.proofs.tables.program_tables.Goals as goal

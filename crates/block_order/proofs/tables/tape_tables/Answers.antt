@@ -1,4 +1,5 @@
--- One program more has its tables, and at the end all have them (src/tables.rt).
+-- One program more has its tables, and at the end all have them. For the contract of `tape_tables`
+-- (src/tables.rt).
 use Rattle.std.proofs.Common.{length, ◌+◌, refl, sym, ap, ◌∙◌, arith, subst}
 use Rattle.std.proofs.lemmas.List.{length_push}
 use Rattle.std.proofs.lemmas.Option.{slice_get_read, slice_get_within}

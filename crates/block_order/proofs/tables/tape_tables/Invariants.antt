@@ -1,4 +1,4 @@
--- The programs so far have their tables (loop of src/tables.rt).
+-- The programs so far have their tables. What the loop of `tape_tables` keeps (src/tables.rt).
 use Rattle.std.proofs.Common.{◌≡◌, length}
 use Rattle.block_order.proofs.MoreTables.{EachTables}
 use Rattle.block_order.proofs.tables.tape_tables.Given as goal

@@ -1,4 +1,5 @@
--- The first M code of the words ahead is that of the block (loop of src/codes.rt).
+-- The first M code of the words ahead is that of the block. What the loop of `first_code` keeps
+-- (src/codes.rt).
 use Rattle.std.proofs.Common.{◌≡◌, drop}
 use Rattle.block_words.specs.Codes.{m_code}
 use Rattle.block_words.proofs.codes.first_code.Given as goal

@@ -1,4 +1,5 @@
--- The number so far is that of the last such word so far (loop of src/letters.rt).
+-- The number so far is that of the last word of these letters so far. What the loop of `number_of`
+-- keeps (src/letters.rt).
 use Rattle.std.proofs.Common.{◌≡◌, ◌≤◌, IfSome, take}
 use Rattle.block_words.specs.Words.{last_whole}
 use Rattle.block_words.specs.Codes.{natural}

@@ -1,4 +1,5 @@
--- 65 and 66 are exactly what denies one list of labels (src/order.rt).
+-- 65 and 66 are exactly what denies one list of labels. For the law
+-- `a_tape_has_one_list_where_no_wait_is_at_fault` (src/order.rt).
 use Rattle.flow_laws.proofs.Unforked.{exact}
 use Rattle.flow_laws.proofs.order.a_tape_has_one_list_where_no_wait_is_at_fault.Goals as goal
 

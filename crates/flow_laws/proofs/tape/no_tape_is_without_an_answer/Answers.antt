@@ -1,4 +1,5 @@
--- No tape is neither accepted nor refused (src/tape.rt).
+-- No tape is neither accepted nor refused. For the law `no_tape_is_without_an_answer`
+-- (src/tape.rt).
 use Rattle.flow_laws.proofs.Refused.{some_answer}
 use Rattle.flow_laws.proofs.tape.no_tape_is_without_an_answer.Goals as goal
 

@@ -1,4 +1,5 @@
--- The fault at the first place where the labels differ, lines aside (src/comparison.rt).
+-- The first labels that differ are the fault; if none do as far as the shorter list goes, the lists
+-- are equal, lines aside. For the contract of `first_difference` (src/comparison.rt).
 use Rattle.std.proofs.Common.{arith}
 use Rattle.label_list.proofs.Agreeing.{same_to_end}
 use Rattle.label_list.proofs.comparison.first_difference.Goals as goal

@@ -1,4 +1,4 @@
--- The labels so far are equal (loop of src/comparison.rt).
+-- The labels so far are equal. What the loop of `first_difference` keeps (src/comparison.rt).
 use Rattle.std.proofs.Common.{◌≡◌, take}
 use Rattle.label_list.specs.Lists.{bare}
 use Rattle.label_list.proofs.comparison.first_difference.Given as goal

@@ -1,5 +1,6 @@
--- Each program's labels are made after those of the programs that it calls; too many in one of
--- these are too many in all (src/listing.rt).
+-- Each program's labels are made after those of the programs that it calls, and too many in one of
+-- these are too many in all. For the contracts of `learn_call` and `piece_of`, which call each
+-- other (src/listing.rt).
 use Rattle.std.proofs.Common.{◌+◌, ◌<◌, [], ◌∷◌, get_or, drop, arith}
 use Rattle.block_order.specs.declared.label.Label.TheVariants.{Off}
 use Rattle.label_list.specs.Lists.{at}

@@ -1,4 +1,5 @@
--- The labels of a path: what its tape comes to that the other path can tell (src/listing.rt).
+-- The list of a path ends as a path ends, so it is a LabelList. For the contract of `labels`
+-- (src/listing.rt).
 use Rattle.std.proofs.Common.{sym, subst}
 use Rattle.label_list.specs.Lists.{IsEnded}
 use Rattle.label_list.proofs.Ended.{path_ended}

@@ -1,4 +1,5 @@
--- Adds what a block gives to the labels of its program; how the program ends there, if it does
+-- A block of each control gives what `IsTaken` says: a wait and an end a label, an M99 the
+-- program's ending, a call its labels; or there are too many. For the contract of `take_block`
 -- (src/listing.rt).
 use Rattle.std.proofs.Common.{subst}
 use Rattle.loud_calls.specs.Calls.{IsReady}

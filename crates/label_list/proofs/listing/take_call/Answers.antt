@@ -1,4 +1,5 @@
--- Adds the labels of a call; how the calling program ends there, if it does (src/listing.rt).
+-- A call of a loud program adds the piece that is kept of it, as often as it runs; every other call
+-- adds nothing. For the contract of `take_call` (src/listing.rt).
 use Rattle.std.proofs.Common.{◌≡◌, ◌<◌, true, Some, None, sym, ◌∙◌, rules, arith}
 use Rattle.block_order.specs.declared.control.Control.TheVariants.{Call}
 use Rattle.block_order.specs.Loud.{loud}

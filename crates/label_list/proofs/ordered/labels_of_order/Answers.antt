@@ -1,4 +1,5 @@
--- The labels of a path from the order of its blocks, whatever else the blocks say (src/ordered.rt).
+-- The list of a path ends as a path ends, so it is a LabelList. For the contract of
+-- `labels_of_order` (src/ordered.rt).
 use Rattle.std.proofs.Common.{sym, subst}
 use Rattle.label_list.specs.Lists.{IsEnded}
 use Rattle.label_list.proofs.Ended.{path_ended}

@@ -1,4 +1,5 @@
--- Adds the labels of a program (src/piece.rt).
+-- Each label is added behind those before, until all are or there are too many. For the contract of
+-- `append` (src/piece.rt).
 use Rattle.std.proofs.Common.{[], ◌∷◌, get_or}
 use Rattle.block_order.specs.declared.label.Label.TheVariants.{Wait}
 use Rattle.label_list.specs.Lists.{at}

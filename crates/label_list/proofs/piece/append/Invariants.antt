@@ -1,5 +1,5 @@
--- The labels so far and those that are left to add are those before and all that are added (loop of
--- src/piece.rt).
+-- The labels so far and those that are left to add are those before and all that are added. What
+-- the loop of `append` keeps (src/piece.rt).
 use Rattle.std.proofs.Common.{◌≡◌, ◌≤◌, ◌++◌, drop, length}
 use Rattle.nc_number.specs.declared.limits.TheConstants.{MOST_LABELS}
 use Rattle.label_list.proofs.piece.append.Given as goal

@@ -1,4 +1,5 @@
--- Adds the labels of a program so many times (src/piece.rt).
+-- Labels of no length stay none, however often; else each run adds them once more, until all are
+-- added or there are too many. For the contract of `append_times` (src/piece.rt).
 use Rattle.std.proofs.Common.{◌≡◌, ◌++◌, length, ap, sym, ◌∙◌, append_assoc, rules}
 use Rattle.std.proofs.lemmas.List.{append-nil}
 use Rattle.label_list.specs.Pieces.{IsTooLong, repeated}

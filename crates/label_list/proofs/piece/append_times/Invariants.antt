@@ -1,4 +1,5 @@
--- The labels so far are those before and as many runs as were added (loop of src/piece.rt).
+-- The labels so far are those before and as many runs as were added. What the loop of
+-- `append_times` keeps (src/piece.rt).
 use Rattle.std.proofs.Common.{◌≡◌, ◌≤◌, ◌++◌, length}
 use Rattle.nc_number.specs.declared.limits.TheConstants.{MOST_LABELS}
 use Rattle.label_list.specs.Pieces.{repeated}

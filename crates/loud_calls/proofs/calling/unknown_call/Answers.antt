@@ -1,5 +1,5 @@
 -- If no program is still to be made, the piece of what the block calls is kept, or it calls no loud
--- program (src/calling.rt).
+-- program. For the contract of `unknown_call` (src/calling.rt).
 use Rattle.std.proofs.Common.{sym}
 use Rattle.loud_calls.specs.Known.{piece_known}
 use Rattle.loud_calls.proofs.Calls.{ready_by}

@@ -1,5 +1,5 @@
--- All runs of an order come to one list of labels: a caller of the function has that of this order
--- (src/unforked.rt).
+-- All runs of an order come to one list of labels: a caller of the function has that of this order.
+-- For the contract of `runs_have_one_list` (src/unforked.rt).
 use Rattle.loud_calls.proofs.unforked.runs_have_one_list.Goals as goal
 
 pub returns : goal.returns

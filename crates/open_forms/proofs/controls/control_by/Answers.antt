@@ -1,5 +1,6 @@
--- The P and the L of a block that is not refused fit the numbers that the control takes
--- (src/controls.rt).
+-- If a block is not refused, the P and the L of its macro call, and the L of its call of a
+-- subprogram, are at most 9,999, as `number_or` requires of what it makes 16 bits. For the contract
+-- of `control_by` (src/controls.rt).
 use Rattle.std.proofs.Common.{refl}
 use Rattle.open_forms.proofs.LastWithin.{macro_at_most, repeats_at_most}
 use Rattle.open_forms.proofs.controls.control_by.Goals as goal

@@ -1,4 +1,5 @@
--- The number so far is that of the last word of these letters so far (loop of src/letters.rt).
+-- The number so far is that of the last word of these letters so far. What the loop of
+-- `last_number` keeps (src/letters.rt).
 use Rattle.std.proofs.Common.{◌≡◌, ◌≤◌, IfSome, take}
 use Rattle.open_forms.specs.Words.{last_number}
 use Rattle.open_forms.proofs.letters.last_number.Given as goal

@@ -1,4 +1,5 @@
--- What stands behind a word is the rest of a text that begins with it (src/statement.rt).
+-- What stands behind a word is the rest of a text that begins with it. For the contract of `behind`
+-- (src/statement.rt).
 use Rattle.macro_expr.proofs.Prefixes.{behind_prefix}
 use Rattle.open_forms.proofs.statement.behind.Goals as goal
 

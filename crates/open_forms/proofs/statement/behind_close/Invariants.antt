@@ -1,5 +1,5 @@
--- With so many brackets open, the rest holds the answer of the whole text (loop of
--- src/statement.rt).
+-- With so many brackets open, the rest holds the answer of the whole text. What the loop of
+-- `behind_close` keeps (src/statement.rt).
 use Rattle.std.proofs.Common.{◌≡◌, ◌+◌, ◌≤◌, length}
 use Rattle.open_forms.specs.Statements.{behind_close}
 use Rattle.open_forms.proofs.statement.behind_close.Given as goal

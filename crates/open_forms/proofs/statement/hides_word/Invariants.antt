@@ -1,4 +1,5 @@
--- Nothing hides so far, and the rest decides behind the last two bytes (loop of src/statement.rt).
+-- Nothing hides so far, and the rest decides behind the last two bytes. What the loop of
+-- `hides_word` keeps (src/statement.rt).
 use Rattle.std.proofs.Common.{◌≡◌, length}
 use Rattle.open_forms.specs.Statements.{hides_word}
 use Rattle.open_forms.proofs.statement.hides_word.Given as goal

@@ -1,5 +1,5 @@
 -- Two tapes with one list of labels never wait in vain, on any machine whose blocks go where they
--- may (src/laws.rt).
+-- may. For the law `no_pair_waits_in_vain` (src/laws.rt).
 use Rattle.pair_order.proofs.Meetings.{never_stuck}
 use Rattle.pair_order.proofs.laws.no_pair_waits_in_vain.Goals as goal
 

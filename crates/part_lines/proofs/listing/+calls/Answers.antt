@@ -1,5 +1,6 @@
 -- Each program's lines are made after those of the programs that it calls, and one block after
--- another (src/listing.rt).
+-- another. For the contracts of `learn_call` and `piece_of`, which call each other
+-- (src/listing.rt).
 use Rattle.std.proofs.Common.{◌≡◌, ◌+◌, ◌≤◌, ◌<◌, suc, length, get_or, drop, ap, subst, ◌∙◌, arith, rules}
 use Rattle.block_order.specs.Loud.{loud}
 use Rattle.loud_calls.specs.Known.{piece_known}

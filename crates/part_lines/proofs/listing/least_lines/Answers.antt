@@ -1,5 +1,5 @@
--- The least line of each part of a path, for each number of waits up to those of its list
--- (src/listing.rt).
+-- No chain of nine calls begins in the main program, so its piece is made; closed, it has the least
+-- line of each part. For the contract of `least_lines` (src/listing.rt).
 use Rattle.std.proofs.Common.{sym, subst}
 use Rattle.loud_calls.specs.Calls.{IsShort}
 use Rattle.part_lines.specs.PartLines.{AreLeastLines}

@@ -1,5 +1,5 @@
--- Adds what comes behind a block to the lines of its program; how the program ends there, if it
--- does (src/listing.rt).
+-- A block of each control puts behind it what `IsTaken` says: a wait a part more, an end and an M99
+-- the program's ending, a call its lines. For the contract of `take_block` (src/listing.rt).
 use Rattle.std.proofs.Common.{subst}
 use Rattle.loud_calls.specs.Calls.{IsReady}
 use Rattle.loud_calls.specs.Known.{piece_known}

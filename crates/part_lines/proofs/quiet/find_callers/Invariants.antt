@@ -1,4 +1,5 @@
--- What was found are lines of the programs and what they open (loop of src/quiet.rt).
+-- What was found are lines of the programs and what they open. What the loop of `find_callers`
+-- keeps (src/quiet.rt).
 use Rattle.part_lines.specs.Pieces.{quiet_known, AreFound}
 use Rattle.part_lines.proofs.quiet.find_callers.Given as goal
 

@@ -1,5 +1,5 @@
--- Whether no block of a program has or calls a line that is less than what was found
--- (src/quiet.rt).
+-- If no block before the end has or calls a lesser line, the program is closed. For the contract of
+-- `is_closed_at` (src/quiet.rt).
 use Rattle.std.proofs.Common.{◌≡◌, ◌<◌, ◌≤◌, length, get_or, IsTrue, subst, sym, ap, ◌∙◌, rules}
 use Rattle.block_order.specs.Loud.{loud}
 use Rattle.part_lines.specs.Lines.{seen_line}

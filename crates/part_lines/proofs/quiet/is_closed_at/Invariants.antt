@@ -1,4 +1,5 @@
--- The blocks before the place have no line that is less (loop of src/quiet.rt).
+-- The blocks before the place have no line that is less. What the loop of `is_closed_at` keeps
+-- (src/quiet.rt).
 use Rattle.std.proofs.Common.{◌≡◌, ℕ, ◌<◌, Some}
 use Rattle.block_order.specs.declared.control.Control.{Control}
 use Rattle.block_order.specs.Loud.{loud}

@@ -1,5 +1,5 @@
--- Lowers what was found of a program to the least line of its blocks and of what they call
--- (src/quiet.rt).
+-- The least line so far, of the program or of what it opens, is what is kept of it. For the
+-- contract of `lower` (src/quiet.rt).
 use Rattle.std.proofs.Common.{◌≡◌, ◌<◌, ◌⊎◌, inl, inr, length, get_or, Some, subst, sym, ap, ◌∙◌, rules}
 use Rattle.nc_number.proofs.Counts.{lesser_is}
 use Rattle.block_order.specs.Loud.{loud}

@@ -1,4 +1,5 @@
--- The least line of each program and of the quiet ones that are called from there (src/quiet.rt).
+-- Lines that were found and are closed are the least ones. For the contract of `quiet_lines`
+-- (src/quiet.rt).
 use Rattle.std.proofs.Common.{IsTrue, rules}
 use Rattle.part_lines.specs.Pieces.{quiet_known}
 use Rattle.part_lines.proofs.Opened.{quiet_least}

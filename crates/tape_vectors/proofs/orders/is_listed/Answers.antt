@@ -1,3 +1,5 @@
+-- A tape with a program, rising lines and at most 20,000 of them has at most 20,000 blocks, so it
+-- may be checked. For the contract of `is_listed` (src/orders.rt).
 use Rattle.std.proofs.Common.{◌≡◌, ℕ, ◌<◌, ◌≤◌, List, [], ◌∷◌, length, ap, subst, ◌∙◌, arith, rules, length-append, false, Bool, ◌==◌}
 use Rattle.std.proofs.lemmas.Bool.Decides.{nat_tests}
 use Rattle.std.proofs.lemmas.List.{length-map}
@@ -6,6 +8,7 @@ use Rattle.nc_number.specs.Rising.{RiseFrom}
 use Rattle.block_order.specs.Shape.{IsListed, lines_of_program, lines_in, blocks_in}
 use Rattle.tape_vectors.proofs.orders.is_listed.Goals as goal
 
+-- A tape has no more blocks than lines of O numbers and blocks.
 few_blocks : (tape : List ControlProgram) → length (blocks_in tape) ≤ length (lines_in tape)
 few_blocks [] = omega arith
 few_blocks (p ∷ ps) =
@@ -17,6 +20,7 @@ few_blocks (p ∷ ps) =
       length-map p.blocks (λ b. b.line),
     )
 
+-- A tape with a program, rising lines and at most 20,000 of them is listed.
 listed_is : (tape : List ControlProgram) (lines : List ℕ) → lines ≡ lines_in tape → 0 < length tape → length lines ≤ 20000
     → RiseFrom 0 lines → IsListed tape
 listed_is tape lines e some few rise = record {
@@ -25,6 +29,7 @@ listed_is tape lines e some few rise = record {
   few = omega (arith, few_blocks tape, ap length e);
 }
 
+-- If the test for an empty list says no, the list has an entry.
 not_empty : (n : ℕ) (b : Bool) → b ≡ (n == 0) → b ≡ false → 0 < n
 not_empty n b e f = grind (arith, nat_tests)
 

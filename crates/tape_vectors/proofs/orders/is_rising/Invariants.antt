@@ -1,3 +1,5 @@
+-- If the lines ahead rise from the last one, all lines rise from 0. What the loop of `is_rising`
+-- keeps (src/orders.rt).
 use Rattle.std.proofs.Common.{drop}
 use Rattle.nc_number.specs.Rising.{RiseFrom}
 use Rattle.tape_vectors.proofs.orders.is_rising.Given as goal

@@ -1,5 +1,5 @@
--- An order with a fault of waits has no earlier stage's fault, so that fault is the first of all
--- (src/checking.rt).
+-- An order with a fault of waits has no earlier stage's fault, so that fault is the first of all.
+-- For the contract of `check_order` (src/checking.rt).
 use Rattle.std.proofs.Common.{subst}
 use Rattle.block_order.specs.Faults.{Waiting, IsFirst}
 use Rattle.block_order.proofs.Aimed.{first_of}

@@ -1,5 +1,5 @@
 -- One program more is looked at, and the line so far is the least ninth call's; after the last it
--- is the tape's (src/deep.rt).
+-- is the tape's. For the contract of `deep_line` (src/deep.rt).
 use Rattle.std.proofs.Common.{◌≡◌, Some, slice_get, sym, ap, ◌∙◌, arith}
 use Rattle.wait_order.proofs.Deepest.{deep_more, deep_all}
 use Rattle.block_order.proofs.Programs.{stands}

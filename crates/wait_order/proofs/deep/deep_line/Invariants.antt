@@ -1,4 +1,5 @@
--- The line so far is that of the first ninth call among the programs before (loop of src/deep.rt).
+-- The line so far is that of the first ninth call among the programs before. What the loop of
+-- `deep_line` keeps (src/deep.rt).
 use Rattle.wait_order.specs.Deep.{IsDeepBelow}
 use Rattle.wait_order.specs.Waiting.{IsLeast}
 use Rattle.wait_order.proofs.deep.deep_line.Given as goal

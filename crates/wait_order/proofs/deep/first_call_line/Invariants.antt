@@ -1,4 +1,5 @@
--- None of the blocks so far calls a loud program (loop of src/deep.rt).
+-- None of the blocks so far calls a loud program. What the loop of `first_call_line` keeps
+-- (src/deep.rt).
 use Rattle.std.proofs.Common.{◌≡◌, ◌<◌, ℕ, List, Some, slice_get}
 use Rattle.block_order.specs.declared.program.ControlBlock.{ControlBlock}
 use Rattle.block_order.specs.declared.program.ControlProgram.{ControlProgram}

@@ -1,4 +1,5 @@
--- Of a list without flags, those are set that one call more reaches (src/depth.rt).
+-- Of a list without flags, those are set that one call more reaches. For the contract of
+-- `called_from` (src/depth.rt).
 use Rattle.std.proofs.Common.{◌≡◌, false, length, replicate, ap, ◌∙◌, rules, arith}
 use Rattle.wait_order.proofs.Called.{called_new, lent_whole}
 use Rattle.wait_order.proofs.depth.called_from.Goals as goal

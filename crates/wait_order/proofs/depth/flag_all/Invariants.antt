@@ -1,5 +1,5 @@
--- The flags are those from before and those of the loud programs that the programs so far call
--- (loop of src/depth.rt).
+-- The flags are those from before and those of the loud programs that the programs so far call.
+-- What the loop of `flag_all` keeps (src/depth.rt).
 use Rattle.std.proofs.Common.{◌≡◌, ◌↔◌, ◌⊎◌, ℕ, true}
 use Rattle.wait_order.specs.Depth.{IsCalledBelow}
 use Rattle.block_order.specs.ProgramPlaces.{flagged}

@@ -1,10 +1,12 @@
--- A program that is flagged as reached adds the flags of what it calls (src/depth.rt).
+-- A program that is flagged as reached adds the flags of what it calls. For the contract of
+-- `flag_from` (src/depth.rt).
 use Rattle.std.proofs.Common.{◌≡◌, ◌↔◌, ◌⊎◌, inl, inr, Bool, true, ap, sym, subst, ◌∙◌}
 use Rattle.wait_order.specs.Depth.{HasLoudCall}
 use Rattle.block_order.specs.ProgramPlaces.{flag_at, flagged}
 use Rattle.wait_order.proofs.depth.flag_from.Goals as goal
 
--- What is so besides holds in each of the two cases.
+-- If F holds, a test that is true exactly if A or B holds is true exactly if A holds, or F and B
+-- do.
 joined : (A B F : Type 0) (new : Bool) → F → (new ≡ true) ↔ (A ⊎ B) → (new ≡ true) ↔ (A ⊎ (F × B))
 joined A B F new f h =
     (λ t. elim (h.0 t) [ inl a ↦ inl a | inr b ↦ inr (f, b) ], λ s. elim s [ inl a ↦ h.1 (inl a) | inr p ↦ h.1 (inr p.1) ])

@@ -1,4 +1,4 @@
--- The main program alone is reached by no call (src/depth.rt).
+-- The main program alone is reached by no call. For the contract of `main_reached` (src/depth.rt).
 use Rattle.std.proofs.Common.{◌≡◌, false, true, length, replicate, slice_set, rules}
 use Rattle.wait_order.proofs.Called.{main_flagged}
 use Rattle.wait_order.proofs.depth.main_reached.Goals as goal

@@ -1,5 +1,5 @@
--- One round more is one call more; after eight rounds the flags are those of eight calls
--- (src/depth.rt).
+-- One round more is one call more; after eight rounds the flags are those of eight calls. For the
+-- contract of `reached_by_eight` (src/depth.rt).
 use Rattle.std.proofs.Common.{◌≡◌, subst, arith}
 use Rattle.wait_order.specs.Depth.{IsCalledFrom, AreReached}
 use Rattle.wait_order.proofs.Called.{reached_more}

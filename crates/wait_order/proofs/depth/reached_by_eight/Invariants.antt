@@ -1,4 +1,5 @@
--- After so many rounds the flags are those of so many calls (loop of src/depth.rt).
+-- After so many rounds the flags are those of so many calls. What the loop of `reached_by_eight`
+-- keeps (src/depth.rt).
 use Rattle.wait_order.specs.Depth.{AreReached}
 use Rattle.wait_order.proofs.depth.reached_by_eight.Given as goal
 

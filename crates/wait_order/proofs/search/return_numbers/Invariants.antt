@@ -1,5 +1,5 @@
--- The numbers so far and those of the blocks ahead are the numbers of all returns (loop of
--- src/search.rt).
+-- The numbers so far and those of the blocks ahead are the numbers of all returns. What the loop of
+-- `return_numbers` keeps (src/search.rt).
 use Rattle.std.proofs.Common.{◌≡◌, ◌||◌, ℕ, nat_eq, drop}
 use Rattle.std.specs.HashSet.{contains}
 use Rattle.wait_order.specs.Searchers.{has_back_to}

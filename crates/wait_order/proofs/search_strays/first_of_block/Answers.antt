@@ -1,5 +1,6 @@
--- A target whose number is sought, one whose number is not, and one without a number
--- (src/search_strays.rt).
+-- The first block that is led to a target by a number that is sought is the first of all; none is
+-- led to a target whose number is not sought, or that has none. For the contract of
+-- `first_of_block` (src/search_strays.rt).
 use Rattle.std.proofs.Common.{sym, ◌∙◌}
 use Rattle.wait_order.specs.Searchers.{is_sought}
 use Rattle.wait_order.proofs.Leading.{least_numbered, least_unsought, least_unnumbered}

@@ -1,5 +1,5 @@
 -- One target more is looked at, and the first block so far holds; after all targets it is the
--- search's (src/search_strays.rt).
+-- search's. For the contract of `first_search_stray` (src/search_strays.rt).
 use Rattle.std.proofs.Common.{◌≡◌, length, None, subst, arith}
 use Rattle.block_order.specs.declared.control.Control.TheVariants.{Next}
 use Rattle.wait_order.specs.Searchers.{is_sought}

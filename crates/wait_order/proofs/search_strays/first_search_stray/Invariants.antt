@@ -1,5 +1,5 @@
--- The block so far is the first that may be led to one of the targets before (loop of
--- src/search_strays.rt).
+-- The block so far is the first that may be led to one of the targets before. What the loop of
+-- `first_search_stray` keeps (src/search_strays.rt).
 use Rattle.std.proofs.Common.{◌≡◌, ℕ, Bool}
 use Rattle.wait_order.specs.Ahead.{AreAhead}
 use Rattle.wait_order.specs.Searchers.{is_sought}

@@ -1,5 +1,5 @@
 -- The first block of one row, or of both if the search goes on at the program's start, is the first
--- of all (src/search_strays.rt).
+-- of all. For the contract of `first_to` (src/search_strays.rt).
 use Rattle.std.proofs.Common.{arith}
 use Rattle.wait_order.proofs.Leading.{least_around, least_ahead}
 use Rattle.wait_order.proofs.search_strays.first_to.Goals as goal

@@ -1,4 +1,5 @@
--- One place more is filled, from the last one back; then all are (src/searchers.rt).
+-- One place more is filled, from the last one back; then all are. For the contract of
+-- `later_searchers` (src/searchers.rt).
 use Rattle.std.proofs.Common.{◌≡◌, ◌+◌, ◌-◌, ◌<◌, length, None, subst, ◌∙◌, arith}
 use Rattle.std.proofs.Math.ListN.{length-set}
 use Rattle.block_order.specs.declared.control.Control.TheVariants.{Next}

@@ -1,5 +1,5 @@
--- The list is right for the last `done` places and the end, and keeps its length (loop of
--- src/searchers.rt).
+-- The list is right for the last `done` places and the end, and keeps its length. What the loop of
+-- `later_searchers` keeps (src/searchers.rt).
 use Rattle.std.proofs.Common.{◌≡◌, ◌+◌, ◌-◌, Bool, length}
 use Rattle.block_order.specs.declared.control.Control.{Control}
 use Rattle.wait_order.specs.Searchers.{AreNext, AreLater}

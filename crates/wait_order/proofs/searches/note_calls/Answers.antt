@@ -1,4 +1,5 @@
--- A long quiet program adds the search of its calls (src/searches.rt).
+-- A long quiet program adds the search of its calls. For the contract of `note_calls`
+-- (src/searches.rt).
 use Rattle.std.proofs.Common.{◌+◌, sym, subst, ◌∙◌}
 use Rattle.wait_order.specs.Searches.{IsCallSearch, AreSearchesBelow}
 use Rattle.wait_order.proofs.Searching.{searches_more}

@@ -1,4 +1,5 @@
--- The searches so far are those of the programs so far (loop of src/searches.rt).
+-- The searches so far are those of the programs so far. What the loop of `searches` keeps
+-- (src/searches.rt).
 use Rattle.wait_order.specs.Searches.{AreSearchesBelow}
 use Rattle.wait_order.proofs.searches.searches.Given as goal
 

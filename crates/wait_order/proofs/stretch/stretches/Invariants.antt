@@ -1,5 +1,5 @@
--- The list so far and the stretches of the blocks ahead are those of all blocks (loop of
--- src/stretch.rt).
+-- The list so far and the stretches of the blocks ahead are those of all blocks. What the loop of
+-- `stretches` keeps (src/stretch.rt).
 use Rattle.std.proofs.Common.{◌≡◌, ◌≤◌, ◌++◌, drop}
 use Rattle.block_order.specs.Heard.{heard}
 use Rattle.wait_order.specs.Stretches.{stretches_from}

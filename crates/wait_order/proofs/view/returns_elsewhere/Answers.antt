@@ -1,4 +1,5 @@
--- In a program of one stretch no return leads elsewhere (src/view.rt).
+-- In a program of one stretch no return leads elsewhere. For the contract of `returns_elsewhere`
+-- (src/view.rt).
 use Rattle.wait_order.proofs.Elsewhere.{false_is_not_true}
 use Rattle.wait_order.proofs.view.returns_elsewhere.Goals as goal
 

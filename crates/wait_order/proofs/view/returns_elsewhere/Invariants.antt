@@ -1,4 +1,5 @@
--- No return among the called blocks so far leads elsewhere (loop of src/view.rt).
+-- No return among the called blocks so far leads elsewhere. What the loop of `returns_elsewhere`
+-- keeps (src/view.rt).
 use Rattle.std.proofs.Common.{◌≡◌, ◌<◌, ℕ, Bool, Some, length}
 use Rattle.block_order.specs.declared.control.Control.TheVariants.{BackTo}
 use Rattle.block_order.specs.Order.{control_at}

@@ -1,14 +1,14 @@
--- Of a jump's line and a ninth call's, the lesser is the first fault, and on one line the jump
--- (src/waiting.rt).
+-- Of the line of a jump that may pass a wait and that of a ninth call the lesser is the first
+-- fault, and on one line the jump. For the contract of `first_fault` (src/waiting.rt).
 use Rattle.std.proofs.Common.{◌≡◌, ◌<◌, ◌≤◌, ℕ, Option, Some, None, sym, ◌∙◌, arith}
 use Rattle.wait_order.proofs.Judged.{none_waiting, stray_first, deep_first}
 use Rattle.wait_order.proofs.waiting.first_fault.Goals as goal
 
--- No line is not some line.
+-- If no line is found, none is m, so there is nothing to show.
 none_is : (o : Option ℕ) (m : ℕ) (P : Type 0) → o ≡ None → o ≡ Some m → P
 none_is o m P e f = let clash : ◌≡◌ {A = Option ℕ} None (Some m) = sym e ∙ f in absurd cc
 
--- A line that is found is one.
+-- The line that is found is one only.
 one_is : (o : Option ℕ) (m n : ℕ) → o ≡ Some m → o ≡ Some n → m ≡ n
 one_is o m n e f = let both : Some m ≡ Some n = sym e ∙ f in cc
 

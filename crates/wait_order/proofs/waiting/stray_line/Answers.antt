@@ -1,5 +1,5 @@
--- One program more is looked at, and the line so far is the least; after the last it is the tape's
--- (src/waiting.rt).
+-- One program more is looked at, and the line so far is the least; after the last it is the tape's.
+-- For the contract of `stray_line` (src/waiting.rt).
 use Rattle.std.proofs.Common.{◌≡◌, Some, length, sym, subst, ap, ◌∙◌, arith}
 use Rattle.std.proofs.lemmas.Option.{get_or_from_slice_get}
 use Rattle.block_order.specs.declared.tables.ProgramTables.{ProgramTables}

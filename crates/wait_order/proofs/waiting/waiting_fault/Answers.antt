@@ -1,4 +1,6 @@
--- Each program of the tape is what the calls below require (src/waiting.rt).
+-- Each program of the tape is the first of its number, with few blocks, fitting loops and rising
+-- lines, as the calls in the function require. For the contract of `waiting_fault`
+-- (src/waiting.rt).
 use Rattle.wait_order.proofs.Listed.{programs_are}
 use Rattle.wait_order.proofs.waiting.waiting_fault.Goals as goal
 

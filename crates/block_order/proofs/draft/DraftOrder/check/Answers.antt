@@ -1,4 +1,5 @@
--- The first fault of the first stage that has one is the first of the tape (src/draft.rt).
+-- The first fault of the first stage that has one is the first of the tape. For the contract of
+-- `check` (src/draft.rt).
 use Rattle.std.proofs.Common.{subst}
 use Rattle.block_order.specs.Faults.{Fitting, Finding}
 use Rattle.block_order.specs.First.{IsFirstOf}

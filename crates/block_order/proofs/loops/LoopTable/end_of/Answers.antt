@@ -1,4 +1,4 @@
--- The END noted at a block is that of its loop (src/loops.rt).
+-- The END noted at a block is that of its loop. For the contract of `end_of` (src/loops.rt).
 use Rattle.std.proofs.Common.{◌≡◌, sym, ap, ◌∙◌}
 use Rattle.std.specs.List.{slice_get}
 use Rattle.std.specs.Option.{option_flatten}

@@ -1,4 +1,5 @@
--- The head noted at a block is that of the innermost loop around it (src/loops.rt).
+-- The head noted at a block is that of the innermost loop around it. For the contract of
+-- `head_around` (src/loops.rt).
 use Rattle.std.proofs.Common.{ap, ◌∙◌}
 use Rattle.std.specs.List.{slice_get}
 use Rattle.std.specs.Option.{option_flatten}

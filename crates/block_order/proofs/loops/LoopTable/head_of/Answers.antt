@@ -1,4 +1,5 @@
--- The innermost head around an END is its own, if its loop ends there (src/loops.rt).
+-- The innermost head around an END is its own, if its loop ends there. For the contract of
+-- `head_of` (src/loops.rt).
 use Rattle.std.proofs.Common.{◌≡◌, ℕ, Some, None, sym, ◌∙◌, subst}
 use Rattle.block_order.specs.Order.{IsLoop}
 use Rattle.block_order.proofs.Items.{eq-some, eq-not}

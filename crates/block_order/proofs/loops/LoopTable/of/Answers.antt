@@ -1,5 +1,5 @@
--- One block more is noted with its innermost loop and its END, and the whole table is right
--- (src/loops.rt).
+-- One block more is noted with its innermost loop and its END, and the whole table is right. For
+-- the contract of `of` (src/loops.rt).
 use Rattle.std.proofs.Common.{◌≡◌, ℕ, suc, ◌+◌, ◌++◌, ◌∷◌, [], None, Some, get_or, drop, length, refl, sym, ap, ◌∙◌, arith, subst}
 use Rattle.std.proofs.lemmas.List.{length_push, take_at}
 use Rattle.block_order.specs.Order.{control_at}

@@ -1,5 +1,5 @@
--- A jump to a block is permitted from its innermost loop alone, or from everywhere if none holds it
--- (src/loops.rt).
+-- A jump to a block is permitted from its innermost loop alone, or from everywhere if none holds
+-- it. For the contract of `reach` (src/loops.rt).
 use Rattle.std.proofs.Common.{◌≡◌, ◌+◌, Some, sym, ap, ◌∙◌, arith}
 use Rattle.std.specs.Option.{unwrap_or}
 use Rattle.block_order.specs.Fitting.{innermost}

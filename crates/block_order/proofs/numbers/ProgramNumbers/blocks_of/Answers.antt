@@ -1,5 +1,5 @@
--- The blocks at a number's place are those of its program; without a place there are none
--- (src/numbers.rt).
+-- The blocks at a number's place are those of its program; without a place there are none. For the
+-- contract of `blocks_of` (src/numbers.rt).
 use Rattle.std.proofs.Common.{◌<◌, ◌≤◌, length, ◌∙◌, arith}
 use Rattle.block_order.proofs.Programs.{blocks_there, no_blocks_there, place_within}
 use Rattle.block_order.proofs.numbers.ProgramNumbers.blocks_of.Goals as goal

@@ -1,12 +1,12 @@
--- The tables tell the END of a loop, and a number beyond it is left, since a tape has few blocks
--- (src/order.rt).
+-- The tables tell the END of a loop, and there is a number for the block behind it, since a program
+-- has at most 20,000 blocks. For the contract of `loop_end` (src/order.rt).
 use Rattle.std.proofs.Common.{◌≡◌, ℕ, ◌<◌, ◌≤◌, List, length, Option, Some, None, IfSome, refl, sym, ap, arith}
 use Rattle.block_order.specs.declared.program.ControlBlock.{ControlBlock}
 use Rattle.block_order.specs.Order.{blocks, end_of_loop}
 use Rattle.block_order.proofs.Opened.{close_within}
 use Rattle.block_order.proofs.order.BlockOrder.loop_end.Goals as goal
 
--- an END is one of the few blocks
+-- An END is one of at most 20,000 blocks, so its number is far below 32 bits.
 end_behind : (bs : List ControlBlock) (head : ℕ) (end : Option ℕ) → length bs ≤ 20000 → end ≡ end_of_loop bs head
     → IfSome end (λ close. close < 4294967295)
 end_behind bs head None few ends = tt

@@ -1,4 +1,5 @@
--- The head that the tables tell is the one that the search finds (src/order.rt).
+-- The head that the tables tell is the one that the search finds. For the contract of `loop_head`
+-- (src/order.rt).
 use Rattle.std.proofs.Common.{refl}
 use Rattle.block_order.specs.Order.{blocks}
 use Rattle.block_order.proofs.Searches.{head_answered, no_head_answered}

@@ -1,4 +1,5 @@
--- The place that is kept of the number is that of its program.
+-- The program at the place that is kept of an O number is the one that the number finds; without a
+-- place there is none. For the contract of `program` (src/order.rt).
 use Rattle.std.proofs.Common.{◌≡◌, Some, None, ap, sym, ◌∙◌, slice_get}
 use Rattle.block_order.specs.Order.{program_of}
 use Rattle.block_order.specs.ProgramPlaces.{place_of}

@@ -1,5 +1,5 @@
--- The tables at a number's place are those of its program; without a place it has no blocks
--- (src/order.rt).
+-- The tables at a number's place are those of its program; without a place it has no blocks. For
+-- the contract of `tables_of` (src/order.rt).
 use Rattle.std.proofs.Common.{rules, ◌≡◌, [], length, Some, sym, subst, ◌∙◌, arith}
 use Rattle.std.specs.Vec.{vec_len}
 use Rattle.std.proofs.lemmas.Option.{get_or_from_slice_get}

@@ -1,5 +1,5 @@
 -- A search comes to the first place from before it and from the last on, to a later one from the
--- place before on (src/sequence.rt).
+-- place before on. For the contract of `finders` (src/sequence.rt).
 use Rattle.std.proofs.Common.{◌≡◌, ℕ, ltb, ◌<◌, ◌+◌, ◌-◌, Some, length, get_or, sym, ap, ◌∙◌, arith, rules}
 use Rattle.std.proofs.lemmas.List.Sorted.{IsPartitionPoint-from_clause, IsPartitionedBy-ltb}
 use Rattle.block_order.specs.Order.{seek}

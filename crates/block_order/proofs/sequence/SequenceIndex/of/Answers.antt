@@ -1,5 +1,5 @@
--- One block more adds its place to its number, and the whole index is that of the program
--- (src/sequence.rt).
+-- One block more adds its place to its number, and the whole index is that of the program. For the
+-- contract of `of` (src/sequence.rt).
 use Rattle.std.proofs.Common.{◌≡◌, ◌≢◌, sym, ap, ◌∙◌, arith}
 use Rattle.std.proofs.lemmas.Grind.{common_steps}
 use Rattle.std.proofs.lemmas.Bool.{cases_eq}

@@ -1,4 +1,4 @@
--- The index names the places of the blocks so far (loop of src/sequence.rt).
+-- The index names the places of the blocks so far. What the loop of `of` keeps (src/sequence.rt).
 use Rattle.std.proofs.Common.{◌≡◌, ℕ, [], take, nat_eq}
 use Rattle.std.specs.Option.{option_map_or}
 use Rattle.indexmap.specs.IndexMap.{get}

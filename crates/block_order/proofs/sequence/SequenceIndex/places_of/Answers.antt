@@ -1,4 +1,4 @@
--- A number that the index lacks has no places (src/sequence.rt).
+-- A number that the index lacks has no places. For the contract of `places_of` (src/sequence.rt).
 use Rattle.std.proofs.Common.{arith}
 use Rattle.std.proofs.lemmas.Grind.{common_steps}
 use Rattle.block_order.specs.Places.{IsIndexOf}

@@ -1,5 +1,5 @@
--- The first place behind the block, or else the first of all, is where the search leads
--- (src/sequence.rt).
+-- The first place behind the block, or else the first of all, is where the search leads. For the
+-- contract of `seek` (src/sequence.rt).
 use Rattle.std.proofs.Common.{◌≡◌, leb, sym, ap, ◌∙◌, arith, rules}
 use Rattle.std.proofs.lemmas.List.Sorted.{IsPartitionPoint-from_clause, IsPartitionedBy-leb}
 use Rattle.std.specs.List.{slice_get}

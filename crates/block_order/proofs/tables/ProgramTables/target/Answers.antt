@@ -1,5 +1,5 @@
--- A jump leads where the search leads, if the block is in reach; else it fails with 50 or 53
--- (src/tables.rt).
+-- A jump leads where the search leads, if the block is in reach; else it fails with 50 or 53. For
+-- the contract of `target` (src/tables.rt).
 use Rattle.std.proofs.Common.{◌≡◌, Some, None, false, true, refl, sym, ap, ◌∙◌, arith}
 use Rattle.nc_number.proofs.Bools.{only_false}
 use Rattle.block_order.specs.Order.{seek, permits, permitted_target}

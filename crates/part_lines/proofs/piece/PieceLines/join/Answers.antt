@@ -1,4 +1,5 @@
--- Takes the lines of a program that was called once (src/piece.rt).
+-- Each part that is done is joined with its wait, then the line of the last part; together they are
+-- all lines of the called program. For the contract of `join` (src/piece.rt).
 use Rattle.std.proofs.Common.{◌+◌, drop, sym, subst}
 use Rattle.part_lines.proofs.Shown.{IsJoinedSoFar, joined_next}
 use Rattle.part_lines.proofs.piece.PieceLines.join.Goals as goal

@@ -1,5 +1,5 @@
--- The lines so far and those that are left are those before and all that are joined (loop of
--- src/piece.rt).
+-- The lines so far and those that are left are those before and all that are joined. What the loop
+-- of `join` keeps (src/piece.rt).
 use Rattle.std.proofs.Common.{drop}
 use Rattle.part_lines.proofs.Shown.{IsJoinedSoFar}
 use Rattle.part_lines.proofs.piece.PieceLines.join.Given as goal

@@ -1,4 +1,5 @@
--- Takes the lines of a program that was called so many times (src/piece.rt).
+-- A piece without a wait is joined once for all repeats, which gives the same; any other is joined
+-- as often as it is run. For the contract of `join_times` (src/piece.rt).
 use Rattle.std.proofs.Common.{◌≡◌, length, ap, ◌∙◌, rules}
 use Rattle.part_lines.specs.Pieces.{shown}
 use Rattle.part_lines.proofs.Shown.{empty_is, times_more, waitless_joined}

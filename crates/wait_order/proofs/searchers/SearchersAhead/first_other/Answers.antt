@@ -1,5 +1,5 @@
 -- The nearest block that searches is the answer if it lies in another stretch; else the next one
--- after its stretch (src/searchers.rt).
+-- after its stretch. For the contract of `first_other` (src/searchers.rt).
 use Rattle.std.proofs.Common.{slice_index, ap, ◌∙◌}
 use Rattle.wait_order.proofs.Nearest.{near_same, near_other}
 use Rattle.wait_order.proofs.searchers.SearchersAhead.first_other.Goals as goal

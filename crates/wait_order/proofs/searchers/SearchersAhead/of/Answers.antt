@@ -1,4 +1,4 @@
--- The two lists are those of the blocks that search (src/searchers.rt).
+-- The two lists are those of the blocks that search. For the contract of `of` (src/searchers.rt).
 use Rattle.std.proofs.Common.{sym, subst}
 use Rattle.wait_order.specs.Searchers.{is_searcher, AreNext}
 use Rattle.wait_order.proofs.searchers.SearchersAhead.of.Goals as goal

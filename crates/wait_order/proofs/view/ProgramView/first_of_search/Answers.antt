@@ -1,4 +1,5 @@
--- A program of one stretch, and one in which no block searches, have no such block (src/view.rt).
+-- In a program of one stretch, and in one in which no block searches, no block leads to another
+-- stretch by the search. For the contract of `first_of_search` (src/view.rt).
 use Rattle.std.proofs.Common.{◌≡◌, false, sym, ◌∙◌}
 use Rattle.block_order.specs.Loud.{loud}
 use Rattle.wait_order.specs.Searchers.{is_searcher, is_sought}

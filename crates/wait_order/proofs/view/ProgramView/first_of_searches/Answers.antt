@@ -1,4 +1,5 @@
--- One search more is looked at, and the first block so far holds (src/view.rt).
+-- One search more is looked at, and the first block so far holds. For the contract of
+-- `first_of_searches` (src/view.rt).
 use Rattle.std.proofs.Common.{length, refl}
 use Rattle.std.proofs.lemmas.Option.{slice_get_read}
 use Rattle.block_order.specs.Loud.{loud}

@@ -1,4 +1,5 @@
--- The lesser of the first blocks of both kinds is the first of all (src/view.rt).
+-- The lesser of the first blocks of both kinds is the first of all. For the contract of
+-- `first_stray` (src/view.rt).
 use Rattle.std.proofs.Common.{length, sym, subst}
 use Rattle.block_order.specs.Loud.{loud}
 use Rattle.wait_order.specs.Searches.{IsSearchStrayBelow}

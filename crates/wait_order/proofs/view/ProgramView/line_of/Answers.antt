@@ -1,4 +1,5 @@
--- The line of the first block is the first line; no block has none (src/view.rt).
+-- The line of the first block that may pass a wait is the first such line; without such a block
+-- there is none. For the contract of `line_of` (src/view.rt).
 use Rattle.std.proofs.Common.{◌≤◌, ◌<◌, length, subst, arith}
 use Rattle.wait_order.specs.Waiting.{IsLeast, IsStray}
 use Rattle.wait_order.proofs.Strayed.{least_line, least_no_line, stray_within, stands_there}

@@ -1,4 +1,4 @@
--- Stretches that differ in the list differ (src/ways.rt).
+-- Stretches that differ in the list differ. For the contract of `are_apart` (src/ways.rt).
 use Rattle.wait_order.proofs.Elsewhere.{apart_is}
 use Rattle.wait_order.proofs.ways.ProgramWays.are_apart.Goals as goal
 

@@ -1,5 +1,5 @@
--- A loop leads elsewhere if its two ends lie apart; a block that ends no loop does not
--- (src/ways.rt).
+-- A loop leads elsewhere if its two ends lie apart; a block that ends no loop does not. For the
+-- contract of `closes_elsewhere` (src/ways.rt).
 use Rattle.wait_order.proofs.Elsewhere.{closes_where, closes_nowhere}
 use Rattle.wait_order.proofs.ways.ProgramWays.closes_elsewhere.Goals as goal
 

@@ -1,4 +1,5 @@
--- If the last block lies in the first stretch, no jump leads to another one (src/ways.rt).
+-- If the last block lies in the first stretch, no jump leads to another one. For the contract of
+-- `is_one_stretch` (src/ways.rt).
 use Rattle.std.proofs.Common.{◌≡◌, arith}
 use Rattle.std.proofs.lemmas.Bool.Decides.{nat_tests}
 use Rattle.wait_order.proofs.Elsewhere.{one_stretch}

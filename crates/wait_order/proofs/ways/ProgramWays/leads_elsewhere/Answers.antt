@@ -1,4 +1,5 @@
--- A jump leads elsewhere if its target lies apart; one without a target does not (src/ways.rt).
+-- A jump leads elsewhere if its target lies apart; one without a target does not. For the contract
+-- of `leads_elsewhere` (src/ways.rt).
 use Rattle.std.proofs.Common.{sym, ◌∙◌}
 use Rattle.block_order.proofs.Searches.{led}
 use Rattle.block_order.proofs.Targets.{seek_stands}
