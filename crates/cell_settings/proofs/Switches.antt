@@ -1,11 +1,11 @@
--- The bits of a mask of switches.
+-- The bits of a mask of skip switches. For the proof of `with_switch` (src/settings.rt).
 use Rattle.std.proofs.Common.{◌≡◌, ℕ, ◌^◌, ◌≤◌, max, bit_or, inl, inr, sym, ◌∙◌, arith}
 use Rattle.std.specs.Int.{bit_at}
 use Rattle.std.proofs.lemmas.Bool.{cases_eq}
 use Rattle.std.proofs.lemmas.Nat.Bits.{bit_at_or, bit_at-pow_other}
 use Rattle.cell_settings.specs.Settings.{IsSwitches}
 
--- a mask with one switch more
+-- a mask of switches with one switch more from 1 to 9 is a mask of switches
 pub switches_more : (mask switch : ℕ) → IsSwitches mask → 1 ≤ switch → switch ≤ 9 → IsSwitches (bit_or mask (2 ^ switch))
 switches_more mask switch before least greatest = record {
   only = λ n set. elim (cases_eq n switch) [

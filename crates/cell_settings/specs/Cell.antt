@@ -1,5 +1,5 @@
--- The settings that a text gives.
--- lathe_calls, lathe_top and three more crates take words from here.
+-- The settings that a text gives, line by line, or its first line that is not allowed. nc_verify,
+-- wait_verify, nc_restart, lathe_calls and lathe_top cite it.
 use Rattle.std.specs.Prelude.{ℕ, ◌^◌, Bool, true, List, [], ◌∷◌, Result, slice_index, slice_set, bit_or}
 use Rattle.std.specs.Str.Lines.{lines}
 use Rattle.nc_number.specs.declared.path.Path.{Path}
@@ -16,18 +16,29 @@ use Rattle.field_lines.specs.Line.{line_says, entries_of, first_refused, unless_
 use Rattle.cell_settings.specs.Entry.{fields_say}
 use Rattle.cell_settings.specs.Preset.{with_preset}
 
--- the settings without where they lie in memory
+-- the settings of the cell as contracts see them; in a list of two the first item is path 1's
 pub record Cell : Type 0 where
+  -- the first waiting code
   pub wait_low : ℕ
+  -- the last waiting code
   pub wait_high : ℕ
+  -- how many variables from #100 on both paths share
   pub shared100 : ℕ
+  -- how many variables from #500 on both paths share
   pub shared500 : ℕ
+  -- the P of a wait names the paths by bits, and not by their numbers
   pub bits : Bool
+  -- the system of the tapes' G codes
   pub system : System
+  -- the skip switches of each path: bit n is switch n
   pub skips : List ℕ
+  -- the opening position of each path, in machine coordinates
   pub place : List Point
+  -- the reference position of each path, in machine coordinates
   pub home : List Point
+  -- how many records the journal may have
   pub records : ℕ
+  -- the offsets that the paths begin with
   pub presets : List Preset
 
 -- The settings of an empty text: waits M100 to M197 in system A, both paths share #500 to #599, and
@@ -47,12 +58,12 @@ standard = record {
   presets = [];
 }
 
--- the switches of the paths with one more of this path: bit n is switch n
+-- the skip switches of both paths with one more on, of this path: bit n is switch n
 abbrev pub with_switch : Path → ℕ → List ℕ → List ℕ
 with_switch path switch skips = slice_set skips (index_of path) (bit_or (slice_index skips (index_of path)) (2 ^ switch))
 
--- one line more: it takes the place of an earlier one of its name and numbers, but a switch is
--- added
+-- the settings with one line more: it takes the place of an earlier one of its name and numbers,
+-- but a switch is added
 abbrev pub with_entry : Cell → Entry → Cell
 with_entry cell says.Nothing = cell
 with_entry cell (says.Wait low high) = record cell { wait_low = low; wait_high = high }
@@ -66,7 +77,7 @@ with_entry cell (says.Home path to) = record cell { home = slice_set cell.home (
 with_entry cell (says.Offset preset) = record cell { presets = with_preset preset cell.presets }
 with_entry cell (says.Records n) = record cell { records = n }
 
--- what all lines say together
+-- the settings with what all lines say, one after the other
 abbrev pub with_entries : Cell → List Entry → Cell
 with_entries cell [] = cell
 with_entries cell (entry ∷ entries) = with_entries (with_entry cell entry) entries

@@ -1,5 +1,5 @@
--- What a line of settings says. A line that is none of these is not allowed.
--- For this crate alone.
+-- What a line of settings says, a definition for each name; a line that is none of these is not
+-- allowed. src/named.rt has a function for each. For this crate alone.
 use Rattle.std.specs.Prelude.{ℕ, ◌≤◌, true, false, List, [], ◌∷◌, Option, Some, None, codes, if◌then◌else◌}
 use Rattle.std.specs.Str.{bytes_eq}
 use Rattle.cell_settings.specs.declared.preset.Preset.{Preset}
@@ -14,7 +14,7 @@ use Rattle.nc_number.specs.Position.{IsPosition}
 use Rattle.cell_settings.specs.Preset.{IsPreset}
 use Rattle.cell_settings.specs.PresetLine.{preset_of}
 
--- the first and the last waiting code
+-- what the values of `wait` say: the first and the last waiting code, 100 to 999
 unfoldable pub wait_of : List (List ℕ) → Option Entry
 wait_of (first ∷ last ∷ []) = do
   low ← number_in 100 999 first
@@ -22,35 +22,35 @@ wait_of (first ∷ last ∷ []) = do
   Some (says.Wait low high)
 wait_of _ = None
 
--- how many variables from #100 on are shared
+-- what the value of `shared100` says: how many variables from #100 on are shared
 unfoldable pub shared100_of : List (List ℕ) → Option Entry
 shared100_of (count ∷ []) = do
   n ← number_in 0 100 count
   Some (says.Shared100 n)
 shared100_of _ = None
 
--- how many variables from #500 on are shared
+-- what the value of `shared500` says: how many variables from #500 on are shared
 unfoldable pub shared500_of : List (List ℕ) → Option Entry
 shared500_of (count ∷ []) = do
   n ← number_in 0 500 count
   Some (says.Shared500 n)
 shared500_of _ = None
 
--- how the P of a wait names the paths
+-- what the value of `paths` says: how the P of a wait names the paths
 unfoldable pub paths_of : List (List ℕ) → Option Entry
 paths_of (form ∷ []) =
     if bytes_eq form (codes "bits") then Some (says.Paths true)
     else (if bytes_eq form (codes "numbers") then Some (says.Paths false) else None)
 paths_of _ = None
 
--- the system of the tapes' G codes
+-- what the value of `codes` says: the system of the tapes' G codes
 unfoldable pub codes_of : List (List ℕ) → Option Entry
 codes_of (system ∷ []) =
     if bytes_eq system (codes "A") then Some (says.Codes A)
     else (if bytes_eq system (codes "B") then Some (says.Codes B) else None)
 codes_of _ = None
 
--- a path, and a switch from 1 to 9
+-- what the values of `skip` say: a path, and a switch from 1 to 9 that is on
 unfoldable pub skip_of : List (List ℕ) → Option Entry
 skip_of (path ∷ switch ∷ []) = do
   p ← path_of path
@@ -58,7 +58,7 @@ skip_of (path ∷ switch ∷ []) = do
   Some (says.Skip p n)
 skip_of _ = None
 
--- the opening position of a path
+-- what the values of `place` say: the opening position of a path
 unfoldable pub place_of : List (List ℕ) → Option Entry
 place_of (path ∷ x ∷ z ∷ []) = do
   p ← path_of path
@@ -66,7 +66,7 @@ place_of (path ∷ x ∷ z ∷ []) = do
   Some (says.Place p to)
 place_of _ = None
 
--- the reference position of a path
+-- what the values of `home` say: the reference position of a path
 unfoldable pub home_of : List (List ℕ) → Option Entry
 home_of (path ∷ x ∷ z ∷ []) = do
   p ← path_of path
@@ -74,14 +74,14 @@ home_of (path ∷ x ∷ z ∷ []) = do
   Some (says.Home p to)
 home_of _ = None
 
--- how many records the journal may have
+-- what the value of `records` says: how many records the journal may have
 unfoldable pub records_of : List (List ℕ) → Option Entry
 records_of (count ∷ []) = do
   n ← number_in 1 MOST_RECORDS count
   Some (says.Records n)
 records_of _ = None
 
--- what a name and its values say
+-- what a name and its values say, if it is none of a position or an offset
 unfoldable pub named_of : List ℕ → List (List ℕ) → Option Entry
 named_of name values =
     if bytes_eq name (codes "wait") then wait_of values
@@ -98,19 +98,19 @@ abbrev pub offset_or : Option Preset → Option Entry → Option Entry
 offset_or (Some preset) other = Some (says.Offset preset)
 offset_or None other = other
 
--- what a line of a position, of an offset or of any other name says
+-- what a name and its values say, of a position, of an offset or of any other name
 unfoldable pub named_point_of : List ℕ → List (List ℕ) → Option Entry
 named_point_of name values =
     if bytes_eq name (codes "place") then place_of values
     else (if bytes_eq name (codes "home") then home_of values
     else offset_or (preset_of name values) (named_of name values))
 
--- what fields say: a name and its values; no field says nothing
+-- what the fields of a line say: a name and its values; no field says nothing
 unfoldable pub fields_say : List (List ℕ) → Option Entry
 fields_say [] = Some says.Nothing
 fields_say (name ∷ values) = named_point_of name values
 
--- the conditions of a line
+-- what a line says is in its ranges
 abbrev pub IsAllowed : Entry → Type 0
 IsAllowed says.Nothing = Unit {0}
 IsAllowed (says.Wait low high) = (100 ≤ low) × (low ≤ high) × (high ≤ 999)

@@ -1,5 +1,6 @@
--- The words of the contracts of cell_settings. Cell, View, Preset and Slots are what most callers
--- cite; Entry and PresetLine say what a line may say.
+-- The settings of the cell: what a text gives (Cell), what a line may say (Entry, PresetLine), the
+-- opening offsets (Preset, Slots), and the type (Settings, View). Other crates cite Cell, View,
+-- Preset, PresetLine and Slots.
 pub mod Preset
 pub mod PresetLine
 pub mod Slots

@@ -1,11 +1,11 @@
--- The settings as contracts see them.
--- nc_restart takes `view`, nc_verify `view`, run_table `view` and wait_verify `view`.
+-- The settings and the fault of a line, as contracts see them. nc_verify, nc_restart, run_table and
+-- wait_verify cite `view`.
 use Rattle.std.specs.Prelude.{ℕ}
 use Rattle.cell_settings.specs.declared.reading.SettingFault.{SettingFault}
 use Rattle.cell_settings.specs.declared.settings.Settings.{Settings}
 use Rattle.cell_settings.specs.Cell.{Cell}
 
--- the settings without where they lie in memory
+-- what contracts see of the settings: all fields, without where they lie in memory
 abbrev pub view : Settings → Cell
 view s = record {
   wait_low = s.wait_low;
@@ -21,6 +21,6 @@ view s = record {
   presets = s.presets;
 }
 
--- what a definition sees of a fault: its line
+-- what contracts see of a fault of the settings: its line
 abbrev pub line_of : SettingFault → ℕ
 line_of fault = fault.line

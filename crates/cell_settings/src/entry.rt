@@ -1,5 +1,5 @@
-//! What one line of the settings says. How it is read is in named.rt.
-//! For this crate alone.
+//! What one line of the settings says: a variant for each name. named.rt reads a line, settings.rt
+//! takes what it says. For this crate alone; a further name is a variant here.
 use crate::preset::Preset;
 use code_tables::System;
 use nc_number::{Path, Point};

@@ -3,8 +3,8 @@
 //! the size of the journal.
 //!
 //! To the crates above it promises that [`Settings`] are what the text says, by the rules of the
-//! settings file, that they keep the conditions of those rules, and that a refusal names the first
-//! line that the rules don't allow.
+//! settings file, that they keep the ranges of those rules, and that a refusal names the first line
+//! that the rules don't allow. nc_verify reads the settings of a pair by it.
 #![tactic(auto)]
 
 mod entry;

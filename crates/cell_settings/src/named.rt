@@ -1,5 +1,5 @@
-//! What the fields of a line of the settings say, by its first word.
-//! For this crate alone.
+//! What the fields of a line of the settings say, by its first word: a function for each name, as
+//! specs/Entry.antt defines them. For reading.rt of this crate alone.
 ghost use Rattle.std.specs.Prelude.{◌≡◌, IfOk, IfSome};
 ghost use Rattle.field_lines.specs.Field.{texts};
 ghost use Rattle.field_lines.specs.Line.{line_says};
@@ -12,7 +12,7 @@ use field_lines::{line_fields, number_in, read_path, read_point};
 use nc_number::MOST_RECORDS;
 use std::alloc::{AllocError, Global};
 
-/// The first and the last waiting code.
+/// What `wait` and its values say: the first and the last waiting code, 100 to 999.
 #[tactic(auto, unfolding(crate::specs::Entry::wait_of))]
 fn wait(values: &[&[u8]]) -> Option<Entry>
     ensures value { result ≡ wait_of (texts values.now) }
@@ -31,7 +31,7 @@ fn wait(values: &[&[u8]]) -> Option<Entry>
     }
 }
 
-/// How many variables from #100 on are shared.
+/// What `shared100` and its value say: how many variables from #100 on are shared, at most 100.
 #[tactic(auto, unfolding(crate::specs::Entry::shared100_of))]
 fn shared100(values: &[&[u8]]) -> Option<Entry>
     ensures value { result ≡ shared100_of (texts values.now) }
@@ -43,7 +43,7 @@ fn shared100(values: &[&[u8]]) -> Option<Entry>
     }
 }
 
-/// How many variables from #500 on are shared.
+/// What `shared500` and its value say: how many variables from #500 on are shared, at most 500.
 #[tactic(auto, unfolding(crate::specs::Entry::shared500_of))]
 fn shared500(values: &[&[u8]]) -> Option<Entry>
     ensures value { result ≡ shared500_of (texts values.now) }
@@ -55,7 +55,7 @@ fn shared500(values: &[&[u8]]) -> Option<Entry>
     }
 }
 
-/// Whether the P of a wait names the paths by bits or by numbers.
+/// What `paths` and its value say: the P of a wait names the paths by bits or by numbers.
 #[tactic(auto, unfolding(crate::specs::Entry::paths_of))]
 fn paths(values: &[&[u8]]) -> Option<Entry>
     ensures value { result ≡ paths_of (texts values.now) }
@@ -75,7 +75,7 @@ fn paths(values: &[&[u8]]) -> Option<Entry>
     }
 }
 
-/// The system of the tapes' G codes.
+/// What `codes` and its value say: the system of the tapes' G codes, A or B.
 #[tactic(auto, unfolding(crate::specs::Entry::codes_of))]
 fn codes(values: &[&[u8]]) -> Option<Entry>
     ensures value { result ≡ codes_of (texts values.now) }
@@ -95,7 +95,7 @@ fn codes(values: &[&[u8]]) -> Option<Entry>
     }
 }
 
-/// A skip switch of a path.
+/// What `skip` and its values say: a skip switch of a path that is on, 1 to 9.
 #[tactic(auto, unfolding(crate::specs::Entry::skip_of))]
 fn skip(values: &[&[u8]]) -> Option<Entry>
     ensures value { result ≡ skip_of (texts values.now) }
@@ -114,7 +114,7 @@ fn skip(values: &[&[u8]]) -> Option<Entry>
     }
 }
 
-/// The opening position of a path.
+/// What the values of `place` say: the opening position of a path.
 #[tactic(auto, unfolding(crate::specs::Entry::place_of))]
 fn place(values: &[&[u8]]) -> Option<Entry>
     ensures value { result ≡ place_of (texts values.now) }
@@ -130,7 +130,7 @@ fn place(values: &[&[u8]]) -> Option<Entry>
     }
 }
 
-/// The reference position of a path.
+/// What the values of `home` say: the reference position of a path.
 #[tactic(auto, unfolding(crate::specs::Entry::home_of))]
 fn home(values: &[&[u8]]) -> Option<Entry>
     ensures value { result ≡ home_of (texts values.now) }
@@ -146,7 +146,7 @@ fn home(values: &[&[u8]]) -> Option<Entry>
     }
 }
 
-/// How many records the journal may have.
+/// What `records` and its value say: how many records the journal may have, at most 4,000,000.
 #[tactic(auto, unfolding(crate::specs::Entry::records_of))]
 fn records(values: &[&[u8]]) -> Option<Entry>
     ensures value { result ≡ records_of (texts values.now) }
@@ -158,7 +158,7 @@ fn records(values: &[&[u8]]) -> Option<Entry>
     }
 }
 
-/// What a name and its values say, if it is no name of points.
+/// What a name and its values say, if it is none of a position or an offset.
 #[tactic(auto, unfolding(crate::specs::Entry::named_of))]
 fn named(name: &[u8], values: &[&[u8]]) -> Option<Entry>
     ensures value { result ≡ named_of name.now (texts values.now) }
@@ -183,7 +183,7 @@ fn named(name: &[u8], values: &[&[u8]]) -> Option<Entry>
     }
 }
 
-/// What a name and its values say.
+/// What a name and its values say, if they are allowed.
 #[tactic(auto, unfolding(crate::specs::Entry::named_point_of))]
 fn named_point(name: &[u8], values: &[&[u8]]) -> Option<Entry>
     ensures value { result ≡ named_point_of name.now (texts values.now) }
@@ -201,7 +201,7 @@ fn named_point(name: &[u8], values: &[&[u8]]) -> Option<Entry>
     }
 }
 
-/// What the fields of a line say.
+/// What the fields of a line say, if they are allowed. No field says nothing.
 #[tactic(auto, unfolding(crate::specs::Entry::fields_say))]
 fn read_fields(fields: &[&[u8]]) -> Option<Entry>
     ensures value { result ≡ fields_say (texts fields.now) }
@@ -213,7 +213,7 @@ fn read_fields(fields: &[&[u8]]) -> Option<Entry>
     }
 }
 
-/// What a line says, if it is allowed.
+/// What a line says, if it is allowed. The only error is out of memory.
 #[tactic(auto, unfolding(field_lines::specs::Line::line_says))]
 pub(crate) fn read_line(alloc: Global, line: &[u8]) -> Result<Option<Entry>, AllocError>
     ensures value { IfOk result (λ entry. entry ≡ line_says fields_say line.now) }

@@ -1,5 +1,5 @@
-//! Which slot of offset_store the offset of a setting has.
-//! edit_texts and path_state use it.
+//! Which offset of offset_store a line of the settings or of edits sets. path_state sets the
+//! opening offsets by it, edit_texts makes an edit of it.
 ghost use Rattle.std.specs.Prelude.{◌≡◌};
 ghost use Rattle.cell_settings.specs.Preset.{IsPreset};
 ghost use Rattle.cell_settings.specs.Slots.{preset_slot};
@@ -7,7 +7,7 @@ ghost use Rattle.cell_settings.specs.Slots.{preset_slot};
 use crate::preset::{Preset, PresetKind};
 use offset_store::{Slot, ToolNumber, WorkNumber};
 
-/// The offset that has the kind and the number of a setting.
+/// The offset of the kind and the number that a line gives.
 pub fn preset_slot(preset: &Preset) -> Slot
     requires { IsPreset preset.now }
     ensures { result ≡ preset_slot preset.now.kind preset.now.number }

@@ -1,6 +1,5 @@
 //! The offsets that the paths begin with, as a list with one at most for each path, kind and
-//! number.
-//! edit_texts, path_state and tests use it.
+//! number. path_state begins with them; edit_texts reads its lines of offsets as presets too.
 ghost use Rattle.std.specs.Prelude.{◌≡◌, List, [], All, OnOk};
 ghost use Rattle.cell_settings.specs.Preset.{with_preset, without_place, is_same_place, IsPreset};
 
@@ -26,7 +25,7 @@ pub struct Preset {
     pub path: Path,
     /// A work offset, or the geometry or the wear of a tool.
     pub kind: PresetKind,
-    /// Its number among those of its kind.
+    /// The number of the offset among those of its kind.
     pub number: u8,
     /// The offset, in 0.001 mm.
     pub to: Point,
@@ -35,6 +34,7 @@ pub struct Preset {
 /// The opening offsets, at most one for each path, kind and number.
 #[derive(Debug, Drop)]
 pub struct PresetList {
+    /// The offsets, in the order in which they were last set.
     items: Vec<Preset>,
 }
 
@@ -71,7 +71,8 @@ impl PresetList {
         self.items.as_slice()
     }
 
-    /// Sets an offset, in the place of one for the same path, kind and number.
+    /// Sets an offset, instead of one for the same path, kind and number. The error is that memory
+    /// ran out; then that one is left out all the same.
     pub(crate) fn set(&mut self, preset: Preset) -> Result<(), AllocFailed<Preset>>
         ensures ok { OnOk result (self.new ≡ with_preset preset self.old) }
         ensures kept { All IsPreset self.old → IsPreset preset → All IsPreset self.new }

@@ -1,5 +1,5 @@
-//! The lines of the settings that give offsets; a line of edits has the same form.
-//! edit_texts uses it.
+//! The lines of the settings that give offsets; a line of edits has the same form. named.rt reads
+//! them here, and so does edit_texts: a change here changes both texts.
 ghost use Rattle.std.specs.Prelude.{◌≡◌, ◌≢◌, ◌≤◌, IfSome};
 ghost use Rattle.field_lines.specs.Field.{texts};
 ghost use Rattle.cell_settings.specs.Preset.{IsPreset};
@@ -9,7 +9,8 @@ use crate::preset::{Preset, PresetKind};
 use field_lines::{number_in, read_path, read_point};
 use nc_number::TOOL_OFFSETS;
 
-/// 0 for the external work offset, 1 to 6 for G54 to G59.
+/// The work offset that a field names: 0 for the external one, 1 to 6 for G54 to G59, which are
+/// written as 54 to 59; none for any other text.
 #[tactic(auto, unfolding(crate::specs::PresetLine::work_number))]
 fn work_number(text: &[u8]) -> Option<u8>
     ensures value { result ≡ work_number text.now }
@@ -22,7 +23,7 @@ fn work_number(text: &[u8]) -> Option<u8>
     Some((n - 53) as u8)
 }
 
-/// A work offset of a path.
+/// The work offset of a path that the values of `work` set, if they are allowed.
 #[tactic(auto, unfolding(crate::specs::PresetLine::work_of))]
 fn work(values: &[&[u8]]) -> Option<Preset>
     ensures value { result ≡ work_of (texts values.now) }
@@ -44,7 +45,8 @@ fn work(values: &[&[u8]]) -> Option<Preset>
     }
 }
 
-/// A geometry or wear offset of a path.
+/// The geometry or wear offset of a path that the values of `tool` or `wear` set, if they are
+/// allowed.
 #[tactic(auto, unfolding(crate::specs::PresetLine::tool_of))]
 fn tool(kind: PresetKind, values: &[&[u8]]) -> Option<Preset>
     requires { kind ≢ PresetKind.Work }
@@ -68,8 +70,8 @@ fn tool(kind: PresetKind, values: &[&[u8]]) -> Option<Preset>
 }
 
 /// The offset that a name and its values set: `work p n X.. Z..`, `tool p n X.. Z..` or `wear p n
-/// X.. Z..`. The number of a work offset is 0 for the external one, or 54 to 59. None where they
-/// are none of these, or are out of their condition.
+/// X.. Z..`. The number of a work offset is 0 for the external one, or 54 to 59. None if they are
+/// none of these, or out of their range.
 #[tactic(auto, unfolding(crate::specs::PresetLine::preset_of))]
 pub fn read_preset(name: &[u8], values: &[&[u8]]) -> Option<Preset>
     ensures value { result ≡ preset_of name.now (texts values.now) }

@@ -1,5 +1,5 @@
-//! From a text to the settings of the cell.
-//! nc_verify and tests use it.
+//! From a text to the settings of the cell, or to its first bad line. nc_verify reads settings by
+//! it. What a line says is in named.rt.
 ghost use Rattle.std.specs.Prelude.{◌≡◌, ◌<◌, ◌^◌, length};
 ghost use Rattle.nc_number.specs.Answers.{GivesBy};
 ghost use Rattle.nc_number.specs.Causes.{cause_number};
@@ -33,6 +33,7 @@ impl SettingFault {
 /// Reads the settings of the cell.
 ///
 /// A line is empty, a comment that begins with `(`, or a name with its values, separated by spaces.
+/// The error is the first line that is not allowed, or that memory ran out.
 pub fn read_settings(alloc: Global, text: &[u8]) -> Result<Settings, Failing<SettingFault>>
     requires { length text.now < 2 ^ 32 }
     // The settings that the text gives, or the first line that is not allowed, unless memory runs

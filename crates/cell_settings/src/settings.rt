@@ -1,5 +1,5 @@
-//! The settings of the cell, as a type that keeps their conditions, and a line more of them.
-//! block_words, lathe_calls and twelve more crates, and tests, use it.
+//! The settings of the cell, as a type that keeps their ranges, and what one line more makes of
+//! them. block_words, tape_flow, path_state, nc_verify and all crates of a run read its fields.
 ghost use Rattle.std.specs.Prelude.{◌≡◌, ◌^◌, ◌<◌, ◌≤◌, bit_or, All, OnOk};
 ghost use Rattle.cell_settings.specs.Settings.{IsWaitRange, IsSwitches};
 ghost use Rattle.nc_number.specs.declared.limits.TheConstants.{MOST_RECORDS};
@@ -12,7 +12,7 @@ use code_tables::System;
 use nc_number::{MOST_RECORDS, Point};
 use std::alloc::{AllocFailed, Global};
 
-/// The settings of the cell. The path that a list of two speaks of is its place in the list.
+/// The settings of the cell. In a list of two the first item is path 1's, the second path 2's.
 #[derive(Debug, Drop)]
 pub struct Settings {
     /// The first waiting code.
@@ -73,7 +73,7 @@ impl Settings {
         }
     }
 
-    /// Takes what a line says.
+    /// Takes what a line says. The only error is out of memory, at an offset.
     pub(crate) fn take(&mut self, entry: Entry) -> Result<(), AllocFailed<Preset>>
         requires { IsAllowed entry }
         ensures { OnOk result (view self.new ≡ with_entry (view self.old) entry) }
@@ -101,7 +101,7 @@ impl Settings {
     }
 }
 
-/// The switches with one more.
+/// The switches of a path with one more on: bit n is switch n.
 fn with_switch(mask: u16, switch: u8) -> u16
     requires mask { IsSwitches mask }
     requires least { 1 ≤ switch }

@@ -1,4 +1,5 @@
--- What a parse reads of a command, step by step as the command is built.
+-- What a parse reads of a command, step by step as the command is built: for the loops of
+-- src/grammar.rt.
 use Rattle.std.proofs.Common.{◌≡◌, ℕ, ◌+◌, ◌≤◌, ◌<◌, false, ◌||◌, List, [], ◌∷◌, map, take, get_or, length, ap, ap₂, ◌∙◌}
 use Rattle.std.specs.List.{fold}
 use Rattle.std.proofs.lemmas.List.{map-append, take_all, take_more}
@@ -28,7 +29,7 @@ adds_subcommand app below old sub new read sub_read adds = record {
   local = adds.globals ∙ ap₂ (λ a b. a || b) read.local sub_read.local;
 }
 
--- One item more of a list that is folded into the command.
+-- A command into which k + 1 items of a list are folded is that of k items with the next one.
 pub one_more : {X A : Type 0} → (f : App → A → App) (start : App) (seen : X → A) (xs : List X) (k : ℕ) (d : X) (command : Command) → k < length xs
     → IsRead (f (fold f start (map seen (take k xs))) (seen (get_or xs k d))) command → IsRead (fold f start (map seen (take (k + 1) xs))) command
 one_more f start seen xs k d command inside read =

@@ -1,4 +1,4 @@
--- From what `clap` answers to the listed command, step by step.
+-- From what `clap` answers to the listed command, step by step: for the proofs of src/reading.rt.
 use Rattle.std.proofs.Common.{◌≡◌, zero, suc, true, false, List, [], ◌∷◌, ◌++◌, map, Option, Some, None, option_map, Result, Ok, Err, refl, sym, ap, subst, ◌∙◌, arith, append_assoc, inl, inr}
 use Rattle.std.specs.Prelude.{IfOk, IsErrOf, string_bytes}
 use Rattle.std.specs.List.{All}
@@ -64,7 +64,7 @@ program_is_free : is_simple_and_free program_app ≡ true
 unfolding program_app listings
 program_is_free = refl
 
--- It is simple, as clap's contracts ask.
+-- The program's command is simple, as clap's contracts ask.
 program_is_simple : is_simple program_app ≡ true
 unfolding program_app listings
 program_is_simple = refl

@@ -1,3 +1,5 @@
+-- The lemmas of this crate, each file by its subject; TopWords ends in the law of src/law.rt. No
+-- other crate uses them.
 pub mod Building
 pub mod FromMatches
 pub mod Readings

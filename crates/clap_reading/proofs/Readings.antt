@@ -1,6 +1,7 @@
 -- A parse of the words after a subcommand reads just what the listed commands read, word by word. A
 -- parse is at rest between two words, or waits for the text of an option. A use is an argument with
--- the text that it was given. clap keeps the last use until the next word, and settles it then.
+-- the text that it was given. clap keeps the last use until the next word, and settles it then. For
+-- Subcommands and TopWords.
 use Rattle.std.proofs.Common.{◌≡◌, ◌+◌, ◌<◌, Bool, true, false, List, [], ◌∷◌, ◌++◌, map, length, min, Option, Some, None, refl, sym, ap, ap₂, ◌∙◌, arith, length-append, codes, inl, inr}
 use Rattle.std.specs.Str.{bytes_eq}
 use Rattle.std.proofs.lemmas.Bool.Decides.{eqb_tells}
@@ -30,23 +31,24 @@ check_of id c rows = check_fault (leaf id c) rows false
 abbrev pub ReadsFrom : Text → List Rule → List Text → List Text → Walk → List Text → List Text → List Used → Option Given → Type 0
 ReadsFrom id c ids options w rest names marked g = Outcome ids options (check_of id c) (rest_fault id c w rest) (finished c (end_of c w rest)) names marked g
 
--- It does from each walk at rest.
+-- The parse of the rest comes to what the listed commands read, from each walk at rest.
 abbrev pub AtRest : Text → List Rule → List Text → List Text → List Text → Type 0
 AtRest id c ids options rest = (done : List Used) (last : Option Used) (names : List Text) (marked : List Used) (trailing : Bool) → Settles c done last
     → Story ids options (all_uses done last) names marked
     → ReadsFrom id c ids options (at_rest done last (length names + 1) trailing) rest names marked (read trailing options rest)
 
--- It does from each walk that waits for the text of an option.
+-- The parse of the rest comes to what the listed commands read, from each walk that waits for the
+-- text of an option.
 abbrev pub AtOption : Text → List Rule → List Text → List Text → List Text → Type 0
 AtOption id c ids options rest = (opt : Text) (uses : List Used) (names : List Text) (marked : List Used) → Story ids options uses names marked → is_known options opt ≡ true
     → ReadsFrom id c ids options (at_option opt uses (length names + 1)) rest names marked (text_then options rest opt)
 
--- An outcome is the same of equal faults and rows.
+-- An outcome of faults and rows is one of equal faults and rows.
 outcome_as : (ids options : List Text) (check : List Row → Kinds) (fault other : Kinds) (rows more : List Row) (names : List Text) (marked : List Used) (g : Option Given)
     → fault ≡ other → rows ≡ more → Outcome ids options check other more names marked g → Outcome ids options check fault rows names marked g
 outcome_as ids options check fault other rows more names marked g e f outcome = rw (e, f) outcome
 
--- A word that the parse takes: the outcome is that of the walk after it.
+-- If the parse takes a word, the outcome is that of the walk after it.
 goes_on : (id : Text) (c : List Rule) (ids options : List Text) (w after : Walk) (word : Text) (rest names : List Text) (marked : List Used) (g : Option Given)
     → turn_fault (leaf id c) [] w word ≡ [] → walked c [] w word ≡ after → ReadsFrom id c ids options after rest names marked g
     → ReadsFrom id c ids options w (word ∷ rest) names marked g
@@ -54,7 +56,7 @@ goes_on id c ids options w after word rest names marked g none same outcome =
     outcome_as ids options (check_of id c) (rest_fault id c w (word ∷ rest)) (rest_fault id c after rest) (finished c (end_of c w (word ∷ rest))) (finished c (end_of c after rest)) names marked g
     (step_fault_is id c w after word rest none same) (ap (finished c) (step_end_is c w after word rest same)) outcome
 
--- An outcome is the same of an equal reading.
+-- An outcome for a reading is one for an equal reading.
 as_given : (id : Text) (c : List Rule) (ids options : List Text) (w : Walk) (rest names : List Text) (marked : List Used) (g h : Option Given) → g ≡ h
     → ReadsFrom id c ids options w rest names marked h → ReadsFrom id c ids options w rest names marked g
 as_given id c ids options w rest names marked g h e outcome = rw e outcome
@@ -73,7 +75,7 @@ at_end id c ids options arguments done last names marked trailing settles story 
     ∙ ap (check_of id c) rows in
     rw (append-nil names, append-nil marked) (checked (all_uses done last) story fault rows)
 
--- One word more, which is a name.
+-- At a name, clap and the listed commands go on alike.
 name_step : (id : Text) (c : List Rule) (ids options : List Text) → Arguments c ids options → (word : Text) (rest : List Text) → AtRest id c ids options rest
     → (done : List Used) (last : Option Used) (names : List Text) (marked : List Used) (trailing : Bool) → Settles c done last
     → Story ids options (all_uses done last) names marked → GoesToPositional trailing word
@@ -109,7 +111,7 @@ name_step id c ids options arguments word rest later done last names marked trai
         (record { rule = at.rule; found = at.found; same = at.same; once = at.once; fresh = fresh })
         (one_name ids options (all_uses done last) names marked next.0 word story next.1 less other)))
 
--- One word more, which is an option with its text attached.
+-- At an option with its text attached, clap and the listed commands go on alike.
 attached_step : (id : Text) (c : List Rule) (ids options : List Text) → Arguments c ids options → (opt : Text) → is_known options opt ≡ true
     → (word text : Text) (rest : List Text) → AtRest id c ids options rest
     → bytes_eq word (codes "--") ≡ false → long_of word ≡ Some (opt, Some text)
@@ -146,7 +148,7 @@ attached_step id c ids options arguments opt is word text rest later no_dashes r
         option_again ids options (check_of id c) (rest_fault id c w (word ∷ rest)) (finished c (end_of c w (word ∷ rest))) names marked opt text earlier (given options rest)
         (fails_now id c w word rest fails) some
 
--- One word more, which is an option that waits for its text.
+-- At an option that waits for its text, clap and the listed commands go on alike.
 alone_step : (id : Text) (c : List Rule) (ids options : List Text) → Arguments c ids options → (opt : Text) → is_known options opt ≡ true
     → (word : Text) (rest : List Text) → AtOption id c ids options rest
     → bytes_eq word (codes "--") ≡ false → long_of word ≡ Some (opt, None)
@@ -158,7 +160,7 @@ alone_step id c ids options arguments opt is word rest later no_dashes read_as d
     (option_walk c opt done last (length names + 1) word no_dashes read_as (arguments.option_long opt is) (all_uses done last) (settled_at_rest c done last settles))
     (later opt (all_uses done last) names marked story is)
 
--- One word more, which is an option of either kind.
+-- At an option, with its text attached or not, clap and the listed commands go on alike.
 option_step : (id : Text) (c : List Rule) (ids options : List Text) → Arguments c ids options → (opt : Text) → is_known options opt ≡ true
     → (word : Text) (rest : List Text) → AtRest id c ids options rest → AtOption id c ids options rest
     → bytes_eq word (codes "--") ≡ false → (text : Option Text) → long_of word ≡ Some (opt, text)
@@ -169,7 +171,7 @@ option_step id c ids options arguments opt is word rest later waiting no_dashes 
 option_step id c ids options arguments opt is word rest later waiting no_dashes (Some text) read_as done last names marked settles story =
     attached_step id c ids options arguments opt is word text rest later no_dashes read_as done last names marked settles story
 
--- Any word, if nothing is waited for.
+-- At any word, if nothing is waited for, clap and the listed commands go on alike.
 rest_step : (id : Text) (c : List Rule) (ids options : List Text) → Arguments c ids options
     → (word : Text) (rest : List Text) → AtRest id c ids options rest → AtOption id c ids options rest → WordKind options word
     → (done : List Used) (last : Option Used) (names : List Text) (marked : List Used) → Settles c done last → Story ids options (all_uses done last) names marked
@@ -205,7 +207,7 @@ waiting_stuck : (c : List Rule) (ids options : List Text) → Arguments c ids op
     → is_empty (settle_fault c false (held_waiting opt uses)) ≡ false
 waiting_stuck c ids options arguments opt is uses = rw (arguments.option_id opt is) ((option_once opt).needs (map row_of_use uses))
 
--- The text that an option waits for.
+-- At the text that an option waits for, clap and the listed commands go on alike.
 option_takes : (id : Text) (c : List Rule) (ids options : List Text) → Arguments c ids options → (opt : Text) → is_known options opt ≡ true
     → (word : Text) (rest : List Text) → AllTexts rest → AtRest id c ids options rest → GoesToPositional false word
     → (uses : List Used) (names : List Text) (marked : List Used) → Story ids options uses names marked
@@ -233,7 +235,7 @@ option_takes id c ids options arguments opt is word rest texts later goes uses n
         (stuck_fails id c ids options arguments (held_at uses (Some (opt, word))) refl stuck rest texts idle (length names + 1) false (inl refl)))
         some
 
--- Any word, if an option waits for its text.
+-- At any word, if an option waits for its text, clap and the listed commands go on alike.
 option_stays : (id : Text) (c : List Rule) (ids options : List Text) → Arguments c ids options → (opt : Text) → is_known options opt ≡ true
     → (word : Text) (rest : List Text) → AllTexts rest → AtRest id c ids options rest → WordKind options word
     → (uses : List Used) (names : List Text) (marked : List Used) → Story ids options uses names marked
@@ -270,7 +272,7 @@ option_stays id c ids options arguments opt is word rest texts later (short flag
 abbrev pub ReadsAll : Text → List Rule → List Text → List Text → List Text → Type 0
 ReadsAll id c ids options rest = AtRest id c ids options rest × AtOption id c ids options rest
 
--- That holds of all words that are texts.
+-- The parse of all words that are texts comes to what is listed, from both kinds of walk.
 pub reads_all : (id : Text) (c : List Rule) (ids options : List Text) → Arguments c ids options
     → (rest : List Text) → AllTexts rest → ReadsAll id c ids options rest
 unfolding walk_fault

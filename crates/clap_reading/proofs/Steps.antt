@@ -1,7 +1,7 @@
 -- One word at a time: what `clap` makes of each word after a subcommand. A walk is where the parse
 -- is: what it holds, what it waits for, and at which position the next name counts. A use is an
 -- argument with the text that it was given. clap keeps the last use until the next word, and
--- settles it then.
+-- settles it then. For Walks and Readings.
 use Rattle.std.proofs.Common.{◌≡◌, ℕ, zero, suc, ◌+◌, ◌<◌, Bool, true, false, List, [], ◌∷◌, ◌++◌, map, length, min, Option, Some, None, refl, ap, ◌∙◌, arith, codes}
 use Rattle.std.proofs.Math.Bool.{and-false}
 use Rattle.std.specs.List.{slice_get}
@@ -39,16 +39,21 @@ first_some (k ∷ ks) b some = some
 
 -- An argument that takes one text, once.
 pub record IsOnce (a : Rule) : Type 0 where
-  -- Its use replaces what it was given.
+  -- A use of the argument replaces what it was given.
   pub takes : (text : Text) (rows : List Row) → used a (text ∷ []) rows ≡ with_values a.id AsWritten CommandLine (text ∷ []) (without a.id rows)
-  -- Its use fails only if it was used before.
+  -- A use of the argument with a text fails only if it was used before.
   pub faults : (text : Text) (rows : List Row) → use_fault false a (text ∷ []) rows ≡ repeat_fault false a.id rows
-  -- Without a text it fails.
+  -- A use of the argument without a text fails.
   pub needs : (rows : List Row) → is_empty (use_fault false a [] rows) ≡ false
+  -- the argument takes a text
   pub valued : takes_values a ≡ true
+  -- the argument does not take several texts
   pub several : takes_several a ≡ false
+  -- a second text is not added to the first
   pub single : is_append (action_of a) ≡ false
+  -- one use has one text at most
   pub most : most_values a ≡ 1
+  -- the argument does not take all words that follow
   pub closed : a.trailing_var_arg ≡ false
 
 -- The last use, as clap keeps it until the next word.
@@ -72,10 +77,15 @@ all_uses done (Some one) = done ++ one ∷ []
 
 -- The last use is of an argument of the subcommand that takes one text and was not used before.
 pub record SettlesOne (c : List Rule) (done : List Used) (one : Used) : Type 0 where
+  -- the rule of that argument
   pub rule : Rule
+  -- it is found by the argument's name
   pub found : arg_by_id c one.0 ≡ Some rule
+  -- it has that name
   pub same : rule.id ≡ one.0
+  -- the argument takes one text, once
   pub once : IsOnce rule
+  -- it was not used before
   pub fresh : value_in one.0 done ≡ None
 
 -- The last use, if there is one, settles.
@@ -102,7 +112,7 @@ pub fault_once : (a : Rule) (once : IsOnce a) (id text : Text) (done : List Used
     → use_fault false a (text ∷ []) (map row_of_use done) ≡ []
 fault_once a once id text done same none = once.faults text (map row_of_use done) ∙ rw same (no_row id done none)
 
--- A second use has one.
+-- A second use of an argument is a fault.
 pub fault_twice : (a : Rule) (once : IsOnce a) (id text earlier : Text) (done : List Used) → a.id ≡ id → value_in id done ≡ Some earlier
     → is_empty (use_fault false a (text ∷ []) (map row_of_use done)) ≡ false
 fault_twice a once id text earlier done same some =
@@ -121,8 +131,11 @@ settles_freely c done (Some one) settles = rw settles.found (fault_once settles.
 
 -- A word that may be a name: it is not `--`, and no option.
 pub record IsNameWord (word : Text) : Type 0 where
+  -- the word is not `--`
   pub no_dashes : bytes_eq word (codes "--") ≡ false
+  -- it is no long option
   pub no_long : long_of word ≡ None
+  -- it is no short option
   pub no_short : short_of word ≡ None
 
 -- A word that counts as a name: each one after `--`, else one that may be a name.
@@ -140,7 +153,7 @@ name_turn name c done last position true word goes a found several = rw (found, 
 name_turn name c done last position false word goes a found several =
     rw (goes.no_dashes, goes.no_long, goes.no_short, found, several, and-false) refl
 
--- After it the walk is at rest, with that use as its last.
+-- After a name at a position that takes one, the walk is at rest, with that use as its last.
 pub name_walks : (c : List Rule) (done : List Used) (last : Option Used) (position : ℕ) (trailing : Bool) (word : Text) → GoesToPositional trailing word
     → (a : Rule) → arg_by_index c position ≡ Some a → IsOnce a → (uses : List Used) → rows_at_rest c done last ≡ map row_of_use uses
     → min (position + 1) usize_max ≡ position + 1
@@ -166,7 +179,7 @@ pub dashes_turn : (name : Text) (c : List Rule) (done : List Used) (last : Optio
     → turn_fault (leaf name c) [] (at_rest done last position false) word ≡ []
 dashes_turn name c done last position word dashes = rw dashes refl
 
--- After it each word is a name.
+-- After `--`, met at rest, each word is a name.
 pub dashes_walk : (c : List Rule) (done : List Used) (last : Option Used) (position : ℕ) (word : Text) → bytes_eq word (codes "--") ≡ true
     → walked c [] (at_rest done last position false) word ≡ at_rest done last position true
 unfolding walked
@@ -185,7 +198,7 @@ pub attached_turn : (name : Text) (c : List Rule) (opt : Text) (done : List Used
     ≡ or_else (or_else (settle_fault c false (held_at done last)) (use_fault false (option_at opt) (text ∷ []) (rows_at_rest c done last))) []
 attached_turn name c opt done last position word text no_dashes long found = rw (no_dashes, long, found) refl
 
--- After it the walk is at rest, with all uses settled.
+-- After an option with an attached text the walk is at rest, with all uses settled.
 pub attached_walk : (c : List Rule) (opt : Text) (done : List Used) (last : Option Used) (position : ℕ) (word text : Text) → bytes_eq word (codes "--") ≡ false
     → long_of word ≡ Some (opt, Some text) → arg_by_long c opt ≡ Some (option_at opt)
     → (uses : List Used) → used (option_at opt) (text ∷ []) (rows_at_rest c done last) ≡ map row_of_use uses
@@ -210,7 +223,7 @@ pub option_turn : (name : Text) (c : List Rule) (opt : Text) (done : List Used) 
     → turn_fault (leaf name c) [] (at_rest done last position false) word ≡ or_else (settle_fault c false (held_at done last)) []
 option_turn name c opt done last position word no_dashes long found = rw (no_dashes, long, found) refl
 
--- After it the walk waits for its text.
+-- After an option alone the walk waits for its text.
 pub option_walk : (c : List Rule) (opt : Text) (done : List Used) (last : Option Used) (position : ℕ) (word : Text) → bytes_eq word (codes "--") ≡ false
     → long_of word ≡ Some (opt, None) → arg_by_long c opt ≡ Some (option_at opt)
     → (uses : List Used) → rows_at_rest c done last ≡ map row_of_use uses
@@ -223,7 +236,7 @@ pub text_turn : (name : Text) (c : List Rule) (opt : Text) (uses : List Used) (p
     → turn_fault (leaf name c) [] (at_option opt uses position) word ≡ []
 text_turn name c opt uses position word goes = rw (goes.no_dashes, goes.no_long, goes.no_short) refl
 
--- After it the walk is at rest, with the option's use as its last.
+-- After the text that is waited for the walk is at rest, with the option's use as its last.
 pub text_walk : (c : List Rule) (opt : Text) (uses : List Used) (position : ℕ) (word : Text) → IsNameWord word
     → arg_by_id c opt ≡ Some (option_at opt)
     → walked c [] (at_option opt uses position) word ≡ at_rest uses (Some (opt, word)) position false
@@ -234,12 +247,12 @@ text_walk c opt uses position word goes found = rw (goes.no_dashes, goes.no_long
 abbrev pub at_option_trailing : Text → List Used → ℕ → Walk
 at_option_trailing opt uses position = record (at_option opt uses position) { is_trailing = true }
 
--- `--` has no fault there.
+-- `--` has no fault while an option waits for its text.
 pub waiting_dashes_turn : (name : Text) (c : List Rule) (opt : Text) (uses : List Used) (position : ℕ) (word : Text) → bytes_eq word (codes "--") ≡ true
     → turn_fault (leaf name c) [] (at_option opt uses position) word ≡ []
 waiting_dashes_turn name c opt uses position word dashes = rw dashes refl
 
--- After it the walk is that one.
+-- After `--`, met while an option waits for its text, the walk still waits for the text.
 pub waiting_dashes_walk : (c : List Rule) (opt : Text) (uses : List Used) (position : ℕ) (word : Text) → bytes_eq word (codes "--") ≡ true
     → walked c [] (at_option opt uses position) word ≡ at_option_trailing opt uses position
 unfolding walked
@@ -264,7 +277,7 @@ unfolding flags_fault
 flags_fail c held flags first n zero char none e = rw (char, none first) refl
 flags_fail c held flags first n (suc k) char none e = absurd (omega arith)
 
--- So is a word of several.
+-- A word of several short options is a fault.
 pub bundle_fails : (c : List Rule) (held : Held) (flags : Text) (first : ℕ) → slice_get (chars flags) 0 ≡ Some first → held.skip ≡ 0 → 0 < length flags
     → ((x : ℕ) → arg_by_short c x ≡ None) → is_empty (bundle_fault c false flags held) ≡ false
 bundle_fails c held [] first char skip some none = absurd (omega arith)

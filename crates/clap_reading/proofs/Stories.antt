@@ -1,5 +1,6 @@
 -- What the words after a subcommand come to: the names and options that are read, and the uses that
--- the parse holds. A use is an argument with the text that it was given.
+-- the parse holds. A use is an argument with the text that it was given. For Readings and
+-- Subcommands.
 use Rattle.std.proofs.Common.{◌≡◌, ℕ, zero, suc, ◌<◌, ◌≤◌, true, false, List, [], ◌∷◌, ◌++◌, map, filter, length, Option, Some, None, refl, sym, ap, ◌∙◌, arith, append_assoc, length-append, inl, inr}
 use Rattle.std.specs.Prelude.{◌⊎◌}
 use Rattle.std.specs.List.{slice_get, zip}
@@ -13,9 +14,13 @@ use Rattle.clap_reading.proofs.Uses.{Used, is_known, is_marked, is_name, once_pu
 -- The uses are those of these names, one for each argument in turn, and of these options, each at
 -- most once.
 pub record Story (ids options : List Text) (uses : List Used) (names : List Text) (marked : List Used) : Type 0 where
+  -- the uses of words are those of the names, one for each argument in turn
   pub names_are : filter (is_name options) uses ≡ zip ids names
+  -- the uses of options are those that were given
   pub marked_are : filter (is_marked options) uses ≡ marked
+  -- there are no more names than arguments
   pub few_names : length names ≤ length ids
+  -- no option was given twice
   pub once : stand_once marked ≡ true
 
 -- With no word there are no uses.
@@ -40,7 +45,7 @@ some_at [] n less = absurd (omega arith)
 some_at (i ∷ ids) zero less = (i, refl)
 some_at (i ∷ ids) (suc n) less = some_at ids n (omega arith)
 
--- One name more keeps that.
+-- With one name more the uses are still those of the names and options.
 pub one_name : (ids options : List Text) (uses : List Used) (names : List Text) (marked : List Used) (id word : Text) → Story ids options uses names marked
     → slice_get ids (length names) ≡ Some id → length names < length ids → is_known options id ≡ false
     → Story ids options (uses ++ (id, word) ∷ []) (names ++ word ∷ []) marked
@@ -51,7 +56,8 @@ one_name ids options uses names marked id word story at more other = record {
   once = story.once;
 }
 
--- One option more, which was not given before, keeps that.
+-- With one option more, which was not given before, the uses are still those of the names and
+-- options.
 pub one_option : (ids options : List Text) (uses : List Used) (names : List Text) (marked : List Used) (id text : Text) → Story ids options uses names marked
     → is_known options id ≡ true → value_in id marked ≡ None
     → Story ids options (uses ++ (id, text) ∷ []) names (marked ++ (id, text) ∷ [])
@@ -81,7 +87,8 @@ pub data Ending (ids options : List Text) (check : List Row → Kinds) (fault : 
   checked : (uses : List Used) → Story ids options uses names marked → fault ≡ check (map row_of_use uses) → rows ≡ map row_of_use uses
       → Ending ids options check fault rows names marked
 
--- The same after names and options that are read already. A reading that fails is a fault.
+-- How a parse ends after names and options that are read already, if the rest gives these: as
+-- `Ending` says of all of them. A rest that gives nothing is a fault.
 abbrev pub Outcome : List Text → List Text → (List Row → Kinds) → Kinds → List Row → List Text → List Used → Option Given → Type 0
 Outcome ids options check fault rows names marked None = is_empty fault ≡ false
 Outcome ids options check fault rows names marked (Some g) = Ending ids options check fault rows (names ++ g.names) (marked ++ g.marked)

@@ -1,6 +1,6 @@
 -- The arguments of each subcommand, and how its reading ends. Three kinds: those of a pair (left
 -- right settings), of one word, and of no word. A use is an argument with the text that it was
--- given.
+-- given. For TopWords.
 use Rattle.std.proofs.Common.{◌≡◌, ℕ, ◌+◌, ◌<◌, inl, inr, Bool, true, false, ◌&&◌, ◌||◌, not, cond, List, [], ◌∷◌, map, length, Option, Some, None, is_some, refl, sym, ap, subst, ◌∙◌, arith, codes}
 use Rattle.std.proofs.Math.Bool.{or-true}
 use Rattle.std.specs.Prelude.{nat_eq}
@@ -31,7 +31,7 @@ use Rattle.clap_reading.proofs.Walks.{Arguments, RuleAt}
 abbrev pub name_at : ℕ → Text → Rule
 name_at position id = with_index position (filled (name_rule id))
 
--- Such a word takes one text, once.
+-- A word by its position takes one text, once.
 name_once : (position : ℕ) (id : Text) → IsOnce (name_at position id)
 name_once position id = record {
   takes = λ text rows. refl;
@@ -159,8 +159,11 @@ pair_rules options = name_at 1 (codes "left") ∷ name_at 2 (codes "right") ∷ 
 
 -- No option has the name of one of these words.
 pub record ArePairNames (options : List Text) : Type 0 where
+  -- no option is called `left`
   pub left : is_known options (codes "left") ≡ false
+  -- no option is called `right`
   pub right : is_known options (codes "right") ≡ false
+  -- no option is called `settings`
   pub settings : is_known options (codes "settings") ≡ false
 
 -- The one word of a command.
@@ -173,7 +176,9 @@ one_rules id options = name_at 1 id ∷ option_rules options
 
 -- The word's name is none of the options'.
 pub record IsWordName (options : List Text) (id : Text) : Type 0 where
+  -- the name equals itself byte by byte
   pub own : bytes_eq id id ≡ true
+  -- no option has the name
   pub free : is_known options id ≡ false
 
 -- What holds of one name holds of an equal one.
@@ -222,7 +227,7 @@ pair_arguments options free = record {
   no_default_fault = defaults_pass (pair_rules options) (refl, (refl, (refl, no_defaults options)));
 }
 
--- So are those of a command without words.
+-- The arguments of a command without words are as the walk needs them.
 pub alone_arguments : (options : List Text) → Arguments (option_rules options) [] options
 alone_arguments options = record {
   at = λ names id e. cc;
@@ -244,7 +249,7 @@ one_at : (options : List Text) (id : Text) → IsWordName options id → (names 
 one_at options id is [] x e = as_id (λ x. RuleAt (one_rules id options) x 1) id x e (record { rule = name_at 1 id; at = refl; same = refl; once = name_once 1 id; found = rw is.own refl })
 one_at options id is (a ∷ names) x e = cc
 
--- It has no option's name.
+-- The one word of a command has no option's name.
 one_named : (options : List Text) (id : Text) → IsWordName options id → (names : List Text) (x : Text) → slice_get (one_id id) (length names) ≡ Some x → is_known options x ≡ false
 one_named options id is [] x e = as_id (λ x. is_known options x ≡ false) id x e is.free
 one_named options id is (a ∷ names) x e = cc
@@ -296,7 +301,7 @@ given_name : (ids options : List Text) (uses : List Used) (names : List Text) (m
     → is_given id (map row_of_use uses) ≡ is_some (value_in id (zip ids names))
 given_name ids options uses names marked id story other = is_given-uses id uses ∙ ap is_some (value_of_name ids options uses names marked id story other)
 
--- Its text is that name.
+-- The text of a word that was given is the name that stands for it.
 first_name : (ids options : List Text) (uses : List Used) (names : List Text) (marked : List Used) (id : Text) → Story ids options uses names marked → is_known options id ≡ false
     → first_of id (map row_of_use uses) ≡ value_in id (zip ids names)
 first_name ids options uses names marked id story other = first_of-uses id uses ∙ value_of_name ids options uses names marked id story other
@@ -316,7 +321,7 @@ four : (a b c d e f g h : Option Text) → a ≡ e → b ≡ f → c ≡ g → d
     (record { blocks = e; turret1 = f; turret2 = g; outside = h })
 four a b c d e f g h x y z w = rw (x, y, z, w) refl
 
--- The texts of all options are the same.
+-- The texts of all options are the same by the rows of clap and by the listed reading.
 texts_same : (row : Listing) (uses : List Used) (names : List Text) (marked : List Used) → Story row.words row.options uses names marked
     → texts_at row (map row_of_use uses) ≡ texts_for row marked
 texts_same row uses names marked story =
@@ -342,7 +347,7 @@ checked_as id c fault rows uses_rows answer e f end = rw (e, f) end
 abbrev pub pair_row : Text → List Text → Journal → Task → Listing
 pair_row name options kept what = listing name pair_words options kept what
 
--- Each parse of such a command ends with the listed command.
+-- Each parse of a command of a pair ends with the listed command.
 pub pair_ends : (name : Text) (options : List Text) (kept : Journal) (what : Task) → ArePairNames options
     → ((given : List Row) → command_in name given ≡ command_from given (pair_row name options kept what)) → Ends (pair_row name options kept what) (pair_rules options)
 pair_ends name options kept what free is fault rows [] marked (faulty bad many) = fails fault _ _ bad refl
@@ -389,7 +394,7 @@ pair_ends name options kept what free is fault rows (a ∷ b ∷ d ∷ e ∷ nam
 abbrev pub alone_row : Text → List Text → Journal → Task → Listing
 alone_row name options kept what = listing name [] options kept what
 
--- Each parse of such a command ends with the listed command.
+-- Each parse of a command without words ends with the listed command.
 pub alone_ends : (name : Text) (options : List Text) (kept : Journal) (what : Task)
     → ((given : List Row) → command_in name given ≡ command_from given (alone_row name options kept what)) → Ends (alone_row name options kept what) (option_rules options)
 alone_ends name options kept what is fault rows [] marked (faulty bad (inl many)) = absurd (omega (arith, many))
@@ -406,7 +411,7 @@ alone_ends name options kept what is fault rows (a ∷ names) marked (checked us
 abbrev pub one_row : Text → Text → List Text → Journal → Task → Listing
 one_row name id options kept what = listing name (one_id id) options kept what
 
--- Each parse of such a command ends with the listed command.
+-- Each parse of a command of one word ends with the listed command.
 pub one_ends : (name id : Text) (options : List Text) (kept : Journal) (what : Task) → IsWordName options id
     → ((given : List Row) → command_in name given ≡ command_from given (one_row name id options kept what)) → Ends (one_row name id options kept what) (one_rules id options)
 one_ends name id options kept what word is fault rows [] marked (faulty bad many) = fails fault _ _ bad refl

@@ -1,4 +1,5 @@
--- The first word, and with it all of them: `clap` reads the listed command in any words. A further
+-- The first word, and with it all of them: `clap` reads the listed command in any words, which is
+-- the law of src/law.rt. A further
 -- command of the program has its line in `built_program` and `all_known`, and one more part in
 -- `meets_none`.
 use Rattle.std.proofs.Common.{◌≡◌, suc, Bool, true, false, cond, List, [], ◌∷◌, ◌++◌, Option, Some, None, is_some, refl, sym, ap, ap₂, ◌∙◌, arith, append_assoc, codes}
@@ -79,7 +80,7 @@ stays_stopped id before [] = ap (λ words. record start { stopped = Some (id, wo
 stays_stopped id before (word ∷ rest) =
     stays_stopped id (before ++ word ∷ []) rest ∙ ap (λ words. record start { stopped = Some (id, words) }) (append_assoc before (word ∷ []) rest)
 
--- They have no fault before it reads them.
+-- A known first word and the rest have no fault before the subcommand reads the rest.
 known_fault : (id : Text) (rest : List Text) → walked [] names_top start id ≡ record start { stopped = Some (id, []) } → turn_fault top_shape names_top start id ≡ []
     → walk_fault top_shape names_top start (id ∷ rest) ≡ []
 unfolding walk_fault
@@ -121,7 +122,7 @@ subcommand_is row c ends arguments rest texts =
 
 -- an unknown first word
 
--- Texts that pass the test are the same.
+-- Texts that pass the test of equality are equal.
 same_text : (a b : Text) → bytes_eq a b ≡ true → a ≡ b
 same_text a b e = (bytes_eq-Decides a b).0 e
 
@@ -185,7 +186,7 @@ dashes_then word other more turn walks =
     ap is_empty (ap₂ (λ now next. or_else now (walk_fault top_shape names_top next (other ∷ more))) turn walks)
     ∙ first_some (turn_fault top_shape names_top (going nothing_held idle 1 true) other) (walk_fault top_shape names_top (walked [] names_top (going nothing_held idle 1 true) other) more) refl
 
--- So `--` as the first word gives no command.
+-- `--` as the first word gives no command, whatever follows.
 dashes_first : (word : Text) (rest : List Text) → subcommand_met names_top idle word ≡ None → bytes_eq word (codes "--") ≡ true → clap_command (word ∷ rest) ≡ None
 dashes_first word rest none e =
     let turn : turn_fault top_shape names_top start word ≡ [] = rw (none, e) refl in
@@ -217,18 +218,21 @@ unknown word rest utf8 u = go (bytes_eq word (codes "--")) refl
 abbrev IsKnown : Listing → Type 0
 IsKnown row = (rest : List Text) → AllTexts rest → clap_command (row.name ∷ rest) ≡ command_behind rest row
 
--- The same of each of these rows.
+-- With the name of each of these rows as the first word `clap` reads the listed command.
 abbrev AreKnown : List Listing → Type 0
 AreKnown [] = Unit {0}
 AreKnown (row ∷ rows) = IsKnown row × AreKnown rows
 
 -- The first word is the name of this subcommand.
 pub record IsMet (called : Text) (c : List Rule) : Type 0 where
+  -- after it the rest of the words is the subcommand's
   pub first : walked [] names_top start called ≡ record start { stopped = Some (called, []) }
+  -- the word itself has no fault
   pub none : turn_fault top_shape names_top start called ≡ []
+  -- the subcommand of that name has these rules
   pub found : find (λ s. answers_to called (label_of s)) built_program.subs ≡ Some (leaf called c)
 
--- Its row is the one of its name.
+-- The row of the subcommand is the one that its name gives.
 abbrev IsRowOf : Text → Listing → Type 0
 IsRowOf called row = (given : List Row) → command_in called given ≡ command_from given row
 

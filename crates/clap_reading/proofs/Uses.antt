@@ -1,4 +1,5 @@
--- The rows of a parse as a list of uses: an argument and its text each.
+-- The rows of a parse as a list of uses: an argument and its text each. The other files of proofs
+-- here speak of uses.
 use Rattle.std.proofs.Common.{◌≡◌, Bool, true, false, not, cond, ◌&&◌, ◌||◌, List, [], ◌∷◌, ◌++◌, map, filter, Option, Some, None, is_some, refl, sym, ap, subst, ◌∙◌}
 use Rattle.std.proofs.Math.Bool.{and-false}
 use Rattle.std.specs.List.{find, list_any, slice_get}
@@ -40,7 +41,7 @@ has_row-uses id (one ∷ uses) =
     elim (bytes_eq one.0 id) as (λ b. (b || has_row id (map row_of_use uses)) ≡ is_some (cond b (Some one.1) (value_in id uses)))
     [ true ↦ refl | false ↦ has_row-uses id uses ]
 
--- It counts as given exactly if it was used.
+-- An argument counts as given exactly if it was used.
 pub is_given-uses : (id : Text) (uses : List Used) → is_given id (map row_of_use uses) ≡ is_some (value_in id uses)
 is_given-uses id [] = refl
 is_given-uses id (one ∷ uses) =
@@ -77,19 +78,19 @@ is_marked options one = is_known options one.0
 abbrev pub is_name : List Text → Used → Bool
 is_name options one = not (is_marked options one)
 
--- Texts that pass the test are the same.
+-- Texts that pass the test of equality are equal.
 pub same_text : (a b : Text) → bytes_eq a b ≡ true → a ≡ b
 same_text a b e = (bytes_eq-Decides a b).0 e
 
--- Each text passes it with itself.
+-- Each text passes the test of equality with itself.
 pub same_bytes : (a : Text) → bytes_eq a a ≡ true
 same_bytes a = (bytes_eq-Decides a a).1 refl
 
--- The test goes both ways.
+-- If two texts pass the test of equality, they pass it the other way round.
 bytes_eq_refl : (a b : Text) → bytes_eq b a ≡ true → bytes_eq a b ≡ true
 bytes_eq_refl a b e = (bytes_eq-Decides a b).1 (sym (same_text b a e))
 
--- So does its failure.
+-- If two texts fail the test of equality, they fail it the other way round.
 pub flipped : (a b : Text) → bytes_eq a b ≡ false → bytes_eq b a ≡ false
 flipped a b e = go (bytes_eq b a) refl
   where
@@ -105,7 +106,7 @@ known_differs options a id e f = go (bytes_eq a id) refl
     go true same = sym e ∙ ap (is_known options) (same_text a id same) ∙ f
     go false same = refl
 
--- The same the other way round.
+-- A name that is no option's differs from an option's name.
 pub unknown_differs : (options : List Text) (a id : Text) → is_known options a ≡ false → is_known options id ≡ true → bytes_eq a id ≡ false
 unknown_differs options a id e f = flipped id a (known_differs options id a f e)
 

@@ -1,6 +1,6 @@
 -- All the words after a subcommand, as `clap` walks over them and as the listed commands read them.
 -- A use is an argument with the text that it was given. clap keeps the last use until the next
--- word, and settles it then.
+-- word, and settles it then. For Readings.
 use Rattle.std.proofs.Common.{◌≡◌, ℕ, ◌+◌, ◌≤◌, Bool, true, false, List, [], ◌∷◌, length, Option, Some, None, refl, ap, ◌∙◌, codes, inl, inr}
 use Rattle.std.proofs.Math.Bool.{and-false}
 use Rattle.std.specs.Prelude.{◌⊎◌}
@@ -51,7 +51,7 @@ fails_now id c w word rest now =
     first_some (or_else (turn_fault (leaf id c) [] w word) (walk_fault (leaf id c) [] (walked c [] w word) rest)) (closing id c (end_of c w (word ∷ rest)))
     (first_some (turn_fault (leaf id c) [] w word) (walk_fault (leaf id c) [] (walked c [] w word) rest) now)
 
--- So does a fault in the words after it.
+-- A fault in the words after a word makes the whole fail.
 pub fails_later : (id : Text) (c : List Rule) (w after : Walk) (word : Text) (rest : List Text) → turn_fault (leaf id c) [] w word ≡ [] → walked c [] w word ≡ after
     → is_empty (rest_fault id c after rest) ≡ false → is_empty (rest_fault id c w (word ∷ rest)) ≡ false
 fails_later id c w after word rest none same later = ap is_empty (step_fault_is id c w after word rest none same) ∙ later
@@ -60,10 +60,15 @@ fails_later id c w after word rest none same later = ap is_empty (step_fault_is 
 
 -- The word of this name has its rule at this position, and takes one text, once.
 pub record RuleAt (c : List Rule) (id : Text) (position : ℕ) : Type 0 where
+  -- the rule of the word
   pub rule : Rule
+  -- it is found at the position
   pub at : arg_by_index c position ≡ Some rule
+  -- it has the name
   pub same : rule.id ≡ id
+  -- the word takes one text, once
   pub once : IsOnce rule
+  -- it is found by the name
   pub found : arg_by_id c id ≡ Some rule
 
 -- What the walk needs of a subcommand's arguments: its words by position, each once, and its
@@ -79,9 +84,9 @@ pub record Arguments (c : List Rule) (ids options : List Text) : Type 0 where
   pub named : (names : List Text) (id : Text) → slice_get ids (length names) ≡ Some id → is_known options id ≡ false
   -- An option is found by its name.
   pub option_long : (id : Text) → is_known options id ≡ true → arg_by_long c id ≡ Some (option_at id)
-  -- And by its identifier.
+  -- An option is found by its identifier.
   pub option_id : (id : Text) → is_known options id ≡ true → arg_by_id c id ≡ Some (option_at id)
-  -- Another name finds none.
+  -- A name that is none of the options' finds none.
   pub no_long : (id : Text) → is_known options id ≡ false → arg_by_long c id ≡ None
   -- There are no short options.
   pub no_short : (x : ℕ) → arg_by_short c x ≡ None
@@ -91,7 +96,7 @@ pub record Arguments (c : List Rule) (ids options : List Text) : Type 0 where
   pub few : length ids ≤ 3
   -- No argument has a default.
   pub no_default : (rows : List Row) → fold with_default rows c ≡ rows
-  -- So there is no fault of defaults.
+  -- No argument has a fault of a default.
   pub no_default_fault : (rows : List Row) → defaults_fault rows c ≡ []
 
 -- An option takes one text, once.
@@ -128,19 +133,19 @@ value_fails id c held position stuck once = go (arg_by_index c position) refl
     go None e = refl
     go (Some a) e = rw (once position a e, and-false) stuck
 
--- So is each word after `--`.
+-- If what is held can't be settled, each word after `--` is a fault.
 trailing_fails : (id : Text) (c : List Rule) (held : Held) (waiting : Waiting) (position : ℕ) (word : Text) → is_empty (settle_fault c false held) ≡ false
     → ((position : ℕ) (a : Rule) → arg_by_index c position ≡ Some a → takes_several a ≡ false)
     → is_empty (turn_fault (leaf id c) [] (going held waiting position true) word) ≡ false
 trailing_fails id c held waiting position word stuck once = value_fails id c held position stuck once
 
--- So is a word that may be a name.
+-- If what is held can't be settled, a word that may be a name is a fault.
 name_fails : (id : Text) (c : List Rule) (held : Held) (position : ℕ) (word : Text) → IsNameWord word → is_empty (settle_fault c false held) ≡ false
     → ((position : ℕ) (a : Rule) → arg_by_index c position ≡ Some a → takes_several a ≡ false)
     → is_empty (turn_fault (leaf id c) [] (going held idle position false) word) ≡ false
 name_fails id c held position word goes stuck once = rw (goes.no_dashes, goes.no_long, goes.no_short) (value_fails id c held position stuck once)
 
--- So is an option.
+-- If what is held can't be settled, an option is a fault.
 pub option_fails : (id : Text) (c : List Rule) (opt : Text) (held : Held) (waiting : Waiting) (position : ℕ) (word : Text) (text : Option Text) → bytes_eq word (codes "--") ≡ false
     → long_of word ≡ Some (opt, text) → arg_by_long c opt ≡ Some (option_at opt) → is_empty (settle_fault c false held) ≡ false
     → is_empty (turn_fault (leaf id c) [] (going held waiting position false) word) ≡ false

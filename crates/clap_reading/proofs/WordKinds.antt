@@ -1,5 +1,5 @@
 -- What a word after a subcommand is, as `clap` reads it and as the listed commands do. 45 is the
--- dash, 61 the equals sign.
+-- dash, 61 the equals sign. For Walks, Readings and TopWords.
 use Rattle.std.proofs.Common.{◌≡◌, ℕ, suc, ◌+◌, ◌<◌, Bool, true, false, cond, List, [], ◌∷◌, drop, length, Option, Some, None, refl, sym, ap, subst, ◌∙◌, arith, codes, inl, inr}
 use Rattle.std.specs.Prelude.{nat_eq}
 use Rattle.std.specs.List.{after_first, before_first, list_any, position_or_len, slice_get}
@@ -53,7 +53,7 @@ no_long_option b rest id other = rw (before-cons 45 (b ∷ rest) refl) (go (is_e
 long_name-option_name : (rest : Text) → option_name (45 ∷ 45 ∷ rest) ≡ 45 ∷ 45 ∷ before_first is_equals rest
 long_name-option_name rest = before-cons 45 (45 ∷ rest) refl ∙ ap (λ name. 45 ∷ name) (before-cons 45 rest refl)
 
--- Its attached text is what comes after it.
+-- The attached text of a long option is what comes after the `=`.
 long_text : (rest : Text) → option_text (45 ∷ 45 ∷ rest) ≡ (name_and_value rest).1
 long_text rest =
     ap (λ text. cond (list_any is_equals rest) (Some text) None) (after-cons 45 (45 ∷ rest) refl ∙ after-cons 45 rest refl)
@@ -86,10 +86,12 @@ short_at options b rest utf8 other =
 
 -- A word with a long option's name is one of the options, or none.
 data ByName (options : List Text) (word called : Text) : Type 0 where
+  -- the name is that of one of the options
   known : option_of options word ≡ Some called → is_known options called ≡ true → ByName options word called
+  -- the name is that of none of the options
   unknown : option_of options word ≡ None → is_known options called ≡ false → ByName options word called
 
--- Each such word is of one of these kinds.
+-- A word with a long option's name has the name of one of the options, or of none.
 by_name : (options : List Text) (word called : Text) → option_name word ≡ long_word called → ByName options word called
 by_name [] word called e = unknown refl refl
 by_name (own ∷ options) word called e = here (bytes_eq own called) refl (by_name options word called e)
@@ -120,12 +122,12 @@ long_at options x rest = go (by_name options (45 ∷ 45 ∷ x ∷ rest) (before_
     go (unknown none other) =
         long (before_first is_equals (x ∷ rest)) (name_and_value (x ∷ rest)).1 refl refl other none (two (x ∷ rest) 45 45)
 
--- So is each word of two dashes.
+-- A word of two dashes, alone or with more, is of some kind.
 dashes_at : (options : List Text) (rest : Text) → WordKind options (45 ∷ 45 ∷ rest)
 dashes_at options [] = dashes refl
 dashes_at options (x ∷ rest) = long_at options x rest
 
--- So is each word of a dash and more.
+-- A word of a dash and more is of some kind.
 behind_dash : (options : List Text) (c : ℕ) (rest : Text) → IsUtf8 (45 ∷ c ∷ rest) → WordKind options (45 ∷ c ∷ rest)
 behind_dash options c rest utf8 =
     elim (eqb_tells c 45) [

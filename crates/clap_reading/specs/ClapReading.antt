@@ -1,5 +1,6 @@
--- The command that the words give, as the `clap` command reads them. A Row of clap is what the
--- parse found for one argument; a Listing is a row of the list of commands (command_words). For
+-- The command that the words give, as the `clap` command reads them: the functions of
+-- src/reading.rt answer it, and src/law.rt says that it is the listed one. A Row of clap is what
+-- the parse found for one argument; a Listing is a row of the list of commands (command_words). For
 -- this crate alone.
 use Rattle.std.specs.Prelude.{List, [], ◌∷◌, Option, Some, None, codes, if◌then◌else◌, option_and_then, option_map}
 use Rattle.clap.specs.Walk.{is_empty}
@@ -23,7 +24,7 @@ names_in given (id ∷ ids) =
 abbrev pub text_at : Listing → Text → List Row → Option Text
 text_at row id given = if takes_option row id then first_of id given else None
 
--- The texts of all options.
+-- The texts of all options that the command takes and that were given.
 abbrev pub texts_at : Listing → List Row → OptionTextsView
 texts_at row given = record {
   blocks = text_at row (codes "blocks") given;

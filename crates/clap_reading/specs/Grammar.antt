@@ -1,5 +1,5 @@
--- The `clap` command of the program, made from the list of commands. A Rule is what clap knows of
--- one argument. For this crate alone.
+-- The `clap` command of the program, made from the list of commands: what src/grammar.rt builds. A
+-- Rule is what clap knows of one argument. For this crate alone.
 use Rattle.std.specs.Prelude.{◌≡◌, true, false, Some, codes, fold}
 use Rattle.clap.specs.Simple.{new_shape}
 use Rattle.clap.specs.Words.{App, Rule, Text, app_of, new_app, new_rule, with_rule, with_subcommand}
@@ -7,15 +7,15 @@ use Rattle.clap.specs.declared.builder.command.Command.{Command}
 use Rattle.clap.specs.declared.builder.command.Command.TheViews.{out-Command}
 use Rattle.command_words.specs.Table.{Listing, listings}
 
--- A word that must be given.
+-- The rule of a word that must be given.
 abbrev pub name_rule : Text → Rule
 name_rule id = record (new_rule id) { required = true }
 
--- An option with a text, which is called by its name, as `--blocks 14`.
+-- The rule of an option with a text, which is called by its name, as `--blocks 14`.
 abbrev pub option_rule : Text → Rule
 option_rule id = record (new_rule id) { long = Some id }
 
--- The command with this word besides.
+-- A command with one word more.
 abbrev pub with_name_rule : App → Text → App
 with_name_rule app id = with_rule app (name_rule id)
 
@@ -23,7 +23,7 @@ with_name_rule app id = with_rule app (name_rule id)
 abbrev pub with_names : Listing → App
 with_names row = fold with_name_rule (new_app row.name) row.words
 
--- The command with this option besides.
+-- A command with one option more.
 abbrev pub with_option_rule : App → Text → App
 with_option_rule app id = with_rule app (option_rule id)
 
@@ -41,7 +41,7 @@ bare_app = record (new_app (codes "twin_lathe")) {
   };
 }
 
--- The command with the subcommand of this row besides.
+-- A command with one subcommand more, that of this row.
 abbrev pub with_row : App → Listing → App
 with_row app row = with_subcommand app (app_of_row row).top
 
@@ -51,5 +51,7 @@ program_app = fold with_row bare_app listings
 
 -- What a parse reads of the command is this, and none of its arguments is global.
 pub record IsRead (app : App) (command : Command) : Type 0 where
+  -- a parse reads the command as this
   pub same : app_of command ≡ app
+  -- none of its arguments is global
   pub local : (out-Command command).has_globals ≡ false

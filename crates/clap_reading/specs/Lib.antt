@@ -1,2 +1,4 @@
+-- The command line as `clap` reads it: the command built from the rows (Grammar), and what it makes
+-- of words (ClapReading). For this crate alone.
 pub mod ClapReading
 pub mod Grammar

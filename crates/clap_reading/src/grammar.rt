@@ -1,5 +1,5 @@
-//! The grammar of the command line, built for `clap` from the rows of command_words. What is read
-//! by it: `reading`.
+//! The grammar of the command line, built for `clap` from the rows of command_words. reading.rt
+//! reads the program's words by it. A further command needs nothing here.
 ghost use Rattle.std.specs.Prelude.{◌≡◌, IfOk, false};
 ghost use Rattle.clap.specs.Words.{rule_of};
 ghost use Rattle.clap_reading.specs.Grammar.{IsRead, app_of_row, bare_app, name_rule, option_rule, program_app, with_names};
@@ -22,7 +22,7 @@ pub fn program<'a>(alloc: Global) -> Result<Command<'a>, AllocError>
     Ok(program)
 }
 
-/// The command before its rows are added: it requires a subcommand and offers no help.
+/// The program's command before its rows are added: it requires a subcommand and offers no help.
 fn bare<'a>(alloc: Global) -> Command<'a>
     ensures { IsRead bare_app result }
 {
@@ -43,7 +43,8 @@ fn subcommand<'a>(alloc: Global, row: &Row) -> Result<Command<'a>, AllocError>
     Ok(command)
 }
 
-/// A command that requires the words of a row. The only error is out of memory.
+/// The subcommand of a row with its words alone, which it requires. The only error is out of
+/// memory.
 fn named<'a>(alloc: Global, row: &Row) -> Result<Command<'a>, AllocError>
     ensures { IfOk result (IsRead (with_names (row_seen row.now))) }
 {
@@ -54,7 +55,7 @@ fn named<'a>(alloc: Global, row: &Row) -> Result<Command<'a>, AllocError>
     Ok(command)
 }
 
-/// A word that must be given.
+/// The argument of a word that must be given.
 fn wanted<'a>(alloc: Global, id: &'a str) -> Arg<'a>
     ensures rule { rule_of result ≡ name_rule id.entry.now }
     ensures local { result.global ≡ false }
@@ -62,7 +63,7 @@ fn wanted<'a>(alloc: Global, id: &'a str) -> Arg<'a>
     Arg::new(alloc, id).required(true)
 }
 
-/// An option with a text, which is called by its name.
+/// The argument of an option with a text, which is called by its name.
 fn optional<'a>(alloc: Global, id: &'a str) -> Arg<'a>
     ensures rule { rule_of result ≡ option_rule id.entry.now }
     ensures local { result.global ≡ false }

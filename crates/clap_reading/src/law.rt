@@ -1,5 +1,5 @@
 //! The law that `clap` reads what is listed, as the contract of a function that does nothing: who
-//! calls it has the law.
+//! calls it has the law. `read_words` (reading.rt) does.
 ghost use Rattle.std.specs.Prelude.{◌≡◌, ℕ, List, All, IsUtf8};
 ghost use Rattle.clap_reading.specs.ClapReading.{clap_command};
 ghost use Rattle.command_words.specs.Listed.{listed_command};

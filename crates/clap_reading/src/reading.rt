@@ -72,7 +72,8 @@ fn command_met(alloc: Global, found: &ArgMatches<'_>) -> Result<Command, WordsFa
     }
 }
 
-/// The command of a subcommand's name and of what it was given. Errors as before.
+/// The command of a subcommand's name and of what it was given. Errors: `Usage` if there is none,
+/// or out of memory.
 fn command_in(alloc: Global, name: &str, given: &ArgMatches<'_>) -> Result<Command, WordsFault>
     ensures { Answers (command_in name.now (rows_of (found_of given.now))) result }
 {
@@ -82,7 +83,8 @@ fn command_in(alloc: Global, name: &str, given: &ArgMatches<'_>) -> Result<Comma
     }
 }
 
-/// The command of a row and of what its subcommand was given. Errors as before.
+/// The command of a row and of what its subcommand was given. Errors: `Usage` if there is none, or
+/// out of memory.
 fn command_from(alloc: Global, row: &Row, given: &ArgMatches<'_>) -> Result<Command, WordsFault>
     ensures { Answers (command_from (rows_of (found_of given.now)) (row_seen row.now)) result }
 {
@@ -111,7 +113,7 @@ fn names_in<'a>(
     Ok(Some(names))
 }
 
-/// The texts of the options.
+/// The texts of the options that the row takes and that were given.
 fn texts_at<'a>(row: &Row, given: &ArgMatches<'a>) -> OptionTexts<'a>
     ensures { texts_seen result ≡ texts_at (row_seen row.now) (rows_of (found_of given.now)) }
 {
@@ -134,7 +136,7 @@ fn text_at<'a>(row: &Row, id: &str, given: &ArgMatches<'a>) -> Option<&'a str>
     }
 }
 
-/// The text that was given for this name.
+/// The text that was given for this name, if one was.
 fn text_in<'a>(given: &ArgMatches<'a>, id: &str) -> Option<&'a str>
     ensures { option_map (λ s. s.now) result ≡ first_of id.now (rows_of (found_of given.now)) }
 {

@@ -10,12 +10,12 @@ use Rattle.std.specs.List.{filter_map}
 use Rattle.code_tables.specs.declared.row.Row.{Row}
 use Rattle.code_tables.specs.Codes.{row_of, rows_of, is_of_group, last_of, last_of_group}
 
--- the last of a list with one more is that one
+-- the last item of a list with one more at its end is that one
 pub last_of_push : {X : Type 0} (xs : List X) (x : X) → last_of (xs ++ x ∷ []) ≡ Some x
 last_of_push [] x = refl
 last_of_push (y ∷ ys) x = rw (last_of_push ys x) refl
 
--- after one more row that row is the last of its group
+-- with one row more, the last of a group is that row if it is of the group, else the last before
 pub last_of_group_push : (rows : List Row) (row : Row) (group : ℕ) → last_of_group (rows ++ row ∷ []) group ≡ cond (row.group == group) (Some row) (last_of_group rows group)
 last_of_group_push rows row group =
     rw (filter-append (λ (r : Row). r.group == group) rows (row ∷ [])) (go (row.group == group) (filter (λ (r : Row). r.group == group) rows))
@@ -24,21 +24,22 @@ last_of_group_push rows row group =
     go true before = last_of_push before row
     go false before = ap last_of (append-nil before)
 
--- a loop over rows, at one row more
+-- of the first i + 1 rows, the last of a group is the one at i or the last of those before
 pub last_of_group_more : (rows : List Row) (i group : ℕ) (d : Row) → i < length rows → last_of_group (take (i + 1) rows) group ≡ cond ((get_or rows i d).group == group) (Some (get_or rows i d)) (last_of_group (take i rows) group)
 last_of_group_more rows i group d lt =
     rw (take_more rows i d lt) (last_of_group_push (take i rows) (get_or rows i d) group)
 
--- a loop over codes, at one code more
+-- the rows of the first i + 1 codes are those of the first i, and the row of the code at i
 rows_of_more : (rows : List Row) (codes : List ℕ) (i : ℕ) → i < length codes → rows_of rows (take (i + 1) codes) ≡ rows_of rows (take i codes) ++ filter_map (row_of rows) (get_or codes i 0 ∷ [])
 rows_of_more rows codes i lt = rw (take_more codes i 0 lt) (filter_map-append (row_of rows) (take i codes) (get_or codes i 0 ∷ []))
 
--- a code with a row counts last in its group
+-- with one code more that has a row, the last of a group is that row if it is of the group, else
+-- the last before
 pub last_code_more : (rows : List Row) (codes : List ℕ) (i group : ℕ) (row : Row) → i < length codes → row_of rows (get_or codes i 0) ≡ Some row → last_of_group (rows_of rows (take (i + 1) codes)) group ≡ cond (row.group == group) (Some row) (last_of_group (rows_of rows (take i codes)) group)
 last_code_more rows codes i group row lt at =
     rw (rows_of_more rows codes i lt, at) (last_of_group_push (rows_of rows (take i codes)) row group)
 
--- a code without a row changes nothing
+-- one code more that has no row leaves the last of a group as it is
 pub last_code_kept : (rows : List Row) (codes : List ℕ) (i group : ℕ) → i < length codes → row_of rows (get_or codes i 0) ≡ None → last_of_group (rows_of rows (take (i + 1) codes)) group ≡ last_of_group (rows_of rows (take i codes)) group
 last_code_kept rows codes i group lt at =
     rw (rows_of_more rows codes i lt, at) (ap (λ rs. last_of_group rs group) (append-nil (rows_of rows (take i codes))))
@@ -56,7 +57,7 @@ last_is_found (x ∷ xs) group = go (x.group == group) refl (last_of_group xs gr
     go false e None l found = rw (e, l) tt
     go false e (Some row) l found = rw (e, l) (Contains-append_right (x ∷ []) xs row found.0, found.1)
 
--- none is the last exactly if none passes
+-- if there is no last one that passes, no item passes
 none_of_filter : {X : Type 0} (p : X → Bool) (xs : List X) → IsNone (last_of (filter p xs)) → All (λ x. p x ≡ false) xs
 none_of_filter p [] none = All-nil (λ x. p x ≡ false)
 none_of_filter {X} p (x ∷ xs) none = go (p x) refl (none_of_filter p xs)
@@ -97,7 +98,7 @@ row_of_has (x ∷ xs) code row at = go (x.code == code) refl (row_of_has xs code
         rw (← is) same
     go false e rest = rest (rw e at at)
 
--- one row and its code before those whose last agree
+-- if the last row and the last code agree, they still do with a row and its code before them
 last_code_cons : (row : Row) (code : ℕ) (b : Bool) (rows : List Row) (codes : List ℕ) → row.code ≡ code → option_map (λ (r : Row). r.code) (last_of rows) ≡ last_of codes → option_map (λ (r : Row). r.code) (last_of (cond b (row ∷ rows) rows)) ≡ last_of (cond b (code ∷ codes) codes)
 last_code_cons row code false rows codes same rest = rest
 last_code_cons row code true rows codes same rest = rw (← rest) (go (last_of rows))

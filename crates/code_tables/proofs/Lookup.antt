@@ -1,5 +1,4 @@
--- A code has one row at most, and the search finds it.
--- `find` (src/table.rt) rests on it.
+-- A code has one row at most, and the search finds it. For the proof of `find` (src/table.rt).
 use Rattle.std.proofs.Common.{◌≡◌, ◌≢◌, ℕ, zero, suc, ◌<◌, Bool, true, false, ◌&&◌, not, ◌==◌, IsTrue, List, [], ◌∷◌, length, get_or, Option, Some, None, IsNone, IfSome, All, Contains, refl, sym, ◌∙◌, ap, arith}
 use Rattle.std.proofs.lemmas.Bool.{eq-eqb, true≢false}
 use Rattle.std.proofs.lemmas.Bool.Decides.{nat_tests}

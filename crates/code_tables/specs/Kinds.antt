@@ -1,5 +1,5 @@
--- Which kinds of codes are refused, are arcs, or are canned cycles. block_forms, path_state and
--- open_order take it.
+-- Which kinds of codes are refused, are arcs, or are canned cycles: for the functions of these
+-- names (src/kind.rt). block_forms, path_state and open_order cite it.
 use Rattle.std.specs.Prelude.{Bool, true, false}
 use Rattle.code_tables.specs.declared.kind.CodeKind.{CodeKind}
 use Rattle.code_tables.specs.declared.kind.CodeKind.TheVariants.{ArcCw, ArcCcw, CycleTurn, CycleThread, CycleFace, Inch, NoseOn}
@@ -16,7 +16,7 @@ is_arc ArcCw = true
 is_arc ArcCcw = true
 is_arc other = false
 
--- the cycles, whose end point stays in force
+-- the canned cycles, whose end point stays in force while the code does
 abbrev pub is_cycle : CodeKind → Bool
 is_cycle CycleTurn = true
 is_cycle CycleThread = true

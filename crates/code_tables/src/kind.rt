@@ -1,4 +1,5 @@
-//! What a G code does. Its number in a system is in system.rt, its values are in block_words.
+//! What a G code does, as a kind: the crates of blocks and of motion go by it. Which number stands
+//! for which kind in a system is in system.rt.
 ghost use Rattle.std.specs.Prelude.{◌≡◌};
 ghost use Rattle.code_tables.specs.Kinds.{is_refused, is_arc, is_cycle};
 
@@ -68,14 +69,14 @@ impl CodeKind {
         matches!(self, CodeKind::Inch | CodeKind::NoseOn)
     }
 
-    /// Whether it cuts an arc, beside which I, K and R are read.
+    /// Whether the code cuts an arc, beside which I, K and R are read.
     pub fn is_arc(self) -> bool
         ensures { result ≡ is_arc self }
     {
         matches!(self, CodeKind::ArcCw | CodeKind::ArcCcw)
     }
 
-    /// Whether it is a canned cycle, whose end point stays in force while the code does.
+    /// Whether the code is a canned cycle, whose end point stays in force while the code does.
     pub fn is_cycle(self) -> bool
         ensures { result ≡ is_cycle self }
     {

@@ -1,6 +1,6 @@
 //! The two G-code systems as tables. A further code is a row here and in specs/SystemA.antt or
 //! SystemB.antt.
-//! 6 other crates use it.
+//! block_words looks codes up here; cell_settings reads which system is in force.
 ghost use Rattle.std.specs.Prelude.{◌≡◌, IsTrue};
 ghost use Rattle.code_tables.specs.Codes.{codes_stand_once, names_work_offsets, row_of};
 ghost use Rattle.code_tables.specs.SystemA.{system_a_rows};
@@ -24,7 +24,7 @@ pub enum System {
     B,
 }
 
-/// The row of a code in the table of this system.
+/// The row of a code in the table of this system, if it has one.
 pub fn row_of_code(system: System, code: u16) -> Option<Row>
     ensures { result ≡ row_of (rows_of_system system) code }
 {

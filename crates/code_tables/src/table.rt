@@ -1,4 +1,5 @@
-//! A table of codes, and how a code is looked up. The tables themselves are in system.rt.
+//! A table of G codes, and how a code is looked up. The tables themselves are in system.rt, whose
+//! `row_of_code` is what other crates call.
 ghost use Rattle.std.specs.Prelude.{◌≡◌, ◌≢◌, ◌↔◌, List, IsTrue, IsNone, IfSome, Some, All, Contains, filter, false};
 ghost use Rattle.code_tables.specs.Codes.{codes_stand_once, row_of, is_of_group, last_of, last_code_of_group};
 
@@ -34,7 +35,7 @@ impl<const N: usize> CodeTable<N> {
         CodeTable { rows }
     }
 
-    /// The row of a code.
+    /// The row of a code, if the table has one.
     pub fn find(&self, code: u16) -> Option<Row>
         ensures row { result ≡ row_of self.now code }
         ensures found { IfSome result (λ row. Contains self.now row × (row.code ≡ code)) }

@@ -1,4 +1,5 @@
--- How the grammar of specs/Listed.antt reads words, one after another. clap_reading takes these.
+-- How the grammar of specs/Listed.antt reads words, one after another. For PlainWords.antt; and
+-- clap_reading proves by these that clap reads the same.
 use Rattle.std.proofs.Common.{◌≡◌, ℕ, Bool, true, false, ◌&&◌, List, [], ◌∷◌, take, Some, None, refl, sym, ap, subst, ◌∙◌, arith, suc, codes, inl, inr}
 use Rattle.std.specs.Prelude.{nat_eq, length, nat_le}
 use Rattle.std.specs.List.{before_first, position_or_len}
@@ -58,11 +59,11 @@ dashes_are_option word e = rw ((bytes_eq-Decides word (codes "--")).0 e) refl
 
 -- a word that does not begin with `-`, or is `-` itself, is a name
 
--- 61 is the character `=`
+-- the byte is the character `=`, which is 61
 abbrev is_equals : ℕ → Bool
 is_equals b = nat_eq b 61
 
--- a character that is not `=` belongs to the option's name,
+-- a character that is not `=` belongs to the option's name
 pub before-cons : (x : ℕ) (xs : Text) → is_equals x ≡ false → before_first is_equals (x ∷ xs) ≡ x ∷ before_first is_equals xs
 before-cons x xs e =
     let more : position_or_len is_equals (x ∷ xs) ≡ suc (position_or_len is_equals xs) = rw e (omega arith) in
@@ -87,11 +88,11 @@ pub none_of : (options : List Text) (word : Text) → ((id : Text) → bytes_eq 
 none_of [] word none = refl
 none_of (own ∷ options) word none = rw (none own) (none_of options word none)
 
--- these words have two bytes or more
+-- a word made of two bytes and more has two bytes or more
 pub two : (rest : Text) (b c : ℕ) → nat_le 2 (length (b ∷ c ∷ rest)) ≡ true
 two rest b c = le-leb 2 (length (b ∷ c ∷ rest)) (omega arith)
 
--- a word that does not begin with `-` is none of the options,
+-- a word that does not begin with `-` is none of the options
 not_option : (options : List Text) (word : Text) → is_option word ≡ false → option_of options word ≡ None
 not_option options [] plain = none_of options [] (λ id. refl)
 not_option options (b ∷ []) plain =
@@ -109,7 +110,7 @@ not_option options (b ∷ c ∷ rest) plain =
     both true y e f = f
     both false y e f = absurd (let never : false ≡ true = e in cc)
 
--- nor is it `--`
+-- a word that does not begin with `-` is not `--`
 no_dashes : (word : Text) → is_option word ≡ false → bytes_eq word (codes "--") ≡ false
 no_dashes word plain = go (bytes_eq word (codes "--")) refl
   where

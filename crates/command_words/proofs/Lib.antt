@@ -1,4 +1,4 @@
--- The lemmas of this crate, each file by its subject.
+-- The lemmas of this crate, each file by its subject. clap_reading takes GivenWords.
 pub mod GivenWords
 pub mod Numbers
 pub mod PlainWords

@@ -1,5 +1,5 @@
--- The value of a numeral of at most seven digits.
--- For the proofs of src/number.rt and src/making.rt.
+-- The value of a numeral of at most seven digits, and that it lies between its limits. For the
+-- proofs of `read_number` (src/number.rt) and `range_of` (src/making.rt).
 use Rattle.std.proofs.Common.{◌≡◌, IfSome, ℕ, ◌^◌, ◌<◌, ◌≤◌, true, false, ◌&&◌, List, [], ◌∷◌, length, Result, Ok, Some, None, refl, sym, ap, ◌∙◌, arith, inl, inr}
 use Rattle.std.proofs.lemmas.Bool.{cases_Bool}
 use Rattle.std.specs.Char.{is_ascii_digit}
@@ -12,12 +12,12 @@ use Rattle.std.proofs.lemmas.Bool.Decides.{leb_tells}
 use Rattle.std.proofs.lemmas.Str.Parse.{IsNumeralModel, digits_value_short, numerals_by_value, parse_gives, tells_all_ascii_digits}
 use Rattle.command_words.specs.Number.{between, is_numeral, number_of}
 
--- both tests of digits agree
+-- std's test of decimal digits and that of the specs agree
 digits_alone : (text : List ℕ) → all_ascii_digits text ≡ list_all is_ascii_digit text
 digits_alone [] = refl
 digits_alone (d ∷ ds) = ap (λ b. is_ascii_digit d && b) (digits_alone ds)
 
--- the value of digits is that of a numeral
+-- runs of decimal digits and their values are numerals as std has them
 own : IsNumeralModel (λ ds. all_ascii_digits ds ≡ true) (digits_value 10)
 own = numerals_by_value (λ ds. all_ascii_digits ds ≡ true) tells_all_ascii_digits
 
@@ -41,7 +41,7 @@ pub no_numeral : (low high : ℕ) (text : List ℕ) → is_numeral text ≡ fals
 unfolding number_of
 no_numeral low high text e = rw e refl
 
--- a numeral is its value, if that lies between the limits
+-- the number that a numeral gives is its value, if that lies between the limits
 numeral_gives : (low high : ℕ) (text : List ℕ) → is_numeral text ≡ true → number_of low high text ≡ between low high (digits_value 10 text)
 unfolding number_of
 numeral_gives low high text e = rw e refl

@@ -1,5 +1,5 @@
--- Words that are names, and where `--` and the options stand among them.
--- For the laws of src/laws.rt.
+-- What words give that are names, with `--` or an option among them. For the laws of src/laws.rt,
+-- `law_of_names` and `law_of_options`.
 use Rattle.std.proofs.Common.{◌≡◌, List, [], ◌∷◌, ◌++◌, Option, Some, refl, ap, ◌∙◌, codes}
 use Rattle.command_words.specs.Listed.{AreNames, IsName, IsOptionOf, Given, Marked, given, long_word, text_given, text_then, with_name, with_text}
 use Rattle.command_words.specs.Table.{Text, outside_options, run_options, turret_options}
@@ -23,11 +23,11 @@ names_alone options [] plain = given_nothing options
 names_alone options (word ∷ words) plain =
     name_then options word words plain.0.1 ∙ ap (with_name word) (names_alone options words plain.1)
 
--- names, `--`, and then any words
+-- names, `--`, and then any words give all of them but `--` as names
 pub behind_dashes : (options before after : List Text) → AreNames before → given options (before ++ codes "--" ∷ after) ≡ just (before ++ after) []
 behind_dashes options before after plain = names_before options before (codes "--" ∷ after) after [] plain (given_dashes options (codes "--") after refl)
 
--- an option among names, with its text as the next word
+-- an option among names, with its text as the next word, gives the names and the option
 pub option_apart : (options before after : List Text) (id text : Text) → IsOptionOf options id → AreNames before → IsName text → AreNames after
     → given options (before ++ long_word id ∷ text ∷ after) ≡ just (before ++ after) ((id, text) ∷ [])
 option_apart options before after id text is plain is_name later =
@@ -37,7 +37,7 @@ option_apart options before after id text is plain is_name later =
     ∙ waits_for_name options id text after is_name.1
     ∙ ap (with_text id text) (names_alone options after later))
 
--- an option among names, with its text after `=`
+-- an option among names, with its text after `=`, gives the names and the option
 pub option_attached : (options before after : List Text) (id text : Text) → IsOptionOf options id → AreNames before → AreNames after
     → given options (before ++ (long_word id ++ 61 ∷ text) ∷ after) ≡ just (before ++ after) ((id, text) ∷ [])
 option_attached options before after id text is plain later =

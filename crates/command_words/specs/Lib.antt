@@ -1,4 +1,5 @@
--- The words in which contracts speak of the command line. clap_reading and lathe_top cite them.
+-- The command line: its rows (Table), its grammar (Listed), its numbers (Number), and what a call
+-- that makes a command answers (Making). clap_reading and lathe_top cite them.
 pub mod Listed
 pub mod Making
 pub mod Number

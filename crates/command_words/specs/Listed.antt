@@ -18,26 +18,28 @@ use Rattle.command_words.specs.declared.table.Task.TheVariants as task
 abbrev pub Marked : Type 0
 Marked = Text × Text
 
--- what stands behind a command's name: names, and the options with their texts
+-- what was given after a command's name: names, and the options with their texts
 pub record Given : Type 0 where
+  -- the names, in order
   pub names : List Text
+  -- the options, each with its text, in order
   pub marked : List Marked
 
--- what was given, with a name more before the others
+-- what was given, with one name more before the names
 abbrev pub with_name : Text → Option Given → Option Given
 with_name word None = None
 with_name word (Some given) = Some (record given { names = word ∷ given.names })
 
--- what was given, with an option and its text more before the others
+-- what was given, with one option and its text more before the options
 abbrev pub with_text : Text → Text → Option Given → Option Given
 with_text id text None = None
 with_text id text (Some given) = Some (record given { marked = (id, text) ∷ given.marked })
 
--- a word of two bytes or more that begins with `-` (45)
+-- the word has two bytes or more and begins with `-` (45)
 abbrev pub is_option : Text → Bool
 is_option word = slice_index word 0 == 45 && nat_le 2 (length word)
 
--- a text that may be a name: it does not begin with `-`, or is `-` itself
+-- the word is a text that may be a name: it does not begin with `-`, or is `-` itself
 abbrev pub IsName : Text → Type 0
 IsName word = IsUtf8 word × (is_option word ≡ false)
 
@@ -46,35 +48,36 @@ abbrev pub AreNames : List Text → Type 0
 AreNames [] = Unit {0}
 AreNames (word ∷ rest) = IsName word × AreNames rest
 
--- what stands before the first `=` (61) of a word, and what stands behind it
+-- what stands before the first `=` (61) of a word: an option with its dashes
 abbrev pub option_name : Text → Text
 option_name word = before_first (λ b. b == 61) word
 
--- the text attached to an option, if there is one
+-- the text attached to an option: what stands after the first `=` (61), if there is one
 abbrev pub option_text : Text → Option Text
 option_text word = if list_any (λ b. b == 61) word then Some (after_first (λ b. b == 61) word) else None
 
--- an option as a word
+-- an option as a word: its name after two dashes
 abbrev pub long_word : Text → Text
 long_word id = 45 ∷ 45 ∷ id
 
--- which of these options a word is
+-- which of these options a word is, with a text attached or without, if it is one
 abbrev pub option_of : List Text → Text → Option Text
 option_of options word = find (λ id. bytes_eq (option_name word) (long_word id)) options
 
--- the text of an option is attached to it, or is the next word
+-- what was given from an option on: with the text attached to it, or else with the next word as its
+-- text
 abbrev pub text_given : Option Text → Text → Option Given → Option Given → Option Given
 text_given (Some text) id here next = with_text id text here
 text_given None id here next = next
 
--- a word that is one of the options, or none of them
+-- what was given from a word on: it is one of the options, or a name, or else refused
 abbrev pub word_given : Option Text → Text → Option Given → (Text → Option Given) → Option Given
 word_given (Some id) word here next = text_given (option_text word) id here (next id)
 word_given None word here next = if is_option word then None else with_name word here
 
--- The words behind the name of a command that takes these options. Behind `--` every word is a name
--- as it is, a second `--` too. Before it a word that begins with `-` is one of the options or is
--- refused, except for `-` itself.
+-- What the words after the name of a command that takes these options give; none if they are
+-- refused. After `--` every word is a name as it is, a second `--` too. Before it a word that
+-- begins with `-` is one of the options or is refused, except for `-` itself.
 unfoldable mutual
   pub given : List Text → List Text → Option Given
   given options [] = Some (record { names = []; marked = [] })
@@ -82,17 +85,17 @@ unfoldable mutual
       if bytes_eq word (codes "--") then Some (record { names = rest; marked = [] })
       else word_given (option_of options word) word (given options rest) (λ id. text_then options rest id)
 
-  -- an option that waits for its text
+  -- what was given from an option on whose text is the next word, which may not begin with `-`
   pub text_then : List Text → List Text → Text → Option Given
   text_then options [] id = None
   text_then options (text ∷ rest) id = if is_option text then None else with_text id text (given options rest)
 
--- the first text of an option
+-- the text of an option where it was given first, if it was given
 abbrev pub text_in : Text → List Marked → Option Text
 text_in id [] = None
 text_in id (one ∷ marked) = if bytes_eq one.0 id then Some one.1 else text_in id marked
 
--- no option stands twice
+-- no option was given twice
 abbrev pub stand_once : List Marked → Bool
 stand_once [] = true
 stand_once (one ∷ marked) = not (is_some (text_in one.0 marked)) && stand_once marked
@@ -108,12 +111,12 @@ pub record OptionTextsView : Type 0 where
   -- the programs that the tapes may lack
   pub outside : Option Text
 
--- 100,000 blocks where no limit is given
+-- the most blocks to run: a number from 1 to 1,000,000, and 100,000 if no text is given
 abbrev pub limit_of : Option Text → Option ℕ
 limit_of None = Some 100000
 limit_of (Some text) = number_of 1 1000000 text
 
--- a file's name has a byte
+-- the file that an option names, if it was given; an empty name is refused
 abbrev pub file_of : Option Text → Option (Option Text)
 file_of None = Some None
 file_of (Some []) = None
@@ -123,27 +126,28 @@ file_of (Some (b ∷ text)) = Some (Some (b ∷ text))
 abbrev pub turret_files : Option Text → Option Text → TurretFiles
 turret_files one two = record { one = one; two = two }
 
--- the files of the turrets
+-- the files that the options name for the turrets; an empty name is refused
 abbrev pub files_of : OptionTextsView → Option TurretFiles
 files_of texts =
     option_and_then (λ one. option_map (λ two. turret_files one two) (file_of texts.turret2)) (file_of texts.turret1)
 
--- `-` (45)
+-- the byte is `-`, which is 45
 abbrev pub is_dash : ℕ → Bool
 is_dash b = b == 45
 
--- a range of O numbers, by its greatest and its least
+-- the range of O numbers between these, if both are there and the least is not above the greatest
 abbrev pub range_by : Option ℕ → Option ℕ → Option ProgramRange
 range_by None least = None
 range_by (Some greatest) None = None
 range_by (Some greatest) (Some least) =
     if nat_le least greatest then Some (record { least = least; greatest = greatest }) else None
 
--- two numbers from 1 to 9,999 with `-` between them, the second not below the first
+-- the range that a text writes: two numbers from 1 to 9,999 with `-` between them, the second not
+-- below the first
 abbrev pub range_of : Text → Option ProgramRange
 range_of text = range_by (number_of 1 9999 (after_first is_dash text)) (number_of 1 9999 (before_first is_dash text))
 
--- no program is outside if no range is given
+-- the programs that the tapes may lack: none if no text is given, else the range that it writes
 abbrev pub outside_of : Option Text → Option (Option ProgramRange)
 outside_of None = Some None
 outside_of (Some text) = option_map Some (range_of text)
@@ -175,7 +179,7 @@ command_of what words texts =
     (outside_of texts.outside))
     (limit_of texts.blocks)
 
--- the text of an option, where a row takes it
+-- the text of an option, if the row takes it and it was given
 abbrev pub text_for : Listing → Text → List Marked → Option Text
 text_for row id marked = if takes_option row id then text_in id marked else None
 
@@ -188,7 +192,8 @@ texts_for row marked = record {
   outside = text_for row (codes "outside") marked;
 }
 
--- a row takes as many words as it has names for, and each of its options once at most
+-- the command of a row and of what was given: the row takes as many words as it has names for, and
+-- each of its options once at most
 abbrev pub command_given : Listing → Given → Option Command
 command_given row all =
     if length all.names == length row.words && stand_once all.marked
@@ -199,11 +204,11 @@ command_given row all =
 abbrev pub command_behind : List Text → Listing → Option Command
 command_behind rest row = option_and_then (command_given row) (given row.options rest)
 
--- a word that is one of these options, alone or with a text attached
+-- the word of this name is one of these options, alone or with a text attached
 pub record IsOptionOf (options : List Text) (id : Text) : Type 0 where
-  -- it is not `--`
+  -- the word is not `--`
   pub named : bytes_eq (long_word id) (codes "--") ≡ false
-  -- it is one of the options
+  -- the word is that option
   pub own : option_of options (long_word id) ≡ Some id
   -- alone it has no text; 61 is the character `=`
   pub alone : option_text (long_word id) ≡ None
@@ -215,7 +220,7 @@ pub record IsOptionOf (options : List Text) (id : Text) : Type 0 where
 abbrev pub gives_a_command : Listing → Bool
 gives_a_command row = is_some (command_given row (record { names = map (λ _. codes "1") row.words; marked = [] }))
 
--- the files of the turrets that a command names, where it may name any
+-- the files of the turrets that a command names, if it is one that may name any
 abbrev pub files_in : Command → Option TurretFiles
 files_in (command.Verify left right settings) = None
 files_in (command.Waits left right settings outside) = None

@@ -1,11 +1,12 @@
--- What the making of a command answers. clap_reading cites this; the grammar is in Listed.
+-- What a call that makes a command answers: the command of the grammar, `Usage`, or out of memory.
+-- src/making.rt and clap_reading state their calls by this; the grammar is in Listed.
 use Rattle.std.specs.Prelude.{◌≡◌, ⊤, Option, Some, None, Result, Ok, Err, option_map}
 use Rattle.command_words.specs.Listed.{OptionTextsView}
 use Rattle.command_words.specs.declared.option_texts.OptionTexts.{OptionTexts}
 use Rattle.command_words.specs.declared.fault.WordsFault.{WordsFault}
 use Rattle.command_words.specs.declared.fault.WordsFault.TheVariants.{Usage, NoMemory}
 
--- the answer is the value, and Usage where there is none; memory may be short
+-- the answer is the value, or Usage if there is none; if memory ran out, nothing is said
 abbrev pub Answers : {T : Type 0} → Option T → Result T WordsFault → Type 0
 Answers value (Ok x) = value ≡ Some x
 Answers value (Err Usage) = value ≡ None

@@ -1,5 +1,6 @@
 -- The commands of the program, as one list of rows. What the words after a command's name mean is
--- in Listed. clap_reading and lathe_top cite this.
+-- in Listed. clap_reading and lathe_top cite this; src/table.rt has the same rows, and a further
+-- command is a row in both.
 use Rattle.std.specs.Prelude.{ℕ, Bool, true, ◌&&◌, not, List, [], ◌∷◌, map, find, Option, Some, None, codes}
 use Rattle.std.specs.List.{list_any}
 use Rattle.std.specs.Str.{bytes_eq}
@@ -16,39 +17,39 @@ Text = List ℕ
 -- a command: the word that it begins with, what its words are called, which options it takes, what
 -- it does with the journal, and what it asks for
 pub record Listing : Type 0 where
-  -- the word that it begins with
+  -- the word that the command begins with
   pub name : Text
-  -- what its words are called; it takes as many
+  -- what the words after the name are called; the command takes as many
   pub words : List Text
-  -- the options that it takes, without the dashes
+  -- the options that the command takes, without the dashes
   pub options : List Text
-  -- what it does with the journal
+  -- what the command does with the journal
   pub journal : Journal
-  -- what it asks for
+  -- what the command asks for
   pub task : Task
 
--- a row of these
+-- the row of a name, words, options, a use of the journal and a task
 abbrev pub listing : Text → List Text → List Text → Journal → Task → Listing
 listing name words options journal task =
     record { name = name; words = words; options = options; journal = journal; task = task }
 
--- the two tapes and the settings
+-- the words of a command of a pair: the two tapes and the settings
 abbrev pub pair_words : List Text
 pair_words = codes "left" ∷ codes "right" ∷ codes "settings" ∷ []
 
--- the programs that the tapes may lack
+-- the option of `waits`: the programs that the tapes may lack
 abbrev pub outside_options : List Text
 outside_options = codes "outside" ∷ []
 
--- the most blocks to run
+-- the option of `trace`: the most blocks to run
 abbrev pub block_options : List Text
 block_options = codes "blocks" ∷ []
 
--- the files to which the turrets write what they get
+-- the options of `make`: the files to which the turrets write what they get
 abbrev pub turret_options : List Text
 turret_options = codes "turret1" ∷ codes "turret2" ∷ []
 
--- the most blocks to run besides
+-- the options of `run` and `resume`: the most blocks to run, and the files of the turrets
 abbrev pub run_options : List Text
 run_options = codes "blocks" ∷ turret_options
 
@@ -77,20 +78,20 @@ row_seen row = listing row.name.now (map (λ word. word.now) row.words.now) (map
 abbrev pub takes_option : Listing → Text → Bool
 takes_option row id = list_any (λ own. bytes_eq own id) row.options
 
--- the first row that has the name
+-- the first row that has the name, if one has it
 abbrev pub row_in : List Listing → Text → Option Listing
 row_in rows name = find (λ row. bytes_eq row.name name) rows
 
--- the command that a word names
+-- the row of the command that a word names, if it names one
 abbrev pub row_of : Text → Option Listing
 row_of name = row_in listings name
 
--- what the command that the words name does with the journal: nothing, where they name none
+-- what the command of a row does with the journal; nothing if there is no row
 abbrev pub journal_in : Option Listing → Journal
 journal_in None = journal.None
 journal_in (Some row) = row.journal
 
--- what the command of these words does with the journal
+-- what the command that the words name does with the journal; nothing if they name none
 abbrev pub journal_of : List Text → Journal
 journal_of [] = journal.None
 journal_of (name ∷ rest) = journal_in (row_of name)

@@ -1,5 +1,5 @@
-//! A command of the program, with its names and numbers.
-//! lathe_top performs it.
+//! A command of the program, with its names and numbers. making.rt makes it of the words, and
+//! lathe_top performs it. A further command is a variant here and a row in table.rt.
 ghost use Rattle.std.specs.Prelude.{◌≡◌, ℕ, List, IfOk, option_map, string_bytes};
 
 use std::alloc::{AllocError, Global};
@@ -58,7 +58,7 @@ pub struct TurretFiles {
 pub struct ProgramRange {
     /// The first O number of the range.
     pub least: u16,
-    /// The last one.
+    /// The last O number of the range.
     pub greatest: u16,
 }
 

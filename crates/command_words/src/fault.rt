@@ -1,5 +1,5 @@
-//! Why words give no command.
-//! lathe_top answers status 2 for the first and 12 for the second.
+//! Why words give no command. clap_reading answers it; lathe_top ends with status 2 for `Usage` and
+//! 12 for `NoMemory`.
 ghost use Rattle.std.specs.Prelude.{◌≡◌};
 ghost use Rattle.command_words.specs.declared.fault.WordsFault.TheVariants.{NoMemory};
 

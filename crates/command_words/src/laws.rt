@@ -1,6 +1,5 @@
-//! Laws of the command words, each the contract of a function that does nothing.
-//! The words and options are those of specs/Listed.antt.
-//! No proof rests on them: they say what the grammar allows.
+//! Laws of the command words, each the contract of a function that does nothing. They say what the
+//! grammar of specs/Listed.antt allows, for readers; no other proof rests on them.
 ghost use Rattle.std.specs.Prelude.{◌≡◌, ℕ, true, List, [], ◌∷◌, ◌++◌, Some, codes};
 ghost use Rattle.std.specs.List.{list_all};
 ghost use Rattle.command_words.specs.Listed.{AreNames, IsName, IsOptionOf, given, gives_a_command, long_word};
@@ -12,8 +11,8 @@ pub fn law_of_rows()
     ensures commands { list_all gives_a_command listings ≡ true }
 {}
 
-/// Behind a command's name, words that do not begin with `-` are names, and so is `-` itself;
-/// behind `--` every word is a name.
+/// After a command's name, words that do not begin with `-` are names, and so is `-` itself; after
+/// `--` every word is a name.
 pub fn law_of_names()
     ensures names { (options words : List (List ℕ)) → AreNames words
         → given options words ≡ Some (record { names = words; marked = [] }) }
@@ -21,7 +20,7 @@ pub fn law_of_names()
         → given options (before ++ codes "--" ∷ after) ≡ Some (record { names = before ++ after; marked = [] }) }
 {}
 
-/// An option may stand anywhere among the names, with its text as the next word or behind `=`.
+/// An option may stand anywhere among the names, with its text as the next word or after `=`.
 /// `--blocks`, `--outside`, `--turret1` and `--turret2` are such options.
 pub fn law_of_options()
     ensures apart { (options before after : List (List ℕ)) (id text : List ℕ) → IsOptionOf options id

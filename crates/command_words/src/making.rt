@@ -1,5 +1,6 @@
-//! The command that a row's task makes of what its words were given.
-//! The grammar says the same in specs/Listed.antt; clap_reading calls [`command_of`].
+//! The command that a row's task makes of the words and options that were given. specs/Listed.antt
+//! defines it by functions of the same names; clap_reading calls [`command_of`]. A further command
+//! is an arm of `command_with` in both.
 ghost use Rattle.std.specs.Prelude.{◌≡◌, ◌≤◌, IfSome, map, option_map};
 ghost use Rattle.nc_number.specs.declared.limits.TheConstants.{MOST_RECORDS};
 ghost use Rattle.command_words.specs.Listed.{command_of, command_with, file_of, files_of, limit_of, outside_of, range_by, range_of};
@@ -14,7 +15,7 @@ use crate::table::Task;
 use nc_number::MOST_RECORDS;
 use std::alloc::Global;
 
-/// How many blocks a call may run where the words do not say.
+/// How many blocks a call may run if the words do not say.
 const DEFAULT_BLOCKS: u32 = 100_000;
 
 /// The most blocks that the words may let a call run.
@@ -24,7 +25,7 @@ const MOST_PROGRAMS: u32 = 9_999;
 /// The greatest number of a made pair.
 const MOST_MADE: u32 = 999_999;
 
-/// What the options of numbers say.
+/// What the options `--blocks` and `--outside` say.
 #[derive(Clone, Copy)]
 pub(crate) struct Limits {
     /// The most blocks that a call may run.

@@ -1,6 +1,5 @@
-//! Numbers on the command line.
-//! specs/Number.antt says what such a number is.
-//! For making.rt.
+//! Numbers on the command line, such as `14` of `--blocks 14`. specs/Number.antt says what such a
+//! number is; making.rt reads them here.
 ghost use Rattle.std.specs.Prelude.{◌≡◌};
 ghost use Rattle.std.specs.Char.{is_ascii_digit};
 ghost use Rattle.std.specs.List.{list_all};

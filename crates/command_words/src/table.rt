@@ -1,7 +1,6 @@
-//! The commands as one list of rows.
-//! What a task makes of its words is in making.rt. The launcher has the same commands in
-//! scripts/words.sh.
-//! clap_reading and twin_lathe look up in it.
+//! The commands as one list of rows. What a task makes of its words is in making.rt.
+//! clap_reading and twin_lathe look commands up here. A further command is a row here and in
+//! specs/Table.antt; the launcher has the same commands in scripts/words.sh.
 ghost use Rattle.std.specs.Prelude.{◌≡◌, map, option_map, string_bytes};
 ghost use Rattle.std.specs.List.{list_any};
 ghost use Rattle.std.specs.Str.{bytes_eq};
@@ -28,26 +27,27 @@ pub enum Task {
 /// What a command does with the journal of a run.
 #[derive(Clone, Copy, Debug, PartialEq, Eq)]
 pub enum Journal {
-    /// It leaves the journal alone.
+    /// The command leaves the journal alone.
     None,
-    /// It reads the journal and changes nothing.
+    /// The command reads the journal and changes nothing in it.
     Look,
-    /// It may write to the journal.
+    /// The command may write to the journal.
     Write,
 }
 
-/// A command of the program.
+/// A row of the table: a command of the program, how its words are read, and what it asks for.
 #[derive(Clone, Copy, Debug)]
 pub struct Row {
-    /// The word that it begins with.
+    /// The word that the command begins with.
     pub name: &'static str,
-    /// What the words behind it are called. It takes just as many.
+    /// What the words after the name are called. The command takes just as many.
     pub words: &'static [&'static str],
-    /// The options that it takes, each once at most, with a text: `--NAME TEXT` or `--NAME=TEXT`.
+    /// The options that the command takes, each once at most, with a text: `--NAME TEXT` or
+    /// `--NAME=TEXT`.
     pub options: &'static [&'static str],
-    /// What it does with the journal.
+    /// What the command does with the journal.
     pub journal: Journal,
-    /// What it asks for.
+    /// What the command asks for.
     pub task: Task,
 }
 
@@ -96,7 +96,7 @@ pub fn journal_of(words: &[String]) -> Journal
     }
 }
 
-/// The row of the command that the word names.
+/// The row of the command that the word names, if it names one.
 pub fn row_named(name: &str) -> Option<Row>
     ensures { option_map row_seen result ≡ row_of name.now }
 {
@@ -110,7 +110,7 @@ pub fn takes_option(row: &Row, id: &str) -> bool
     is_among(row.options, id)
 }
 
-/// Whether the text is one of these.
+/// Whether the text is in the list.
 fn is_among(texts: &[&str], id: &str) -> bool
     ensures { result ≡ list_any (λ own. bytes_eq own id.now) (map (λ s. s.now) texts.now) }
 {
@@ -129,7 +129,7 @@ pub fn rows() -> &'static [Row]
     &ROWS
 }
 
-/// The first of the rows that has the name.
+/// The first of the rows that has the name, if one has it.
 fn row_in(rows: &[Row], name: &str) -> Option<Row>
     ensures { option_map row_seen result ≡ row_in (map row_seen rows.now) name.now }
 {

@@ -1,5 +1,5 @@
--- The links once a node was added after the others.
--- `write` (src/shared.rt) rests on it.
+-- The links of the writes after one node was added at the end. For the proof of `write`
+-- (src/shared.rt).
 use Rattle.std.proofs.Common.{◌≡◌, ◌≢◌, ℕ, ◌+◌, ◌<◌, ◌≤◌, List, [], ◌∷◌, ◌++◌, Option, None, Some, length, get_or, All, map, arith, sym, ◌∙◌, ap, subst, below_more, length-append, set, inl, inr}
 use Rattle.std.proofs.lemmas.List.{get_or_append_left, get_or-set_other}
 use Rattle.std.proofs.lemmas.Grind.{get_or-set_at}
@@ -13,7 +13,7 @@ use Rattle.common_vars.specs.declared.links.Write.{Write}
 use Rattle.common_vars.specs.Writes.{IsShared}
 use Rattle.common_vars.specs.Links.{IsLatestBefore, IsSomeBefore, AreLinked, AreEnds, no_node, node_at, variable_at, stamp_at}
 
--- a list with one more has one more
+-- nodes with one more are one more in number
 length_grown : (nodes : List Node) (n : Node) → length (nodes ++ n ∷ []) ≡ length nodes + 1
 length_grown nodes n = length-append nodes (n ∷ [])
 
@@ -25,7 +25,7 @@ old_node nodes n i inside = sym (get_or_append_left nodes (n ∷ []) no_node i i
 new_node : (nodes : List Node) (n : Node) → n ≡ node_at (nodes ++ n ∷ []) (length nodes)
 new_node nodes n = sym (get_or-append_seam nodes n [] no_node)
 
--- what is latest before a place stays so
+-- the latest write before a place stays so when a node is added
 latest_kept : (nodes : List Node) (n : Node) (m v : ℕ) (o : Option ℕ) → m ≤ length nodes
     → IsLatestBefore nodes m v o → IsLatestBefore (nodes ++ n ∷ []) m v o
 latest_kept nodes n m v None short none = λ j below same.
@@ -37,17 +37,20 @@ latest_kept nodes n m v (Some i) short latest = (
       latest.2 j behind below (ap (λ x. x.write.variable) (old_node nodes n j (omega arith)) ∙ same),
 )
 
--- a place of some write before stays one
+-- a place of some write before a place stays one when a node is added
 some_kept : (nodes : List Node) (n : Node) (m v : ℕ) (o : Option ℕ) → m ≤ length nodes
     → IsSomeBefore nodes m v o → IsSomeBefore (nodes ++ n ∷ []) m v o
 some_kept nodes n m v None short some = tt
 some_kept nodes n m v (Some i) short some =
     (some.0, ap (λ x. x.write.variable) (sym (old_node nodes n i (omega (arith, some.0)))) ∙ some.1)
 
--- the node that is added is linked as the others are
+-- the node that is added is linked to earlier writes of its variable, and is no earlier than any
 pub record Joins (nodes : List Node) (n : Node) : Type 0 where
+  -- `previous` is the latest write of its variable
   pub previous : IsLatestBefore nodes (length nodes) n.write.variable n.previous
+  -- `jump` is some write of its variable
   pub jump : IsSomeBefore nodes (length nodes) n.write.variable n.jump
+  -- no node has a greater stamp
   pub stamp : (i : ℕ) → i < length nodes → stamp_at nodes i ≤ n.write.stamp
 
 -- nodes with one more that is linked well are linked well
@@ -152,7 +155,7 @@ stamps_from nodes stamp below i inside =
     let P : Write → Type 0 = λ w. w.stamp ≤ stamp in
     subst P read (All-get_or P (map (λ node. node.write) nodes) i no_node.write within below)
 
--- what the list of ends has for v
+-- what the list of ends has for v is the latest write of v
 end_read : (nodes : List Node) (latest : List (Option ℕ)) (v : ℕ) (o : Option ℕ) → AreEnds nodes latest → v < 1000
     → o ≡ get_or latest v o → IsLatestBefore nodes (length nodes) v o
 end_read nodes latest v o ends small read =
@@ -160,7 +163,7 @@ end_read nodes latest v o ends small read =
     let P : Option ℕ → Type 0 = IsLatestBefore nodes (length nodes) v in
     subst P (sym same) (ends.each v small)
 
--- both hold on once a write is put after the others and is its variable's latest
+-- nodes with one more stay linked, and the list of ends with its place stays right
 pub stay_linked : (nodes longer : List Node) (latest : List (Option ℕ)) (n : Node) (v : ℕ) (o : Option ℕ)
     → AreLinked nodes → AreEnds nodes latest → v < 1000 → n.write.variable ≡ v → n.previous ≡ o → o ≡ get_or latest v o
     → IsSomeBefore nodes (length nodes) v n.jump
@@ -178,7 +181,7 @@ stay_linked nodes longer latest n v o linked ends small named before read jump s
           (subst (Q n.write.variable) (sym grown) (AreEnds-push nodes latest n ends (rw named small))),
     )
 
--- a shared variable is one of the thousand
+-- the number of a shared variable is below 1000
 pub shared_small : (hundreds upper v : ℕ) → hundreds ≤ 100 → upper ≤ 500 → IsShared hundreds upper v → v < 1000
 shared_small hundreds upper v few many (inl low) = omega (arith, low.1)
 shared_small hundreds upper v few many (inr high) = omega (arith, high.1)

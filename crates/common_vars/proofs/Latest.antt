@@ -1,5 +1,5 @@
--- What the search finds is the latest write.
--- `value_at` (src/links.rt) rests on it.
+-- What the search along the links finds is the latest write that is early enough. For the proof of
+-- `value_at` (src/links.rt).
 use Rattle.std.proofs.Common.{◌≡◌, ℕ, zero, suc, ◌<◌, ◌≤◌, true, false, List, [], ◌∷◌, None, Some, length, map, arith, refl, unwrap_or, get_or, sym, ◌∙◌, ap, subst}
 use Rattle.std.proofs.lemmas.List.{get_or_default}
 use Rattle.std.proofs.lemmas.Bool.Decides.{nat_tests}
@@ -17,7 +17,7 @@ written nodes = map (λ node. node.write) nodes
 passes_over : (k v : ℕ) (w : Write) → (w.variable ≡ v → k < w.stamp) → is_write_of k v w ≡ false
 passes_over k v w later = grind (arith, nat_tests)
 
--- a write of the variable by an early record is one
+-- a write of the variable by one of the first k records is one of those that are looked for
 takes : (k v : ℕ) (w : Write) → w.variable ≡ v → w.stamp ≤ k → is_write_of k v w ≡ true
 takes k v w same early = grind (arith, nat_tests)
 
@@ -53,11 +53,11 @@ pub value-found : (nodes : List Node) (k v : ℕ) (i : ℕ) → IsPast nodes k v
     → (node_at nodes i).write.value ≡ value_after k v (written nodes)
 value-found nodes k v i past early = sym (ap (λ o. unwrap_or o Vacant) (found k v nodes i past early))
 
--- without such a write the variable is vacant
+-- without a write that is early enough the variable is vacant
 pub value-none : (nodes : List Node) (k v : ℕ) → IsPast nodes k v None → Vacant ≡ value_after k v (written nodes)
 value-none nodes k v past = sym (ap (λ o. unwrap_or o Vacant) (none-found k v nodes past))
 
--- the node n that was read at place i
+-- the value of the node that was read at place i is that of the variable, if it is early enough
 pub value-read : (nodes : List Node) (k v : ℕ) (i : ℕ) (n : Node) → IsPast nodes k v (Some i)
     → n ≡ get_or nodes i n → n.write.stamp ≤ k → n.write.value ≡ value_after k v (written nodes)
 value-read nodes k v i n past read early =

@@ -1,6 +1,5 @@
--- The laws of both kinds of variables.
--- race_order and two_path take `seen_from_its_stamp`.
--- The functions of src/own.rt and src/shared.rt rest on it.
+-- What the common variables hold after writes, the own ones of a path and the shared ones: for the
+-- laws of src/own.rt and src/shared.rt. race_order and two_path take `seen_from_its_stamp`.
 use Rattle.std.proofs.Common.{◌≡◌, ℕ, ◌<◌, ◌≤◌, nat_le, All, ◌==◌, List, [], ◌∷◌, ◌++◌, true, false, cond, Option, None, Some, length, arith, refl, sym, ◌∙◌, ap, inl, inr, unwrap_or, eq-eqb}
 use Rattle.std.specs.Option.{option_or}
 use Rattle.std.proofs.lemmas.Bool.{cases_eq, ne_eqb, and_right, lt-leb, le-leb}
@@ -31,7 +30,7 @@ after_one own v u to sized small =
           rw test (get_or-set_other own u v to Vacant (λ e. other (sym e)))
     ]
 
--- the first of two that may be there, else the default
+-- of two values that may be missing the first counts, else the second, else the default
 unwrap_or-or : (o p : Option Var) (d : Var) → unwrap_or (option_or o p) d ≡ unwrap_or o (unwrap_or p d)
 unwrap_or-or None p d = refl
 unwrap_or-or (Some x) p d = refl
@@ -52,7 +51,7 @@ latest_is_held writes v common all =
     after_all writes none_written v refl all
     ∙ ap (unwrap_or (latest_of v writes)) (get_or-replicate 1000 v Vacant Vacant (common_small v common))
 
--- the first of three that may be there
+-- of three values that may be missing the first counts, however they are grouped
 option_or-assoc : (a b c : Option Var) → option_or (option_or a b) c ≡ option_or a (option_or b c)
 option_or-assoc None b c = refl
 option_or-assoc (Some x) b c = refl
@@ -94,7 +93,7 @@ pub earlier_value_stays : (writes later : List Write) (k v : ℕ) → All (λ w.
     → value_after k v (writes ++ later) ≡ value_after k v writes
 earlier_value_stays writes later k v past = ap (λ o. unwrap_or o Vacant) (behind_later writes later k v past)
 
--- once all writes are seen, no more are
+-- once a write is seen, it is seen after any number of records more
 seen_alike : (w : Write) (last k v : ℕ) → w.stamp ≤ last → last ≤ k → is_write_of k v w ≡ is_write_of last v w
 seen_alike w last k v early behind =
     let now : nat_le w.stamp last ≡ true = le-leb w.stamp last early in

@@ -1,6 +1,6 @@
--- The rows of the variables' table and the numbers of the variables say the same.
--- block_values, named_vars and path_state take it. `a_variable_has_one_number` and `variable_of`
--- (src/variable.rt) rest on it.
+-- The rows of the variables' table and the numbers of the variables say the same. For
+-- `a_variable_has_one_number` and `variable_of` (src/variable.rt); block_values, named_vars and
+-- path_state take it too.
 use Rattle.std.proofs.Common.{◌≡◌, ◌≢◌, ℕ, zero, suc, ◌≤◌, Bool, true, false, List, [], ◌∷◌, find, cond, Option, Some, None, IfSome, IsNone, inl, inr, refl, ap, sym, subst, ◌∙◌, arith}
 use Rattle.std.specs.Prelude.{option_map, ◌↔◌}
 use Rattle.std.proofs.lemmas.Bool.{leb-true, and_parts}
@@ -10,7 +10,7 @@ use Rattle.common_vars.specs.declared.variable.Variable.{Variable}
 use Rattle.common_vars.specs.declared.variable.Variable.TheVariants.{Null, Local, Common, Code, Feed, Speed, Tool, Programmed, Machine, Work, Raise}
 use Rattle.common_vars.specs.Variables.{Row, range, one, is_in, variable_rows, named_in, variable_of, number_of, IsVariable}
 
--- what a row names has the number that it is named by
+-- what a row names is a variable that exists, and has the number by which the row names it
 abbrev Says : Row → Type 0
 Says row = (number : ℕ) → row.first ≤ number → number ≤ row.last
     → IsVariable (row.variable number) × (number_of (row.variable number) ≡ number)
@@ -20,11 +20,11 @@ abbrev AllSay : List Row → Type 0
 AllSay [] = Unit {0}
 AllSay (row ∷ rows) = Says row × AllSay rows
 
--- a row of one number does
+-- a row of one number names a variable that exists, by its own number
 one_says : (number : ℕ) (variable : Variable) → IsVariable variable → number_of variable ≡ number → Says (one number variable)
 one_says number variable there is = λ n low high. (there, is ∙ (let same : number ≡ n = omega arith in same))
 
--- the table does
+-- each row of the table names variables that exist, by their own numbers
 all_say : AllSay variable_rows
 all_say = (
   one_says 0 Null tt refl,
@@ -127,7 +127,7 @@ all_say = (
   ),
 )
 
--- what such rows name exists and has that number
+-- what rows name that all name well exists and has the number that was asked for
 named_well : (rows : List Row) → AllSay rows → (number : ℕ) (variable : Variable) → named_in rows number ≡ Some variable
     → IsVariable variable × (number_of variable ≡ number)
 named_well [] say number variable is = cc
@@ -144,7 +144,7 @@ named_well (row ∷ rows) say number variable is = go (named_well rows say.1 num
         subst P same (say.0 number (leb-true _ _ within.0) (leb-true _ _ within.1))
     go below false outside later = below later
 
--- what a number names exists and has that number
+-- the variable that a number names exists and has that number
 pub what_is_named : (number : ℕ) (variable : Variable) → variable_of number ≡ Some variable
     → IsVariable variable × (number_of variable ≡ number)
 unfolding variable_of

@@ -1,19 +1,20 @@
--- The common variables #100 to #199 and #500 to #999, and which of them the paths share.
--- path_state takes it for one path.
+-- The common variables #100 to #199 and #500 to #999 of one path: which numbers they have, what
+-- they hold, and what a write makes of them. path_state, run_records, edit_texts and others cite
+-- it. Those that the paths share are in Writes.
 use Rattle.std.specs.Prelude.{ℕ, ◌≤◌, ◌==◌, ◌⊎◌, Bool, ◌&&◌, ◌||◌, nat_le, List, [], ◌∷◌, Option, None, Some, replicate, slice_index_or, slice_set, if◌then◌else◌}
 use Rattle.std.specs.Option.{option_or}
 use Rattle.nc_number.specs.declared.value.Var.{Var}
 use Rattle.nc_number.specs.declared.value.Var.TheVariants.{Vacant}
 
--- a number that names a common variable
+-- the number names a common variable
 abbrev pub IsCommon : ℕ → Type 0
 IsCommon v = ((100 ≤ v) × (v ≤ 199)) ⊎ ((500 ≤ v) × (v ≤ 999))
 
--- the test of that
+-- the number names a common variable, as a test
 abbrev pub is_common : ℕ → Bool
 is_common v = (nat_le 100 v && nat_le v 199) || (nat_le 500 v && nat_le v 999)
 
--- the common variables are 100 to 199 and 500 to 999
+-- the common variable of a number, if it names one: 100 to 199 and 500 to 999 do
 abbrev pub common_number : ℕ → Option ℕ
 common_number v = if is_common v then Some v else None
 
@@ -21,11 +22,11 @@ common_number v = if is_common v then Some v else None
 abbrev pub none_written : List Var
 none_written = replicate 1000 Vacant
 
--- what variable v holds
+-- what variable v of a path holds
 abbrev pub value_of : ℕ → List Var → Var
 value_of v own = slice_index_or own v Vacant
 
--- the variables once v was written
+-- the variables of a path after v was written
 abbrev pub with_value : ℕ → Var → List Var → List Var
 with_value v to own = slice_set own v to
 
@@ -39,7 +40,7 @@ abbrev pub latest_of : ℕ → List (ℕ × Var) → Option Var
 latest_of v [] = None
 latest_of v (w ∷ later) = option_or (latest_of v later) (if w.0 == v then Some w.1 else None)
 
--- writes of common variables alone
+-- each of the writes is of a common variable
 abbrev pub AreCommon : List (ℕ × Var) → Type 0
 AreCommon [] = Unit {0}
 AreCommon (w ∷ later) = IsCommon w.0 × AreCommon later

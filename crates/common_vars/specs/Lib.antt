@@ -1,4 +1,5 @@
--- Common, Variables and Writes are for callers; Links is of the inside.
+-- What variables there are (Variables), the common ones of a path (Common) and the shared ones
+-- (Writes), which the crates above cite. Links is for this crate alone.
 pub mod Common
 pub mod Variables
 pub mod Writes

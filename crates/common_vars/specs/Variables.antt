@@ -1,5 +1,5 @@
--- The variables of the control, and their numbers.
--- path_state and block_values read and write by it.
+-- The variables of the control, and their numbers. block_values reads and path_state writes
+-- variables by it; src/variable.rt has the same table.
 use Rattle.std.specs.Prelude.{◌≡◌, ℕ, ◌+◌, ◌*◌, ◌≤◌, ◌⊎◌, Bool, true, false, ◌&&◌, nat_le, List, [], ◌∷◌, find, Option, option_map}
 use Rattle.common_vars.specs.declared.variable.AxisLetter.{AxisLetter}
 use Rattle.common_vars.specs.declared.variable.AxisLetter.TheVariants.{X, Z}
@@ -9,8 +9,11 @@ use Rattle.common_vars.specs.Common.{IsCommon}
 
 -- the numbers from the first to the last, each with what it names
 pub record Row : Type 0 where
+  -- the first number of the row
   pub first : ℕ
+  -- the last number of the row
   pub last : ℕ
+  -- what a number of the row names
   pub variable : ℕ → Variable
 
 -- a row of all numbers from first to last
@@ -39,11 +42,11 @@ variable_rows =
 abbrev pub is_in : ℕ → Row → Bool
 is_in number row = nat_le row.first number && nat_le number row.last
 
--- what a number names by these rows
+-- what a number names by these rows, if it names a variable
 abbrev pub named_in : List Row → ℕ → Option Variable
 named_in rows number = option_map (λ row. row.variable number) (find (is_in number) rows)
 
--- what a number names
+-- what a number names, if it names a variable
 unfoldable pub variable_of : ℕ → Option Variable
 variable_of number = named_in variable_rows number
 
@@ -71,7 +74,7 @@ number_of Raise = 3000
 abbrev pub IsModalGroup : ℕ → Type 0
 IsModalGroup group = (group ≡ 1) ⊎ (group ≡ 2) ⊎ (group ≡ 3) ⊎ (group ≡ 5) ⊎ (group ≡ 6) ⊎ (group ≡ 7) ⊎ (group ≡ 14)
 
--- there is such a variable
+-- the control has such a variable: its number is one of its kind
 abbrev pub IsVariable : Variable → Type 0
 IsVariable (Local i) = (1 ≤ i) × (i ≤ 33)
 IsVariable (Common v) = IsCommon v
@@ -79,12 +82,12 @@ IsVariable (Code group) = IsModalGroup group
 IsVariable (Work n axis) = n ≤ 6
 IsVariable _ = Unit {0}
 
--- it is a coordinate of the external offset (0) or of G54 to G59 (1 to 6)
+-- the variable is a coordinate of the external work offset (0) or of one of G54 to G59 (1 to 6)
 abbrev pub IsWorkOffset : Variable → Type 0
 IsWorkOffset (Work n axis) = n ≤ 6
 IsWorkOffset _ = ⊥
 
--- writing it is an alarm
+-- writing the variable is the alarm `Protected`; that of writing #3000 is the program's own
 abbrev pub is_protected : Variable → Bool
 is_protected Null = true
 is_protected (Local i) = false
@@ -98,7 +101,7 @@ is_protected (Machine axis) = true
 is_protected (Work n axis) = false
 is_protected Raise = false
 
--- reading it is no alarm
+-- reading the variable is no alarm
 abbrev pub is_readable : Variable → Bool
 is_readable Raise = false
 is_readable _ = true

@@ -1,5 +1,5 @@
--- The shared variables as the list of their writes, earliest first.
--- two_path and race_order take it.
+-- The shared variables as the list of their writes, earliest first, and what each holds after so
+-- many records. two_path, race_order and move_list cite it.
 use Rattle.std.specs.Prelude.{ℕ, Bool, ◌+◌, ◌<◌, ◌≤◌, ◌==◌, ◌&&◌, ◌⊎◌, nat_le, List, [], ◌∷◌, Option, None, Some, unwrap_or, if◌then◌else◌}
 use Rattle.std.specs.Option.{option_or}
 use Rattle.nc_number.specs.declared.value.Var.{Var}
@@ -9,9 +9,13 @@ use Rattle.common_vars.specs.declared.links.Write.{Write}
 -- What contracts see: how many variables from #100 on and from #500 on are shared, the writes, and
 -- how many more there is room for.
 pub record Writes : Type 0 where
+  -- how many variables from #100 on are shared
   pub shared100 : ℕ
+  -- how many variables from #500 on are shared
   pub shared500 : ℕ
+  -- the writes so far, earliest first
   pub writes : List Write
+  -- for how many more writes there is room
   pub room : ℕ
 
 -- v is shared, if so many from #100 on and so many from #500 on are
@@ -19,7 +23,7 @@ abbrev pub IsShared : ℕ → ℕ → ℕ → Type 0
 IsShared shared100 shared500 v =
     ((100 ≤ v) × (v < 100 + shared100)) ⊎ ((500 ≤ v) × (v < 500 + shared500))
 
--- whether w is a write of v by one of the first k records
+-- w is a write of v by one of the first k records
 abbrev pub is_write_of : ℕ → ℕ → Write → Bool
 is_write_of k v w = (w.variable == v) && nat_le w.stamp k
 
@@ -29,6 +33,6 @@ latest_write k v [] = None
 latest_write k v (w ∷ later) =
     option_or (latest_write k v later) (if is_write_of k v w then Some w.value else None)
 
--- what v holds after the first k records
+-- what v holds after the first k records: vacant, if it was not written
 abbrev pub value_after : ℕ → ℕ → List Write → Var
 value_after k v writes = unwrap_or (latest_write k v writes) Vacant

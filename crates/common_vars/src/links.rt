@@ -1,5 +1,5 @@
-//! The writes of shared variables, linked so that a value is found without a walk. Only shared.rt
-//! uses it.
+//! The writes of shared variables, linked so that an early value is found in few steps. Only
+//! shared.rt uses the links; contracts above speak of the writes.
 ghost use Rattle.std.specs.Prelude.{◌≡◌, ℕ, ◌<◌, IfSome, length, map};
 ghost use Rattle.common_vars.specs.Writes.{value_after};
 ghost use Rattle.common_vars.specs.Links.{AreLinked, IsLatestBefore, IsSomeBefore};
@@ -11,11 +11,11 @@ use std::mem::size_of;
 /// One write of a shared variable.
 #[derive(Clone, Copy, Debug)]
 pub struct Write {
-    /// How many records there are with that of the write.
+    /// How many records of the run there are up to that of the write, which counts too.
     pub stamp: u32,
     /// The variable's number.
     pub variable: u32,
-    /// What it holds from then on.
+    /// What the variable holds from then on.
     pub value: Var,
 }
 
@@ -49,7 +49,7 @@ impl Link {
         }
     }
 
-    /// The place that it leads to.
+    /// The place that the link leads to, if it leads to one.
     fn place(&self) -> Option<usize>
         ensures { result ≡ self.now }
     {
@@ -66,10 +66,10 @@ impl Link {
 pub struct Node {
     /// The write itself.
     pub(crate) write: Write,
-    /// The write before it.
+    /// The write of the same variable before this one.
     pub(crate) previous: Link,
-    /// A write further back, so chosen that any earlier write is a few such steps away: a node
-    /// jumps over two jumps of equal span, or else to the one before.
+    /// A write of the same variable further back, so chosen that any earlier write is a few steps
+    /// away: a node jumps over two jumps of equal span, or else to the write before it.
     pub(crate) jump: Link,
     /// How many writes back `jump` leads.
     pub(crate) span: usize,

@@ -1,4 +1,5 @@
-//! The number of a common variable, as a type. `edit_texts` and `run_records` keep it.
+//! The number of a common variable, as a type. edit_texts and run_records name by it the variable
+//! that an operator's edit sets.
 ghost use Rattle.std.specs.Prelude.{◌≡◌, ◌↔◌, IsSome};
 ghost use Rattle.common_vars.specs.Common.{IsCommon};
 
@@ -8,7 +9,7 @@ use std::marker::Model;
 /// The number of a common variable: 100 to 199, or 500 to 999.
 #[derive(Clone, Copy, Debug, PartialEq, Eq)]
 pub struct CommonNumber {
-    /// 100 to 199, or 500 to 999.
+    /// The number: 100 to 199, or 500 to 999.
     number: u32,
 }
 
@@ -28,7 +29,7 @@ impl Model for CommonNumber {
 impl CommonNumber {
     ghost use Rattle.common_vars.specs.Common.{common_number};
 
-    /// A number that names a common variable.
+    /// The common variable of this number, which must be 100 to 199 or 500 to 999.
     pub fn new(v: u32) -> Self
         requires { IsCommon v }
         ensures { result ≡ v }
@@ -48,7 +49,7 @@ impl CommonNumber {
         }
     }
 
-    /// 100 to 199, or 500 to 999.
+    /// The number: 100 to 199, or 500 to 999.
     pub fn get(&self) -> u32
         ensures number { result ≡ self.now }
         ensures common { IsCommon result }

@@ -1,5 +1,5 @@
-//! The common variables of one path. Those that both paths share are in shared.rt.
-//! path_state uses it.
+//! The common variables of one path, which path_state reads and writes. Those that both paths share
+//! are in shared.rt.
 ghost use Rattle.std.specs.Prelude.{◌≡◌, ◌↔◌, ℕ, List, IsTrue, IfOk, unwrap_or};
 ghost use Rattle.nc_number.specs.declared.value.Var.{Var};
 ghost use Rattle.common_vars.specs.Common.{IsCommon, AreCommon, none_written, value_of, with_value, after_writes, latest_of};
@@ -37,7 +37,7 @@ impl Model for Own {
 }
 
 impl Own {
-    /// All of them vacant. An error is out of memory.
+    /// The variables of a path, all of them vacant. The only error is out of memory.
     pub fn new(alloc: Global) -> Result<Own, NoMemory>
         ensures { IfOk result (λ own. own ≡ none_written) }
     {

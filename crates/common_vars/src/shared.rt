@@ -1,5 +1,6 @@
-//! The common variables that the paths share, with every write of the run. two_path holds them. The
-//! laws at the end are said of the list of writes.
+//! The common variables that the paths share, with every write of the run. two_path holds them, so
+//! that a record can be done again with the values that it read. The laws at the end speak of the
+//! list of writes; race_order and two_path take their lemmas.
 ghost use Rattle.std.specs.Prelude.{◌≡◌, ◌↔◌, ◌+◌, ◌<◌, ◌≤◌, ℕ, List, [], ◌∷◌, ◌++◌, if◌then◌else◌, All, IsTrue, IfOk, IsOk, OnOk};
 ghost use Rattle.common_vars.specs.declared.links.Write.{Write};
 ghost use Rattle.common_vars.specs.Writes.{IsShared, is_write_of, value_after};
@@ -51,8 +52,8 @@ pub fn is_shared(shared100: u32, shared500: u32, v: u32) -> bool
 }
 
 impl Shared {
-    /// No variable written. The first `shared100` from `#100` on and the first `shared500` from
-    /// `#500` on are shared. An error is out of memory.
+    /// Shared variables of which none was written. The first `shared100` from `#100` on and the
+    /// first `shared500` from `#500` on are shared. The only error is out of memory.
     pub fn new(alloc: Global, shared100: u32, shared500: u32) -> Result<Shared, NoMemory>
         requires lower { shared100 ≤ 100 }
         requires upper { shared500 ≤ 500 }
@@ -76,7 +77,7 @@ impl Shared {
         is_shared(self.shared100, self.shared500, v)
     }
 
-    /// Makes room for `n` more writes.
+    /// Makes room for `n` more writes. The only error is out of memory.
     pub fn reserve(&mut self, n: usize) -> Result<(), NoMemory>
         ensures writes { self.new.writes ≡ self.old.writes }
         ensures hundreds { self.new.shared100 ≡ self.old.shared100 }

@@ -1,5 +1,5 @@
-//! What the number of a variable names, for all numbers after `#`. How an expression reads it is in
-//! block_values.
+//! What the number of a variable names, for all numbers after `#`: one table. block_values reads
+//! variables by it and path_state writes them.
 ghost use Rattle.std.specs.Prelude.{◌≡◌, ◌≢◌, ◌↔◌, ◌+◌, ◌≤◌, ℕ, Some, IsNone, IfSome};
 ghost use Rattle.common_vars.specs.declared.variable.Variable.{Variable};
 ghost use Rattle.common_vars.specs.Variables.{IsVariable, IsWorkOffset, number_of, variable_of, is_protected, is_readable};
@@ -41,7 +41,7 @@ pub enum Variable {
 }
 
 impl Variable {
-    /// Whether it can't be written: writing one that is read only is the alarm
+    /// Whether the variable can't be written: writing one that is read only is the alarm
     /// [`Protected`](nc_number::Cause::Protected).
     pub fn is_protected(self) -> bool
         ensures { result ≡ is_protected self }
@@ -59,7 +59,7 @@ impl Variable {
         }
     }
 
-    /// Whether it can be read: reading `#3000` is the alarm
+    /// Whether the variable can be read: reading `#3000` is the alarm
     /// [`VariableRange`](nc_number::Cause::VariableRange).
     pub fn is_readable(self) -> bool
         ensures { result ≡ is_readable self }
@@ -76,7 +76,7 @@ pub fn variable_of(number: u32) -> Option<Variable>
     named_by(number)
 }
 
-/// The variable whose number it is, by one table.
+/// The variable of this number, by one table, if there is one.
 fn named_by(number: u32) -> Option<Variable>
     ensures named { IfSome result (λ variable. IsVariable variable) }
     ensures number { IfSome result (λ variable. number_of variable ≡ number) }
@@ -101,7 +101,8 @@ fn named_by(number: u32) -> Option<Variable>
     })
 }
 
-/// The work offset whose variable is so many numbers after that of the external offset's X (#5201).
+/// The work offset whose variable is so many numbers after that of the external offset's X (#5201),
+/// if there is one.
 /// Each offset has 20 numbers, of which the first two are X and Z.
 fn work_offset(behind: u8) -> Option<Variable>
     requires { behind ≤ 121 }

@@ -1,5 +1,5 @@
--- What comes of a call: its faults, and whether the disk is then what is due. Facts of single
--- calls, then of truth values for writes.
+-- What comes of a call: its faults, and whether the disk is then what is due or memory ran out. For
+-- the proofs of `write_at` and `sync` (src/disk.rt).
 use Rattle.std.proofs.Common.{◌≡◌, ℕ, ◌+◌, ◌-◌, ◌^◌, ◌<◌, ◌||◌, Bool, true, false, true≢false, inl, inr, List, [], Ok, Err, refl, sym, ◌∙◌, arith, subst}
 use Rattle.std.specs.Prelude.{nat_le, ◌==◌}
 use Rattle.std.specs.List.{list_any}
@@ -10,11 +10,11 @@ use Rattle.disk_images.specs.Among.{IsAmong}
 use Rattle.disk_images.specs.Images.{Images, after_look, after_settling, after_sync, images_state, next_fails, refuses_write, write_fails}
 use Rattle.disk_images.specs.Outcome.{Comes, as_due, for_want_of_memory}
 
--- if it fails as it should and the disk is what is due, that comes of it
+-- if a call fails as it should and the disk is what is due, that is one outcome
 pub comes_due : (fails : Bool) (due counted new : Images) (failed : Bool) → fails ≡ failed → new ≡ due → Comes fails due counted new failed
 comes_due fails due counted new failed same is = subst (λ (b : Bool). Comes fails due counted new b) same (as_due is)
 
--- if it fails and only its count and its fault are counted, memory ran out
+-- if a call fails and only the call and its fault are counted, memory ran out: the other outcome
 pub comes_wanting : (fails : Bool) (due counted new : Images) (failed : Bool) → failed ≡ true → new ≡ counted → Comes fails due counted new failed
 comes_wanting fails due counted new failed same is = subst (λ (b : Bool). Comes fails due counted new b) (sym same) (for_want_of_memory is)
 
@@ -52,7 +52,7 @@ sync_passes d is = rw is refl
 pub look_calm : (d : Images) → next_fails d ≡ false → (after_look d).faults ≡ d.faults
 look_calm d is = rw is refl
 
--- if calls are left and the number isn't listed, calls are left
+-- if neither of two causes of a fault holds, the first does not
 spent_or : (spent listed : Bool) → spent || listed ≡ false → spent ≡ false
 spent_or true listed is = is
 spent_or false listed is = refl
@@ -61,7 +61,7 @@ spent_or false listed is = refl
 pub short_of : (d : Images) → next_fails d ≡ false → d.calls < next d.calls
 short_of d is = let unspent : nat_le (2 ^ 64 - 1) d.calls ≡ false = spent_or (nat_le (2 ^ 64 - 1) d.calls) (list_any (λ n. n == d.calls + 1) d.failing) is in grind (arith, nat_tests)
 
--- what is refused fails, whether or not its number is listed
+-- if a write is refused, it fails, whether or not its number is listed
 or_fails : (spent listed long : Bool) → spent || long ≡ true → (spent || listed) || long ≡ true
 or_fails true listed long is = refl
 or_fails false true long is = refl
@@ -71,7 +71,7 @@ or_fails false false long is = is
 pub refused_fails : (d : Images) (end : ℕ) → refuses_write d end ≡ true → write_fails d end ≡ true
 refused_fails d end is = or_fails (nat_le (2 ^ 64 - 1) d.calls) (list_any (λ n. n == d.calls + 1) d.failing) (nat_le (2 ^ 62) end) is
 
--- what fails by its number fails, however long it is
+-- if a write fails by its number, it fails, however long it is
 or_listed : (fails long : Bool) → fails ≡ true → fails || long ≡ true
 or_listed fails long is = rw is refl
 
@@ -79,7 +79,7 @@ or_listed fails long is = rw is refl
 pub listed_fails : (d : Images) (end : ℕ) → next_fails d ≡ true → write_fails d end ≡ true
 listed_fails d end is = or_listed (next_fails d) (nat_le (2 ^ 62) end) is
 
--- what is neither refused nor listed passes
+-- if a write is neither refused nor to fail by its number, it passes (truth values)
 or_passes : (spent fails long : Bool) → spent || long ≡ false → fails ≡ false → fails || long ≡ false
 or_passes true fails long is none = absurd (true≢false is)
 or_passes false fails long is none = rw none is
@@ -88,7 +88,7 @@ or_passes false fails long is none = rw none is
 pub write_passes : (d : Images) (end : ℕ) → refuses_write d end ≡ false → next_fails d ≡ false → write_fails d end ≡ false
 write_passes d end is none = or_passes (nat_le (2 ^ 64 - 1) d.calls) (next_fails d) (nat_le (2 ^ 62) end) is none
 
--- what isn't refused isn't too long
+-- if a write is not refused, it is not too long
 or_long : (spent long : Bool) → spent || long ≡ false → long ≡ false
 or_long true long is = absurd (true≢false is)
 or_long false long is = is

@@ -1,4 +1,4 @@
--- The files of proofs, each after those that it uses.
+-- The lemmas of this crate, each file after those that it uses. No other crate uses them.
 pub mod Parts
 pub mod Moments
 pub mod Torn

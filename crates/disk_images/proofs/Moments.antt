@@ -1,4 +1,5 @@
--- What a call adds to what a crash may leave: the images after it come of those before it.
+-- What a call adds to what a crash may leave: the images after it come of those before it. For
+-- Torn.antt, Writing.antt and the proofs of `len`, `read_at` and `sync` (src/disk.rt).
 use Rattle.std.proofs.Common.{◌≡◌, ◌⊎◌, inl, inr, ℕ, ◌+◌, ◌≤◌, ◌<◌, max, List, [], ◌++◌, refl, sym, arith, subst, append-nil}
 use Rattle.std.proofs.lemmas.Bool.{cases_lt}
 use Rattle.disk_model.specs.Device.{Elapses, Looks, Tears, Torn, Stays}
@@ -66,7 +67,7 @@ module _ (step : List ℕ → List ℕ → Type 0) (old new : Images) (gone : Li
     before = before;
   }
 
--- nothing is ended
+-- with no image ended, the list of ended ones stays
 pub none_gone : (past : List Ended) (calls : ℕ) → past ≡ past ++ all_ended calls []
 none_gone past calls = sym (append-nil past)
 
@@ -81,7 +82,7 @@ looks_counted d faults kept = record {
   allows = λ calls end allows. allows;
 }
 
--- nor does a sync that succeeds: it ends all images but what a read gives
+-- a sync that succeeds adds no image: it ends all but what a read gives
 pub settled_looks : (d : Images) (faults : ℕ) → IsKept d → d.calls < next d.calls
     → Looks (images_state d) (images_state (after_settling (record d { calls = next d.calls; faults = faults })))
 settled_looks d faults kept short = record {
@@ -93,7 +94,7 @@ settled_looks d faults kept short = record {
   allows = λ calls end allows. allows;
 }
 
--- a write that was refused
+-- a write that was refused adds no image
 pub tears_not : (d : Images) (at n faults : ℕ) → IsKept d → ((c : List ℕ) → Torn at n c c)
     → Tears at n (images_state d) (images_state (record d { calls = next d.calls; reach = max d.reach (at + n); faults = faults }))
 tears_not d at n faults kept stays = record {

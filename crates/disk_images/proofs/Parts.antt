@@ -1,4 +1,5 @@
--- Images in lists, and those that were left at some moment.
+-- Images in lists, and those that a crash may have left at some moment. For the other files of
+-- proofs here, and for the proofs of src/disk.rt and src/ended.rt.
 use Rattle.std.proofs.Common.{◌≡◌, ◌⊎◌, ◌↔◌, inl, inr, ℕ, ◌≤◌, ◌<◌, Bool, true, false, List, [], ◌∷◌, ◌++◌, arith, refl, sym, ap, subst}
 use Rattle.std.specs.Prelude.{nat_lt}
 use Rattle.std.proofs.lemmas.Bool.Decides.{nat_tests}
@@ -23,7 +24,7 @@ among_either [] ys c here = inr here
 among_either (x ∷ xs) ys c (inl is) = inl (inl is)
 among_either (x ∷ xs) ys c (inr rest) = elim (among_either xs ys c rest) [ inl first ↦ inl (inr first) | inr second ↦ inr second ]
 
--- what was ended by then was left no later
+-- no image that was ended by some moment may have been left at that moment or later
 pub left_none : (calls : ℕ) (past : List Ended) (c : List ℕ) → AreEnded calls past → WasLeft calls past c → ⊥
 left_none calls [] c are none = none
 left_none calls (e ∷ past) c are (inl here) = omega (arith, here.0, are.0)
@@ -63,7 +64,7 @@ left_among since until [] c none = absurd none
 left_among since until (image ∷ images) c (inl here) = inl here.1
 left_among since until (image ∷ images) c (inr rest) = inr (left_among since until images c rest)
 
--- the list of those that were left
+-- the listed images since a moment are those that a crash since then may have left
 pub listed_left : (since : ℕ) (past : List Ended) (c : List ℕ) → IsAmong (left_since since past) c ↔ WasLeft since past c
 listed_left since [] c = (λ none. none, λ none. none)
 listed_left since (e ∷ past) c = go (nat_lt since e.until) refl (listed_left since past c)
@@ -78,7 +79,7 @@ listed_left since (e ∷ past) c = go (nat_lt since e.until) refl (listed_left s
       λ here. elim here [ inl now ↦ absurd (grind (arith, nat_tests)) | inr more ↦ rest.1 more ],
     )
 
--- one image more
+-- the listed images since a moment, with one ended image more
 pub left_push : (since : ℕ) (past : List Ended) (e : Ended) → left_since since (past ++ e ∷ []) ≡ left_since since past ++ left_since since (e ∷ [])
 left_push since [] e = refl
 left_push since (first ∷ past) e = go (nat_lt since first.until) refl (left_push since past e)

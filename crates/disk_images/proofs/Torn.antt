@@ -1,5 +1,5 @@
--- What a write makes images is what a torn write leaves: a first part of it over the image from
--- before.
+-- What a write makes of images is what a torn write may leave: a first part of it over the image
+-- from before. For Writing.antt and the loop of `add_torn` (src/growing.rt).
 use Rattle.std.proofs.Common.{◌≡◌, inl, inr, ℕ, zero, suc, ◌+◌, ◌≤◌, List, [], ◌∷◌, ◌++◌, length, take, refl, sym, ap, ◌∙◌, arith, subst}
 use Rattle.std.specs.List.{flat_map}
 use Rattle.std.proofs.lemmas.List.{length-take}
@@ -19,7 +19,7 @@ torn_shorter at m n b c le torn = record {
   outside = λ i within apart. torn.outside i within (elim apart [ inl ahead ↦ inl ahead | inr behind ↦ inr (omega (arith, behind, le)) ]);
 }
 
--- a first part of a write
+-- an image with a first part of a write over it is one that the write tore
 torn_first : (image : List ℕ) (at : ℕ) (bytes : List ℕ) (count : ℕ) → Torn at (length bytes) image (written_over image at (take count bytes))
 torn_first image at bytes count =
     torn_shorter at (length (take count bytes)) (length bytes) image _ (omega (arith, length-take count bytes)) (torn_by_write image at (take count bytes))
@@ -82,12 +82,12 @@ module _ (d : Images) (at : ℕ) (bytes content : List ℕ) (faults : ℕ) (kept
     allows = λ calls end allows. allows;
   }
 
--- the first parts of a write, none and one more
+-- with no byte written there is no image with a first part
 pub torn_none : (image : List ℕ) (at : ℕ) (bytes : List ℕ) → torn_to image at bytes 0 ≡ []
 unfolding torn_to
 torn_none image at bytes = refl
 
--- the first parts of a write with one byte more are those, and that with one byte more
+-- with one byte more written there is one image more, with that first part over it
 pub torn_more : (image : List ℕ) (at : ℕ) (bytes : List ℕ) (count : ℕ)
     → torn_to image at bytes (count + 1) ≡ torn_to image at bytes count ++ written_over image at (take (count + 1) bytes) ∷ []
 unfolding torn_to

@@ -1,4 +1,4 @@
--- What a write does, done or failed.
+-- What a write does, done or failed. For the proof of `write_at` (src/disk.rt).
 use Rattle.std.proofs.Common.{◌≡◌, ◌⊎◌, inl, inr, ℕ, ◌+◌, ◌^◌, ◌<◌, true, false, List, length, Result, Ok, Err, Some, refl, sym, ap, ◌∙◌, subst}
 use Rattle.std.specs.Prelude.{IsOk, IsErr}
 use Rattle.disk_model.specs.Calls.{Writes}
@@ -32,7 +32,7 @@ write_done d at bytes is fails = rw (is, fails) refl
 
 -- a write of these bytes at this place, on a disk before and after it
 module _ {T E : Type 0} (d new : Images) (at : ℕ) (bytes : List ℕ) (kept : IsKept d) where
-  -- a write that failed, and wrote nothing or counts as written
+  -- a write that failed, and wrote nothing or counts as written, keeps the trait's clause on writes
   pub failed_writes : (e : E) → (new ≡ with_fault (after_request d (at + length bytes))) ⊎ (new ≡ with_fault (grown (after_request d (at + length bytes)) at bytes))
       → Writes {T = T} {E = E} at bytes (images_state d) (images_state new) (Err e)
   failed_writes e (inl is) = record {
@@ -50,7 +50,7 @@ module _ {T E : Type 0} (d new : Images) (at : ℕ) (bytes : List ℕ) (kept : I
     cause = has_fault e d new (ap (λ (n : Images). n.faults) is) kept.faults_fit;
   }
 
-  -- a write that succeeded
+  -- a write that succeeded keeps the trait's clause on writes
   pub done_writes : (x : T) → at + length bytes < 2 ^ 62 → new ≡ overwritten (after_request d (at + length bytes)) at bytes
       → Writes {T = T} {E = E} at bytes (images_state d) (images_state new) (Ok x)
   done_writes x short is = record {

@@ -1,8 +1,8 @@
 -- Which images are in a list, and which were left at some moment. An image is the bytes of the
--- whole file; a moment is how many calls the disk has had.
+-- whole file; a moment is how many calls the disk has had. For this crate alone.
 use Rattle.std.specs.Prelude.{◌≡◌, ◌⊎◌, ℕ, ◌≤◌, ◌<◌, nat_lt, if◌then◌else◌, List, [], ◌∷◌, map}
 
--- an image is one of these
+-- the image c is in the list
 abbrev pub IsAmong : List (List ℕ) → List ℕ → Type 0
 IsAmong [] c = ⊥
 IsAmong (image ∷ images) c = (c ≡ image) ⊎ IsAmong images c
@@ -28,7 +28,7 @@ abbrev pub left_since : ℕ → List Ended → List (List ℕ)
 left_since since [] = []
 left_since since (e ∷ past) = if nat_lt since e.until then e.bytes ∷ left_since since past else left_since since past
 
--- no image was ended later than that
+-- no ended image was ended after so many calls
 abbrev pub AreEnded : ℕ → List Ended → Type 0
 AreEnded calls [] = Unit {0}
 AreEnded calls (e ∷ past) = (e.until ≤ calls) × AreEnded calls past

@@ -1,10 +1,11 @@
--- The facts of a disk that keeps every image agree with one another, as the trait Disk asks.
+-- The facts of a disk that keeps every image agree with one another, as the trait Disk asks. For
+-- src/disk.rt alone.
 use Rattle.std.specs.Prelude.{◌≡◌}
 use Rattle.std.proofs.Common.{arith, inl, inr, sym}
 use Rattle.disk_model.specs.Device.{IsCoherent}
 use Rattle.disk_images.specs.Images.{Images, images_state}
 
--- what it tells of reads, images and time agrees; it allows nothing
+-- what such a disk tells of reads, images and time agrees; it allows nothing
 pub images_coherent : (d : Images) → IsCoherent (images_state d)
 images_coherent d = record {
   counts_now = λ t c le now. inl now;

@@ -1,5 +1,5 @@
--- What a disk in memory holds that keeps every image, and what each call makes of it. The crates of
--- tests disk_vectors and journal_vectors use it.
+-- What a disk in memory holds that keeps every image, and what each call makes of it. For this
+-- crate alone; the tests of disk_vectors and journal_vectors use the disk itself.
 use Rattle.std.specs.Prelude.{◌⊎◌, ℕ, zero, suc, ◌+◌, ◌-◌, ◌^◌, ◌<◌, ◌==◌, ◌||◌, nat_le, nat_lt, Bool, List, [], ◌∷◌, ◌++◌, length, take, max, Some, if◌then◌else◌}
 use Rattle.std.specs.List.{flat_map, list_any}
 use Rattle.disk_model.specs.Device.{DiskState, written_over}
@@ -19,7 +19,7 @@ pub record Images : Type 0 where
   -- how many calls failed
   pub faults : ℕ
 
--- what a crash now may leave
+-- what a crash now may leave: what a read gives, and the others
 abbrev pub images_now : Images → List (List ℕ)
 images_now d = d.bytes ∷ d.others
 
@@ -27,7 +27,7 @@ images_now d = d.bytes ∷ d.others
 abbrev pub images_since : Images → ℕ → List (List ℕ)
 images_since d since = images_now d ++ (if nat_lt since d.calls then left_since since d.past else [])
 
--- The disk does not say how much it allows: each call may want memory.
+-- All that can be said of such a disk. It allows no calls without a fault: each may want memory.
 abbrev pub images_state : Images → DiskState
 images_state d = record {
   reads = Some d.bytes;
@@ -40,7 +40,7 @@ images_state d = record {
   allows = λ calls end. ⊥;
 }
 
--- what is true of every such disk
+-- what is true of every disk that keeps its images
 pub record IsKept (d : Images) : Type 0 where
   -- what a read gives is shorter than 2 ^ 62 bytes
   pub small : length d.bytes < 2 ^ 62
@@ -48,7 +48,7 @@ pub record IsKept (d : Images) : Type 0 where
   pub ended : AreEnded d.calls d.past
   -- the count of calls fits 64 bits
   pub calls_fit : d.calls < 2 ^ 64
-  -- so does that of faults
+  -- the count of faults fits 64 bits
   pub faults_fit : d.faults < 2 ^ 64
 
 -- a disk that has had no call
@@ -71,27 +71,27 @@ next_fails d = nat_le (2 ^ 64 - 1) d.calls || list_any (λ n. n == d.calls + 1) 
 abbrev pub refuses_write : Images → ℕ → Bool
 refuses_write d end = nat_le (2 ^ 64 - 1) d.calls || nat_le (2 ^ 62) end
 
--- it is a write up to this end, which fails besides where the file would be too long
+-- a write up to this end would fail: as any call would, or because the file would be too long
 abbrev pub write_fails : Images → ℕ → Bool
 write_fails d end = next_fails d || nat_le (2 ^ 62) end
 
--- a fault is counted
+-- the disk with one fault more
 abbrev pub with_fault : Images → Images
 with_fault d = record d { faults = next d.faults }
 
--- a call that writes nothing is counted, and a fault where it fails
+-- the disk after a call that writes nothing: it is counted, and a fault if it fails
 abbrev pub after_look : Images → Images
 after_look d = record d { calls = next d.calls; faults = (if next_fails d then next d.faults else d.faults) }
 
--- all that was written is on the disk: from now on a crash leaves what a read gives
+-- the disk after a sync that succeeded: from now on a crash leaves what a read gives
 abbrev pub after_settling : Images → Images
 after_settling d = record d { others = []; past = d.past ++ all_ended d.calls (images_now d) }
 
--- a sync that is to fail puts nothing on the disk
+-- the disk after a sync, if there is memory: one that is to fail puts nothing on it
 abbrev pub after_sync : Images → Images
 after_sync d = if next_fails d then after_look d else after_settling (after_look d)
 
--- a write up to this end is asked for
+-- the disk after a write up to this end was asked for, whatever it did
 abbrev pub after_request : Images → ℕ → Images
 after_request d end = record d { calls = next d.calls; reach = max d.reach end }
 
@@ -104,16 +104,18 @@ torn_to image at bytes (suc count) = torn_to image at bytes count ++ written_ove
 abbrev pub torn_images : ℕ → List ℕ → List ℕ → List (List ℕ)
 torn_images at bytes image = torn_to image at bytes (length bytes)
 
--- A write may be made of each image: each stays one, and so does each with a first part of the
--- write over it.
+-- The disk with the images that a write adds: each image so far stays one, and each of them with a
+-- first part of the write over it is one.
 abbrev pub grown : Images → ℕ → List ℕ → Images
 grown d at bytes = record d { others = d.others ++ d.bytes ∷ flat_map (torn_images at bytes) (images_now d) }
 
--- and it is made of what a read gives
+-- The disk after a write that succeeded: a read gives the bytes, and a crash may leave a first part
+-- of them.
 abbrev pub overwritten : Images → ℕ → List ℕ → Images
 overwritten d at bytes = record (grown d at bytes) { bytes = written_over d.bytes at bytes }
 
--- a write: one that is refused writes nothing, and one that is to fail counts as written
+-- the disk after a write, if there is memory: one that is refused writes nothing, and one that is
+-- to fail by its number writes nothing and counts as written
 abbrev pub after_write : Images → ℕ → List ℕ → Images
 after_write d at bytes =
     if refuses_write d (at + length bytes) then with_fault (after_request d (at + length bytes))

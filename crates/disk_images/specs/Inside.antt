@@ -1,4 +1,5 @@
--- How the fields of a disk stand for what it holds. For this crate alone.
+-- How the fields of a disk that keeps every image stand for what it holds, and what is always true
+-- of them. For src/disk.rt alone.
 use Rattle.disk_images.specs.declared.disk.ImagesDisk.TheInside.{Inside}
 use Rattle.disk_images.specs.Images.{Images, IsKept}
 

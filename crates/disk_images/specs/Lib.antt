@@ -1,5 +1,5 @@
--- What the disk of this crate is: its images (Among, Images), its facts, and the words of the
--- inside.
+-- What the disk of this crate is: its images (Among, Images), that its facts agree (Coherent), its
+-- fields (Inside), and what comes of a call without memory (Outcome).
 pub mod Among
 pub mod Coherent
 pub mod Images

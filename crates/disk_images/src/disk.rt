@@ -22,9 +22,10 @@ const LENGTH_LIMIT: usize = 1 << 62;
 /// it, whatever it leaves of the others.
 ///
 /// A call fails where its number, counted from 1, is listed, where a write would end at or past
-/// 2^62, and if memory runs out. A write that fails by its number writes nothing, and counts
-/// as written all the same; a call without memory does nothing, but is counted. `len` and `read_at`
-/// take no memory. Each write takes as much as it makes images; it is for small disks.
+/// 2^62, if memory runs out, and once 2^64 - 1 calls are counted. A write that fails by its number
+/// writes nothing, and counts as written all the same; a call without memory does nothing, but is
+/// counted. `len` and `read_at` take no memory. Each write takes as much as it makes images; it is
+/// for small disks.
 #[derive(Drop)]
 pub struct ImagesDisk {
     /// Where the memory comes from.
@@ -134,7 +135,7 @@ impl ImagesDisk {
     ghost use Rattle.disk_model.specs.Device.{HasCause};
     ghost use Rattle.disk_images.specs.Images.{IsKept, after_look, after_request, after_settling, grown, images_state, next_fails, overwritten, refuses_write, with_fault};
 
-    /// Whether the next call fails by its number.
+    /// Whether the next call fails by its number: it is listed, or can't be counted any more.
     fn next_call_fails(&self) -> bool
         ensures fails { result ≡ next_fails self.now }
         ensures kept { IsKept self.now }
@@ -142,7 +143,7 @@ impl ImagesDisk {
         self.calls == u64::MAX || is_listed(&self.failing, self.calls + 1)
     }
 
-    /// Counts a call that writes nothing, and says whether it succeeds.
+    /// Counts a call that writes nothing. Error: it is one of those that fail by their number.
     fn look(&mut self) -> Result<(), Failed>
         ensures fails { is_err result ≡ next_fails self.old }
         ensures model { self.new ≡ after_look self.old }
@@ -165,7 +166,8 @@ impl ImagesDisk {
         self.faults = self.faults.saturating_add(1);
     }
 
-    /// Ends each image but what a read gives: all that was written is on the disk.
+    /// Ends each image but what a read gives: all that was written is on the disk. Without memory
+    /// the disk stays as it is.
     fn settle(&mut self) -> Result<(), NoMemory>
         ensures ok { IsOk result → self.new ≡ after_settling self.old }
         ensures err { IsErr result → self.new ≡ self.old }
@@ -191,7 +193,8 @@ impl ImagesDisk {
         (refused, fails)
     }
 
-    /// Adds the images with a first part of the write, which a crash may leave.
+    /// Adds the images with a first part of the write, which a crash may leave. Without memory the
+    /// disk stays as it is.
     fn grow(&mut self, at: usize, bytes: &[u8]) -> Result<(), NoMemory>
         requires { at + length bytes.now < 2 ^ 62 }
         ensures ok { IsOk result → self.new ≡ grown self.old at bytes.now }
@@ -202,7 +205,8 @@ impl ImagesDisk {
         Ok(())
     }
 
-    /// Writes, so that a read gives the bytes, and a crash may leave a first part of them.
+    /// Writes, so that a read gives the bytes, and a crash may leave a first part of them. Without
+    /// memory the disk stays as it is.
     fn overwrite(&mut self, at: usize, bytes: &[u8]) -> Result<(), NoMemory>
         requires { at + length bytes.now < 2 ^ 62 }
         ensures ok { IsOk result → self.new ≡ overwritten self.old at bytes.now }
@@ -275,7 +279,8 @@ impl Disk for ImagesDisk {
         Ok(())
     }
 
-    /// Puts all that was written on the disk. It fails by its number and without memory.
+    /// Puts all that was written on the disk. It fails by its number and without memory, and then
+    /// ends no image.
     fn sync(&mut self) -> Result<(), Failed>
         ensures model { Comes (next_fails self.old) (after_sync self.old)
             (with_fault (after_look self.old)) self.new (is_err result) }

@@ -1,4 +1,5 @@
-//! Images that a sync ended: a crash may have left them before it.
+//! Images that a sync ended: a crash may have left them before it. For src/disk.rt, whose disk
+//! keeps them all and lists those since a time.
 
 ghost use Rattle.std.specs.Prelude.{◌≡◌, ◌++◌, ◌∷◌, [], IfOk, OnOk};
 ghost use Rattle.disk_images.specs.Among.{all_ended, left_since};
@@ -54,7 +55,7 @@ pub(crate) fn ended_at(
     Ok(ended)
 }
 
-/// Adds the image if a crash at that time, or later, may have left it.
+/// Adds the image to the list if a crash at that time, or later, may have left it.
 fn add_if_left(
     alloc: Global,
     into: &mut Vec<Image>,
@@ -69,7 +70,7 @@ fn add_if_left(
     Ok(())
 }
 
-/// Adds those that a crash at that time, or later, may have left.
+/// Adds to the list those of the ended images that a crash at that time, or later, may have left.
 pub(crate) fn add_left(
     alloc: Global,
     into: &mut Vec<Image>,

@@ -1,4 +1,5 @@
-//! What a write adds to the images: a first part of it may be left over each of them.
+//! What a write adds to the images: a first part of it may be left over each of them. For
+//! src/disk.rt.
 
 ghost use Rattle.std.specs.Prelude.{◌≡◌, ◌+◌, ◌^◌, ◌<◌, ◌++◌, ◌∷◌, length, IfOk, OnOk};
 ghost use Rattle.std.specs.List.{flat_map};
@@ -26,8 +27,8 @@ fn add_torn(
     Ok(())
 }
 
-/// What a write makes images besides: what a read gave, and each image with a first part of the
-/// write over it.
+/// The images that a write adds: what a read gave before it, and each image with a first part of
+/// the write over it.
 pub(crate) fn added_by(
     alloc: Global,
     held: &[u8],

@@ -1,4 +1,5 @@
-//! An image: the bytes of the whole file that a crash may leave.
+//! An image: the bytes of the whole file that a crash may leave. The disk of src/disk.rt lists
+//! images; the tests of disk_vectors and journal_vectors open a journal from each.
 
 ghost use Rattle.std.specs.Prelude.{◌≡◌, ◌+◌, ◌-◌, ◌^◌, ◌≤◌, ◌<◌, ◌++◌, List, ℕ, length, take, drop, replicate, IfOk};
 ghost use Rattle.disk_model.specs.Device.{written_over};
@@ -21,7 +22,7 @@ impl Model for Image {
 }
 
 impl Image {
-    /// Its bytes.
+    /// The bytes of the file, from the first on.
     pub fn as_slice(&self) -> &[u8]
         ensures { result.now ≡ self.now }
     {
@@ -37,7 +38,8 @@ impl Image {
         })
     }
 
-    /// The old bytes with these over them.
+    /// The image that a write makes of old bytes: these over them, and zeros between where they
+    /// begin after the end.
     pub(crate) fn of_write(
         alloc: Global,
         old: &[u8],

@@ -9,7 +9,9 @@ use Rattle.disk_model.specs.Image.{IsOutside}
 
 -- outside what is still to be copied the content is what it has become
 pub record IsCopied (from : List ℕ) (left : List Stretch) (content : List ℕ) : Type 0 where
+  -- the content is no longer than what it has become
   pub no_longer : length content ≤ length from
+  -- outside the stretches that are left they have the same bytes
   pub same : (i : ℕ) → i < length content → IsOutside i left → get_or content i 0 ≡ get_or from i 0
 
 -- when one stretch more is copied, one less is left to copy

@@ -1,5 +1,5 @@
--- What the images between two syncs have to do with single writes.
--- For Filled, Kept and the law of src/laws.rt.
+-- The images between two syncs, one write at a time: those with a write more are the torn ones of
+-- those before. For Filled, Kept and the law `images_are_torn_writes` of src/laws.rt.
 use Rattle.std.proofs.Common.{◌≡◌, ◌⊎◌, inl, inr, ℕ, ◌+◌, ◌≤◌, ◌<◌, min, max, List, [], ◌∷◌, ◌++◌, length, get_or, map, refl, sym, ◌∙◌, arith, Bool, cond, ◌&&◌}
 use Rattle.std.specs.Prelude.{nat_le, nat_lt}
 use Rattle.std.proofs.lemmas.Bool.{cases_lt}
@@ -16,7 +16,7 @@ pub greatest_end-push : (len : ℕ) (written : List Stretch) (s : Stretch) → g
 greatest_end-push len [] s = refl
 greatest_end-push len (w ∷ written) s = omega (arith, greatest_end-push len written s)
 
--- it is not below the length
+-- the greatest end is not below the length
 pub greatest_end-least : (len : ℕ) (written : List Stretch) → len ≤ greatest_end len written
 greatest_end-least len [] = omega arith
 greatest_end-least len (w ∷ written) = omega (arith, greatest_end-least len written)
@@ -58,34 +58,43 @@ image_torn synced written s b c image torn = record {
 -- An image since one write more is an image from before it after that write was torn: the synced
 -- bytes stand in its range.
 module _ (synced : List ℕ) (written : List Stretch) (s : Stretch) (c : List ℕ) (image : IsImage synced (written ++ s ∷ []) c) where
+  -- the place lies in the range of the last write
   in_range : ℕ → Bool
   in_range i = nat_le s.at i && nat_lt i (s.at + s.len) && nat_lt i (length synced)
 
+  -- the byte of a place before the last write: the synced one in its range, else that of the image
   untorn : ℕ → ℕ
   untorn i = cond (in_range i) (get_or synced i 0) (get_or c i 0)
 
+  -- how long the image from before the last write is
   size : ℕ
   size = min (length c) (greatest_end (length synced) written)
 
+  -- the image from before the last write
   before : List ℕ
   before = map untorn (range_with_len 0 size)
 
+  -- the image from before the last write has that length
   length-before : length before ≡ size
   unfolding before
   length-before = length-map-range_with_len untorn 0 size
 
+  -- the image from before the last write has these bytes
   at_before : (i : ℕ) → i < size → get_or before i 0 ≡ untorn i
   unfolding before
   at_before i within = get_or-map-range_with_len untorn 0 size i i 0 within (omega arith)
 
+  -- outside the range of the last write its bytes are those of the image
   untorn_apart : (i : ℕ) → (i < s.at) ⊎ (s.at + s.len ≤ i) → untorn i ≡ get_or c i 0
   unfolding untorn in_range
   untorn_apart i (inl ahead) = grind (arith, nat_tests)
   untorn_apart i (inr behind) = grind (arith, nat_tests)
 
+  -- outside all writes its bytes are the synced ones
   outside_here : (i : ℕ) → i < length synced → IsOutside i written → (i < s.at) ⊎ (s.at + s.len ≤ i) → untorn i ≡ get_or synced i 0
   outside_here i within apart here = untorn_apart i here ∙ image.outside i within (push_outside i written s apart here)
 
+  -- outside the earlier writes its bytes are the synced ones
   untorn_synced : (i : ℕ) → i < length synced → IsOutside i written → untorn i ≡ get_or synced i 0
   unfolding untorn in_range
   untorn_synced i within apart = elim (cases_lt i s.at) [
@@ -96,6 +105,8 @@ module _ (synced : List ℕ) (written : List Stretch) (s : Stretch) (c : List �
     ]
   ]
 
+  -- the length of the image from before the last write is one that a crash may have left, and the
+  -- write may have made that of the image
   sizes : (size ≤ length c) × (size ≤ greatest_end (length synced) written) × (length synced ≤ size) × (length c ≤ max size (s.at + s.len))
   unfolding size
   sizes =
@@ -103,7 +114,7 @@ module _ (synced : List ℕ) (written : List Stretch) (s : Stretch) (c : List �
       let least = greatest_end-least (length synced) written in
       (omega arith, omega arith, omega (arith, image.no_shorter), omega (arith, image.no_longer))
 
-  -- such an image from before
+  -- there is an image from before the write that the write tore to this one
   pub image_back : (b : List ℕ) × IsImage synced written b × Torn s.at s.len b c
   image_back = (
     before,

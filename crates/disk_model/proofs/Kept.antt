@@ -1,6 +1,5 @@
--- What a write keeps true of a disk in memory, and what it adds to what a crash may leave.
--- Invariants of the disk in memory.
--- For the proofs of src/memory.rt.
+-- What a call keeps true of a disk in memory, and what it adds to what a crash may leave. For the
+-- proofs of src/memory.rt.
 use Rattle.std.proofs.Common.{◌≡◌, ◌⊎◌, inl, inr, ℕ, ◌+◌, ◌≤◌, ◌<◌, max, List, [], ◌∷◌, ◌++◌, length, false, refl, sym, ◌∙◌, ap, arith, subst, length-append}
 use Rattle.disk_model.specs.declared.stretch.Stretch.{Stretch}
 use Rattle.disk_model.specs.Device.{Torn, Tears, Looks, Reads, Only, written_over}
@@ -28,21 +27,26 @@ kept_marked m s marked kept within counted is = record {
 
 -- A write that is marked, whatever it did of what it was asked for in its stretch.
 module _ (m : Memory) (s : Stretch) (bytes : List ℕ) (faults : ℕ) (kept : IsKept m) (torn : Torn s.at s.len m.bytes bytes) (sound : IsSound m (s.at + s.len) faults) where
+  -- the disk after the write: its stretch is noted, its call and its end are counted
   abbrev marked : Memory
   marked = record m { bytes = bytes; written = m.written ++ s ∷ []; calls = next m.calls; reach = max m.reach (s.at + s.len); faults = faults }
 
+  -- what a crash may leave after the write is torn from what it might have left before
   now_inside : (c : List ℕ) → CrashLeaves marked c → (b : List ℕ) × CrashLeaves m b × Torn s.at s.len b c
   now_inside c (inl image) = let from = image_back m.synced m.written s c image in (from.0, inl from.1, from.2)
   now_inside c (inr is) = (m.bytes, inr refl, subst (Torn s.at s.len m.bytes) (sym is) torn)
 
+  -- what a crash since the write began may leave is torn from what it might have left before
   inside : (c : List ℕ) → CrashLeaves marked c ⊎ CrashLeft marked m.calls c → (b : List ℕ) × CrashLeaves m b × Torn s.at s.len b c
   inside c (inl now) = now_inside c now
   inside c (inr past) = absurd (omega (arith, past.0, kept.settled))
 
+  -- what a crash might have left before the write it may leave after it
   covered : (c : List ℕ) → CrashLeaves m c → CrashLeaves marked c
   covered c (inl image) = inl (image_torn m.synced m.written s c c image (torn_not s.at s.len c))
   covered c (inr is) = inl (subst (IsImage m.synced (m.written ++ s ∷ [])) (sym is) (image_torn m.synced m.written s m.bytes m.bytes kept.image (torn_not s.at s.len m.bytes)))
 
+  -- what a crash since an earlier time may have left was left before the write, or since it began
   before : (t : ℕ) (c : List ℕ) → t ≤ m.calls → CrashLeaves marked c ⊎ CrashLeft marked t c → (CrashLeaves m c ⊎ CrashLeft m t c) ⊎ (CrashLeaves marked c ⊎ CrashLeft marked m.calls c)
   before t c le (inl now) = inr (inl now)
   before t c le (inr past) = inl (inr (past.0, omega (arith, past.0, kept.settled), past.2))

@@ -1,5 +1,5 @@
--- What the plan of a disk in memory makes of its calls.
--- For Kept.
+-- What the plan of a disk in memory makes of its calls: those that it allows do not fail. For
+-- Kept.antt and the proof of `write_at` (src/memory.rt).
 use Rattle.std.proofs.Common.{◌≡◌, ℕ, ◌+◌, ◌^◌, ◌≤◌, ◌<◌, max, false, true, refl, arith}
 use Rattle.std.specs.Prelude.{nat_le}
 use Rattle.std.proofs.lemmas.Bool.Decides.{nat_tests}

@@ -1,11 +1,11 @@
--- How runs of calls go on.
+-- How runs of calls of a disk (Moments) are joined, widened and gone on with, call by call.
 -- gate_file, run_journal, run_table, run_branch, run_edits and lathe_top build their runs by these.
 use Rattle.std.proofs.Common.{◌≡◌, inl, inr, ⊎_elim, ℕ, ◌+◌, ◌≤◌, max, List, arith, refl, sym, subst, ◌∙◌, Option, Some, None}
 use Rattle.disk_model.specs.Device.{DiskState, Elapses, Looks, IsCoherent, IsSettled, Reads, Stays}
 use Rattle.nc_number.specs.Faults.{Rose}
 use Rattle.disk_model.specs.Moments.{LeavesOnly, Unwritten, Uses, Peeks}
 
--- two runs, one after the other
+-- two runs, one after the other, leave what either leaves
 pub joined : (P Q R : List ℕ → Type 0) (a b c : DiskState) → LeavesOnly P a b → LeavesOnly Q b c → ((x : List ℕ) → P x → R x) → ((x : List ℕ) → Q x → R x) → LeavesOnly R a c
 joined P Q R a b c first second from_p from_q = record {
   later = omega (arith, first.later, second.later);
@@ -13,7 +13,7 @@ joined P Q R a b c first second from_p from_q = record {
   before = λ t x le since. ⊎_elim (λ earlier. ⊎_elim (λ old. inl old) (λ p. inr (from_p x p)) (first.before t x le earlier)) (λ q. inr (from_q x q)) (second.before t x (omega (arith, le, first.later)) since);
 }
 
--- an image that has P has what P implies
+-- a run that leaves only images with P leaves only images with what P implies
 pub widened : (P Q : List ℕ → Type 0) (a b : DiskState) → LeavesOnly P a b → ((x : List ℕ) → P x → Q x) → LeavesOnly Q a b
 widened P Q a b run more = record {
   later = run.later;
@@ -21,7 +21,7 @@ widened P Q a b run more = record {
   before = λ t x le since. ⊎_elim (λ old. inl old) (λ p. inr (more x p)) (run.before t x le since);
 }
 
--- a run of no call
+-- a run of no call leaves what a crash may leave now
 pub no_call : (P : List ℕ → Type 0) (a : DiskState) → IsCoherent a → ((x : List ℕ) → a.image x → P x) → LeavesOnly P a a
 no_call P a coherent here = record {
   later = omega arith;
@@ -29,11 +29,11 @@ no_call P a coherent here = record {
   before = λ t x le since. inl since;
 }
 
--- what a crash may leave at the end of a run
+-- an image that a crash may leave at the end of a run has P too
 pub image_now : (P : List ℕ → Type 0) (old new : DiskState) → IsCoherent new → LeavesOnly P old new → (c : List ℕ) → new.image c → P c
 image_now P old new coherent run c now = run.each c (coherent.counts_now old.clock c run.later now)
 
--- the calls of two runs, and the further of their ends
+-- two runs, one after the other, use the calls of both, and the further of their ends
 pub uses_add : (m n e f : ℕ) (a b c : DiskState) → Uses m e a b → Uses n f b c → Uses (m + n) (max e f) a c
 uses_add m n e f a b c first second = record {
   calls = λ bytes reads. let told = first.told bytes reads in omega (arith, first.calls bytes reads, second.calls told.0 told.1);
@@ -53,7 +53,7 @@ uses_none n e a = record {
   allows = λ calls end allows. allows;
 }
 
--- a run that uses less uses no more than this
+-- a run that uses so many calls and this end uses no more than any greater ones
 pub uses_widened : (m n e f : ℕ) (a b : DiskState) → Uses m e a b → m ≤ n → e ≤ f → Uses n f a b
 uses_widened m n e f a b uses more further = record {
   calls = λ bytes reads. omega (arith, uses.calls bytes reads, more);
@@ -125,7 +125,7 @@ unwritten_look old new coherent looks =
     let moments = begun old.image Stays old new looks.time (λ b c image same. subst old.image (sym same) image) in
     record { moments = moments; now = image_now old.image old new coherent moments; same = looks.same }
 
--- what was on the disk stays there
+-- if all that was written is on the disk, it still is after a run that writes nothing
 pub settled_kept : (a b : DiskState) → Unwritten a b → IsSettled a → IsSettled b
 settled_kept a b unwritten settled = λ bytes reads c here. settled bytes (sym unwritten.same ∙ reads) c (unwritten.now c here)
 
@@ -133,7 +133,7 @@ settled_kept a b unwritten settled = λ bytes reads c here. settled bytes (sym u
 pub peeks_none : (n : ℕ) (disk : DiskState) → IsCoherent disk → Peeks n disk disk
 peeks_none n disk coherent = record { later = omega arith; unwritten = unwritten_none disk coherent; uses = uses_none n 0 disk }
 
--- one call that writes nothing is such a run, of one call
+-- one call that writes nothing is a run of one call that writes nothing
 pub peeks_look : (old new : DiskState) → IsCoherent new → Looks old new → old.faults ≤ new.faults → Peeks 1 old new
 peeks_look old new coherent looks later = record {
   later = later;
@@ -147,7 +147,7 @@ peeks_look old new coherent looks later = record {
   };
 }
 
--- two such runs, one after the other, are one, with the calls of both
+-- two runs that write nothing, one after the other, are one, with the calls of both
 pub peeks_more : (m n k : ℕ) (a b c : DiskState) → Peeks m a b → Peeks n b c → m + n ≤ k → Peeks k a c
 peeks_more m n k a b c first second enough = record {
   later = omega (arith, first.later, second.later);

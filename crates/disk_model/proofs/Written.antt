@@ -1,11 +1,12 @@
--- What is read after a write.
--- disk_images takes `filled_up` and the lemmas on torn writes.
+-- What a read gives after a write, and that a write done or not done leaves no more than a torn one
+-- may. For the proofs of src/memory.rt and src/fuse.rt; disk_images takes facts of it too.
 use Rattle.std.proofs.Common.{◌≡◌, ◌⊎◌, inl, inr, ℕ, ◌+◌, ◌-◌, ◌≤◌, ◌<◌, max, List, ◌++◌, length, take, drop, replicate, get_or, refl, sym, ◌∙◌, ap, arith, append_assoc, length-append, length-drop}
 use Rattle.std.proofs.lemmas.Bool.{cases_lt}
 use Rattle.std.proofs.lemmas.List.{take_at, take_all, drop_all, take-append-le, length-take, length-replicate, replicate-append-replicate, append-nil, get_or_append_left, get_or-append_right, get_or-take, get_or-drop}
 use Rattle.disk_model.specs.Device.{written_over, Torn}
 
--- up to the write's offset, zeros for the whole write are zeros for its gap
+-- up to the write's offset, the file filled up to the write's end is the file filled up to its
+-- offset
 front : (old : List ℕ) (at n : ℕ) → take at (old ++ replicate (at + n - length old) 0) ≡ take at (old ++ replicate (at - length old) 0)
 front old at n = elim (cases_lt (length old) at) [
   | inl past ↦
@@ -18,7 +19,7 @@ front old at n = elim (cases_lt (length old) at) [
   | inr within ↦ take-append-le at old (replicate (at + n - length old) 0) within ∙ sym (take-append-le at old (replicate (at - length old) 0) within)
 ]
 
--- behind the write's end nothing is added
+-- behind the write's end the file filled up to it is as it was
 back : (old : List ℕ) (end : ℕ) → drop end (old ++ replicate (end - length old) 0) ≡ drop end old
 back old end = elim (cases_lt (length old) end) [
   | inl past ↦
@@ -29,7 +30,8 @@ back old end = elim (cases_lt (length old) end) [
       ap (λ (k : ℕ). drop end (old ++ replicate k 0)) none ∙ ap (drop end) (append-nil old)
 ]
 
--- the file is filled up to the write's end, and the bytes put in
+-- the file with the bytes written over it is the file filled up to the write's end, and the bytes
+-- put in
 pub filled_up : (old : List ℕ) (at : ℕ) (bytes long : List ℕ) → long ≡ old ++ replicate (at + length bytes - length old) 0
     → take at long ++ bytes ++ drop (at + length bytes) long ≡ written_over old at bytes
 filled_up old at bytes long is =
@@ -37,6 +39,7 @@ filled_up old at bytes long is =
     ∙ ap (λ (l : List ℕ). l ++ bytes ++ drop (at + length bytes) (old ++ replicate (at + length bytes - length old) 0)) (front old at (length bytes))
     ∙ ap (λ (l : List ℕ). take at (old ++ replicate (at - length old) 0) ++ bytes ++ l) (back old (at + length bytes))
 
+-- A write of these bytes at this offset over old ones.
 module _ (old : List ℕ) (at : ℕ) (bytes : List ℕ) where
   -- what stands before the write has its offset as length
   pub length-front : length (take at (old ++ replicate (at - length old) 0)) ≡ at
@@ -47,6 +50,7 @@ module _ (old : List ℕ) (at : ℕ) (bytes : List ℕ) where
   length-written_over =
       omega (arith, length-front, length-append (take at (old ++ replicate (at - length old) 0) ++ bytes) (drop (at + length bytes) old), length-append (take at (old ++ replicate (at - length old) 0)) bytes, length-drop (at + length bytes) old)
 
+  -- a byte of before outside the range of the write stays
   stays : (i : ℕ) → i < length old → (i < at) ⊎ (at + length bytes ≤ i) → get_or (written_over old at bytes) i 0 ≡ get_or old i 0
   stays i within (inl ahead) =
       let begin = take at (old ++ replicate (at - length old) 0) in

@@ -1,4 +1,5 @@
--- The facts of a disk in memory agree with one another. For this crate alone.
+-- The facts of a disk in memory agree with one another, as the trait Disk asks. For src/memory.rt
+-- alone.
 use Rattle.std.specs.Prelude.{◌≡◌}
 use Rattle.std.proofs.Common.{arith, inl, inr}
 use Rattle.disk_model.specs.Device.{IsCoherent}

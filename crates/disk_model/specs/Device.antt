@@ -23,13 +23,16 @@ abbrev pub written_over : List ℕ → ℕ → List ℕ → List ℕ
 written_over old at bytes = take at (old ++ replicate (at - length old) 0) ++ bytes ++ drop (at + length bytes) old
 
 -- What a write of n bytes that did not end may leave: any bytes in its range and behind the old
--- end, and any length up to the range's end. The rest stays.
+-- end, and any length from the old one up to the range's end. The rest stays.
 pub record Torn (at n : ℕ) (old new : List ℕ) : Type 0 where
+  -- the file is no shorter than before
   pub no_shorter : length old ≤ length new
+  -- it ends no later than before or where the write ends
   pub no_longer : length new ≤ max (length old) (at + n)
+  -- a byte of before outside the range of the write stays
   pub outside : (i : ℕ) → i < length old → (i < at) ⊎ (at + n ≤ i) → slice_index new i ≡ slice_index old i
 
--- nothing happens to what a crash may leave
+-- an image stays as it is: the step of a call that writes nothing
 abbrev pub Stays : List ℕ → List ℕ → Type 0
 Stays old new = new ≡ old
 
@@ -38,19 +41,19 @@ Stays old new = new ≡ old
 pub record Elapses (step : List ℕ → List ℕ → Type 0) (old new : DiskState) : Type 0 where
   -- time does not go back
   pub later : old.clock ≤ new.clock
-  -- and each call moves it
+  -- the call moves the time by at least one, as far as the clock goes
   pub moves : next old.clock ≤ new.clock
-  -- what a crash might have left before the call is left since then
+  -- what a crash might have left before the call is an image since that time
   pub covered : (c : List ℕ) → old.image c → new.image_since old.clock c
-  -- a crash inside the call leaves that, after a step
+  -- what a crash may leave since then is an image from before the call, after a step
   pub inside : (c : List ℕ) → new.image_since old.clock c → (b : List ℕ) × old.image b × step b c
-  -- what a crash may have left since an earlier time was left before the call or inside it
+  -- an image since an earlier time was one before the call, or is one since the call began
   pub before : (t : ℕ) (c : List ℕ) → t ≤ old.clock → new.image_since t c
       → old.image_since t c ⊎ new.image_since old.clock c
 
--- A call that writes nothing.
+-- A call that writes no bytes: a length, a read, or a sync, done or failed.
 pub record Looks (old new : DiskState) : Type 0 where
-  -- it makes no image
+  -- it makes no image but those of before
   pub time : Elapses Stays old new
   -- a read gives what it gave
   pub same : new.reads ≡ old.reads
@@ -69,8 +72,11 @@ pub record Tears (at n : ℕ) (old new : DiskState) : Type 0 where
   pub told : (bytes : List ℕ) → Reads old bytes → (c : List ℕ) × Reads new c × Torn at n bytes c
   -- a disk that tells no content still tells none
   pub untold : old.reads ≡ None → new.reads ≡ None
+  -- it counts as a call
   pub counted : (bytes : List ℕ) → Reads old bytes → new.calls ≡ next old.calls
+  -- its end counts as asked for
   pub reach : (bytes : List ℕ) → Reads old bytes → new.reach ≡ max old.reach (at + n)
+  -- what the disk allowed it still allows
   pub allows : (calls end : ℕ) → old.allows calls end → new.allows calls end
 
 -- The count of faults never falls. An error comes only where it rose, and an Ok only where it
@@ -83,11 +89,11 @@ pub record HasCause {T E : Type 0} (old new : DiskState) (result : Result T E) :
   -- an Ok left it
   pub calm : IsOk result → new.faults ≡ old.faults
 
--- a crash leaves this and nothing else
+-- of the images that a crash may leave there is none but these bytes
 abbrev pub Only : List ℕ → (List ℕ → Type 0) → Type 0
 Only bytes image = (c : List ℕ) → image c → c ≡ bytes
 
--- a crash leaves what a read gives
+-- all that was written is on the disk: a crash leaves what a read gives
 abbrev pub IsSettled : DiskState → Type 0
 IsSettled disk = (bytes : List ℕ) → Reads disk bytes → Only bytes disk.image
 

@@ -1,5 +1,5 @@
 -- A disk that fails every call once it has passed a number of calls on.
--- The disk below it is in Memory. For this crate and its callers' tests.
+-- The disk below it is in Memory. For src/fuse.rt and its proofs alone; tests use the disk.
 use Rattle.std.specs.Prelude.{◌≡◌, ◌⊎◌, ℕ, ◌+◌, ◌-◌, ◌^◌, ◌≤◌, ◌==◌, ◌||◌, Bool, List, length, min, max, Some, if◌then◌else◌}
 use Rattle.std.proofs.Common.{arith, inl, inr}
 use Rattle.disk_model.specs.Device.{DiskState, IsCoherent}
@@ -14,19 +14,19 @@ pub record Fuse : Type 0 where
   pub burnt : ℕ  -- how many it has failed
   pub reach : ℕ  -- the greatest end that a write was asked for which it failed
 
--- its next call fails: it is burnt out, or the disk below it fails
+-- the next call of a fuse fails: it is burnt out, or the disk below it fails
 abbrev pub fuse_fails : Fuse → Bool
 fuse_fails f = f.passes == 0 || next_fails f.inner
 
--- its next call fails, if it is a write up to this end
+-- a write up to this end would fail: the fuse is burnt out, or the disk below it would fail it
 abbrev pub fuse_write_fails : Fuse → ℕ → Bool
 fuse_write_fails f end = f.passes == 0 || write_fails f.inner end
 
--- a call that is failed reaches nothing
+-- after a call that the fuse fails: the disk below is as it was, and the call is counted
 abbrev pub after_stop : Fuse → Fuse
 after_stop f = record f { burnt = next f.burnt }
 
--- a call that is passed on, and what it made of the disk
+-- after a call that the fuse passes on: the disk below is this one, and one pass less is left
 abbrev pub after_pass : Fuse → Memory → Fuse
 after_pass f inner = record f { passes = f.passes - 1; inner = inner }
 
@@ -44,13 +44,13 @@ fuse_after_write f at bytes =
     if f.passes == 0 then record (after_stop f) { reach = max f.reach (at + length bytes) }
     else after_pass f (after_write f.inner at bytes)
 
--- the disk in memory allows so many calls, they are passed on, and none has been failed
+-- the disk with its fuse allows so many calls and writes up to this end
 pub record FuseAllows (f : Fuse) (calls end : ℕ) : Type 0 where
   -- the disk in memory allows them
   pub inner : MemoryAllows f.inner calls end
-  -- they are passed on
+  -- the fuse passes so many calls on
   pub passed : calls ≤ f.inner.calls + f.passes
-  -- and none has been failed
+  -- if no more calls were made, the fuse has failed none
   pub unburnt : f.inner.calls + f.burnt ≤ calls → f.burnt ≡ 0
 
 -- all that can be said of a disk with a fuse; counts stay at the last value of u64

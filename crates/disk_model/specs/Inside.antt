@@ -1,5 +1,5 @@
--- How the fields of a disk in memory stand for what it holds.
--- For this crate alone.
+-- How the fields of a disk in memory stand for what it holds, and that its lists have their room.
+-- For src/memory.rt alone.
 use Rattle.std.specs.Prelude.{◌≤◌, vec_capacity}
 use Rattle.disk_model.specs.declared.memory.MemoryDisk.TheInside.{Inside}
 use Rattle.disk_model.specs.Memory.{Memory, IsKept}
@@ -21,17 +21,18 @@ memory_of d = record {
   faults = d.faults;
 }
 
+-- the facts of the disk agree, and each of its lists has room for all that calls put there, so that
 -- no call takes memory
 pub record HasRoom (d : Inside) : Type 0 where
-  -- its facts agree
+  -- what the disk holds has the facts of every disk in memory
   pub kept : IsKept (memory_of d)
-  -- there is room for all its bytes,
+  -- there is room for the bytes that a read gives
   pub bytes : d.room ≤ vec_capacity d.bytes
-  -- for those of the last sync,
+  -- there is room for the bytes of the last sync
   pub synced : d.room ≤ vec_capacity d.present.synced
-  -- for those of the sync before,
+  -- there is room for the bytes of the sync before the last
   pub earlier_synced : d.room ≤ vec_capacity d.earlier.synced
-  -- for the stretches of all its calls,
+  -- there is room for a stretch of each call since the last sync
   pub written : d.call_room ≤ vec_capacity d.present.written
-  -- and for those of before the last sync
+  -- there is room for a stretch of each call before the last sync
   pub earlier_written : d.call_room ≤ vec_capacity d.earlier.written

@@ -1,5 +1,5 @@
--- What a disk in memory holds.
--- Only the two disks in memory use it; what holds of every disk is in Device.
+-- What a disk in memory holds, and what each call makes of it. Only the disks in memory of this
+-- crate use it (src/memory.rt, src/fuse.rt); what holds of every disk is in Device.
 use Rattle.std.specs.Prelude.{◌≡◌, ◌⊎◌, ℕ, ◌+◌, ◌-◌, ◌^◌, ◌≤◌, ◌<◌, ◌==◌, ◌||◌, nat_le, nat_lt, Bool, false, List, [], ◌∷◌, ◌++◌, length, max, slice_index, Some, if◌then◌else◌}
 use Rattle.std.specs.List.{list_any}
 use Rattle.disk_model.specs.declared.stretch.Stretch.{Stretch}
@@ -12,15 +12,15 @@ pub record Memory : Type 0 where
   pub bytes : List ℕ  -- what a read gives
   pub synced : List ℕ  -- what was on the disk at the last sync
   pub written : List Stretch  -- where it was written since
-  pub earlier_synced : List ℕ  -- the same two up to that sync
-  pub earlier_written : List Stretch
+  pub earlier_synced : List ℕ  -- what was on the disk at the last sync but one
+  pub earlier_written : List Stretch  -- where it was written between the last two syncs
   pub synced_at : ℕ  -- the number of calls just after that sync
   pub room : ℕ  -- how many bytes the disk has room for
   pub call_room : ℕ  -- how many calls its record has room for
   pub failing : List ℕ  -- the numbers of the calls that are to fail, from 1
-  pub calls : ℕ
-  pub reach : ℕ
-  pub faults : ℕ
+  pub calls : ℕ  -- how many calls there were
+  pub reach : ℕ  -- the greatest end that a write was asked for
+  pub faults : ℕ  -- how many calls failed
 
 -- the next call fails: its number is listed, or the record is full
 abbrev pub next_fails : Memory → Bool
@@ -30,7 +30,7 @@ next_fails m = nat_le m.call_room m.calls || list_any (λ n. n == m.calls + 1) m
 abbrev pub refuses_write : Memory → ℕ → Bool
 refuses_write m end = nat_le m.call_room m.calls || nat_lt m.room end
 
--- it is a write up to this end, which fails besides past the room
+-- a write up to this end would fail: as any call would, or because it ends past the room
 abbrev pub write_fails : Memory → ℕ → Bool
 write_fails m end = next_fails m || nat_lt m.room end
 
@@ -45,16 +45,20 @@ CrashLeft m t c = (t < m.synced_at) × (t < m.calls) × IsImage m.earlier_synced
 -- the record has room for so many calls, none of them is to fail, and the disk has room up to this
 -- end
 pub record HasPlan (m : Memory) (calls end : ℕ) : Type 0 where
+  -- the record has room for so many calls
   pub recorded : calls ≤ m.call_room
+  -- so many calls can be counted
   pub counted : calls < 2 ^ 64 - 1
+  -- none of them is listed to fail
   pub unlisted : (k : ℕ) → k < calls → list_any (λ n. n == k + 1) m.failing ≡ false
+  -- the disk has room up to this end
   pub within : end ≤ m.room
 
 -- the disk allows so many calls and writes up to this end
 pub record MemoryAllows (m : Memory) (calls end : ℕ) : Type 0 where
-  -- there is room for them
+  -- there is room for them, and none is listed to fail
   pub plan : HasPlan m calls end
-  -- and if no more were made, no call has failed
+  -- if no more were made, and no write past this end, no call has failed
   pub none_yet : m.calls ≤ calls → m.reach ≤ end → m.faults ≡ 0
 
 -- all that can be said of a disk in memory
@@ -74,21 +78,23 @@ memory_state m = record {
 pub record IsKept (m : Memory) : Type 0 where
   -- what a read gives is an image since the last sync
   pub image : IsImage m.synced m.written m.bytes
-  -- what was synced is one since the sync before
+  -- what was synced last is an image since the sync before
   pub earlier : IsImage m.earlier_synced m.earlier_written m.synced
-  -- the last sync was one of its calls
+  -- the last sync was no later than now
   pub settled : m.synced_at ≤ m.calls
-  -- its bytes have room,
+  -- what a read gives fits the room
   pub bytes_fit : length m.bytes ≤ m.room
-  -- and so has every write
+  -- what was synced and every write since end within the room
   pub ends_fit : greatest_end (length m.synced) m.written ≤ m.room
   -- each call notes one stretch at most
   pub recorded : length m.written ≤ m.calls
   -- the room is below 2^62 bytes
   pub small : m.room < 2 ^ 62
-  -- these counts are numbers of 64 bits
+  -- the room for calls is a number of 64 bits
   pub record_fits : m.call_room < 2 ^ 64
+  -- the count of calls is a number of 64 bits
   pub calls_fit : m.calls < 2 ^ 64
+  -- the count of faults is a number of 64 bits
   pub faults_fit : m.faults < 2 ^ 64
 
 -- What a crash leaves that fills each unsynced byte with this one.
@@ -117,7 +123,7 @@ fresh bytes room call_room failing = record {
   faults = 0;
 }
 
--- all that was written is on the disk
+-- the disk after a sync that succeeded: all that was written is on it
 abbrev pub after_settling : Memory → Memory
 after_settling m = record m {
   synced = m.bytes;
@@ -131,27 +137,28 @@ after_settling m = record m {
 abbrev pub crashed : Memory → List ℕ → Memory
 crashed m bytes = after_settling (record m { bytes = bytes })
 
--- a call that writes nothing is counted, and a fault where it fails
+-- the disk after a call that writes nothing: it is counted, and a fault if it fails
 abbrev pub after_look : Memory → Memory
 after_look m = record m { calls = next m.calls; faults = (if next_fails m then next m.faults else m.faults) }
 
--- a sync that is to fail puts nothing on the disk
+-- the disk after a sync: one that is to fail puts nothing on it
 abbrev pub after_sync : Memory → Memory
 after_sync m = if next_fails m then after_look m else after_settling (after_look m)
 
--- a write up to this end was asked for
+-- the disk after a write up to this end was asked for, whatever it did
 abbrev pub after_request : Memory → ℕ → Memory
 after_request m end = record m { calls = next m.calls; reach = max m.reach end }
 
--- a fault is counted
+-- the disk with one fault more
 abbrev pub with_fault : Memory → Memory
 with_fault m = record m { faults = next m.faults }
 
--- a stretch that is written is noted
+-- the disk with one written stretch more
 abbrev pub with_mark : Memory → ℕ → ℕ → Memory
 with_mark m at len = record m { written = m.written ++ (record { at = at; len = len }) ∷ [] }
 
--- a write: one that is refused writes nothing, and one that is to fail counts as written
+-- the disk after a write: one that is refused writes nothing, and one that is to fail by its number
+-- writes nothing and counts as written
 abbrev pub after_write : Memory → ℕ → List ℕ → Memory
 after_write m at bytes =
     if refuses_write m (at + length bytes) then with_fault (after_request m (at + length bytes))

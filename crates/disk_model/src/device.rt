@@ -1,5 +1,6 @@
-//! A disk as the journal sees it.
-//! Disks in memory are in memory.rt and fuse.rt, the real file in real_outside.
+//! A disk as the journal sees it: a trait, whose contract says what each call does and what a crash
+//! may leave. gate_file, run_journal and all crates above call it; whoever writes a disk keeps it.
+//! Disks in memory are in memory.rt and fuse.rt and in disk_images, the real file in real_outside.
 
 ghost use Rattle.std.specs.Prelude.{◌≡◌};
 ghost use Rattle.disk_model.specs.Device.{DiskState, IsCoherent};
@@ -29,12 +30,12 @@ pub trait Disk {
         ensures { Fetches at into.old into.new (state self.old) (state self.new) result };
 
     /// Writes over what is there, and past the end. Until a sync a crash may leave any bytes in the
-    /// range. A write that would end at or past 2^62 fails, and a write that failed may have left
-    /// any bytes in its range too.
+    /// range and behind the old end. A write that would end at or past 2^62 fails, and a write that
+    /// failed may have left any bytes in its range too.
     fn write_at(&mut self, at: u64, bytes: &[u8]) -> Result<(), Failed>
         ensures { Writes at bytes.now (state self.old) (state self.new) result };
 
-    /// After an Ok, a crash leaves what a read gives.
+    /// Puts on the disk all that was written: after an Ok, a crash leaves what a read gives.
     fn sync(&mut self) -> Result<(), Failed>
         ensures { Syncs (state self.old) (state self.new) result };
 

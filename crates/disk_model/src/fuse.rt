@@ -1,5 +1,5 @@
-//! A disk that stops.
-//! Only tests use it.
+//! A disk that fails every call after a number of calls, as if the machine had stopped there. Only
+//! tests use it: journal_vectors and restart_vectors stop a run between any two calls.
 
 ghost use Rattle.std.specs.Prelude.{◌≡◌, ◌+◌, ◌-◌, ◌^◌, ◌<◌, ◌==◌, length, is_err, not, IsTrue};
 ghost use Rattle.disk_model.specs.Calls.{Measures, Fetches, Writes, Syncs};
@@ -15,7 +15,7 @@ pub struct FuseDisk {
     inner: MemoryDisk,
     /// How many calls it will still pass on.
     passes: u64,
-    /// How many calls it has failed.
+    /// How many calls it has failed without passing them on.
     burnt: u64,
     /// The greatest end of a write that it failed.
     reach: u128,
@@ -36,7 +36,7 @@ impl Model for FuseDisk {
 impl FuseDisk {
     ghost use Rattle.disk_model.specs.Fuse.{Fuse, after_stop};
 
-    /// The disk with a fuse that burns out behind so many passed calls.
+    /// The disk with a fuse that burns out after so many passed calls.
     pub fn new(inner: MemoryDisk, passes: u64) -> FuseDisk
         ensures { result ≡ record { inner = inner; passes = passes; burnt = 0; reach = 0 } }
     {
@@ -79,7 +79,7 @@ impl Disk for FuseDisk {
 
     ghost coherent = { fuse_coherent };
 
-    /// Its own faults and those of the disk below.
+    /// How many calls failed: those of the disk below, and those that the fuse failed.
     fn faults(&self) -> u64 {
         self.inner.faults().saturating_add(self.burnt)
     }
@@ -108,7 +108,7 @@ impl Disk for FuseDisk {
         self.inner.read_at(at, into)
     }
 
-    /// A write to the disk below, or an error once burnt out; its end is noted.
+    /// A write to the disk below, or an error once burnt out; then the end of the write is noted.
     fn write_at(&mut self, at: u64, bytes: &[u8]) -> Result<(), Failed>
         ensures fails { is_err result ≡ fuse_write_fails self.old (at + length bytes.now) }
         ensures model { self.new ≡ fuse_after_write self.old at bytes.now }

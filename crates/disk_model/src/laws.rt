@@ -1,5 +1,6 @@
-//! What a crash between two syncs may leave, told write by write, and what a new disk allows. The
-//! images themselves are in specs/Image.antt.
+//! What a crash between two syncs may leave, told write by write, and what a new disk in memory
+//! allows. The images themselves are in specs/Image.antt. No call here does anything: each contract
+//! is a fact for readers.
 
 ghost use Rattle.std.specs.Prelude.{◌≡◌, ◌↔◌, ◌-◌, ◌^◌, ◌≤◌, ◌<◌, ◌++◌, [], ◌∷◌, List, ℕ};
 ghost use Rattle.disk_model.specs.declared.stretch.Stretch.{Stretch};
@@ -9,8 +10,8 @@ ghost use Rattle.disk_model.specs.Memory.{fresh, memory_state};
 ghost use Rattle.disk_model.specs.Fuse.{fuse_state};
 
 /// The images since a sync are what torn writes leave, one after another: with none, what was
-/// synced; with one more, an image from before it in whose range, and behind whose end, any bytes
-/// stand.
+/// synced; with one more, an image from before it in which any bytes stand in the range of the
+/// write and behind the old end.
 pub fn images_are_torn_writes()
     ensures none { (synced c : List ℕ) → IsImage synced [] c ↔ (c ≡ synced) }
     ensures more { (synced : List ℕ) (written : List Stretch) (s : Stretch) (c : List ℕ) →

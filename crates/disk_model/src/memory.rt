@@ -1,6 +1,6 @@
-//! A disk in memory, whose calls can be made to fail, and which can crash.
-//! Where it writes and when it was synced is enough to say what a crash may leave.
-//! Only tests use it.
+//! A disk in memory, whose calls can be made to fail, and which can crash. It keeps where it was
+//! written since the last two syncs: that is enough to say what a crash may leave.
+//! Only tests use it (journal_vectors, restart_vectors), and `read_into` also disk_images.
 
 ghost use Rattle.std.specs.Prelude.{◌≡◌, ◌⊎◌, slice_index, ◌+◌, ◌-◌, ◌^◌, ◌≤◌, ◌<◌, ◌++◌, ◌==◌, [], ℕ, length, take, drop, min, IfOk, is_err, vec_capacity, replicate, max};
 ghost use Rattle.std.specs.List.{list_any};
@@ -25,7 +25,7 @@ const LENGTH_LIMIT: usize = 1 << 62;
 struct Epoch {
     /// The bytes that were on the disk at the sync.
     synced: Vec<u8>,
-    /// The stretches that were written since.
+    /// The stretches that were written since that sync.
     written: Vec<Stretch>,
 }
 
@@ -40,7 +40,7 @@ pub struct MemoryDisk {
     bytes: Vec<u8>,
     /// The last sync, and the writes since.
     present: Epoch,
-    /// The sync before it, and the writes between the two.
+    /// The last sync but one, and the writes between that and the last one.
     earlier: Epoch,
     /// How many calls there were just after the last sync.
     synced_at: u64,
@@ -73,11 +73,11 @@ impl Model for MemoryDisk {
 /// What a crash makes of the ranges that were written since the last sync.
 #[derive(Clone, Copy, Debug, PartialEq, Eq)]
 pub enum Crash {
-    /// They are as they were written.
+    /// The ranges are as they were written.
     Kept,
-    /// They are put back.
+    /// The ranges are put back to what was synced.
     Lost,
-    /// Each byte of them, and each behind the old end, is this one.
+    /// Each byte of the ranges, and each behind the old end, is this one.
     Fill(u8),
 }
 
@@ -121,7 +121,7 @@ impl MemoryDisk {
         MemoryDisk::with_bytes(alloc, bytes, room, calls, failing)
     }
 
-    /// A disk that holds these bytes, in a room that they have already.
+    /// A disk that holds these bytes, whose list has this room already.
     fn with_bytes(
         alloc: Global,
         bytes: Vec<u8>,
@@ -161,7 +161,7 @@ impl MemoryDisk {
 }
 
 impl Epoch {
-    /// Nothing synced and nothing written, with room for so many bytes and calls.
+    /// Nothing synced and nothing written, with room for so many bytes and stretches.
     fn with_room(alloc: Global, room: usize, calls: usize) -> Result<Epoch, NoMemory>
         ensures synced { IfOk result (λ e. (e.synced.items ≡ []) × (room ≤ vec_capacity e.synced)) }
         ensures written { IfOk result (λ e. (e.written.items ≡ []) × (calls ≤ vec_capacity e.written)) }
@@ -409,7 +409,7 @@ impl Disk for MemoryDisk {
         self.faults
     }
 
-    /// The number of bytes. Fails if the call is listed or the record is full; so below.
+    /// The number of bytes. It fails if the call is listed or the record is full.
     fn len(&mut self) -> Result<u64, Failed>
         ensures fails { is_err result ≡ next_fails self.old }
         ensures model { self.new ≡ after_look self.old }
@@ -419,7 +419,7 @@ impl Disk for MemoryDisk {
         Ok(self.bytes.len() as u64)
     }
 
-    /// A read, as the trait says.
+    /// A read from an offset on. It fails if the call is listed or the record is full.
     fn read_at(&mut self, at: u64, into: &mut [u8]) -> Result<usize, Failed>
         ensures fails { is_err result ≡ next_fails self.old }
         ensures model { self.new ≡ after_look self.old }
@@ -429,7 +429,8 @@ impl Disk for MemoryDisk {
         Ok(read_into(&self.bytes, at, into))
     }
 
-    /// A write, which also fails past the room.
+    /// A write at an offset. It fails if the call is listed, the record is full, or the write ends
+    /// past the room.
     fn write_at(&mut self, at: u64, bytes: &[u8]) -> Result<(), Failed>
         ensures fails { is_err result ≡ write_fails self.old (at + length bytes.now) }
         ensures model { self.new ≡ after_write self.old at bytes.now }
@@ -450,7 +451,7 @@ impl Disk for MemoryDisk {
         Ok(())
     }
 
-    /// Puts on the disk all that was written.
+    /// Puts on the disk all that was written. It fails if the call is listed or the record is full.
     fn sync(&mut self) -> Result<(), Failed>
         ensures fails { is_err result ≡ next_fails self.old }
         ensures model { self.new ≡ after_sync self.old }
@@ -462,7 +463,8 @@ impl Disk for MemoryDisk {
     }
 }
 
-/// Copies what stands from an offset on, as much as there is and the slice has room for.
+/// Copies what stands from an offset on, as much as there is and the slice has room for, and
+/// answers how many bytes that are.
 pub fn read_into(bytes: &[u8], at: u64, into: &mut [u8]) -> usize
     ensures count { result ≡ min (length into.old) (length bytes.now - at) }
     ensures got { into.new ≡ take result (drop at bytes.now) ++ drop result into.old }

@@ -1,5 +1,5 @@
-//! A part of a file.
-//! The writes since a sync are a list of these.
+//! A part of a file, by offset and length. A disk in memory (memory.rt) keeps the writes since a
+//! sync as a list of these.
 
 /// A stretch of a file: where it begins, and how many bytes it has.
 #[derive(Clone, Copy, Debug, PartialEq, Eq)]

@@ -1,4 +1,4 @@
--- What a text of edits gives, line by line.
+-- What a text of edits gives, line by line: for the law of src/laws.rt.
 use Rattle.std.proofs.Common.{◌≡◌, ◌⊎◌, inl, inr, ⊎_elim, ◌+◌, ◌≤◌, ◌<◌, ◌++◌, ℕ, nat_lt, Bool, true, false, List, [], ◌∷◌, Option, Some, None, Ok, Err, length, map, append-nil, append_assoc, length-append, refl, sym, ap, subst, arith, ◌∙◌}
 use Rattle.std.specs.Prelude.{if◌then◌else◌}
 use Rattle.std.specs.Str.Lines.{lines}
@@ -13,11 +13,11 @@ use Rattle.edit_texts.specs.Given.{edits_in, AreAllowed, AreEditsOf, IsFirstBad}
 abbrev Said : List (List ℕ) → List Entry → Type 0
 Said texts said = map line_says texts ≡ map Some said
 
--- one edit more, while there are fewer than 64
+-- an edit after fewer than 64 is allowed and stands at the end
 one_more : (edits : List PathEdit) (edit : PathEdit) → length edits < 64 → with_said edits (Some (says.Edit edit)) ≡ Some (edits ++ edit ∷ [])
 one_more edits edit few = let less : nat_lt (length edits) 64 ≡ true = grind arith in rw less refl
 
--- Lines that are allowed are passed, and their edits stand behind those before.
+-- Lines that are allowed are passed, and their edits stand after those before.
 through : (texts rest : List (List ℕ)) (said : List Entry) (number : ℕ) (edits : List PathEdit) → Said texts said
     → length edits + length (edits_in said) ≤ 64
     → edits_from (texts ++ rest) number edits ≡ edits_from rest (number + length texts) (edits ++ edits_in said)
@@ -43,29 +43,36 @@ through (line ∷ texts) rest (says.Edit edit ∷ said) number edits are few =
     ∙ ap (λ n. edits_from rest n ((edits ++ edit ∷ []) ++ edits_in said)) next
     ∙ ap (edits_from rest (number + length (line ∷ texts))) (append_assoc edits (edit ∷ []) (edits_in said))
 
--- all lines are allowed behind so many edits
+-- all lines are allowed after so many edits
 record Whole (texts : List (List ℕ)) (before : ℕ) : Type 0 where
+  -- what the lines say
   said : List Entry
+  -- each line is allowed and says that
   are : Said texts said
+  -- with those before there are 64 edits at most
   few : before + length (edits_in said) ≤ 64
 
--- the first one that is not allowed behind so many edits
+-- one of the lines is the first that is not allowed after so many edits
 record Broken (texts : List (List ℕ)) (before : ℕ) : Type 0 where
-  -- the lines before it, which are allowed,
+  -- the lines before the bad one, which are allowed
   front : List (List ℕ)
-  -- the line itself,
+  -- the bad line
   line : List ℕ
-  -- and the lines behind it
+  -- the lines after the bad one
   after : List (List ℕ)
+  -- these are all lines
   texts_are : texts ≡ front ++ line ∷ after
+  -- what the lines before the bad one say
   said : List Entry
+  -- each of them is allowed and says that
   are : Said front said
+  -- with those before there are 64 edits at most
   few : before + length (edits_in said) ≤ 64
-  -- it says nothing that is allowed, or it is an edit too many
+  -- the bad line says nothing that is allowed, or it is an edit too many
   bad : (line_says line ≡ None)
       ⊎ ((edit : PathEdit) × (line_says line ≡ Some (says.Edit edit)) × (before + length (edits_in said) ≡ 64))
 
--- a blank line or a comment in front changes nothing,
+-- with a blank line or a comment in front, lines are allowed or not as they are without it
 behind_nothing : (line : List ℕ) (texts : List (List ℕ)) (before : ℕ) → line_says line ≡ Some says.Nothing
     → Whole texts before ⊎ Broken texts before → Whole (line ∷ texts) before ⊎ Broken (line ∷ texts) before
 behind_nothing line texts before here (inl whole) = inl (record {
@@ -84,7 +91,7 @@ behind_nothing line texts before here (inr broken) = inr (record {
   bad = broken.bad;
 })
 
--- and an edit in front leaves one fewer to the rest
+-- with an edit in front, lines are allowed or not as they are after one edit more
 behind_edit : (line : List ℕ) (edit : PathEdit) (texts : List (List ℕ)) (before : ℕ) → line_says line ≡ Some (says.Edit edit)
     → Whole texts (before + 1) ⊎ Broken texts (before + 1) → Whole (line ∷ texts) before ⊎ Broken (line ∷ texts) before
 behind_edit line edit texts before here (inl whole) = inl (record {
@@ -137,7 +144,7 @@ sorted (line ∷ texts) before few = go (line_says line) refl (λ more le. sorte
     go (Some says.Nothing) here rest = behind_nothing line texts before here (rest before few)
     go (Some (says.Edit edit)) here rest = counted edit here (nat_lt before 64) refl rest
 
--- the first line that is not allowed is the answer
+-- if the next line is not allowed, its number is the answer
 refused_at : (line : List ℕ) (after : List (List ℕ)) (number : ℕ) (edits : List PathEdit)
     → ((line_says line ≡ None) ⊎ ((edit : PathEdit) × (line_says line ≡ Some (says.Edit edit)) × (length edits ≡ 64)))
     → edits_from (line ∷ after) number edits ≡ Err number
@@ -148,7 +155,7 @@ refused_at line after number edits (inr more) =
     ap (λ s. or_refused number (with_said edits s) (edits_from after (number + 1))) more.1
     ∙ ap (λ (b : Bool). or_refused number (if b then Some (edits ++ more.0 ∷ []) else None) (edits_from after (number + 1))) full
 
--- what is given by a text whose lines are all allowed
+-- a text whose lines are all allowed, with 64 edits at most, gives these edits
 given_whole : (text : List ℕ) (said : List Entry) → AreAllowed (lines text) said → edits_of text ≡ Ok (edits_in said)
 unfolding edits_of
 given_whole text said all =
@@ -178,11 +185,11 @@ first_bad text broken = (
   },
 )
 
--- a text whose lines are all allowed gives their edits,
+-- a text whose lines are all allowed gives their edits
 pub are_given : (text : List ℕ) (edits : List PathEdit) → AreEditsOf text edits → edits_of text ≡ Ok edits
 are_given text edits (said, all, is) = given_whole text said all ∙ ap (λ l. Ok l) (sym is)
 
--- and what it gives are these
+-- if a text gives edits, its lines are all allowed and these are their edits
 pub is_given : (text : List ℕ) (edits : List PathEdit) → edits_of text ≡ Ok edits → AreEditsOf text edits
 is_given text edits is = go (sorted (lines text) 0 (omega arith))
   where
@@ -196,7 +203,7 @@ is_given text edits is = go (sorted (lines text) 0 (omega arith))
         let clash : Ok edits ≡ Err first.0 = sym is ∙ are_refused text first.0 first.1 in
         absurd cc
 
--- and a refusal is of its first bad line
+-- if a text is refused with a number, that is the number of its first bad line
 pub is_refused : (text : List ℕ) (number : ℕ) → edits_of text ≡ Err number → IsFirstBad text number
 is_refused text number is = go (sorted (lines text) 0 (omega arith))
   where

@@ -1,5 +1,5 @@
--- The refusal of a text of edits. Which line is the first bad one is in Given.
--- lathe_looks uses these words.
+-- The refusal of a text of edits: 91 BadEdit, with its line. Which line is the first bad one is in
+-- Given. lathe_looks cites it.
 use Rattle.std.specs.Prelude.{ℕ, List, codes}
 use Rattle.edit_texts.specs.declared.reading.EditFault.{EditFault}
 
@@ -7,10 +7,10 @@ use Rattle.edit_texts.specs.declared.reading.EditFault.{EditFault}
 abbrev pub fault_number : ℕ
 fault_number = 91
 
--- the name of that refusal
+-- the name of the refusal of a bad line, which is printed beside the number
 abbrev pub fault_name : List ℕ
 fault_name = codes "BadEdit"
 
--- what a definition sees of a fault: its line
+-- what contracts see of a fault of the edits: its line
 abbrev pub fault_line : EditFault → ℕ
 fault_line fault = fault.line

@@ -1,5 +1,6 @@
--- What a line of a text of edits says. A line that is none of these is not allowed.
--- For this crate alone.
+-- What a line of a text of edits says; a line that is none of these is not allowed. src/named.rt
+-- has a function for each definition. For this crate alone: a line of an offset is as in the
+-- settings (cell_settings).
 use Rattle.std.specs.Prelude.{ℕ, List, [], ◌∷◌, Option, Some, None, codes, ℤ, if◌then◌else◌}
 use Rattle.std.specs.Str.{bytes_eq}
 use Rattle.nc_number.specs.declared.value.Var.{Var}
@@ -18,17 +19,17 @@ use Rattle.edit_texts.specs.declared.edit_list.PathEdit.{PathEdit}
 use Rattle.edit_texts.specs.declared.entry.Entry.{Entry}
 use Rattle.edit_texts.specs.declared.entry.Entry.TheVariants as says
 
--- the edit that sets an offset as a line of the settings does
+-- the edit that sets the offset of a line, which is written as in the settings
 abbrev pub edit_of_preset : Preset → PathEdit
 edit_of_preset preset = record { path = preset.path; edit = edit.Offset (preset_slot preset.kind preset.number) preset.to }
 
--- the number of a common variable: 100 to 199, or 500 to 999
+-- the number of a common variable that a field writes: 100 to 199, or 500 to 999
 unfoldable pub number_of : List ℕ → Option ℕ
 number_of text = do
   n ← number_in 100 999 text
   common_number n
 
--- the number that a literal writes, in whole units
+-- the millionths of the number that a literal writes, in whole units
 unfoldable pub value_of : List ℕ → Option ℤ
 value_of text = if is_literal text then value_of_literal (word_literal text) else None
 
@@ -38,7 +39,7 @@ var_of text = if bytes_eq text (codes "vacant") then Some Vacant else (do
   value ← value_of text
   Some (Is value))
 
--- a variable of a path, and what it is to be
+-- the edit that the values of `var` say: a variable of a path, and what it is to be
 unfoldable pub variable_of : List (List ℕ) → Option PathEdit
 variable_of (path ∷ number ∷ content ∷ []) = do
   p ← path_of path
@@ -53,14 +54,14 @@ edit_of name values = if bytes_eq name (codes "var") then variable_of values els
   preset ← preset_of name values
   Some (edit_of_preset preset))
 
--- what fields say: a name and its values; no field says nothing
+-- what the fields of a line say: a name and its values; no field says nothing
 unfoldable pub fields_say : List (List ℕ) → Option Entry
 fields_say [] = Some says.Nothing
 fields_say (name ∷ values) = do
   one ← edit_of name values
   Some (says.Edit one)
 
--- a line says what its fields say
+-- what a line says is what its fields say; none if it is not allowed
 unfoldable pub line_says : List ℕ → Option Entry
 line_says line = do
   fields ← line_fields line

@@ -1,5 +1,5 @@
-//! The edits of a text. Each has its path; there are 64 at most.
-//! lathe_looks, lathe_top and run_edits use what it exports.
+//! The edits of a text, each with its path, 64 at most. reading.rt makes the list; lathe_looks and
+//! lathe_top hand it on, and run_edits makes its edits in a run.
 ghost use Rattle.std.specs.Prelude.{◌≡◌, ◌≤◌, [], length, Some, None, if◌then◌else◌, IfOk};
 ghost use Rattle.edit_texts.specs.Edits.{with_said};
 
@@ -15,13 +15,16 @@ pub const MOST_EDITS: usize = 64;
 /// An edit of an offset or a variable of a path.
 #[derive(Clone, Copy, Debug, PartialEq, Eq)]
 pub struct PathEdit {
+    /// The path whose offset or variable is set.
     pub path: Path,
+    /// What is set, and to what.
     pub edit: Edit,
 }
 
 /// The edits of a text, in order, at most 64.
 #[derive(Debug, Drop)]
 pub struct EditList {
+    /// The edits, in order.
     items: Vec<PathEdit>,
 }
 
@@ -55,8 +58,8 @@ impl EditList {
         self.items.as_slice()
     }
 
-    /// Takes what a line says behind those before it, and tells whether it is allowed there. The
-    /// error is that memory ran out.
+    /// Takes what a line says after the edits before it, and tells whether it is allowed there: the
+    /// 65th edit is not. The error is that memory ran out.
     pub(crate) fn take(&mut self, said: Option<Entry>) -> Result<bool, NoMemory>
         ensures { IfOk result (λ taken. with_said self.old said ≡ (if taken then Some self.new else None)) }
     {

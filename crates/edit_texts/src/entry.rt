@@ -1,5 +1,5 @@
-//! A line of a text of edits, read. named.rt reads it.
-//! For this crate alone: edit_list.rt and named.rt use it.
+//! What a line of a text of edits says: nothing, or an edit. named.rt reads it, edit_list.rt takes
+//! it. For this crate alone.
 use crate::edit_list::PathEdit;
 
 /// What a line of a text of edits says.

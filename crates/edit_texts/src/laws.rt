@@ -1,4 +1,5 @@
-//! What the edits of a text are, apart from any reader: who calls the function has the law.
+//! The law of what the edits of a text are, apart from any reader: the contract of a function that
+//! does nothing. For readers; no other proof rests on it.
 ghost use Rattle.std.specs.Prelude.{◌≡◌, ◌↔◌, ℕ, List, Ok, Err};
 ghost use Rattle.edit_texts.specs.declared.edit_list.PathEdit.{PathEdit};
 ghost use Rattle.edit_texts.specs.Edits.{edits_of};

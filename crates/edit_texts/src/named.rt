@@ -1,5 +1,6 @@
-//! What the fields of a line of edits say. Lines and their fields are cut in field_lines.
-//! For this crate alone: reading.rt uses it.
+//! What the fields of a line of edits say. Lines and their fields are cut in field_lines, and a
+//! line of an offset is read by cell_settings, as in the settings. For reading.rt of this crate
+//! alone.
 ghost use Rattle.std.specs.Prelude.{◌≡◌, IfOk};
 ghost use Rattle.field_lines.specs.Field.{texts};
 ghost use Rattle.cell_settings.specs.Preset.{IsPreset};
@@ -15,7 +16,7 @@ use offset_store::Offset;
 use run_records::Edit;
 use std::alloc::{AllocError, Global};
 
-/// The edit that sets an offset.
+/// The edit that sets the offset of a line.
 fn offset(preset: &Preset) -> PathEdit
     requires { IsPreset preset.now }
     ensures { result ≡ edit_of_preset preset.now }
@@ -29,7 +30,7 @@ fn offset(preset: &Preset) -> PathEdit
     }
 }
 
-/// The common variable of this number.
+/// The common variable whose number a field writes, if it is one.
 #[tactic(auto, unfolding(crate::specs::Lines::number_of))]
 fn number(text: &[u8]) -> Option<CommonNumber>
     ensures { result ≡ number_of text.now }
@@ -37,7 +38,8 @@ fn number(text: &[u8]) -> Option<CommonNumber>
     CommonNumber::of(number_in(100, 999, text)?)
 }
 
-/// The number that a literal writes, in whole units.
+/// The number that a literal writes, in whole units; none if the field is no literal or has too
+/// many digits.
 #[tactic(auto, unfolding(crate::specs::Lines::value_of))]
 fn value(text: &[u8]) -> Option<Value>
     ensures { result ≡ value_of text.now }
@@ -51,7 +53,7 @@ fn value(text: &[u8]) -> Option<Value>
     }
 }
 
-/// What a variable is to be: vacant, or the number that a literal writes.
+/// What a variable is to be: vacant, or the number that a literal writes; none for any other text.
 #[tactic(auto, unfolding(crate::specs::Lines::var_of))]
 fn content(text: &[u8]) -> Option<Var>
     ensures { result ≡ var_of text.now }
@@ -62,7 +64,8 @@ fn content(text: &[u8]) -> Option<Var>
     Some(Var::Is(value(text)?))
 }
 
-/// The edit that sets a variable: its path, its number and what it is to be.
+/// The edit of a variable that the values of `var` say: its path, its number and what it is to be.
+/// None if they are not allowed.
 #[tactic(auto, unfolding(crate::specs::Lines::variable_of))]
 fn variable(values: &[&[u8]]) -> Option<PathEdit>
     ensures { result ≡ variable_of (texts values.now) }
@@ -81,7 +84,7 @@ fn variable(values: &[&[u8]]) -> Option<PathEdit>
     }
 }
 
-/// The edit that a name and its values say.
+/// The edit that a name and its values say, if they are allowed.
 #[tactic(auto, unfolding(crate::specs::Lines::edit_of))]
 fn edit(name: &[u8], values: &[&[u8]]) -> Option<PathEdit>
     ensures { result ≡ edit_of name.now (texts values.now) }
@@ -93,7 +96,7 @@ fn edit(name: &[u8], values: &[&[u8]]) -> Option<PathEdit>
     Some(offset(&preset))
 }
 
-/// What the fields of a line say.
+/// What the fields of a line say, if they are allowed. No field says nothing.
 #[tactic(auto, unfolding(crate::specs::Lines::fields_say))]
 fn read_fields(fields: &[&[u8]]) -> Option<Entry>
     ensures { result ≡ fields_say (texts fields.now) }

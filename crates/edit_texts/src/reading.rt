@@ -1,5 +1,5 @@
-//! From a text to the edits. What a line says is in named.rt.
-//! lathe_looks uses what it exports.
+//! From a text to the edits, or to its first bad line (refusal 91). What a line says is in
+//! named.rt. lathe_looks reads the text of the command `edit` by it.
 ghost use Rattle.std.specs.Prelude.{◌≡◌, ◌<◌, ◌^◌, length, Some, None, if◌then◌else◌, IfOk};
 ghost use Rattle.nc_number.specs.Answers.{GivesBy};
 ghost use Rattle.edit_texts.specs.Edits.{edits_of, with_said};
@@ -17,11 +17,12 @@ use thiserror::Error;
 #[derive(Clone, Copy, Debug, PartialEq, Eq, Error)]
 #[error("line {line} of the edits is not allowed")]
 pub struct EditFault {
+    /// The first line that is not allowed, from 1.
     pub line: u32,
 }
 
 impl EditFault {
-    /// The number of the refusal.
+    /// The number of the refusal: 91.
     pub fn number(self) -> u8
         ensures { result ≡ fault_number }
     {
@@ -60,7 +61,8 @@ pub fn read_edits(alloc: Global, text: &[u8]) -> Result<EditList, Failing<EditFa
     Ok(edits)
 }
 
-/// Takes what a line says behind the edits before it, and tells whether it is allowed there.
+/// Takes what a line says after the edits before it, and tells whether it is allowed there. The
+/// error is that memory ran out.
 fn take_line(alloc: Global, edits: &mut EditList, line: &[u8]) -> Result<bool, NoMemory>
     ensures { IfOk result (λ taken.
         with_said edits.old (line_says line.now) ≡ (if taken then Some edits.new else None)) }

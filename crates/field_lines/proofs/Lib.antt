@@ -1,2 +1,3 @@
+-- The lemmas of this crate: TextLines for `cut_line`, LineByLine for the readers of other crates.
 pub mod TextLines
 pub mod LineByLine

@@ -1,5 +1,5 @@
--- What the lines before, and the lines that are left, say of the whole text. cell_settings and
--- zone_cell end their readers with these.
+-- How a reader of a text line by line ends: at a refused line, or after all lines. The proofs of
+-- `read_settings` (cell_settings) and `read_zones` (zone_cell) end with these.
 use Rattle.std.proofs.Common.{◌≡◌, ℕ, List, ◌∷◌, Option, Some, None, Ok, Err, refl}
 use Rattle.field_lines.specs.Line.{first_refused, unless_refused}
 
@@ -9,6 +9,6 @@ refused_here says number line others refused whole bad e =
     let here : first_refused says number (line ∷ others) ≡ Some number = rw (← bad) refl in
     rw (← e, here) refl
 
--- If no line was refused, what was read is the answer.
+-- If no line was refused, what was read is the answer of the whole text.
 pub none_refused : {B : Type 0} (refused : Option ℕ) (read all : B) → None ≡ refused → read ≡ all → unless_refused refused all ≡ Ok read
 none_refused refused read all none e = rw (← none, e) refl

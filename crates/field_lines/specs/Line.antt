@@ -1,5 +1,5 @@
 -- The lines of a text, and what they say together. Bytes: 13 is the carriage return, 40 is `(`.
--- cell_settings, edit_texts and zone_cell read this.
+-- cell_settings, edit_texts and zone_cell cite it, each with what its own fields say.
 use Rattle.std.specs.Prelude.{ℕ, ◌+◌, Bool, false, ◌==◌, List, [], ◌∷◌, Option, Some, None, Result, Ok, Err, if◌then◌else◌}
 use Rattle.std.specs.List.{list_any}
 use Rattle.nc_number.specs.Options.{◌>>=◌}
@@ -16,13 +16,13 @@ line_fields line =
     if list_any (λ b. b == 13) line then None
     else (if is_comment (fields_of line) then Some [] else Some (fields_of line))
 
--- A line says what its fields say.
+-- What a line says is what its fields say; none if it is not allowed.
 unfoldable pub line_says : {A : Type 0} → (List (List ℕ) → Option A) → List ℕ → Option A
 line_says fields_say line = do
   fields ← line_fields line
   fields_say fields
 
--- The entry, if there is one, before the others.
+-- The entries with this one first, if it is there.
 abbrev pub with_entry : {A : Type 0} → Option A → List A → List A
 with_entry None entries = entries
 with_entry (Some entry) entries = entry ∷ entries
@@ -43,7 +43,7 @@ abbrev pub first_refused : {A : Type 0} → (List ℕ → Option A) → ℕ → 
 first_refused says number [] = None
 first_refused says number (line ∷ lines) = if_refused (says line) number (first_refused says (number + 1) lines)
 
--- What was read, unless a line was refused: then its number.
+-- The answer for a text: what was read, unless a line was refused, and then its number.
 abbrev pub unless_refused : {A : Type 0} → Option ℕ → A → Result A ℕ
 unless_refused None whole = Ok whole
 unless_refused (Some number) whole = Err number

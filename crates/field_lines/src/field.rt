@@ -1,4 +1,5 @@
-//! Fields, and the whole numbers and paths in them. Lengths are in `length`.
+//! Fields of a line, and the whole numbers and paths in them; lengths are in length.rt. The readers
+//! of settings, edits and zones read fields by it.
 ghost use Rattle.std.specs.Prelude.{◌≡◌, ◌-◌, ◌^◌, ◌<◌, ◌≤◌, min, IfOk, IfSome};
 ghost use Rattle.field_lines.specs.Field.{texts, fields_of, value_of, is_number, number_in, path_of};
 ghost use Rattle.std.specs.Char.{is_ascii_digit};
@@ -7,7 +8,8 @@ ghost use Rattle.std.specs.List.{list_all};
 use nc_number::Path;
 use std::alloc::{AllocError, Global};
 
-/// The fields of a line, without the blanks round them. The only error is out of memory.
+/// The fields of a line, which blanks separate, without the blanks. The only error is out of
+/// memory.
 pub(crate) fn fields(alloc: Global, line: &[u8]) -> Result<Vec<&[u8]>, AllocError>
     ensures { IfOk result (λ v. texts v.items ≡ fields_of line.now) }
 {

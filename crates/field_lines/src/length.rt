@@ -1,11 +1,12 @@
-//! Lengths and points in fields, in 0.001 mm.
+//! Lengths and points in fields, in 0.001 mm: `X..` and `Z..` of a position or an offset.
+//! cell_settings and zone_cell read points by it.
 ghost use Rattle.std.specs.Prelude.{◌≡◌, ◌≤◌, IfSome, unsigned_abs};
 ghost use Rattle.field_lines.specs.Length.{within_travel, length_of, axis_of, point_of};
 ghost use Rattle.nc_number.specs.Position.{travel, IsPosition};
 
 use nc_number::{Point, TRAVEL, is_literal, parse_word};
 
-/// The length, if it is in the travel.
+/// The length, if it is in the travel: at most 99,999.999 mm either way.
 fn within_travel(length: i64) -> Option<i64>
     ensures value { result ≡ within_travel length }
     ensures travel { IfSome result (λ n. unsigned_abs n ≤ travel) }
@@ -32,7 +33,7 @@ fn length_of(text: &[u8]) -> Option<i64>
     }
 }
 
-/// The length in 0.001 mm of a field that begins with this letter.
+/// The length in 0.001 mm of a field that is this letter and a literal, if it is in the travel.
 #[tactic(auto, unfolding(crate::specs::Length::axis_of))]
 fn axis(letter: u8, field: &[u8]) -> Option<i64>
     ensures value { result ≡ axis_of letter field.now }

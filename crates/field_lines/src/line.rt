@@ -1,4 +1,5 @@
-//! Lines, their ends, and the fields that count. What a line means is known to the crates above.
+//! Lines of a text, their ends, and the fields that count: comments have none. cell_settings,
+//! edit_texts and zone_cell read their texts line by line with it, and know what a line means.
 ghost use Rattle.std.specs.Prelude.{◌≡◌, ◌<◌, ◌+◌, ◌∷◌, ◌==◌, length, position, option_map, IfOk};
 ghost use Rattle.std.specs.Str.Lines.{lines, strip_carriage_return};
 ghost use Rattle.field_lines.specs.Field.{texts};
@@ -7,7 +8,7 @@ ghost use Rattle.field_lines.specs.Line.{is_comment, line_fields};
 use crate::field::fields;
 use std::alloc::{AllocError, Global};
 
-/// The place of the first line feed.
+/// The place of the first line feed, if there is one.
 fn line_end(text: &[u8]) -> Option<usize>
     ensures { result ≡ position (λ b. b == 10) text.now }
 {

@@ -1,4 +1,5 @@
-//! The levels of local variables `#1` to `#33`. Which call opens or closes one is in path_state.
+//! The levels of local variables `#1` to `#33` of one path. path_state opens, repeats and closes
+//! them as macro calls do, and says which call does what.
 ghost use Rattle.std.specs.Prelude.{◌≡◌, ◌+◌, ◌<◌, ◌≤◌, ◌∷◌, [], length};
 ghost use Rattle.local_levels.specs.Stack.{base_level, opened, local, with_local, reopened, closed};
 
@@ -37,7 +38,7 @@ impl Level {
 }
 
 impl Default for Level {
-    /// A level with nothing in it.
+    /// A level whose variables are all vacant.
     fn default() -> Level
         ensures { result ≡ base_level }
     {

@@ -1,2 +1,2 @@
--- The one file of facts of this crate.
+-- The one file of lemmas of this crate. No other crate uses it.
 pub mod NamedWork

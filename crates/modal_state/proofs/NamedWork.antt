@@ -1,4 +1,5 @@
--- Rows whose codes of the work group all name a work offset leave one of G54 to G59 in force.
+-- Rows whose codes of the work group all name a work offset leave one of G54 to G59 in force. For
+-- the proof of `work_after` (src/modal.rt).
 use Rattle.std.proofs.Common.{◌≡◌, ℕ, Bool, true, false, ◌&&◌, ◌||◌, not, ◌==◌, IsTrue, List, [], ◌∷◌, Option, Some, None, IfSome, refl}
 use Rattle.code_tables.specs.declared.row.Row.{Row}
 use Rattle.code_tables.specs.declared.group.TheConstants.{WORK_GROUP}
@@ -27,7 +28,7 @@ last_is_named (x ∷ xs) named = go (x.group == WORK_GROUP) refl (last_of_group 
     go false e None l found = rw (e, l) tt
     go false e (Some row) l found = rw (e, l) found
 
--- so the code in force is a work offset's
+-- the code of the work group in force after such rows is one of G54 to G59
 pub in_force_is_work : (rows : List Row) (before : ℕ) → IsTrue (names_work_offsets rows) → IsTrue (is_work_code before) → IsTrue (is_work_code (in_force_after rows WORK_GROUP before))
 in_force_is_work rows before named work = go (last_of_group rows WORK_GROUP) refl (last_is_named rows named)
   where

@@ -22,7 +22,7 @@ pub record ModalView : Type 0 where
   pub g05 : ℕ
   -- the unit code: G20 or G21
   pub g06 : ℕ
-  -- the code of the nose radius, as G40
+  -- the code of nose radius compensation, as G40
   pub g07 : ℕ
   -- the work offset code: G54 to G59
   pub g14 : ℕ
@@ -40,7 +40,7 @@ pub record ModalView : Type 0 where
   pub speed : Var
   -- the whole number of the last T word
   pub tool : ℕ
-  -- the tool offset in force: its last two digits, or 0 for none
+  -- the tool offset in force: the last two digits of the T word, or 0 for none
   pub offset : ℕ
   -- what S set last as the highest speed
   pub limit : Var
@@ -54,7 +54,7 @@ pub record IsSound (m : ModalView) : Type 0 where
   pub work : IsTrue (is_work_code m.g14)
   -- the tool offset is the tool's
   pub offset : m.offset ≡ tool_offset m.tool
-  -- it is from 0 to 64
+  -- the tool offset is from 0 to 64
   pub exists : m.offset ≤ TOOL_OFFSETS
   -- a cycle ends at a position
   pub cycle : IfSome m.cycle IsPosition

@@ -12,21 +12,21 @@ use Rattle.modal_state.specs.Faults.{fault}
 use Rattle.modal_state.specs.Said.{said_or, tool_offset}
 use Rattle.modal_state.specs.View.{ModalView}
 
--- S is the speed, but beside G50, or G92 of system B
+-- the speed after a block: S sets it, but not beside G50, or G92 of system B
 abbrev pub speed_after : SpeedWord → Var → Var
 speed_after (Speed s) before = said_or s before
 speed_after (Limit s) before = before
 
--- beside G50, or G92 of system B, S is the highest speed, and nothing else
+-- the highest speed after a block: S beside G50, or G92 of system B, sets it, and nothing else
 abbrev pub limit_after : SpeedWord → Var → Var
 limit_after (Speed s) before = before
 limit_after (Limit s) before = said_or s before
 
--- whether the tool offset of a T word exists, if there is one
+-- there is no T word, or its tool offset is one of 0 to 64
 abbrev pub has_tool_offset : Option ℕ → Bool
 has_tool_offset tool = option_map_or (λ t. nat_le (tool_offset t) TOOL_OFFSETS) tool true
 
--- the modal state with F, S and T taken
+-- the modal state after F, S and T of a block were taken
 abbrev pub with_words : ModalView → ModalWords → ModalView
 with_words before words = record before {
   feed = said_or words.feed before.feed;

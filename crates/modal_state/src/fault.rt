@@ -1,4 +1,5 @@
-//! Why a block's words were not taken: the tool offset of T does not exist.
+//! Why a block's words were not taken: the tool offset of T does not exist. block_values makes the
+//! alarm of the path of it.
 ghost use Rattle.std.specs.Prelude.{◌≡◌};
 
 use nc_number::Cause;

@@ -1,5 +1,6 @@
-//! What is in force for a path: the type, and what a block's G codes and words make of it. The
-//! words F, S and T themselves are in words.rt.
+//! What is in force for a path: the type, and what a block's G codes and words make of it.
+//! path_state keeps it and block_values takes a block's codes and words; the words F, S and T
+//! themselves are in words.rt.
 ghost use Rattle.std.specs.Prelude.{◌≡◌, ◌≤◌, ◌∷◌, [], IsTrue, IfSome, OnOk, OnErr};
 ghost use Rattle.std.specs.Result.{result_err};
 ghost use Rattle.nc_number.specs.Position.{IsPosition};
@@ -29,13 +30,13 @@ pub struct Modal {
     g01: u16,
     /// The spindle code: 96 or 97.
     g02: u16,
-    // 0 where the system has no such codes
+    // the code of absolute or incremental input, or 0 where the system has no such codes
     g03: u16,
     /// The feed code.
     g05: u16,
     /// The unit code: 20 or 21.
     g06: u16,
-    /// The code of the nose radius, as 40.
+    /// The code of nose radius compensation, as 40.
     g07: u16,
     /// The work offset code, from 54 to 59.
     g14: u16,
@@ -53,7 +54,7 @@ pub struct Modal {
     speed: Var,
     /// The whole number of the last T word.
     tool: u16,
-    /// Its last two digits, or 0 for none.
+    /// The last two digits of the T word: the tool offset, or 0 for none.
     offset: u8,
     /// What S set last as the highest speed.
     limit: Var,
@@ -271,8 +272,8 @@ impl Modal {
         Ok(())
     }
 
-    /// Lets the cycle in force end there, in machine coordinates; or nowhere, as where none is in
-    /// force.
+    /// Lets the cycle in force end at this point, in machine coordinates; or nowhere, as when none
+    /// is in force.
     pub fn set_cycle(&mut self, end: Option<Point>)
         requires { IfSome end IsPosition }
         ensures { self.new ≡ record self.old { cycle = end } }

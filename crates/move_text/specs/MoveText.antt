@@ -10,12 +10,12 @@ use Rattle.nc_moves.specs.declared.motion.Move.{Move}
 use Rattle.nc_moves.specs.declared.motion.Move.TheVariants.{Rapid, Feed, Thread, Arc, Dwell, Speed, Limit, Tool, Aux}
 use Rattle.text_pieces.specs.Pieces.{point_text, code_text}
 
--- the centre of an arc from its start, or its radius
+-- the centre of an arc from its start, or its radius, in mm
 unfoldable pub centre_text : Centre → List ℕ
 centre_text (Offset i k) = codes " I" ++ length_text i ++ codes " K" ++ length_text k
 centre_text (Radius r) = codes " R" ++ length_text r
 
--- a feed, per revolution or per minute
+-- a feed, and whether it is per revolution or per minute
 unfoldable pub feed_text : ℤ → Bool → List ℕ
 feed_text feed per_rev = codes " F" ++ value_text feed ++ (if per_rev then codes " rev" else codes " min")
 
@@ -36,6 +36,6 @@ move_text (Aux m) = codes "aux M" ++ code_text m
 unfoldable pub line_text : ℕ → Move → List ℕ
 line_text line what = decimal line ++ codes " " ++ move_text what ++ codes "\n"
 
--- the line of a place
+-- the line of a place: the point at which a turret begins
 unfoldable pub placed_text : Point → List ℕ
 placed_text at = codes "place" ++ point_text at ++ codes "\n"

@@ -9,7 +9,7 @@ use nc_number::{Point, Value};
 use text_pieces::Piece;
 
 /// Adds the centre of an arc from its start, or its radius, in mm. 52 bytes hold two letters, their
-/// blanks and two lengths.
+/// blanks and two lengths of at most 24 bytes.
 #[tactic(auto, unfolding(crate::specs::MoveText::centre_text))]
 fn add_centre(piece: &mut Piece, centre: Centre)
     requires { length piece.old + 52 ≤ 512 }
@@ -30,7 +30,7 @@ fn add_centre(piece: &mut Piece, centre: Centre)
     }
 }
 
-/// Adds a feed, per revolution or per minute.
+/// Adds a feed, and whether it is per revolution or per minute.
 #[tactic(auto, unfolding(crate::specs::MoveText::feed_text))]
 fn add_feed(piece: &mut Piece, feed: Value, per_rev: bool)
     requires { length piece.old + 30 ≤ 512 }

@@ -1,11 +1,11 @@
--- Where a turret stands after a move. The other moves leave it where it is.
--- block_values, motion_track, zone_area and zone_check take it.
+-- Where a turret stands after a move, in machine coordinates. block_values, motion_track, zone_area
+-- and zone_check cite it.
 use Rattle.std.specs.Prelude.{Option, Some, None}
 use Rattle.nc_number.specs.declared.point.Point.{Point}
 use Rattle.nc_moves.specs.declared.motion.Move.{Move}
 use Rattle.nc_moves.specs.declared.motion.Move.TheVariants.{Rapid, Feed, Thread, Arc, Dwell, Speed, Limit, Tool, Aux}
 
--- where a turret stands after a move that goes somewhere
+-- where a turret stands after a move; none if the move goes nowhere, and leaves it where it is
 abbrev pub end_of : Move → Option Point
 end_of (Rapid to) = Some to
 end_of (Feed to feed per_rev) = Some to

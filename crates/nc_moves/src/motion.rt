@@ -1,5 +1,5 @@
-//! What a block asks a turret to do, and the moves of one block, at most eight. What makes them is
-//! in motion_track.
+//! What a block asks a turret to do, and the moves of one block, at most eight. motion_track,
+//! turn_cycles and block_values make them; turrets, reports, traces and zones take them.
 ghost use Rattle.std.specs.Prelude.{◌≡◌, ◌+◌, ◌<◌, ◌≤◌, [], ◌∷◌, ◌++◌, length};
 ghost use Rattle.nc_moves.specs.Motion.{end_of};
 
@@ -26,18 +26,18 @@ pub enum Move {
     Rapid {
         to: Point,
     },
-    /// A straight cut. The feed is per revolution, or per minute.
+    /// A straight cut. The feed is in mm per revolution if `per_rev`, else in mm per minute.
     Feed {
         to: Point,
         feed: Value,
         per_rev: bool,
     },
-    /// A straight thread.
+    /// A straight thread, with its lead in mm per revolution.
     Thread {
         to: Point,
         lead: Value,
     },
-    /// A cut along a circle.
+    /// A cut along a circle. The feed is in mm per revolution if `per_rev`, else in mm per minute.
     Arc {
         clockwise: bool,
         to: Point,
@@ -49,7 +49,8 @@ pub enum Move {
     Dwell {
         ms: u64,
     },
-    /// The spindle's speed: metres per minute at the surface, or revolutions per minute.
+    /// The spindle's speed: in metres per minute at the surface if `surface`, else in revolutions
+    /// per minute.
     Speed {
         surface: bool,
         s: u32,
@@ -62,7 +63,7 @@ pub enum Move {
     Tool {
         t: u16,
     },
-    /// An auxiliary code.
+    /// An auxiliary code, by the number after M.
     Aux {
         m: u16,
     },
@@ -157,7 +158,7 @@ impl MoveList {
         self.moves.try_extend_from_slice(more).unwrap();
     }
 
-    /// The same moves once more.
+    /// A second list of these moves.
     pub fn copy(&self) -> Self
         ensures { result ≡ self.now }
     {
@@ -172,12 +173,12 @@ impl MoveList {
 pub struct Moves {
     /// The line of the block in the tape, counted from 1.
     pub line: u32,
-    /// Its moves.
+    /// The moves of the block.
     pub list: MoveList,
 }
 
 impl Moves {
-    /// The same moves of the same line once more.
+    /// A second list of these moves, with their line.
     pub fn copy(&self) -> Self
         ensures { result ≡ self.now }
     {

@@ -1,4 +1,4 @@
--- Facts of truth values, for this crate and some twenty others.
+-- Facts of truth values, which proofs of this crate and of some twenty others use.
 use Rattle.std.proofs.Common.{◌≡◌, ◌⊎◌, inl, inr, Bool, true, false, ◌&&◌, ◌||◌, not, refl}
 
 -- an `or` is true if its left side is

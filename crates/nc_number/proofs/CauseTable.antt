@@ -1,5 +1,6 @@
--- Each row of the table of causes has a number of its own. Crates that compare numbers of refusals
--- or alarms take the facts at the end.
+-- Each row of the table of causes has a number of its own: for the law `a_number_has_one_cause`
+-- (src/laws.rt) and `of_number` (src/cause.rt). Crates that compare numbers of refusals or alarms
+-- take the facts at the end. A new cause is a line of `every_row`.
 use Rattle.std.proofs.Common.{◌≡◌, ◌≢◌, ℕ, Option, Some, None, IfSome, IsNone, All, Contains, lit<, refl, ap, sym, ◌∙◌}
 use Rattle.std.proofs.lemmas.List.Elements.{All-contains}
 use Rattle.nc_number.specs.declared.cause.Cause.{Cause}

@@ -1,4 +1,4 @@
--- Facts of counts and of their tests, for this crate and some fifteen others.
+-- Facts of counts and of their tests, which proofs of some fifteen other crates use.
 use Rattle.std.proofs.Common.{◌≡◌, ◌==◌, ◌+◌, ◌<◌, ◌≤◌, ◌⊎◌, inl, inr, ℕ, Bool, true, false, nat_lt, nat_le, min, Option, Some, None, refl, arith}
 use Rattle.std.proofs.lemmas.Bool.Decides.{nat_tests}
 use Rattle.nc_number.specs.Options.{lesser}
@@ -45,7 +45,7 @@ last_or_before a b h = same_or_below a b (grind arith)
 pub some_is : {A : Type 0} {a b : A} → Some a ≡ Some b → a ≡ b
 some_is e = cc
 
--- the lesser one is one of the two
+-- the lesser of two numbers that may be missing is one of the two
 pub lesser_is : (a b : Option ℕ) (n : ℕ) → lesser a b ≡ Some n → (a ≡ Some n) ⊎ (b ≡ Some n)
 lesser_is None b n e = inr e
 lesser_is (Some x) None n e = inl e

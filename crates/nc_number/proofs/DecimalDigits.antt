@@ -1,4 +1,5 @@
--- Runs of decimal digits, and the numbers that they write. tape_relation takes some facts too.
+-- Runs of decimal digits, and the numbers that they write: for the loop of `number`
+-- (src/literal.rt) and the laws on literals. tape_relation takes some facts too.
 use Rattle.std.proofs.Common.{◌≡◌, ◌==◌, ℕ, ◌+◌, ◌-◌, ◌*◌, ◌^◌, ◌<◌, ◌≤◌, true, false, not, List, [], ◌∷◌, length, get_or, take, drop, refl, ap, length-drop, ◌∙◌, sym, subst, inl, inr, arith, rules, suc}
 use Rattle.std.specs.List.{position_or_len}
 use Rattle.std.specs.Char.{digit_value, is_ascii_digit}
@@ -13,7 +14,7 @@ use Rattle.std.proofs.lemmas.Grind.{common_steps}
 use Rattle.std.proofs.lemmas.Bool.{cases_eq, ne_eqb}
 use Rattle.nc_number.specs.Literals.{all_digits, significant, size_of_parts}
 
--- a test of digits, in std's words
+-- runs of digits and what they write are numerals as std has them
 pub digits_model : IsNumeralModel (λ ds. all_digits ds ≡ true) (digits_value 10)
 digits_model = numerals_by_value _ (search rules)
 
@@ -25,7 +26,7 @@ digit_byte ds i digits within = digit_at ds i (digits_model.to ds digits) within
 pub digit_value_is : (c : ℕ) → 48 ≤ c → c ≤ 57 → digit_value c ≡ c - 48
 digit_value_is c low high = grind (arith, common_steps)
 
--- one digit more
+-- one digit more makes ten times the number and that digit
 pub value_more : (ds : List ℕ) (i : ℕ) → all_digits ds ≡ true → i < length ds → digits_value 10 (take (i + 1) ds) ≡ digits_value 10 (take i ds) * 10 + (get_or ds i 0 - 48)
 value_more ds i digits within =
     let byte = digit_byte ds i digits within in
@@ -77,7 +78,7 @@ fraction_below ds digits short =
     let scaled : digits_value 10 ds * 10 ^ (6 - length ds) < 10 ^ length ds * 10 ^ (6 - length ds) = mul-lt-mul_of_pos_right value positive in
     omega arith
 
--- so what 8 digits and 6 digits write is a value
+-- what at most 8 digits before a point and 6 after it write is a value
 pub size_below : (whole fraction : List ℕ) → all_digits whole ≡ true → length whole ≤ 8 → all_digits fraction ≡ true → length fraction ≤ 6 → size_of_parts whole fraction ≤ 99999999999999
 size_below whole fraction whole_digits whole_short fraction_digits fraction_short =
     let behind = fraction_below fraction fraction_digits fraction_short in

@@ -1,5 +1,5 @@
--- The last digits of a number, and what is left of them without the zeros at their end.
--- tape_relation takes some facts too.
+-- The last digits of a number, and what is left of them without the zeros at their end: for the
+-- laws on printing (ReadsBack.antt). tape_relation takes some facts too.
 use Rattle.std.proofs.Common.{◌≡◌, ◌&&◌, ◌<◌, ◌≤◌, ◌+◌, ◌-◌, ◌*◌, ◌/◌, ◌%◌, ◌^◌, ℕ, zero, suc, Bool, true, false, cond, List, [], ◌∷◌, length, refl, ◌∙◌, arith, length-append}
 use Rattle.std.specs.List.{list_all}
 use Rattle.std.specs.Char.{digit_value, is_ascii_digit}
@@ -29,7 +29,7 @@ all_digits-last (suc k) n =
     list_all-append is_ascii_digit (last_digits k (n / 10)) ((48 + n % 10) ∷ [])
     ∙ and_from _ _ (all_digits-last k (n / 10)) (and_from _ _ (last_byte n) refl)
 
--- k digits write a number below 10 ^ k
+-- the last k digits of a number below 10 ^ k write that number
 pub value-last : (k n : ℕ) → n < 10 ^ k → digits_value 10 (last_digits k n) ≡ n
 value-last zero n small = omega arith
 value-last (suc k) n small =

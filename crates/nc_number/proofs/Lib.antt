@@ -1,5 +1,5 @@
--- The files of proofs, by name. Those of literals, printing and arithmetic serve the laws of
--- src/laws.rt.
+-- The lemmas of this crate, by name. Those of literals, printing and arithmetic serve the laws of
+-- src/laws.rt; Bools, Counts, CauseTable, Integers, Points and Roots are for other crates too.
 pub mod Bools
 pub mod CauseTable
 pub mod Counts

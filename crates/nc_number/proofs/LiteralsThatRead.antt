@@ -1,4 +1,5 @@
--- A literal that reads is a value, and one without a point is whole: two laws of src/laws.rt.
+-- A literal that reads is a value, and one without a point is a whole number: for two laws of
+-- src/laws.rt, `what_reads_is_a_value` and `a_literal_without_a_point_counts_thousandths`.
 use Rattle.std.proofs.Common.{◌≡◌, ◌<◌, ◌≤◌, ◌*◌, ◌+◌, ◌/◌, ◌%◌, ℕ, ℤ, pos, ◌*ℤ◌, Bool, true, false, cond, List, [], Option, Some, None, is_some, Ok, Err, refl, ap, sym, ◌∙◌, arith}
 use Rattle.std.specs.Prelude.{nat_le, unsigned_abs}
 use Rattle.std.specs.Int.{is_negative}
@@ -17,7 +18,8 @@ use Rattle.nc_number.proofs.NearestQuotient.{size_with_sign, signed_times, signe
 use Rattle.nc_number.proofs.Spellings.{written_literal, fraction_of, parts_of_written}
 use Rattle.nc_number.proofs.WordLiterals.{whole_digits, fraction_digits}
 
--- what a text reads as, where it has not too many digits
+-- a text that reads has not too many digits, and the literal is its number and whether it has a
+-- point
 reads_as : (text : List ℕ) (literal : Literal) → word_literal text ≡ Ok literal
     → (has_too_many_digits text ≡ false) × (literal.value ≡ literal_micro text) × (literal.point ≡ has_point text)
 reads_as text literal reads = go (has_too_many_digits text) refl reads

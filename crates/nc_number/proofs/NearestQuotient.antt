@@ -1,5 +1,6 @@
 -- `nearest_quotient` is the nearest whole number, and goes away from zero where two are equally
--- near: two laws of src/laws.rt. First come counts, then numbers with signs.
+-- near: for two laws of src/laws.rt. First come counts, then numbers with signs. ReadsBack.antt and
+-- others here take the facts on signs.
 use Rattle.std.proofs.Common.{◌≡◌, ◌≢◌, ◌<◌, ◌≤◌, ◌*◌, ◌+◌, ◌/◌, ◌%◌, ℕ, zero, suc, ℤ, pos, negsuc, neg_ℤ, ◌*ℤ◌, ◌-ℤ◌, Bool, true, false, cond, refl, ap, sym, subst, ◌∙◌, arith, inl, inr}
 use Rattle.std.specs.Prelude.{nat_le, unsigned_abs}
 use Rattle.std.specs.Int.{is_negative, abs_diff}
@@ -11,7 +12,7 @@ use Rattle.std.proofs.Math.Nat.{mul-le-mul_right}
 use Rattle.nc_number.specs.Signs.{with_sign, differ}
 use Rattle.nc_number.specs.Arithmetic.{nearest, nearest_quotient}
 
--- no multiple of d is nearer to n
+-- no multiple of d is nearer to n than the one by `nearest`
 pub nearest_is_near : (n d m : ℕ) → 0 < d → abs_diff n (nearest n d * d) ≤ abs_diff n (m * d)
 nearest_is_near n d m positive = go (nat_le d (2 * (n % d))) refl
   where
@@ -27,7 +28,7 @@ nearest_is_near n d m positive = go (nat_le d (2 * (n % d))) refl
           | inr below ↦ (let past = mul-le-mul_right d below in omega arith)
         ]
 
--- and none that is as near is greater
+-- a multiple of d that is as near to n as the one by `nearest` is not greater
 pub nearest_is_greatest : (n d m : ℕ) → 0 < d → abs_diff n (m * d) ≤ abs_diff n (nearest n d * d) → m ≤ nearest n d
 nearest_is_greatest n d m positive = go (nat_le d (2 * (n % d))) refl
   where
@@ -43,7 +44,7 @@ nearest_is_greatest n d m positive = go (nat_le d (2 * (n % d))) refl
           | inr below ↦ below
         ]
 
--- a number with a sign has the size that it had without
+-- the size of a count that was given a sign is that count
 pub size_with_sign : (minus : Bool) (n : ℕ) → unsigned_abs (with_sign minus n) ≡ n
 size_with_sign false n = refl
 size_with_sign true n = omega (arith, ints)
@@ -62,12 +63,12 @@ pub negative_neg : (n : ℕ) → neg_ℤ (pos n) ≢ pos 0 → is_negative (neg_
 negative_neg zero nonzero = absurd (nonzero refl)
 negative_neg (suc n) nonzero = refl
 
--- a minus of a factor is a minus of the product
+-- if the first factor has a minus, so has the product
 pub neg_times : (n m : ℕ) → neg_ℤ (pos n) *ℤ pos m ≡ neg_ℤ (pos (n * m))
 neg_times zero m = let none : 0 * m ≡ 0 = omega arith in rw none refl
 neg_times (suc n) m = negsuc-*ℤ-pos n m
 
--- the sign of a product
+-- a quotient with its sign, times the divisor, has the sign of the dividend
 pub signed_times : (s : Bool) (n : ℕ) (b : ℤ) → with_sign (differ s (is_negative b)) n *ℤ b ≡ with_sign s (n * unsigned_abs b)
 signed_times false n (pos m) = rw (negative_pos m) (pos-*ℤ-pos n m)
 signed_times true n (pos m) = rw (negative_pos m) (neg_times n m)

@@ -1,4 +1,5 @@
--- Facts of points. motion_track, rough_cycle and zone_area take them.
+-- When two points are equal, and that a point which passes the test of a position is one.
+-- motion_track, rough_cycle and zone_area take them.
 use Rattle.std.proofs.Common.{◌≡◌, true, ℤ, ap, ◌∙◌, arith}
 use Rattle.std.proofs.lemmas.Bool.Decides.{nat_tests}
 use Rattle.nc_number.specs.declared.point.Point.{Point}
@@ -10,6 +11,6 @@ same_point p q x z =
     let at : ℤ → ℤ → Point = λ a b. record { x = a; z = b } in
     ap (λ a. at a p.z) x ∙ ap (λ b. at q.x b) z
 
--- what passes the test is a position
+-- a point that passes the test of a position is one
 pub tested_position : (p : Point) → is_position p ≡ true → IsPosition p
 tested_position p test = grind (arith, nat_tests)

@@ -1,5 +1,6 @@
 -- What is printed reads back as the same number: values with up to six decimals, lengths with
--- three. These are the two laws of src/laws.rt on printing.
+-- three. For the laws `a_printed_value_reads_back` and `a_printed_length_reads_back` of
+-- src/laws.rt.
 use Rattle.std.proofs.Common.{◌≡◌, ◌==◌, ◌<◌, ◌≤◌, ◌-◌, ◌*◌, ◌/◌, ◌%◌, ◌^◌, ℕ, ℤ, pos, negsuc, ◌*ℤ◌, Bool, true, false, cond, List, [], ◌∷◌, append_assoc, length, Option, Some, None, is_some, Ok, refl, ap, sym, ◌∙◌, arith}
 use Rattle.std.specs.Prelude.{unsigned_abs, decimal}
 use Rattle.std.specs.Int.{is_negative}
@@ -57,9 +58,9 @@ printed_fraction_bytes millionths = go (millionths == 0)
 
 -- the digits after the point are digits, at most 6, and write the fraction
 pub record IsFraction (digits : List ℕ) (millionths : ℕ) : Type 0 where
-  -- there are digits alone
+  -- the text has digits alone
   pub digits_alone : all_digits digits ≡ true
-  -- at most six
+  -- there are at most six digits
   pub short : length digits ≤ 6
   -- with zeros up to six they write the fraction's millionths
   pub value : digits_value 10 digits * 10 ^ (6 - length digits) ≡ millionths

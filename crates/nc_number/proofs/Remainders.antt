@@ -1,5 +1,5 @@
--- Remainders of divisions: smaller than the divisor, with the sign of what is divided. It is a law
--- of src/laws.rt.
+-- Remainders of divisions: smaller than the divisor, with the sign of what is divided. For the law
+-- `a_remainder_keeps_the_sign` of src/laws.rt.
 use Rattle.std.proofs.Common.{◌≡◌, ◌≢◌, ◌<◌, ◌%◌, suc, ℤ, pos, negsuc, ◌+ℤ◌, ◌*ℤ◌, ◌-ℤ◌, Bool, true, false, cond, refl, sym, subst, ◌∙◌}
 use Rattle.std.specs.Prelude.{unsigned_abs, int_rem, int_div, Ok, Err}
 use Rattle.std.specs.Int.{is_negative}
@@ -14,7 +14,7 @@ pub rest_sign : (a b : ℤ) → int_rem a b ≢ pos 0 → is_negative (int_rem a
 rest_sign (pos n) b nonzero = negative_pos _ ∙ sym (negative_pos n)
 rest_sign (negsuc n) b nonzero = negative_neg (suc n % unsigned_abs b) nonzero
 
--- if the control gives a remainder, the divisor isn't 0 and it is that of the division
+-- if the control gives a remainder, the divisor isn't 0 and the remainder is that of the division
 pub rest_of : (a b r : ℤ) → remainder_of a b ≡ Ok r → (is_zero b ≡ false) × (int_rem a b ≡ r)
 rest_of a b r is = go (is_zero b) refl is
   where
@@ -22,8 +22,7 @@ rest_of a b r is = go (is_zero b) refl is
     go true zero same = cc
     go false nonzero same = (nonzero, rest_is a b ∙ cc)
 
--- a remainder is smaller than the divisor, has the dividend's sign, and differs from the dividend
--- by whole divisors
+-- the remainder that the control gives is smaller than the divisor
 pub rest_is_smaller : (a b r : ℤ) → remainder_of a b ≡ Ok r → unsigned_abs r < unsigned_abs b
 rest_is_smaller a b r is =
     let of = rest_of a b r is in

@@ -1,4 +1,5 @@
--- The greatest number whose square is at most another. motion_track and zone_area take facts too.
+-- The greatest number whose square is at most another: for the root of the control (`sqrt`) and the
+-- law on it. motion_track and zone_area take facts too.
 use Rattle.std.proofs.Common.{◌≡◌, ◌<◌, ◌≤◌, ◌*◌, ◌+◌, ℕ, zero, suc, Bool, true, false, cond, refl, arith, inl, inr}
 use Rattle.std.specs.Prelude.{nat_le}
 use Rattle.std.proofs.lemmas.Bool.{cases_lt, leb-true, leb-false}
@@ -32,7 +33,7 @@ root_is_greatest n (suc most) k within square =
       | inr more ↦ (let past = leb-false _ _ is in let squares = mul-le _ _ _ _ more more in absurd (omega arith))
     ]
 
--- it is the one number whose square is at most n while the next one's is more
+-- the root is the one number whose square is at most n while the next one's is more
 pub square_root_is : (n s : ℕ) → s * s ≤ n → n < (s + 1) * (s + 1) → square_root n ≡ s
 square_root_is n s low high =
     let within : s ≤ n = elim (cases_lt 0 s) [
@@ -56,7 +57,7 @@ root_below s n square small = elim (cases_lt s 10000000000000) [
   | inr more ↦ (let squares = mul-le _ _ _ _ more more in absurd (omega arith))
 ]
 
--- the square of the next number is above n
+-- the square of the number after the root of n is above n
 pub root_next : (n : ℕ) → n < (square_root n + 1) * (square_root n + 1)
 root_next n = elim (cases_lt n ((square_root n + 1) * (square_root n + 1))) [
   | inl past ↦ past
@@ -65,6 +66,6 @@ root_next n = elim (cases_lt n ((square_root n + 1) * (square_root n + 1))) [
       absurd (omega arith))
 ]
 
--- roots compare as their squares do
+-- a number whose square is at most another's is at most the other
 pub root_le : (a b : ℕ) → a * a ≤ b * b → a ≤ b
 root_le a b squares = grind arith

@@ -1,5 +1,6 @@
 -- A literal is what the grammar spells (specs/Spelling.antt), and its parts are those of the
--- spelling. A body is what stands after the sign. tape_relation takes some facts too.
+-- spelling: for the law `a_literal_is_a_sign_digits_and_a_fraction` (src/laws.rt) and ReadsBack. A
+-- body is what stands after the sign. tape_relation takes some facts too.
 use Rattle.std.proofs.Common.{◌≡◌, ◌==◌, ◌≤◌, ℕ, Bool, true, false, cond, List, [], ◌∷◌, ◌++◌, length, drop, get_or, refl, ap, sym, subst, ◌∙◌, arith, inl, inr, Option, Some, None, is_some, nat_lt}
 use Rattle.std.specs.List.{list_any, position_or_len, before_first, after_first}
 use Rattle.std.specs.Char.{is_ascii_digit}
@@ -12,7 +13,7 @@ use Rattle.nc_number.specs.Literals.{IsLiteral, all_digits, is_point, is_sign, b
 use Rattle.nc_number.specs.Spelling.{Sign, Bare, Plus, Minus, sign_bytes, is_minus, point_bytes, digits_behind, IsWritten, HasParts}
 use Rattle.nc_number.proofs.DecimalDigits.{digit_byte}
 
--- a digit is no point and no sign
+-- the byte of a digit is from 48 to 57
 pub digit_range : (d : ℕ) → is_ascii_digit d ≡ true → (48 ≤ d) × (d ≤ 57)
 digit_range d digit = let one : all_digits (d ∷ []) ≡ true = and_from _ _ digit refl in digit_byte (d ∷ []) 0 one (omega arith)
 
@@ -78,7 +79,7 @@ body_point whole fraction digits =
     behind None = refl
     behind (Some fraction) = refl
 
--- with a sign in front
+-- a body with a sign in front, without that sign, is the body
 pub written_body : (sign : Sign) (whole : List ℕ) (fraction : Option (List ℕ)) → all_digits whole ≡ true → behind_sign (sign_bytes sign ++ (whole ++ point_bytes fraction)) ≡ whole ++ point_bytes fraction
 written_body Bare whole fraction digits = body_unsigned whole fraction digits
 written_body Plus whole fraction digits = refl
@@ -110,7 +111,7 @@ parts_of_written text sign whole fraction written =
       point_is = ap has_point written.bytes ∙ written_point sign whole fraction written.whole_digits;
     }
 
--- the sign and the body of a text
+-- the sign that a text begins with, if it does
 abbrev pub sign_of : List ℕ → Sign
 sign_of [] = Bare
 sign_of (b ∷ bs) = cond (b == 43) Plus (cond (b == 45) Minus Bare)
@@ -128,7 +129,7 @@ signed_body (b ∷ bs) =
       ]
     ]
 
--- what stands after the whole part of a body
+-- the digits after the point of a body, if it has a point
 abbrev pub fraction_of : List ℕ → Option (List ℕ)
 fraction_of body = cond (nat_lt (position_or_len is_point body) (length body)) (Some (after_first is_point body)) None
 

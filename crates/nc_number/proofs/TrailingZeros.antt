@@ -1,4 +1,5 @@
--- Digits without the zeros that they end with: the steps of `trimmed` in src/printing.rt.
+-- Digits without the zeros that they end with, one digit at a time: for the proof of `trimmed`
+-- (src/printing.rt).
 use Rattle.std.proofs.Common.{◌≡◌, ◌≢◌, ◌&&◌, ℕ, true, false, List, [], ◌∷◌, ◌++◌, refl, ◌∙◌, sym}
 use Rattle.std.specs.List.{list_all}
 use Rattle.std.proofs.lemmas.List.Folds.{list_all-append}
@@ -26,6 +27,6 @@ trim-digit (x ∷ xs) d other =
 pub trims_zero : (xs front : List ℕ) (d : ℕ) → xs ≡ front ++ d ∷ [] → d ≡ 48 → without_trailing_zeros front ≡ without_trailing_zeros xs
 trims_zero xs front d is zero_digit = rw (is, zero_digit) (sym (trim-zero front))
 
--- its last step: a last digit that isn't 0 stays
+-- the last step of the code's trim: a last digit that isn't 0 stays
 pub keeps_digit : (xs front : List ℕ) (d : ℕ) → xs ≡ front ++ d ∷ [] → d ≢ 48 → xs ≡ without_trailing_zeros xs
 keeps_digit xs front d is other = rw is (sym (trim-digit front d other))

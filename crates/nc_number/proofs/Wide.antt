@@ -1,5 +1,5 @@
 -- Values and their products as src/arithmetic.rt counts them, in numbers of 128 bits, which hold
--- them all.
+-- them all. For the proofs of `mul`, `div`, `modulo` and `sqrt`.
 use Rattle.std.proofs.Common.{◌≡◌, ◌<◌, ◌≤◌, ◌*◌, ℕ, ℤ, pos, negsuc, suc, ◌*ℤ◌, ◌-ℤ◌, ◌+◌, true, false, refl, ◌∙◌, Ok, arith}
 use Rattle.std.specs.Prelude.{unsigned_abs, FitsSigned, int_rem, int_div}
 use Rattle.std.specs.Int.{w128, cast_signed, cast_unsigned, is_negative}
@@ -9,15 +9,15 @@ use Rattle.nc_number.specs.Arithmetic.{is_zero, nearest_quotient, checked, produ
 use Rattle.nc_number.proofs.Roots.{square_root_is, root_below}
 use Rattle.nc_number.specs.Range.{InRange, is_in_range}
 
--- a value fits 128 bits
+-- a value is the same when counted in 128 bits
 pub wide_is : (a : ℤ) → InRange a → cast_signed w128 (cast_unsigned w128 a) ≡ a
 wide_is a range = to_z-of_z w128 a (fits_signed_from_abs w128 a (omega arith))
 
--- products of two values
+-- the product of two values fits 128 bits
 pub product_fits : (a b : ℤ) → InRange a → InRange b → FitsSigned w128 (a *ℤ b)
 product_fits a b left right = fits_signed_mul w128 a b 99999999999999 99999999999999 left right (omega arith)
 
--- the product of two values fits 128 bits
+-- the product of two values is the same when counted in 128 bits
 pub wide_product_is : (a b : ℤ) → InRange a → InRange b → cast_signed w128 (cast_unsigned w128 (a *ℤ b)) ≡ a *ℤ b
 wide_product_is a b left right = to_z-of_z w128 (a *ℤ b) (product_fits a b left right)
 
@@ -47,7 +47,7 @@ pub remainder_is : (a b : ℤ) → is_zero b ≡ false → InRange b → checked
 remainder_is a b nonzero range =
     checked_in_range (int_rem a b) (rest_in_range a b nonzero range) ∙ rw (nonzero, rest_is a b) refl
 
--- a remainder fits 128 bits
+-- a remainder is the same when counted in 128 bits
 pub wide_rest_is : (a b : ℤ) → is_zero b ≡ false → InRange b → cast_signed w128 (cast_unsigned w128 (int_rem a b)) ≡ int_rem a b
 wide_rest_is a b nonzero range = wide_is (int_rem a b) (rest_in_range a b nonzero range)
 
@@ -59,7 +59,8 @@ product_is a b = refl
 pub quotient_is : (a b : ℤ) → is_zero b ≡ false → checked (nearest_quotient (a *ℤ pos 1000000) b) ≡ quotient_of a b
 quotient_is a b nonzero = rw nonzero refl
 
--- the number whose square is at most a, while the next one's is more, is the control's root of a
+-- the number whose square is at most a million times the count of a, while the next one's is more,
+-- is the control's root of a
 pub root_is : (a : ℤ) (s : ℕ) → InRange a → is_negative a ≡ false → s * s ≤ unsigned_abs a * 1000000 → unsigned_abs a * 1000000 < (s + 1) * (s + 1)
     → checked (pos s) ≡ root_of a
 root_is a s range sign low high =

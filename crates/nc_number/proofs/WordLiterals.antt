@@ -1,4 +1,5 @@
--- What a literal with few enough digits means: the answer of `parse_word` (src/literal.rt).
+-- What a literal with few enough digits means. For the proof of `parse_word` (src/literal.rt) and
+-- the laws on literals and printing.
 use Rattle.std.proofs.Common.{◌≡◌, ℕ, ◌≤◌, true, false, List, length, refl, Ok}
 use Rattle.std.proofs.lemmas.Bool.{and_parts, or_from, le-ltb}
 use Rattle.nc_number.specs.Literals.{IsLiteral, all_digits, whole_part, fraction_part, significant, has_minus, has_point, has_too_many_digits, size_of_parts, with_sign, word_literal}
@@ -12,11 +13,13 @@ whole_digits text literal = (and_parts _ _ (and_parts _ _ literal).0).0
 pub fraction_digits : (text : List ℕ) → IsLiteral text → all_digits (fraction_part text) ≡ true
 fraction_digits text literal = (and_parts _ _ (and_parts _ _ literal).0).1
 
--- at most 8 whole digits, without the zeros at the front, and 6 of the fraction are allowed
+-- a text with at most 8 whole digits, the zeros at the front not counted, and 6 of the fraction has
+-- not too many
 pub few_digits : (text : List ℕ) → length (significant (whole_part text)) ≤ 8 → length (fraction_part text) ≤ 6 → has_too_many_digits text ≡ false
 few_digits text whole fraction = or_from _ _ (le-ltb _ _ whole) (le-ltb _ _ fraction)
 
--- a literal with so few digits means what its digits write, with its sign
+-- a literal with at most 8 whole digits and 6 of the fraction means what its digits write, with its
+-- sign
 pub word_literal-few : (text : List ℕ) → length (significant (whole_part text)) ≤ 8 → length (fraction_part text) ≤ 6
     → Ok (record { value = with_sign (has_minus text) (size_of_parts (significant (whole_part text)) (fraction_part text)); point = has_point text }) ≡ word_literal text
 word_literal-few text whole fraction =

@@ -1,23 +1,27 @@
--- A call answers what its definition answers, unless memory ran out. Each crate whose calls take
--- memory says so by these words.
+-- A call answers what its definition answers, unless memory ran out. The readers of tapes,
+-- expressions, settings and edits, and the verdicts on them, say so by these words.
 use Rattle.std.specs.Prelude.{◌≡◌, Result, Ok, Err}
 use Rattle.nc_number.specs.declared.fault.Failing.{Failing}
 use Rattle.nc_number.specs.declared.fault.Failing.TheVariants.{Fault, NoMemory}
 
--- the definition fails with the call's fault, of which it sees the cause alone
+-- the definition fails with the call's fault, of which it sees the cause alone; if memory ran out,
+-- nothing is said
 abbrev pub FailsBy : {Y F E : Type 0} → (F → E) → Failing F → Result Y E → Type 0
 FailsBy cause (Fault fault) due = due ≡ Err (cause fault)
 FailsBy cause NoMemory due = Unit {0}
 
--- the definition answers what the call answers, of which it sees a view
+-- the definition answers what the call answers: it sees a view of an Ok, and of a fault the cause
+-- alone; if memory ran out, nothing is said
 abbrev pub GivesBy : {X Y F E : Type 0} → (X → Y) → (F → E) → Result X (Failing F) → Result Y E → Type 0
 GivesBy view cause (Ok x) due = due ≡ Ok (view x)
 GivesBy view cause (Err error) due = FailsBy cause error due
 
--- the definition fails with the call's fault, and sees all of it
+-- the definition fails with the call's fault, and sees all of it; if memory ran out, nothing is
+-- said
 abbrev pub Fails : {Y E : Type 0} → Failing E → Result Y E → Type 0
 Fails error due = FailsBy (λ fault. fault) error due
 
--- the definition answers what the call answers, and sees all of the call's fault
+-- the definition answers what the call answers: it sees a view of an Ok, and all of a fault; if
+-- memory ran out, nothing is said
 abbrev pub Gives : {X Y E : Type 0} → (X → Y) → Result X (Failing E) → Result Y E → Type 0
 Gives view result due = GivesBy view (λ fault. fault) result due

@@ -1,6 +1,6 @@
 -- The arithmetic of values, as mathematics on whole counts of millionths. A value is such a count
 -- in the range of Range.antt; the functions of src/arithmetic.rt, bits.rt and rounding.rt compute
--- these.
+-- these. macro_eval, block_values, motion_track and others cite it.
 use Rattle.std.specs.Prelude.{ℕ, zero, suc, ◌+◌, ◌*◌, ◌/◌, ◌%◌, Bool, not, ◌==◌, ◌&&◌, nat_le, if◌then◌else◌, ℤ, pos, ◌+ℤ◌, ◌-ℤ◌, ◌*ℤ◌, unsigned_abs, int_div, int_rem, bit_and, bit_or, bit_xor, Option, Some, None, Result, Ok, Err}
 use Rattle.std.specs.Int.{is_negative, div_ceil}
 use Rattle.nc_number.specs.declared.fault.NumberFault.{NumberFault}
@@ -16,7 +16,8 @@ checked z = if is_in_range z then Ok z else Err Overflow
 abbrev pub is_zero : ℤ → Bool
 is_zero z = unsigned_abs z == 0
 
--- the whole number nearest to n / d: one more than the quotient where half of d or more is left
+-- the whole number nearest to n / d, halves upwards: one more than the quotient where half of d or
+-- more is left
 abbrev pub nearest : ℕ → ℕ → ℕ
 nearest n d = if nat_le d (2 * (n % d)) then n / d + 1 else n / d
 
@@ -48,11 +49,11 @@ remainder_of a b = if is_zero b then Err ZeroDivide else Ok (a -ℤ int_div a b 
 abbrev pub units : ℤ → ℕ
 units a = unsigned_abs a / 1000000
 
--- a whole number from 0 to 2,147,483,647
+-- the value is a whole number from 0 to 2,147,483,647
 abbrev pub has_bits : ℤ → Bool
 has_bits a = (not (is_negative a) && (unsigned_abs a % 1000000 == 0)) && nat_le (units a) 2147483647
 
--- an operation on the bits of two whole numbers
+-- an operation on the bits of two whole numbers; NotWhole if one of the values is none, or Overflow
 abbrev pub on_bits : (ℕ → ℕ → ℕ) → ℤ → ℤ → Result ℤ NumberFault
 on_bits operation a b =
     if has_bits a && has_bits b then checked (pos (operation (units a) (units b) * 1000000)) else Err NotWhole
@@ -86,11 +87,11 @@ root_of a = if is_negative a then Err NegativeRoot else Ok (pos (square_root (un
 abbrev pub rounded : ℤ → Result ℤ NumberFault
 rounded a = checked (nearest_quotient a (pos 1000000) *ℤ pos 1000000)
 
--- the fraction dropped
+-- a value with its fraction dropped, so that it goes towards 0
 abbrev pub dropped : ℤ → ℤ
 dropped a = with_sign (is_negative a) (units a * 1000000)
 
--- the magnitude raised to a whole number
+-- a value with its magnitude raised to a whole number, so that it goes away from 0, or Overflow
 abbrev pub raised : ℤ → Result ℤ NumberFault
 raised a = checked (with_sign (is_negative a) (div_ceil (unsigned_abs a) 1000000 * 1000000))
 

@@ -1,4 +1,5 @@
--- What a block says of an axis: nothing, an absolute length or a way, in 0.001 mm.
+-- What a block says of an axis: nothing, an absolute length or an incremental one, in 0.001 mm.
+-- block_values, motion_track and turn_cycles cite it.
 use Rattle.std.specs.Prelude.{ℕ, ◌≤◌, Bool, true, false, ℤ, unsigned_abs, Option, Some, None}
 use Rattle.nc_number.specs.declared.axis.Axis.{Axis}
 use Rattle.nc_number.specs.declared.axis.Axis.TheVariants.{Keep, To, By}
@@ -15,7 +16,7 @@ is_named Keep = false
 is_named (To programmed) = true
 is_named (By way) = true
 
--- the length of an axis word, if there is one, is no larger than that
+-- the axis has no word, or the size of its number is at most `far`
 abbrev pub IsAxisWithin : ℕ → Axis → Type 0
 IsAxisWithin far Keep = Unit {0}
 IsAxisWithin far (To programmed) = unsigned_abs programmed ≤ far

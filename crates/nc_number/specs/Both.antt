@@ -4,11 +4,11 @@ use Rattle.nc_number.specs.declared.path.Path.{Path}
 use Rattle.nc_number.specs.declared.path.Path.TheVariants.{One, Two}
 use Rattle.nc_number.specs.declared.both.Both.{Both}
 
--- what is that path's
+-- what a path has of the two
 abbrev pub of_path : {A : Type 0} → Both A → Path → A
 of_path both One = both.one
 of_path both Two = both.two
 
--- the same of what is each path's
+-- a function applied to what each path has
 abbrev pub both_of : {A B : Type 0} → (A → B) → Both A → Both B
 both_of f both = record { one = f both.one; two = f both.two }

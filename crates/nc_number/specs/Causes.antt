@@ -1,5 +1,6 @@
--- The table of causes: numbers and printed names of refusals, alarms and faults of the journal.
--- When each is raised stands with the variants in src/cause.rt; docs/ERRORS.md explains them.
+-- The table of causes: numbers and printed names of refusals, alarms and faults of the journal, 1
+-- to 90. Most crates that refuse or raise an alarm cite it; 91 to 95 are in the crates that answer
+-- them. When each is raised stands with the variants in src/cause.rt; docs/ERRORS.md explains them.
 use Rattle.std.specs.Prelude.{ℕ, ◌==◌, List, [], ◌∷◌, Option, find, codes}
 use Rattle.nc_number.specs.declared.cause.Cause.{Cause}
 use Rattle.nc_number.specs.declared.fault.NumberFault.{NumberFault}

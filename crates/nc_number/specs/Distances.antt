@@ -1,4 +1,5 @@
--- Where lengths lie, one beside another. rough_cycle and zone_area cite it.
+-- How far two lengths are apart, and whether a length lies between two others. rough_cycle and
+-- zone_area cite it.
 use Rattle.std.specs.Prelude.{ℕ, ◌⊎◌, ℤ, ◌-ℤ◌, ◌≤ℤ◌, unsigned_abs}
 
 -- how far two lengths are apart

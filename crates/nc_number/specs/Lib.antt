@@ -1,4 +1,5 @@
--- The words of contracts that every crate shares. None is for this crate alone.
+-- The words of contracts for numbers, points, paths, causes and answers. The crates above cite all
+-- but Spelling, which is for this crate's laws.
 pub mod Answers
 pub mod Arithmetic
 pub mod Axes

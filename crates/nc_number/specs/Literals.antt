@@ -10,11 +10,11 @@ use Rattle.nc_number.specs.declared.fault.NumberFault.{NumberFault}
 use Rattle.nc_number.specs.declared.fault.NumberFault.TheVariants.{TooManyDigits}
 use Rattle.nc_number.specs.declared.literal.Literal.{Literal}
 
--- 46 is the point
+-- the byte is a point, which is 46
 abbrev pub is_point : ℕ → Bool
 is_point b = b == 46
 
--- 43 is the plus and 45 the minus
+-- the byte is a plus, which is 43, or a minus, which is 45
 abbrev pub is_sign : ℕ → Bool
 is_sign b = b == 43 || b == 45
 

@@ -1,8 +1,9 @@
 -- Steps that may have no value, one after the other: `do` over options. And numbers that may be
--- missing. For steps that may fail see Results.antt. Crates that read texts cite it.
+-- missing. For steps that may fail see Results.antt. Readers of texts and the crates of the order
+-- of blocks cite it.
 use Rattle.std.specs.Prelude.{ℕ, Bool, false, ◌==◌, min, Option, Some, None, option_and_then}
 
--- the second step goes on with the first one's value, if there is one
+-- the second step goes on with the first one's value; if that is missing, so is that of both
 infixl 10 ◌>>=◌
 abbrev pub ◌>>=◌ : {A B : Type 0} → Option A → (A → Option B) → Option B
 o >>= f = option_and_then f o

@@ -8,7 +8,7 @@ abbrev pub number_of : Path → ℕ
 number_of One = 1
 number_of Two = 2
 
--- the path of that number
+-- the path of a number, if it is 1 or 2
 abbrev pub path_of : ℕ → Option Path
 path_of n = if n == 1 then Some One else (if n == 2 then Some Two else None)
 
@@ -22,7 +22,7 @@ abbrev pub other_of : Path → Path
 other_of One = Two
 other_of Two = One
 
--- both are one path
+-- the two paths given are one and the same
 abbrev pub is_same : Path → Path → Bool
 is_same One One = true
 is_same One Two = false

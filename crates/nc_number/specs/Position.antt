@@ -7,7 +7,7 @@ use Rattle.nc_number.specs.declared.point.Point.{Point}
 abbrev pub travel : ℕ
 travel = 99999999
 
--- no part of the point is farther from 0 than that
+-- neither X nor Z of the point is farther from 0 than `far`
 abbrev pub IsWithin : ℕ → Point → Type 0
 IsWithin far p = (unsigned_abs p.x ≤ far) × (unsigned_abs p.z ≤ far)
 
@@ -15,7 +15,7 @@ IsWithin far p = (unsigned_abs p.x ≤ far) × (unsigned_abs p.z ≤ far)
 abbrev pub IsPosition : Point → Type 0
 IsPosition p = IsWithin travel p
 
--- the test of that
+-- the point may be a position or an offset, as a test
 abbrev pub is_position : Point → Bool
 is_position p = nat_le (unsigned_abs p.x) travel && nat_le (unsigned_abs p.z) travel
 

@@ -5,12 +5,12 @@ use Rattle.std.specs.Fmt.{sign_text}
 use Rattle.std.specs.Int.{is_negative}
 use Rattle.std.specs.List.{list_all}
 
--- the last k digits of n
+-- the last k decimal digits of n, with their leading zeros
 abbrev pub last_digits : ℕ → ℕ → List ℕ
 last_digits zero n = []
 last_digits (suc k) n = last_digits k (n / 10) ++ (48 + n % 10) ∷ []
 
--- 48 is the digit 0
+-- the byte is the digit 0, which is 48
 abbrev pub is_zero_digit : ℕ → Bool
 is_zero_digit d = d == 48
 

@@ -1,4 +1,5 @@
--- Signs of numbers: true is a minus. macro_eval and zone_area cite them too.
+-- Signs of numbers, where true is a minus. The arithmetic and the literals of this crate are made
+-- with them; macro_eval and zone_area cite them too.
 use Rattle.std.specs.Prelude.{ℕ, Bool, true, false, not, if◌then◌else◌, ℤ, pos, neg_ℤ}
 
 -- z, or -z where the sign is a minus

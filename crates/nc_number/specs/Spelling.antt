@@ -1,5 +1,6 @@
 -- The grammar of a literal: a sign or none, digits, and a point with digits or none, with a digit
--- in all. Only the law of src/laws.rt on literals and its proof cite it; readers use Literals.antt.
+-- in all. Only the laws of src/laws.rt on literals and on printing need it; readers use
+-- Literals.antt.
 use Rattle.std.specs.Prelude.{◌≡◌, ℕ, ◌+◌, ◌<◌, Bool, true, false, List, [], ◌∷◌, ◌++◌, length, Option, Some, None, is_some}
 use Rattle.nc_number.specs.Literals.{IsLiteral, all_digits, has_minus, has_point, whole_part, fraction_part}
 
@@ -12,7 +13,7 @@ pub data Sign : Type 0 where
   -- a minus
   Minus : Sign
 
--- 43 is the plus and 45 the minus
+-- the bytes of a sign: 43 is the plus and 45 the minus
 abbrev pub sign_bytes : Sign → List ℕ
 sign_bytes Bare = []
 sign_bytes Plus = 43 ∷ []
@@ -40,7 +41,7 @@ pub record IsWritten (text : List ℕ) (sign : Sign) (whole : List ℕ) (fractio
   pub bytes : text ≡ sign_bytes sign ++ (whole ++ point_bytes fraction)
   -- before the point stand digits alone
   pub whole_digits : all_digits whole ≡ true
-  -- after it too
+  -- after the point stand digits alone
   pub fraction_digits : all_digits (digits_behind fraction) ≡ true
   -- there is a digit in all
   pub some_digit : 0 < length whole + length (digits_behind fraction)
@@ -49,11 +50,11 @@ pub record IsWritten (text : List ℕ) (sign : Sign) (whole : List ℕ) (fractio
 pub record HasParts (text : List ℕ) (sign : Sign) (whole : List ℕ) (fraction : Option (List ℕ)) : Type 0 where
   -- the text is a literal
   pub literal : IsLiteral text
-  -- it has a minus exactly where the spelling has one
+  -- the text has a minus exactly if the spelling has one
   pub minus_is : has_minus text ≡ is_minus sign
-  -- its whole part is that of the spelling
+  -- the whole part of the text is that of the spelling
   pub whole_is : whole_part text ≡ whole
-  -- its fraction is that of the spelling
+  -- the fraction of the text is that of the spelling
   pub fraction_is : fraction_part text ≡ digits_behind fraction
-  -- it has a point exactly where the spelling has one
+  -- the text has a point exactly if the spelling has one
   pub point_is : has_point text ≡ is_some fraction

@@ -1,4 +1,4 @@
-//! Bytes of a text. line_text, run_records and others keep texts so.
+//! Bytes of a text, as a list that is owned. line_text, run_records and others keep texts in it.
 use crate::list_of::ListOf;
 
 /// Bytes of a text, owned. A contract sees the list of them.

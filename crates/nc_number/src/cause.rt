@@ -1,5 +1,6 @@
-//! The table of alarms and refusals: the one place of their numbers and names. Each crate that
-//! raises one takes it from here; what raises it is in that crate.
+//! The table of alarms and refusals 1 to 90: the one place of their numbers and names. Each crate
+//! that raises one takes it from here; what raises it is in that crate. The crates that answer 91
+//! to 95 name these themselves (edit_texts, zone_cell, cycle_form, lathe_top).
 ghost use Rattle.std.specs.Prelude.{◌≡◌, ◌≢◌, Some, IsNone, IfSome, All};
 ghost use Rattle.nc_number.specs.Causes.{cause_number, cause_name, every_cause};
 

@@ -1,5 +1,5 @@
-//! Errors that every crate shares: of numbers, of a device, and of memory. The numbers of alarms
-//! and refusals are in cause.rt.
+//! Errors that every crate shares: of numbers, of a device of the outside (a disk, a file, an
+//! output, a turret), and of memory. The numbers of alarms and refusals are in cause.rt.
 ghost use Rattle.std.specs.Prelude.{◌≡◌};
 ghost use Rattle.nc_number.specs.Causes.{cause_number, cause_of_number_fault};
 
@@ -42,7 +42,7 @@ impl NumberFault {
         }
     }
 
-    /// The number of that alarm or refusal, from 1 to 5.
+    /// The number of the alarm or refusal that the fault is, from 1 to 5.
     pub fn number(self) -> u8
         ensures { result ≡ cause_number (cause_of_number_fault self) }
     {
@@ -104,7 +104,7 @@ impl<E> From<AllocError> for Failing<E> {
 
     ghost from_gives = { λ _ e. e ≡ memory };
 
-    /// The same, where memory was reserved.
+    /// Memory ran out while it was reserved, in a call that has faults of its own.
     fn from(_e: AllocError) -> Self {
         Failing::NoMemory
     }
@@ -116,7 +116,8 @@ impl<E, T: Drop> From<AllocFailed<T>> for Failing<E> {
 
     ghost from_gives = { λ _ e. e ≡ memory };
 
-    /// The same, where a thing was stored; the thing is dropped.
+    /// Memory ran out while a thing was stored, in a call that has faults of its own; the thing is
+    /// dropped.
     fn from(_e: AllocFailed<T>) -> Self {
         Failing::NoMemory
     }

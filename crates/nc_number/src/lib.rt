@@ -3,7 +3,9 @@
 //! contracts.
 //!
 //! A layer above sees a [`Value`] as its whole count of millionths, and each call as an equation on
-//! such counts: rounded to the nearest, halves away from zero, and Overflow exactly past the range.
+//! such counts: sums, differences and remainders exact, products and quotients rounded to the
+//! nearest, halves away from zero, roots cut, and Overflow exactly past the range. Most crates
+//! above use this one.
 #![tactic(auto)]
 
 mod arithmetic;

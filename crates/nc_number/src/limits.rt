@@ -1,4 +1,5 @@
-//! What a run, a tape and a block may have at most: the limits that more than one crate keeps.
+//! What a run, a tape and a block may have at most: the limits that more than one crate or its
+//! specs keep. nc_text, macro_expr, label_list, run_journal, run_table and others do.
 
 /// Records of a run.
 pub const MOST_RECORDS: u32 = 4_000_000;

@@ -1,4 +1,5 @@
-//! Lists whose contracts see just their things. Crates that give lists to others use it.
+//! An owned list whose contract sees nothing but its things in order. Crates that give a list to
+//! the crate above use it: of blocks, words, records and others.
 ghost use Rattle.std.specs.Prelude.{◌≡◌};
 
 use std::marker::Model;

@@ -1,4 +1,5 @@
-//! Numbers that may be missing: the lesser of two, of lines for instance.
+//! Numbers that may be missing, such as lines: the lesser of two. block_order, part_lines and
+//! wait_order use it.
 ghost use Rattle.std.specs.Prelude.{◌≡◌};
 ghost use Rattle.nc_number.specs.Options.{lesser};
 

@@ -1,5 +1,5 @@
-//! The two paths, their numbers and places. Every crate names a path so, and never by a bare
-//! number.
+//! The two paths of the machine, their numbers and their places in lists of two. Every crate names
+//! a path by this type, and never by a bare number.
 ghost use Rattle.std.specs.Prelude.{◌≡◌, ◌<◌};
 ghost use Rattle.nc_number.specs.Path.{number_of, path_of, index_of, other_of};
 
@@ -34,7 +34,7 @@ impl Path {
         }
     }
 
-    /// Its place among the two paths, counted from 0.
+    /// The place of the path among the two, counted from 0.
     pub fn index(self) -> usize
         ensures place { result ≡ index_of self }
         ensures pair { result < 2 }

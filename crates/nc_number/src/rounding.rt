@@ -1,4 +1,5 @@
-//! Rounding of values to whole numbers (ROUND, FIX, FUP) and to increments of 0.001.
+//! Rounding of values to whole numbers (ROUND, FIX, FUP, which macro_eval computes) and to
+//! increments of 0.001 (which block_values computes).
 ghost use Rattle.std.specs.Prelude.{◌≡◌, ◌≢◌, ◌^◌, ◌<◌, ◌≤◌, unsigned_abs};
 ghost use Rattle.nc_number.specs.Arithmetic.{nearest, nearest_quotient, rounded, dropped, raised, increments_of};
 

@@ -1,5 +1,6 @@
-//! The values of the control, and of its variables. What is computed with them is in arithmetic.rt,
-//! rounding.rt and bits.rt.
+//! The numbers of the control as one type, exact to 0.000001, and what a variable holds. Literals,
+//! expressions and variables are such values; arithmetic.rt, rounding.rt and bits.rt compute with
+//! them.
 ghost use Rattle.std.specs.Prelude.{◌≡◌, ◌↔◌, ◌≤◌, ◌*ℤ◌, pos, neg_ℤ, unsigned_abs, IsSome, IfSome, Some};
 ghost use Rattle.nc_number.specs.Arithmetic.{checked, value_of_units, value_of_increments, whole_of};
 ghost use Rattle.nc_number.specs.Range.{InRange};
@@ -32,9 +33,9 @@ impl Model for Value {
 /// What a variable is: vacant, or a value.
 #[derive(Clone, Copy, Debug, PartialEq, Eq)]
 pub enum Var {
-    /// It holds no value.
+    /// The variable holds no value.
     Vacant,
-    /// It holds this value.
+    /// The variable holds this value.
     Is(Value),
 }
 
@@ -88,7 +89,7 @@ impl Value {
         }
     }
 
-    /// Its count of millionths.
+    /// The count of millionths that the value is.
     pub fn micro(&self) -> i64
         ensures count { result ≡ self.now }
         ensures range { InRange result }
@@ -109,7 +110,7 @@ impl Value {
         }
     }
 
-    /// Its count of millionths, as wide as products of two values need.
+    /// The count of millionths that the value is, as wide as products of two values need.
     pub(crate) fn wide(self) -> i128
         ensures count { result ≡ self }
         ensures range { InRange result }
@@ -151,7 +152,7 @@ impl Default for Var {
 impl Var {
     ghost use Rattle.nc_number.specs.Variables.{or_zero};
 
-    /// Its value, where a vacant variable counts as 0.
+    /// The value of the variable, where a vacant one counts as 0.
     pub fn or_zero(&self) -> Value
         ensures { result ≡ or_zero self.now }
     {

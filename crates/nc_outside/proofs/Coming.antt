@@ -1,5 +1,5 @@
--- The count of planned faults as calls go on.
--- `call` (src/plan.rt) rests on it.
+-- The count of planned faults as calls go on: it rises by a call that is to fail, and by no other.
+-- For the proof of `call` (src/plan.rt).
 use Rattle.std.proofs.Common.{◌≡◌, ◌==◌, ◌∙◌, refl, sym, ap, ℕ, ◌+◌, ◌<◌, ◌≤◌, false, cond, List, [], ◌∷◌, get_or, remove, Contains, arith}
 use Rattle.std.specs.List.{list_any, sum_by}
 use Rattle.std.proofs.lemmas.Bool.Decides.{nat_tests}
@@ -7,7 +7,7 @@ use Rattle.std.proofs.lemmas.List.Sums.{sum_by-cons, sum_by-le-sum_by, sum_by-re
 use Rattle.nc_number.proofs.Bools.{neither}
 use Rattle.nc_outside.specs.Plan.{has_come, fault_count}
 
--- one planned fault, counted
+-- the count of one planned fault: 1 if its call has been made, else 0
 abbrev come : ℕ → ℕ → ℕ
 come calls number = cond (has_come calls number) 1 0
 
@@ -15,12 +15,12 @@ come calls number = cond (has_come calls number) 1 0
 come_stays : (m n x : ℕ) → m ≤ n → come m x ≤ come n x
 come_stays m n x h = grind (arith, nat_tests)
 
--- the count never falls
+-- the count of planned faults never falls
 pub fault_count-≤ : (m n : ℕ) (failing : List ℕ) → m ≤ n
     → fault_count (record { failing = failing; calls = m }) ≤ fault_count (record { failing = failing; calls = n })
 fault_count-≤ m n failing h = sum_by-le-sum_by (come m) (come n) failing (λ x. come_stays m n x h)
 
--- it rises if the call that is made is one that was to fail
+-- the count of planned faults rises if the call that is made is one that was to fail
 pub fault_count-< : (n : ℕ) (failing : List ℕ) → Contains failing (n + 1)
     → fault_count (record { failing = failing; calls = n }) < fault_count (record { failing = failing; calls = n + 1 })
 fault_count-< n failing found =
@@ -32,11 +32,11 @@ fault_count-< n failing found =
     let now : come (n + 1) (get_or failing found.0 (n + 1)) ≡ 1 = rw at_place (grind (arith, nat_tests)) in
     omega arith
 
--- one call more brings no fault of another number
+-- the count of one planned fault stays at a call of another number
 come_same : (n x : ℕ) → (x == n + 1) ≡ false → come (n + 1) x ≡ come n x
 come_same n x other = grind (arith, nat_tests)
 
--- it stays if that call is not one that was to fail
+-- the count of planned faults stays if the call that is made is not one that was to fail
 pub fault_count-kept : (n : ℕ) (failing : List ℕ) → list_any (λ planned. planned == n + 1) failing ≡ false
     → fault_count (record { failing = failing; calls = n + 1 }) ≡ fault_count (record { failing = failing; calls = n })
 fault_count-kept n [] none = refl

@@ -1,9 +1,9 @@
--- The count of faults of a turret in memory goes up by a planned fault.
--- `refuses` and `settle` (src/memory_turret.rt) rest on it.
+-- The count of faults of a turret in memory goes up by a planned fault. For the proofs of `refuses`
+-- and `settle` (src/memory_turret.rt).
 use Rattle.std.proofs.Common.{ℕ, ◌+◌, ◌-◌, ◌^◌, ◌<◌, arith, min}
 use Rattle.nc_outside.specs.Faults.{CountsFault}
 
--- planned faults, calls that found no room, and settles that failed
+-- all faults: planned ones, calls that found no room, and settles that failed
 abbrev pub in_all : ℕ → ℕ → ℕ → ℕ
 in_all planned past settles = min (min (planned + past) (2 ^ 64 - 1) + settles) (2 ^ 64 - 1)
 

@@ -10,7 +10,7 @@ use Rattle.nc_outside.specs.declared.halt.Next.{Next}
 use Rattle.nc_outside.specs.declared.halt.Next.TheVariants.{Moves}
 use Rattle.nc_outside.specs.declared.stepper.Call.{Call}
 
--- these calls came besides; who tells nothing goes on telling nothing
+-- a stepper had these calls after those before; one that tells none goes on telling none
 abbrev pub IsCalled : Option (List Call) → Option (List Call) → List Call → Type 0
 IsCalled None after calls = after ≡ None
 IsCalled (Some was) after calls = after ≡ Some (was ++ calls)

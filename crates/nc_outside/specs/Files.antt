@@ -1,5 +1,5 @@
 -- What a shelf holds: files, each a name and its bytes. A shelf may tell them or not.
--- lathe_looks says what a command reads by it.
+-- The trait Shelf says its call by it; lathe_looks and lathe_top say what a command reads.
 use Rattle.std.specs.Prelude.{◌≡◌, ℕ, ◌<◌, List, [], ◌∷◌, ◌++◌, length, ⊤, IsSomeAnd}
 use Rattle.std.specs.Prelude.{Option, Some, None}
 use Rattle.std.specs.Str.{bytes_eq}
@@ -38,7 +38,7 @@ HoldsMore (Some files) name max = IsSomeAnd (file_named name files) (λ bytes. m
 abbrev pub HoldsOn : ShelfState → ShelfState → Type 0
 HoldsOn old new = new.files ≡ old.files
 
--- the shelf was asked for this name besides; who tells nothing goes on telling nothing
+-- a shelf was asked for this name after those before; one that tells none goes on telling none
 abbrev pub IsAsked : Option (List (List ℕ)) → Option (List (List ℕ)) → List ℕ → Type 0
 IsAsked None after name = after ≡ None
 IsAsked (Some was) after name = after ≡ Some (was ++ name ∷ [])

@@ -1,5 +1,5 @@
 -- What contracts see of the forms in memory (src/memory_shelf.rt, vec_sink.rt, memory_turret.rt,
--- list_stepper.rt), which tests use.
+-- list_stepper.rt), and what their calls make of them. For this crate alone; tests use the forms.
 use Rattle.std.specs.Prelude.{ℕ, ◌+◌, ◌-◌, ◌^◌, min, nat_le, Bool, ◌||◌, if◌then◌else◌, List, [], ◌∷◌, ◌++◌, length, map, Some, String, Vec, string_bytes}
 use Rattle.std.specs.Prelude.{slice_index_or}
 use Rattle.nc_outside.specs.declared.halt.Next.{Next}
@@ -18,49 +18,59 @@ files_of held = map (λ file. (string_bytes file.0, file.1.items)) held
 
 -- a shelf in memory: its files, the names that it was asked for, and which of its calls are to fail
 pub record KeptFiles : Type 0 where
+  -- its files, each with its name
   pub files : Files
+  -- the names that it was asked for, in order
   pub asked : List (List ℕ)
+  -- which calls of `fetch` are to fail
   pub plan : PlanView
 
--- what contracts see of such a shelf: it tells all
+-- what contracts see of a shelf in memory: it tells all
 abbrev pub shelf_of : KeptFiles → ShelfState
 shelf_of kept = record { files = Some kept.files; asked = Some kept.asked; faults = fault_count kept.plan }
 
 -- a sink in memory: what was written, and which of its calls are to fail
 pub record KeptBytes : Type 0 where
+  -- what was written
   pub bytes : List ℕ
+  -- which calls of `put` are to fail
   pub plan : PlanView
 
--- what contracts see of such a sink: it tells all
+-- what contracts see of a sink in memory: it tells all
 abbrev pub sink_of : KeptBytes → SinkState
 sink_of kept = record { written = Some kept.bytes; faults = fault_count kept.plan }
 
 -- a turret in memory: what it got, how much of that it has room for, which of its calls are to
 -- fail, how many others found no room, and which of its settles are to fail
 pub record KeptMoves : Type 0 where
+  -- what it got, in order
   pub got : List Got
+  -- how many places and moves it has room for
   pub room : ℕ
+  -- which calls of `place` and `hand` are to fail
   pub plan : PlanView
+  -- how many other calls found no room
   pub past : ℕ
+  -- which calls of `settle` are to fail
   pub settling : PlanView
 
--- what contracts see of such a turret: it tells all. Its faults are those of the plan, the calls
--- without room and the settles, up to the last value of a u64.
+-- what contracts see of a turret in memory: it tells all. Its faults are those of the plan, the
+-- calls without room and the settles, up to the last value of a u64.
 abbrev pub turret_of : KeptMoves → TurretState
 turret_of kept = record {
   received = Some (record { got = kept.got; calls = kept.plan.calls; settles = kept.settling.calls });
   faults = min (min (fault_count kept.plan + kept.past) (2 ^ 64 - 1) + fault_count kept.settling) (2 ^ 64 - 1);
 }
 
--- there is no room for one thing more
+-- a turret in memory has no room for one place or move more
 abbrev pub is_full : KeptMoves → Bool
 is_full kept = nat_le kept.room (length kept.got)
 
--- the next call fails: its number is planned, or it finds no room
+-- the next `place` or `hand` fails: its number is planned, or it finds no room
 abbrev pub refuses_next : KeptMoves → Bool
 refuses_next kept = fails_next kept.plan || is_full kept
 
--- the turret when its next call has been counted
+-- a turret in memory when its next `place` or `hand` has been counted
 abbrev pub when_counted : KeptMoves → KeptMoves
 when_counted kept = record {
   got = kept.got;
@@ -70,20 +80,22 @@ when_counted kept = record {
   settling = kept.settling;
 }
 
--- the turret after the next call, which hands it this
+-- a turret in memory after its next `place` or `hand`, which gives it this
 abbrev pub after_handing : Got → KeptMoves → KeptMoves
 after_handing what kept =
     record (when_counted kept) { got = if refuses_next kept then kept.got else kept.got ++ what ∷ [] }
 
--- the turret when it was to settle once more
+-- a turret in memory when it was to settle once more
 abbrev pub when_settled : KeptMoves → KeptMoves
 when_settled kept = record kept { settling = after_call kept.settling }
 
 -- a stepper over a stated list: the answers that are still to come, and the calls that it had
 pub record KeptCalls : Type 0 where
+  -- the answers that are still to come
   pub coming : List Next
+  -- the calls that it had, in order
   pub calls : List Call
 
--- what its next step answers: after the list, that the path has finished
+-- what the next step of such a stepper answers: after the list, that the path has finished
 abbrev pub next_answer : KeptCalls → Next
 next_answer kept = slice_index_or kept.coming 0 Finished

@@ -1,4 +1,5 @@
--- What callers read: the outside in general, and in Kept and Plan the forms in memory.
+-- The outside: its faults, files, outputs, turrets, steppers and reasons, which the crates above
+-- cite; and in Kept and Plan the forms in memory, for this crate alone.
 pub mod Calls
 pub mod Faults
 pub mod Files

@@ -1,6 +1,5 @@
--- The moves of a block, each with the line of the block.
--- Reports, traces and turrets take moves in this form.
--- 9 other crates take it.
+-- The moves of a block, each with the line of the block: the form in which turrets get moves and
+-- reports and traces list them. path_worker, run_table, turret_run, move_list and others cite it.
 use Rattle.std.specs.Prelude.{ℕ, List, map}
 use Rattle.nc_moves.specs.declared.motion.Move.{Move}
 use Rattle.nc_moves.specs.declared.motion.Moves.{Moves}

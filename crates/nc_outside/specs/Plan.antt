@@ -1,6 +1,5 @@
--- The plan of a form in memory: which of its calls, numbered from 1, are to fail.
--- Kept uses it.
--- For this crate alone.
+-- The plan of a shelf, sink or turret in memory: which of its calls, numbered from 1, are to fail.
+-- For src/plan.rt and the forms in memory of this crate alone.
 use Rattle.std.specs.Prelude.{◌≡◌, ℕ, ◌+◌, ◌^◌, ◌↔◌, Bool, true, ◌==◌, ◌&&◌, nat_lt, nat_le, List, count_by}
 use Rattle.std.specs.List.{list_any}
 use Rattle.nc_outside.specs.Faults.{CountsFault}
@@ -8,7 +7,9 @@ use Rattle.nc_number.specs.Faults.{next}
 
 -- the numbers of the calls that are to fail, and how many calls have been made
 pub record PlanView : Type 0 where
+  -- the numbers of the calls that are to fail
   pub failing : List ℕ
+  -- how many calls have been made
   pub calls : ℕ
 
 -- a plan of which no call has been made
@@ -33,5 +34,7 @@ fault_count plan = count_by (has_come plan.calls) plan.failing
 
 -- A call that goes by a plan fails exactly if the plan says so, and counts that fault.
 pub record FailsAsPlanned (old new : PlanView) (failed : Type 0) : Type 0 where
+  -- the call fails exactly if the plan says so
   pub planned : failed ↔ (fails_next old ≡ true)
+  -- the fault is counted
   pub fault : CountsFault (fault_count old) (fault_count new) failed

@@ -16,13 +16,13 @@ reason_of (halt.Turret path) = reason.TurretFault path
 reason_of halt.Full = reason.Full
 reason_of halt.Budget = reason.Stopped
 
--- an alarm ends a run, and else the ends of both paths do
+-- why the machine ended a run: an alarm, or else the ends of both paths; none if it did not
 abbrev pub end_by : Option Alarm → Bool → Option Reason
 end_by (Some alarm) finished = Some (reason.Alarm alarm)
 end_by None true = Some reason.Done
 end_by None false = None
 
--- the machine ends a run, or else a bound of its records does
+-- why a run ended: its machine ended it, or else a bound of its records; none if neither did
 abbrev pub end_or_bound : Option Reason → Option Halt → Option Reason
 end_or_bound (Some end) bound = Some end
 end_or_bound None (Some bound) = Some (reason_of bound)

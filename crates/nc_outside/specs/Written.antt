@@ -1,6 +1,5 @@
--- What was written to a sink. A sink may tell it or not.
--- Each crate that writes a text says it by this.
--- 8 other crates take it.
+-- What was written to a sink. A sink may tell it or not. The trait Sink says its call by it, and so
+-- does each crate that writes a text: lathe_calls, lathe_looks, lathe_top, move_list and others.
 use Rattle.std.specs.Prelude.{◌≡◌, ℕ, List, Option, is_some}
 use Rattle.std.specs.Io.KnownBytes.{Appends}
 
@@ -13,6 +12,6 @@ pub record SinkState : Type 0 where
 abbrev pub Writes : SinkState → SinkState → List ℕ → Type 0
 Writes old new bytes = Appends old.written new.written bytes
 
--- the sink tells what was written if it told it before, and nowhere else
+-- a sink tells what was written after a call exactly if it told it before
 abbrev pub TellsOn : SinkState → SinkState → Type 0
 TellsOn old new = is_some new.written ≡ is_some old.written

@@ -1,6 +1,5 @@
 //! A list of names that only clauses read: what a shelf in memory was asked for. It has no bytes,
-//! so its two functions are proved by hand (proofs/asked).
-//! For memory_shelf.rt of this crate.
+//! so its two functions are proved by hand (proofs/asked). For memory_shelf.rt of this crate alone.
 ghost use Rattle.std.specs.Prelude.{◌≡◌, ℕ, List, [], ◌∷◌, ◌++◌};
 ghost use Rattle.std.specs.Borrow.{ftrue};
 
@@ -19,7 +18,7 @@ impl Model for Asked {
 }
 
 impl Asked {
-    /// No name.
+    /// The list without a name.
     pub(crate) fn none() -> Asked
         ensures { result.names ≡ [] }
     {

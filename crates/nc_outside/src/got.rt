@@ -1,12 +1,13 @@
-//! What a turret got: its place, or a move. turret_lines writes it as a line.
+//! What a turret got: its place, or a move. The contracts of lines, workers and runs list it;
+//! turret_lines writes it as a line.
 use crate::LinedMove;
 use nc_number::Point;
 
 /// One thing that a turret got.
 #[derive(Clone, Copy, Debug, PartialEq, Eq)]
 pub enum Got {
-    /// It was placed at a point, before its first move.
+    /// The turret was placed at a point, before its first move.
     Placed(Point),
-    /// It got a move, with the line of its block.
+    /// The turret got a move, with the line of its block.
     Moved(LinedMove),
 }

@@ -27,7 +27,8 @@ pub enum Next {
     Silent,
     /// The moves of a block, for the turret.
     Moves(Moves),
-    /// The path comes to a wait, and goes on once the turret has what was answered before.
+    /// The path comes to a wait, and goes on once its turret has made what was answered before and
+    /// stands still.
     Drain,
     /// The path has ended.
     Finished,
@@ -36,7 +37,7 @@ pub enum Next {
 }
 
 impl Next {
-    /// The same answer once more.
+    /// A second value of this answer.
     pub fn copy(&self) -> Next
         ensures { result ≡ self.now }
     {

@@ -1,5 +1,5 @@
-//! A move and where it comes from. Workers and drives hand these on, and reports list them.
-//! 8 other crates use it.
+//! A move and the line that it comes from. path_worker and drive_line hand these on, turrets get
+//! them, and reports and traces list them.
 use nc_moves::Move;
 
 /// A move, and the line of its block in the tape.

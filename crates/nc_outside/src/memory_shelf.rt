@@ -97,8 +97,9 @@ impl Shelf for MemoryShelf {
         self.plan.faults()
     }
 
-    /// Fails as planned. `Absent` if there is no such file, `TooLong` if it has more than `max`
-    /// bytes, `NoMemory` if there is no memory for its bytes.
+    /// Appends the bytes of the file of that name. It fails as planned; else `Absent` if there is
+    /// no such file, `TooLong` if it has more than `max` bytes, `NoMemory` if there is no memory
+    /// for its bytes.
     fn fetch(&mut self, name: &str, into: &mut Vec<u8>, max: usize) -> Result<(), FetchFault>
         ensures plan { FailsAsPlanned self.old.plan self.new.plan (IsErrOf result FetchFault.Failed) }
         ensures new { self.new ≡ record self.old {

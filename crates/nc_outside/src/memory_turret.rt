@@ -15,13 +15,13 @@ use std::marker::Model;
 /// settles that are to fail. A call that finds no room fails too. Its calls take no memory.
 #[derive(Drop)]
 pub struct MemoryTurret {
-    /// What it got, in order.
+    /// What the turret got, in order.
     got: Vec<Got>,
     /// How many places and moves it has room for.
     room: usize,
     /// Which calls of `place` and `hand` are to fail.
     plan: Plan,
-    /// How many other calls found no room.
+    /// How many calls, besides those that the plan failed, found no room.
     past: u64,
     /// Which calls of `settle` are to fail.
     settling: Plan,
@@ -60,8 +60,9 @@ impl MemoryTurret {
         MemoryTurret::with_plans(alloc, room, failing, &[])
     }
 
-    /// The same, of which the `unsettled` calls of `settle` are to fail besides, counted from 1 by
-    /// themselves.
+    /// A turret that got nothing yet, with room for so many places and moves. The `failing` calls
+    /// of `place` and `hand` together are to fail, and the `unsettled` calls of `settle`, each
+    /// counted from 1.
     pub fn with_plans(
         alloc: Global,
         room: usize,
@@ -143,7 +144,7 @@ impl Turret for MemoryTurret {
             .saturating_add(self.settling.faults())
     }
 
-    /// Fails as planned, or without room.
+    /// Keeps the place. It fails as planned, or without room.
     fn place(&mut self, at: Point) -> Result<(), Failed>
         ensures fails { is_err result ≡ refuses_next self.old }
         ensures new { self.new ≡ after_handing (Got.Placed at) self.old }
@@ -154,7 +155,7 @@ impl Turret for MemoryTurret {
         self.receive(Got::Placed(at))
     }
 
-    /// Fails as planned, or without room.
+    /// Keeps the move. It fails as planned, or without room.
     fn hand(&mut self, what: &LinedMove) -> Result<(), Failed>
         ensures fails { is_err result ≡ refuses_next self.old }
         ensures new { self.new ≡ after_handing (Got.Moved what.now) self.old }
@@ -165,7 +166,7 @@ impl Turret for MemoryTurret {
         self.receive(Got::Moved(*what))
     }
 
-    /// Fails as the second plan says.
+    /// Counts a settle. It fails as the second plan says.
     #[tactic(auto, unfolding(crate::specs::Received::counted_on))]
     fn settle(&mut self) -> Result<(), Failed>
         ensures fails { is_err result ≡ fails_next self.old.settling }

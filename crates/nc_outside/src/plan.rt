@@ -1,5 +1,5 @@
-//! The plan of a form in memory: which of its calls are to fail. Each form of this crate has one.
-//! For memory_shelf.rt, memory_turret.rt and vec_sink.rt of this crate.
+//! The plan of a shelf, sink or turret in memory: which of its calls are to fail, so that tests
+//! meet each fault. For memory_shelf.rt, memory_turret.rt and vec_sink.rt of this crate.
 ghost use Rattle.std.specs.Prelude.{◌≡◌, ◌==◌, ◌<◌, ◌≤◌, ◌↔◌, false, IfOk, IsTrue, Contains};
 ghost use Rattle.std.specs.List.{list_any};
 ghost use Rattle.nc_outside.specs.Plan.{after_call, fails_next, fault_count, fresh_plan};

@@ -1,5 +1,5 @@
-//! Why a run ended, and which of several causes is told. The statuses of the reasons are in
-//! lathe_calls.
+//! Why a run ended, and which of several causes is told. run_table and turret_run end a run by it;
+//! the statuses of the reasons are in lathe_calls, their texts in move_list.
 ghost use Rattle.std.specs.Prelude.{◌≡◌};
 ghost use Rattle.nc_outside.specs.Reasons.{end_or_bound, first_cause, reason_of};
 
@@ -16,7 +16,7 @@ pub enum Reason {
     Done,
     /// A path raised an alarm, which stopped both.
     Alarm(Alarm),
-    /// It made as many records as it was allowed.
+    /// The call made as many records as it was allowed.
     Stopped,
     /// The journal has as many records as it may have.
     Full,
@@ -40,7 +40,8 @@ impl Reason {
         }
     }
 
-    /// The reason of a run that its machine ended, or else a bound.
+    /// The reason of a run that its machine ended, or else a bound of its records; none if neither
+    /// did.
     pub fn of_end(end: Option<Reason>, bound: Option<Halt>) -> Option<Reason>
         ensures { result ≡ end_or_bound end bound }
     {

@@ -1,5 +1,5 @@
 //! Where tapes and other texts come from: the trait of named files.
-//! lathe_looks, lathe_top and real_outside use it.
+//! lathe_looks and lathe_top read by it; real_outside has that of real files.
 ghost use Rattle.std.specs.Prelude.{◌≡◌, ℕ, ◌≤◌, List, ◌++◌, length, OnOk, OnErr, IsErrOf};
 ghost use Rattle.nc_outside.specs.declared.shelf.FetchFault.TheVariants.{NoMemory};
 ghost use Rattle.nc_outside.specs.Faults.{CountsFault};
@@ -36,7 +36,8 @@ impl From<AllocError> for FetchFault {
 
 /// Named files, to be read whole.
 pub trait Shelf {
-    /// What it holds and what it was asked for, if it tells that, and how often it has failed.
+    /// What the shelf holds and what it was asked for, if it tells that, and how often it has
+    /// failed.
     ghost state: { Self → ShelfState };
 
     /// How often the shelf has failed.

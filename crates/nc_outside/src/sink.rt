@@ -1,5 +1,5 @@
-//! Where reports go: the trait of an output.
-//! 10 other crates use it.
+//! Where reports go: the trait of an output. Every crate that writes a text writes it to a sink;
+//! real_outside has that of standard output.
 ghost use Rattle.std.specs.Prelude.{◌≡◌, ℕ, take, OnOk, OnErr, IsErrOf};
 ghost use Rattle.nc_outside.specs.declared.sink.PutFault.TheVariants.{NoMemory};
 ghost use Rattle.nc_outside.specs.Faults.{CountsFault};
@@ -30,7 +30,7 @@ impl From<AllocError> for PutFault {
 
 /// Takes bytes, in order.
 pub trait Sink {
-    /// What was written, if it tells that, and how often it has failed.
+    /// What was written, if the sink tells that, and how often it has failed.
     ghost state: { Self → SinkState };
 
     /// How often the sink has failed.

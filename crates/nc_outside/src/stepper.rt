@@ -1,5 +1,5 @@
-//! What stands between the worker of a path and the table that both paths share. path_worker calls
-//! it, seat_table is it.
+//! What stands between the worker of a path and the table that both paths share: a stepper.
+//! path_worker calls it; seat_table has the one of a run, list_stepper.rt one for tests.
 ghost use Rattle.std.specs.Prelude.{◌≡◌, [], ◌∷◌, List, Option};
 
 use crate::{Drain, Halt, Next};
@@ -28,7 +28,7 @@ pub trait Stepper {
     /// The calls that it had, each step with what it answered, if it tells that.
     ghost calls: { Self → Option (List Call) };
 
-    /// Where it comes from, which no call changes.
+    /// The table and the path that the stepper belongs to, which no call changes.
     ghost origin: { Self → Self.Origin };
 
     /// Makes the path's next step.
@@ -36,7 +36,7 @@ pub trait Stepper {
         ensures calls { IsCalled (calls self.old) (calls self.new) (Call.Step path result ∷ []) }
         ensures origin { origin self.new ≡ origin self.old };
 
-    /// Halts the run since a turret failed.
+    /// Halts the run because a turret failed.
     fn halt(&mut self, why: Halt)
         requires { IsOfTurret why }
         ensures calls { IsCalled (calls self.old) (calls self.new) (Call.Halt why ∷ []) }

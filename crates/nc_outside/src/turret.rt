@@ -1,5 +1,5 @@
-//! What makes the moves of a path: the trait of a turret. A machine builder writes one, see the
-//! crate `own_turret`.
+//! What makes the moves of a path: the trait of a turret. drive_line and turret_run call it, and
+//! turret_lines is one; a machine builder writes their own, see the crate `own_turret`.
 ghost use Rattle.std.specs.Prelude.{◌≡◌, [], ◌∷◌, IsErr, OnOk, OnErr};
 ghost use Rattle.nc_outside.specs.Faults.{CountsFault};
 
@@ -13,8 +13,8 @@ use nc_number::{Failed, Point};
 pub trait Turret: Drop {
     ghost use Rattle.nc_outside.specs.Received.{TurretState, Receives, Settles};
 
-    /// What it got, how many calls it has had and how often it was to settle, if it tells that,
-    /// and how often it has failed.
+    /// What the turret got, how many calls it has had and how often it was to settle, if it tells
+    /// that, and how often it has failed.
     ghost state: { Self → TurretState };
 
     /// How often the turret has failed.

@@ -1,5 +1,5 @@
--- Offsets that are set, and a point that may be one.
--- block_values, named_vars and three more crates take words from here.
+-- An offset that is read or set, and what the words of G10 make of it. block_values, path_state,
+-- two_path, named_vars and zone_check cite it.
 use Rattle.std.specs.Prelude.{if◌then◌else◌, slice_set, ℤ, ◌+ℤ◌, Option, Some, None, Result, Ok, Err}
 use Rattle.nc_number.specs.declared.point.Point.{Point}
 use Rattle.nc_number.specs.Position.{is_position}
@@ -18,7 +18,7 @@ point_at o (Work n) = offset_at o.work n
 point_at o (Geometry n) = offset_at o.geometry n
 point_at o (Wear n) = offset_at o.wear n
 
--- the offsets with this one set
+-- the offsets after the one of a slot was set to a point
 abbrev pub with_point : OffsetTable → Slot → Point → OffsetTable
 with_point o (Work n) to = record o { work = slice_set o.work n to }
 with_point o (Geometry n) to = record o { geometry = slice_set o.geometry n to }
@@ -34,10 +34,10 @@ changed_part now (By length) = now +ℤ length
 abbrev pub changed_point : Point → Axis → Axis → Point
 changed_point now x z = record { x = changed_part now.x x; z = changed_part now.z z }
 
--- alarm 41 of a point past the range
+-- alarm 41 (PositionRange) of a point past the range, else none
 abbrev pub position_fault : Point → Option OffsetFault
 position_fault to = if is_position to then None else Some (fault PositionRange)
 
--- the point, or that alarm
+-- the point, or alarm 41 if it is past the range
 abbrev pub in_range : Point → Result Point OffsetFault
 in_range to = if is_position to then Ok to else Err (fault PositionRange)

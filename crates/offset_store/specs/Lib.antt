@@ -1,4 +1,5 @@
--- The words of the contracts of offset_store.
+-- The offsets of a path (Table, Lists), their numbers and slots, how they are set (Changes) and
+-- what their shift is (Offsets). block_values, path_state, run_records and two_path cite these.
 pub mod Offsets
 pub mod Slots
 pub mod Changes

@@ -1,5 +1,5 @@
--- The shift of the offsets in force, and an offset that G10 sets.
--- block_values, nc_restart and path_state take words from here.
+-- The shift of the offsets in force, the offsets at the start, and an offset that is set by its
+-- number. block_values, path_state and nc_restart cite it.
 use Rattle.std.specs.Prelude.{ℕ, ◌==◌, if◌then◌else◌, replicate, Option, Some, ℤ, ◌+ℤ◌}
 use Rattle.std.specs.Option.{option_map_or}
 use Rattle.nc_number.specs.declared.point.Point.{Point}
@@ -20,16 +20,17 @@ no_offsets = record { work = replicate 7 origin; geometry = replicate 65 origin;
 abbrev pub plus : Point → Point → Point
 plus a b = record { x = a.x +ℤ b.x; z = a.z +ℤ b.z }
 
--- the work offset in force beside the external one
+-- the work offset in force beside the external one; for 0 there is none, and it is the origin
 abbrev pub work_in_force : OffsetTable → ℕ → Point
 work_in_force o work = if work == 0 then origin else offset_at o.work work
 
--- the external and the work offset, and the geometry and wear of the tool offset
+-- the shift: the sum of the external offset, the work offset in force, and the geometry and wear of
+-- the tool offset in force
 abbrev pub shift_of : OffsetTable → ℕ → ℕ → Point
 shift_of o work offset =
     plus (plus (offset_at o.work 0) (work_in_force o work)) (plus (offset_at o.geometry offset) (offset_at o.wear offset))
 
--- how far from 0 a shift may be, in 0.001 mm: four offsets
+-- how far from 0 a shift may be, in 0.001 mm: four times an offset
 abbrev pub shift_travel : ℕ
 shift_travel = 399999996
 

@@ -1,5 +1,4 @@
--- Which offset a number names.
--- block_values takes `slot_named` and two_path `slot_named` and `slot_of`.
+-- Which offset G10 names by its P. block_values and two_path cite it; src/slot.rt answers it.
 use Rattle.std.specs.Prelude.{◌-◌, if◌then◌else◌, Option, Some, None, Result, ok_or, ℤ, unsigned_abs}
 use Rattle.offset_store.specs.declared.fault.OffsetFault.{OffsetFault}
 use Rattle.std.specs.Option.{option_map}
@@ -29,6 +28,6 @@ slot_of WorkOffset (Some n) = work_slot n
 slot_of ToolOffset (Some n) = tool_slot n
 slot_of other None = None
 
--- that offset, or alarm 40
+-- the offset that G10 names by its P, or alarm 40 (OffsetNumber)
 abbrev pub slot_named : OffsetForm → Option ℤ → Result Slot OffsetFault
 slot_named form p = ok_or (slot_of form p) (fault OffsetNumber)

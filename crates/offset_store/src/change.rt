@@ -1,5 +1,5 @@
-//! An offset with a block's words read: X and Z set, U and W add.
-//! For this crate alone.
+//! An offset with a block's words read: X and Z set, U and W add. For offsets.rt of this crate
+//! alone (`Offsets::changed`).
 ghost use Rattle.std.specs.Prelude.{◌≡◌, ◌≤◌, if◌then◌else◌, nat_le, unsigned_abs, Some, None, IfOk};
 ghost use Rattle.nc_number.specs.Position.{IsPosition, travel};
 ghost use Rattle.offset_store.specs.Changes.{changed_part, changed_point, in_range};
@@ -20,7 +20,7 @@ pub(crate) fn changed_point(now: &Point, x: Axis, z: Axis) -> Result<Point, Offs
     }
 }
 
-/// A part of an offset with its word read, where it is then no farther from 0 than 99,999.999 mm.
+/// A part of an offset with its word read, if it is then no farther from 0 than 99,999.999 mm.
 fn changed_part(now: i64, word: Axis) -> Option<i64>
     requires { unsigned_abs now ≤ travel }
     ensures { result ≡ (if nat_le (unsigned_abs (changed_part now word)) travel

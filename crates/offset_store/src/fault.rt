@@ -1,5 +1,5 @@
-//! Why an offset was not set.
-//! block_values, named_vars and four more crates, and tests, use it.
+//! Why an offset was not set: alarm 40 or 41. block_values raises it as an alarm of the path;
+//! path_state, named_vars and run_table cite it.
 ghost use Rattle.std.specs.Prelude.{◌≡◌};
 
 use nc_number::Cause;

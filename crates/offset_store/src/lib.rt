@@ -5,7 +5,7 @@
 //! moves nothing by itself. The layer above leans on `Offsets::shift`, which is exactly that sum,
 //! and on a decision in three parts: `Slot::named` says which offset G10 names, `Offsets::changed`
 //! what its words make of it, each with its alarm exactly where it must come, and `Offsets::put`
-//! can't fail.
+//! can't fail. path_state keeps the offsets of its path, block_values reads them.
 #![tactic(auto)]
 
 mod change;

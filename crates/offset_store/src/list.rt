@@ -1,5 +1,5 @@
 //! Offsets by their numbers, each a position. Which number means what is in number.rt and slot.rt.
-//! For this crate alone.
+//! For offsets.rt of this crate alone.
 ghost use Rattle.std.specs.Prelude.{◌≡◌, ◌<◌, replicate, slice_set};
 ghost use Rattle.nc_number.specs.Position.{IsPosition, origin};
 ghost use Rattle.offset_store.specs.Lists.{offset_at};
@@ -7,12 +7,13 @@ ghost use Rattle.offset_store.specs.Lists.{offset_at};
 use nc_number::Point;
 use std::marker::Model;
 
-/// No offset at all.
+/// The point at 0, which is no offset at all.
 pub(crate) const ORIGIN: Point = Point { x: 0, z: 0 };
 
 /// Offsets, each at the place of its number, from 0 on. Each may be a position.
 #[derive(Debug, Drop)]
 pub(crate) struct OffsetList<const N: usize> {
+    /// The offset of each number, in 0.001 mm.
     points: [Point; N],
 }
 
@@ -30,7 +31,7 @@ impl<const N: usize> Model for OffsetList<N> {
 }
 
 impl<const N: usize> OffsetList<N> {
-    /// Every offset 0.
+    /// A list in which every offset is 0.
     pub(crate) fn new() -> Self
         ensures { result ≡ replicate N origin }
     {

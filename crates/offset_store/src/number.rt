@@ -1,5 +1,5 @@
-//! The numbers of offsets, as types: 0 to 6 for work offsets, 1 to 64 for a tool's.
-//! cell_settings, path_state and run_records use it.
+//! The numbers of offsets, as types: 0 to 6 for work offsets, 1 to 64 for a tool's. A slot
+//! (slot.rt) has one; cell_settings, path_state and run_records make slots of them.
 ghost use Rattle.std.specs.Prelude.{◌≡◌, ◌≤◌};
 ghost use Rattle.nc_number.specs.declared.point.TheConstants.{TOOL_OFFSETS};
 ghost use Rattle.offset_store.specs.declared.number.TheConstants.{LAST_WORK};
@@ -13,6 +13,7 @@ pub const LAST_WORK: u8 = 6;
 /// The number of a work offset: 0 is the external one, 1 to 6 are those of G54 to G59.
 #[derive(Clone, Copy, Debug, PartialEq, Eq)]
 pub struct WorkNumber {
+    /// The number: 0 to 6.
     number: u8,
 }
 
@@ -32,6 +33,7 @@ impl Model for WorkNumber {
 /// The number of a tool offset, from 1 to 64.
 #[derive(Clone, Copy, Debug, PartialEq, Eq)]
 pub struct ToolNumber {
+    /// The number: 1 to 64.
     number: u8,
 }
 
@@ -51,7 +53,7 @@ impl Model for ToolNumber {
 impl WorkNumber {
     ghost use Rattle.offset_store.specs.Numbers.{work_number};
 
-    /// A number from 0 to 6.
+    /// The work offset of this number, which must be from 0 to 6.
     pub fn new(n: u8) -> Self
         requires { n ≤ LAST_WORK }
         ensures { result ≡ n }
@@ -59,7 +61,7 @@ impl WorkNumber {
         WorkNumber { number: n }
     }
 
-    /// The work offset of this number: none exactly where it is none of 0 to 6.
+    /// The work offset of this number: none exactly if it is none of 0 to 6.
     pub fn of(n: i64) -> Option<Self>
         ensures { result ≡ work_number n }
     {
@@ -70,7 +72,7 @@ impl WorkNumber {
         }
     }
 
-    /// From 0 to 6.
+    /// The number, from 0 to 6.
     pub fn get(&self) -> u8
         ensures number { result ≡ self.now }
         ensures range { result ≤ LAST_WORK }
@@ -82,7 +84,7 @@ impl WorkNumber {
 impl ToolNumber {
     ghost use Rattle.offset_store.specs.Numbers.{tool_number};
 
-    /// A number from 1 to 64.
+    /// The tool offset of this number, which must be from 1 to 64.
     pub fn new(n: u8) -> Self
         requires least { 1 ≤ n }
         requires most { n ≤ TOOL_OFFSETS }
@@ -91,7 +93,7 @@ impl ToolNumber {
         ToolNumber { number: n }
     }
 
-    /// The tool offset of this number: none exactly where it is none of 1 to 64.
+    /// The tool offset of this number: none exactly if it is none of 1 to 64.
     pub fn of(n: i64) -> Option<Self>
         ensures { result ≡ tool_number n }
     {
@@ -102,7 +104,7 @@ impl ToolNumber {
         }
     }
 
-    /// From 1 to 64.
+    /// The number, from 1 to 64.
     pub fn get(&self) -> u8
         ensures number { result ≡ self.now }
         ensures range { (1 ≤ result) × (result ≤ TOOL_OFFSETS) }

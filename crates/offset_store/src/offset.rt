@@ -1,5 +1,5 @@
-//! A point that may be an offset, as a type: neither axis is past the travel.
-//! edit_texts and run_records use it.
+//! A point that may be an offset, as a type: neither axis is past the travel. An operator's edit of
+//! an offset (run_records, edit_texts) has one.
 ghost use Rattle.std.specs.Prelude.{◌≡◌};
 ghost use Rattle.nc_number.specs.Position.{IsPosition};
 
@@ -9,6 +9,7 @@ use std::marker::Model;
 /// A point that may be an offset: no part of it is farther from 0 than 99,999.999 mm.
 #[derive(Clone, Copy, Debug, PartialEq, Eq)]
 pub struct Offset {
+    /// The point, in 0.001 mm.
     to: Point,
 }
 
@@ -29,7 +30,7 @@ impl Model for Offset {
 impl Offset {
     ghost use Rattle.offset_store.specs.Table.{offset_of};
 
-    /// A point that may be an offset.
+    /// The offset to this point, no part of which may be past 99,999.999 mm.
     pub fn new(to: Point) -> Self
         requires { IsPosition to }
         ensures { result ≡ to }
@@ -37,7 +38,7 @@ impl Offset {
         Offset { to }
     }
 
-    /// The offset to this point: none exactly where a part of it is past 99,999.999 mm.
+    /// The offset to this point: none exactly if a part of it is past 99,999.999 mm.
     pub fn of(to: Point) -> Option<Self>
         ensures { result ≡ offset_of to }
     {
@@ -48,7 +49,7 @@ impl Offset {
         }
     }
 
-    /// No part of it is past 99,999.999 mm.
+    /// The point, no part of which is past 99,999.999 mm.
     pub fn get(&self) -> Point
         ensures point { result ≡ self.now }
         ensures position { IsPosition result }

@@ -1,5 +1,5 @@
-//! All offsets of a path, their shift, and an offset that is changed or put.
-//! block_values, path_state and tests use it.
+//! All offsets of a path, their shift, and an offset that is changed or put. path_state keeps them
+//! for its path, block_values reads them, and G10 and an operator's edits set them.
 ghost use Rattle.std.specs.Prelude.{◌≡◌, ◌≤◌, ◌+ℤ◌, unsigned_abs, IfOk, OnOk, OnErr};
 ghost use Rattle.std.specs.Result.{result_err};
 ghost use Rattle.nc_number.specs.Position.{IsPosition, IsWithin, origin};
@@ -21,8 +21,11 @@ use std::marker::Model;
 /// offsets is no offset, and stays 0.
 #[derive(Debug, Drop)]
 pub struct Offsets {
+    /// The work offsets, 0 to 6.
     work: OffsetList<7>,
+    /// The geometry of the tool offsets, 0 to 64.
     geometry: OffsetList<65>,
+    /// The wear of the tool offsets, 0 to 64.
     wear: OffsetList<65>,
 }
 
@@ -38,7 +41,7 @@ impl Model for Offsets {
 }
 
 impl Offsets {
-    /// Every offset 0.
+    /// The offsets of a path, every one of them 0.
     pub fn new() -> Self
         ensures { result ≡ no_offsets }
     {
@@ -78,8 +81,8 @@ impl Offsets {
         self.wear.at(n)
     }
 
-    /// How far programmed coordinates lie behind machine coordinates where this work offset (1 to
-    /// 6, or 0 for the external one alone) and this tool offset (1 to 64, or 0 for none) are in
+    /// What is added to programmed coordinates to get machine coordinates while this work offset (1
+    /// to 6, or 0 for the external one alone) and this tool offset (1 to 64, or 0 for none) are in
     /// force.
     pub fn shift(&self, work: u8, offset: u8) -> Point
         requires work { work ≤ LAST_WORK }
@@ -97,7 +100,7 @@ impl Offsets {
         }
     }
 
-    /// The work offset beside the external one.
+    /// The work offset in force beside the external one; for 0 there is none, and it is 0.
     fn work_in_force(&self, work: u8) -> Point
         requires { work ≤ LAST_WORK }
         ensures offset { result ≡ work_in_force self.now work }
@@ -160,7 +163,8 @@ impl Offsets {
         self.set(OffsetForm::ToolOffset, p, to)
     }
 
-    /// Sets the offset that G10 names by this number.
+    /// Sets the offset that G10 names by this number: alarm 40 if there is none, else 41 if a part
+    /// of the point is past the range.
     fn set(&mut self, form: OffsetForm, n: i64, to: Point) -> Result<(), OffsetFault>
         ensures fault { result_err result ≡ set_fault form n to }
         ensures set { OnOk result (self.new ≡ with_set self.old form n to) }

@@ -1,5 +1,5 @@
-//! Where an offset stands, and which one G10 names by its number.
-//! block_values, cell_settings and six more crates, and tests, use it.
+//! Which offset of a path is meant, as a type, and which one G10 names by its number. block_values,
+//! cell_settings, path_state and run_records name offsets by it.
 ghost use Rattle.std.specs.Prelude.{◌≡◌};
 ghost use Rattle.offset_store.specs.Slots.{work_slot, tool_slot};
 
@@ -7,7 +7,7 @@ use crate::fault::OffsetFault;
 use crate::number::{ToolNumber, WorkNumber};
 use nc_number::Cause;
 
-/// What is added to the number of a geometry offset where a tape sets it.
+/// What is added to the number of a geometry offset when a tape sets it.
 const GEOMETRY: i64 = 10_000;
 
 /// One of the offsets of a path.
@@ -48,14 +48,14 @@ impl Slot {
     }
 }
 
-/// The work offset of a number.
+/// The work offset of a number, if it is one of 0 to 6.
 fn work_slot(n: i64) -> Option<Slot>
     ensures { result ≡ work_slot n }
 {
     WorkNumber::of(n).map(|number| Slot::Work(number))
 }
 
-/// The tool offset of a number.
+/// The tool offset of a number, if it is one of 1 to 64 (wear) or of 10,001 to 10,064 (geometry).
 fn tool_slot(n: i64) -> Option<Slot>
     ensures { result ≡ tool_slot n }
 {

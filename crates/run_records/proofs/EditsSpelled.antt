@@ -1,5 +1,5 @@
 -- An edit has one spelling: its numbers are read again from their bytes, and the edit from its
--- numbers.
+-- numbers. For OneSpelling, Read and the proof of `take_numbers` (src/reading.rt).
 use Rattle.std.proofs.Common.{◌≡◌, ℕ, ℤ, pos, ◌^◌, ◌≤◌, ◌<◌, List, [], ◌∷◌, ◌++◌, length, take, drop, get_or, refl, sym, ◌∙◌, ap, subst, arith, true, false, Bool, Some, None, Option, suc, rules, append_assoc, length-drop, take-append-drop}
 use Rattle.std.specs.Prelude.{◌==◌, FitsSigned, if◌then◌else◌}
 use Rattle.std.specs.Option.{option_map}
@@ -34,29 +34,32 @@ use Rattle.run_records.proofs.Stamps.{fits_front, fits_back}
 
 -- the numbers fit the bytes that a record has for them
 pub record AreSpelled (numbers : EditNumbers) : Type 0 where
+  -- the number of the offset or the variable fits two bytes
   pub number : numbers.number < 2 ^ 16
+  -- the third number fits eight bytes
   pub a : FitsSigned w64 numbers.a
+  -- the fourth number fits eight bytes
   pub b : FitsSigned w64 numbers.b
 
--- a number of two bytes is read again, whatever follows it,
+-- a number of two bytes is read again, whatever follows it
 number_again : (n : ℕ) (rest : List ℕ) → n < 2 ^ 16 → big_number 2 (big_bytes 2 n ++ rest) ≡ n
 number_again n rest fits =
     let same : big_number 2 (big_bytes 2 n ++ rest) ≡ from_be_bytes w16 (to_be_bytes w16 n) = omega arith in
     same ∙ from_be_bytes-to_be_bytes_2 n fits
 
--- one of eight bytes too,
+-- a number of eight bytes is read again, whatever follows it
 long_again : (n : ℕ) (rest : List ℕ) → n < 2 ^ 64 → big_number 8 (big_bytes 8 n ++ rest) ≡ n
 long_again n rest fits =
     let same : big_number 8 (big_bytes 8 n ++ rest) ≡ from_be_bytes w64 (to_be_bytes w64 n) = omega arith in
     same ∙ from_be_bytes-to_be_bytes_8 n fits
 
--- and a signed one of eight bytes
+-- a signed number of eight bytes is read again, whatever follows it
 signed_again : (z : ℤ) (rest : List ℕ) → FitsSigned w64 z → cast_signed w64 (big_number 8 (big_bytes 8 (cast_unsigned w64 z) ++ rest)) ≡ z
 signed_again z rest fits =
     let small : cast_unsigned w64 z < 2 ^ 64 = search rules in
     ap (cast_signed w64) (long_again (cast_unsigned w64 z) rest small) ∙ to_z-of_z w64 z fits
 
--- the numbers are read again from their bytes, whatever follows them
+-- the numbers of an edit are read again from their bytes, whatever follows them
 pub numbers_again : (numbers : EditNumbers) (rest : List ℕ) → AreSpelled numbers → numbers_in (numbers_bytes numbers ++ rest) ≡ numbers
 numbers_again numbers rest are =
     let number = number_again numbers.number (big_bytes 8 (cast_unsigned w64 numbers.a) ++ big_bytes 8 (cast_unsigned w64 numbers.b) ++ rest) are.number in
@@ -72,19 +75,19 @@ are_spelled (Offset (Wear n) to) is = record { number = omega (arith, is.0.1); a
 are_spelled (Common v Vacant) is = let common = is.0 in record { number = omega arith; a = fits_signed_from_abs w64 (pos 0) (omega arith); b = fits_signed_from_abs w64 (pos 0) (omega arith) }
 are_spelled (Common v (Is value)) is = let common = is.0 in record { number = omega arith; a = fits_signed_from_abs w64 (pos 1) (omega arith); b = fits_signed_from_abs w64 value (omega (arith, is.1)) }
 
--- a number from the low one to the high one tests as such,
+-- a number from low to high passes the test of that
 is_between_true : (low high n : ℕ) → low ≤ n → n ≤ high → is_between low high (pos n) ≡ true
 is_between_true low high n least most = grind (arith, nat_tests)
 
--- so does a position that is in its range,
+-- a position passes the test of a position
 is_position_true : (to : Point) → IsPosition to → is_position to ≡ true
 is_position_true to is = let x = is.0 in let z = is.1 in grind (arith, nat_tests)
 
--- the number of a common variable,
+-- the number of a common variable passes the test of one
 is_common_true : (v : ℕ) → IsCommon v → is_common v ≡ true
 is_common_true v is = grind (arith, nat_tests)
 
--- and a value
+-- a value in range passes the test of the range
 is_in_range_true : (value : ℤ) → InRange value → is_in_range value ≡ true
 is_in_range_true value is = grind (arith, nat_tests)
 
@@ -105,7 +108,7 @@ edit_again (Offset (Wear n) to) is =
 edit_again (Common v Vacant) is = rw (is_common_true v is.0) refl
 edit_again (Common v (Is value)) is = rw (is_common_true v is.0, is_in_range_true value is.1) refl
 
--- two edits whose bytes begin one list are the same, and so is what follows them
+-- two edits whose bytes begin one list are the same, and what follows them is the same
 pub one_edit : (edit other : Edit) (rest more : List ℕ) → IsEdit edit → IsEdit other → numbers_bytes (numbers_of edit) ++ rest ≡ numbers_bytes (numbers_of other) ++ more → (edit ≡ other) × (rest ≡ more)
 one_edit edit other rest more is also same =
     let numbers : numbers_of edit ≡ numbers_of other =
@@ -115,19 +118,19 @@ one_edit edit other rest more is also same =
 
 -- ---- and back: what is read spells the same bytes
 
--- what tests as from the low one to the high one is so,
+-- a number that passes the test of lying from low to high does
 is_between_back : (low high n : ℕ) → is_between low high (pos n) ≡ true → (low ≤ n) × (n ≤ high)
 is_between_back low high n test = grind (arith, nat_tests)
 
--- what tests as the number of a common variable is one,
+-- a number that passes the test of a common variable's number is one
 is_common_back : (v : ℕ) → is_common v ≡ true → IsCommon v
 is_common_back v test = grind (arith, nat_tests)
 
--- and what tests as a value in range is one
+-- a count of millionths that passes the test of the range is in range
 is_in_range_back : (value : ℤ) → is_in_range value ≡ true → InRange value
 is_in_range_back value test = grind (arith, nat_tests)
 
--- a map that gives something was given something
+-- if a map over an option gives something, the option had something
 map_some : {A B : Type 0} (f : A → B) (o : Option A) (y : B) → option_map f o ≡ Some y → (x : A) × (o ≡ Some x) × (f x ≡ y)
 map_some f None y is = absurd (none-some y is)
 map_some f (Some x) y is = (x, refl, same_Some (f x) y is)
@@ -136,7 +139,7 @@ map_some f (Some x) y is = (x, refl, same_Some (f x) y is)
 abbrev SlotSpells : ℕ → ℕ → Slot → Type 0
 SlotSpells what number slot = IsSlot slot × ((to : Point) → offset_numbers slot to ≡ record { what = what; number = number; a = to.x; b = to.z })
 
--- the numbers of a wear offset (3) are those of the slot that they name,
+-- the two numbers that name a wear offset (3) are those of the slot
 wear_back : (what number : ℕ) (slot : Slot) (t : Bool) → (what == 3) ≡ t → (if t then option_map Wear (tool_number (pos number)) else None) ≡ Some slot → SlotSpells what number slot
 wear_back what number slot true e is =
     let given = map_some Wear (tool_number (pos number)) slot is in
@@ -145,7 +148,7 @@ wear_back what number slot true e is =
     subst (SlotSpells what number) (ap Wear tested.1 ∙ given.2) (is_between_back 1 TOOL_OFFSETS number tested.0, λ to i. record { what = what_is i; number = number; a = to.x; b = to.z })
 wear_back what number slot false e is = absurd (none-some slot is)
 
--- those of a geometry offset (2) or a wear offset,
+-- the two numbers that name a geometry offset (2) or a wear offset are those of the slot
 geometry_back : (what number : ℕ) (slot : Slot) (t : Bool) → (what == 2) ≡ t
     → (if t then option_map Geometry (tool_number (pos number)) else if what == 3 then option_map Wear (tool_number (pos number)) else None) ≡ Some slot → SlotSpells what number slot
 geometry_back what number slot true e is =
@@ -155,7 +158,7 @@ geometry_back what number slot true e is =
     subst (SlotSpells what number) (ap Geometry tested.1 ∙ given.2) (is_between_back 1 TOOL_OFFSETS number tested.0, λ to i. record { what = what_is i; number = number; a = to.x; b = to.z })
 geometry_back what number slot false e is = wear_back what number slot (what == 3) refl is
 
--- and those of any offset, 1 to 3
+-- the two numbers that name any offset, 1 to 3, are those of the slot
 work_back : (what number : ℕ) (slot : Slot) (t : Bool) → (what == 1) ≡ t
     → (if t then option_map Work (work_number (pos number)) else if what == 2 then option_map Geometry (tool_number (pos number)) else if what == 3 then option_map Wear (tool_number (pos number)) else None) ≡ Some slot
     → SlotSpells what number slot
@@ -170,7 +173,7 @@ work_back what number slot false e is = geometry_back what number slot (what == 
 abbrev VarSpells : ℤ → ℤ → Var → Type 0
 VarSpells a b to = IsVar to × ((variable : ℕ) → variable_numbers variable to ≡ record { what = 4; number = variable; a = a; b = b })
 
--- numbers whose first is 1 say the value that they give,
+-- the last two numbers of an edit, of which the first is 1, say the value that they give
 value_back : (a b : ℤ) (to : Var) (t : Bool) → int_eq a (pos 1) ≡ t → (if t then (if is_in_range b then Some (Is b) else None) else None) ≡ Some to → VarSpells a b to
 value_back a b to true e is =
     let tested = cond_some (is_in_range b) (Is b) to is in
@@ -178,7 +181,7 @@ value_back a b to true e is =
     subst (VarSpells a b) tested.1 (is_in_range_back b tested.0, λ variable i. record { what = 4; number = variable; a = a_is i; b = b })
 value_back a b to false e is = absurd (none-some to is)
 
--- and so do all numbers that a variable gets
+-- the last two numbers of an edit say what they give a variable
 var_back : (a b : ℤ) (to : Var) (t : Bool) → int_eq a (pos 0) ≡ t
     → (if t then (if int_eq b (pos 0) then Some Vacant else None) else if int_eq a (pos 1) then (if is_in_range b then Some (Is b) else None) else None) ≡ Some to → VarSpells a b to
 var_back a b to true e is =
@@ -192,7 +195,7 @@ var_back a b to false e is = value_back a b to (int_eq a (pos 1)) refl is
 abbrev pub Gives : EditNumbers → Edit → Type 0
 Gives numbers edit = (numbers_of edit ≡ numbers) × IsEdit edit
 
--- an edit of an offset has the numbers that gave it,
+-- an edit of an offset has the numbers that gave it
 offset_back : (numbers : EditNumbers) (edit : Edit) → offset_edit numbers ≡ Some edit → Gives numbers edit
 offset_back numbers edit is =
     let to : Point = record { x = numbers.a; z = numbers.b } in
@@ -204,7 +207,7 @@ offset_back numbers edit is =
     let within : is_position to ≡ true = tested.0 in
     subst (Gives numbers) edit_is (slot_is.1 to, (slot_is.0, grind (arith, nat_tests))))
 
--- and so has an edit of a variable (4)
+-- an edit of a variable (4) has the numbers that gave it
 variable_back : (numbers : EditNumbers) (edit : Edit) → numbers.what ≡ 4 → variable_edit numbers ≡ Some edit → Gives numbers edit
 variable_back numbers edit what is =
     option_and_then_some (λ variable. option_map (Common variable) (var_of numbers.a numbers.b)) (common_number numbers.number) edit is (λ variable found made.
@@ -223,20 +226,20 @@ edit_back numbers edit is = go (numbers.what == 4) refl is
     go true e is = variable_back numbers edit (eqb-true numbers.what 4 e) is
     go false e is = offset_back numbers edit is
 
--- two bytes that are read as a number spell it,
+-- two bytes that are read as a number spell it
 number_read : (bytes : List ℕ) → 2 ≤ length bytes → ((i : ℕ) → get_or bytes i 0 < 256) → big_bytes 2 (big_number 2 bytes) ≡ take 2 bytes
 number_read bytes long fits =
     let same : big_number 2 bytes ≡ from_be_bytes w16 (take 2 bytes) = omega (arith, get_or-take 2 bytes 0 0 (omega arith), get_or-take 2 bytes 1 0 (omega arith)) in
     be_bytes_2 (take 2 bytes) (big_number 2 bytes) (omega (arith, length-take-le 2 bytes long)) (fits_front bytes 2 fits) same
 
--- so do eight,
+-- eight bytes that are read as a number spell it
 long_read : (bytes : List ℕ) → 8 ≤ length bytes → ((i : ℕ) → get_or bytes i 0 < 256) → big_bytes 8 (big_number 8 bytes) ≡ take 8 bytes
 long_read bytes long fits =
     let front : (i : ℕ) → i < 8 → get_or (take 8 bytes) i 0 ≡ get_or bytes i 0 = λ i within. get_or-take 8 bytes i 0 within in
     let same : big_number 8 bytes ≡ from_be_bytes w64 (take 8 bytes) = omega (arith, front 0 (omega arith), front 1 (omega arith), front 2 (omega arith), front 3 (omega arith), front 4 (omega arith), front 5 (omega arith), front 6 (omega arith), front 7 (omega arith)) in
     be_bytes_8 (take 8 bytes) (big_number 8 bytes) (omega (arith, length-take-le 8 bytes long)) (fits_front bytes 8 fits) same
 
--- and eight of a signed number
+-- eight bytes that are read as a signed number spell it
 signed_read : (bytes : List ℕ) → 8 ≤ length bytes → ((i : ℕ) → get_or bytes i 0 < 256) → big_bytes 8 (cast_unsigned w64 (cast_signed w64 (big_number 8 bytes))) ≡ take 8 bytes
 signed_read bytes long fits =
     let small : big_number 8 bytes < 2 ^ 64 = omega (arith, fits 0, fits 1, fits 2, fits 3, fits 4, fits 5, fits 6, fits 7) in

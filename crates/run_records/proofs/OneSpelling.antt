@@ -1,5 +1,5 @@
--- A record has one spelling, and whatever follows it there is no cause why it is none.
--- run_journal and two_path use these lemmas.
+-- A record has one spelling, and whatever follows it there is no cause why it is none. For the law
+-- `an_entry_has_one_spelling` (src/laws.rt); run_journal and two_path take facts too.
 use Rattle.std.proofs.Common.{◌≡◌, ℕ, ◌+◌, ◌*◌, ◌≤◌, List, ◌∷◌, ◌++◌, length, drop, get_or, refl, sym, ◌∙◌, ap, subst, arith, length-append, true, false, Some, None, Option, ◌||◌}
 use Rattle.std.specs.Prelude.{◌==◌, is_some, is_none, if◌then◌else◌}
 use Rattle.std.proofs.lemmas.Bool.{ne_eqb}
@@ -25,11 +25,11 @@ one_path Two Two same = refl
 one_path One Two same = absurd (omega arith)
 one_path Two One same = absurd (omega arith)
 
--- the step of a number
+-- the step of a kind's number
 abbrev step_with : ℕ → EntryKind
 step_with n = if n == 1 then Did else if n == 2 then Arrived else if n == 3 then Met else if n == 4 then Ended else Alarmed
 
--- the step of a kind's number is the kind,
+-- the step of the number of a kind that is a step is that kind
 step_again : (kind : EntryKind) → edit_of kind ≡ None → step_with (kind_number kind) ≡ kind
 step_again Did is = refl
 step_again Arrived is = refl
@@ -38,7 +38,7 @@ step_again Ended is = refl
 step_again Alarmed is = refl
 step_again (Edited edit) is = absurd (none-some edit (sym is))
 
--- so steps of one number are the same
+-- steps of one number are the same
 pub one_step : (a b : EntryKind) → edit_of a ≡ None → edit_of b ≡ None → kind_number a ≡ kind_number b → a ≡ b
 one_step a b is also same = sym (step_again a is) ∙ ap step_with same ∙ step_again b also
 
@@ -60,7 +60,8 @@ edited_kind Ended edit is = absurd (none-some edit is)
 edited_kind Alarmed edit is = absurd (none-some edit is)
 edited_kind (Edited other) edit is = ap Edited (same_Some other edit is)
 
--- the three parts of a record, whose bytes behind the kind are those of a step or of an edit
+-- of two records with one number of the kind whose bytes after the kind begin one list, kinds and
+-- stamps are the same, and what follows them is the same
 parts : (entry other : Entry) (rest more : List ℕ) (x y : Option Edit) → edit_of entry.kind ≡ x → edit_of other.kind ≡ y → IsEntry entry → IsEntry other → kind_number entry.kind ≡ kind_number other.kind
     → bytes_behind x entry.stamps ++ rest ≡ bytes_behind y other.stamps ++ more → (entry.kind ≡ other.kind) × (entry.stamps ≡ other.stamps) × (rest ≡ more)
 parts entry other rest more None None e f is also number same =
@@ -78,7 +79,7 @@ parts entry other rest more (Some edit) None e f is also number same =
     let six = ap kind_number (edited_kind entry.kind edit e) in
     absurd (omega arith)
 
--- two records whose bytes begin one list are the same, and so is what follows them
+-- two records whose bytes begin one list are the same, and what follows them is the same
 pub one_entry : (entry other : Entry) (rest more : List ℕ) → IsEntry entry → IsEntry other → entry_bytes entry ++ rest ≡ entry_bytes other ++ more → (entry ≡ other) × (rest ≡ more)
 one_entry entry other rest more is also same =
     let path = one_path entry.path other.path (ap (λ (l : List ℕ). get_or l 0 0) same) in
@@ -95,7 +96,7 @@ path_fits Two = refl
 pub no_cause_holds : (bytes : List ℕ) → has_bad_path bytes ≡ false → has_bad_kind bytes ≡ false → has_too_many_stamps bytes ≡ false → is_cut_short bytes ≡ false → has_bad_edit bytes ≡ false → cause_of bytes ≡ None
 no_cause_holds bytes path kind some whole good = rw (path, kind, some, whole, good) refl
 
--- behind a path, a kind that is a step's, and the number of its stamps stand all of these
+-- a path, the kind of a step, the number of its stamps and all of these hold no cause
 pub no_cause_of_step : (path : Path) (kind : ℕ) (stamps rest : List ℕ) → 1 ≤ kind → kind ≤ 5 → length stamps ≤ 32 → cause_of (number_of path ∷ kind ∷ length stamps ∷ (stamp_bytes stamps ++ rest)) ≡ None
 no_cause_of_step path kind stamps rest least most few =
     let bytes : List ℕ = number_of path ∷ kind ∷ length stamps ∷ (stamp_bytes stamps ++ rest) in
@@ -108,7 +109,7 @@ no_cause_of_step path kind stamps rest least most few =
     let good : has_bad_edit bytes ≡ false = rw no_edit refl in
     no_cause_holds bytes a_path a_kind some whole good
 
--- behind a path and the kind of an edit stand its numbers
+-- a path, the kind of an edit and its numbers hold no cause
 pub no_cause_of_edit : (path : Path) (edit : Edit) (rest : List ℕ) → IsEdit edit → cause_of (number_of path ∷ 6 ∷ (numbers_bytes (numbers_of edit) ++ rest)) ≡ None
 no_cause_of_edit path edit rest is =
     let bytes : List ℕ = number_of path ∷ 6 ∷ (numbers_bytes (numbers_of edit) ++ rest) in
@@ -121,7 +122,7 @@ no_cause_of_edit path edit rest is =
     ap (λ numbers. is_none (edit_with numbers)) (numbers_again (numbers_of edit) rest (are_spelled edit is)) ∙ ap is_none (edit_again edit is) in
     no_cause_holds bytes a_path a_kind some whole good
 
--- so the bytes of a record, whatever follows them, hold no cause
+-- the bytes of a record, whatever follows them, hold no cause
 pub no_cause : (entry : Entry) (rest : List ℕ) → IsEntry entry → cause_of (entry_bytes entry ++ rest) ≡ None
 no_cause entry rest is = go (edit_of entry.kind) refl
   where

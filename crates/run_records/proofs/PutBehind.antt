@@ -1,10 +1,10 @@
--- Bytes that are put behind others in a slice, and a record that is put: its path and its kind, and
--- then what stands behind them.
+-- Bytes that are put after others in a slice, and a record that is put: its path and its kind, and
+-- then its stamps or its numbers. For the proofs of src/entry.rt.
 use Rattle.std.proofs.Common.{◌≡◌, ℕ, suc, ◌+◌, ◌-◌, ◌≤◌, List, [], ◌∷◌, ◌++◌, length, take, drop, set, refl, sym, ◌∙◌, ap, arith, append_assoc, length-append, length-drop}
 use Rattle.std.proofs.lemmas.List.{take_at, drop_at, drop-drop, drop_all, take_rest, append-nil, set_split, length-take-le}
 use borrow.Rule.Slice.PartMut.{put_mid}
 
--- these bytes stand at the front, and those behind them
+-- after bytes at the front, and then more bytes after them, both stand at the front
 pub put_next : (front back old now mid buf : List ℕ) (k m : ℕ) → length front ≡ k → k + m ≤ length old → now ≡ front ++ drop k old → mid ≡ take (length now - k) (drop k now) → buf ≡ back ++ drop m mid
     → put_mid k (length now - k) now buf ≡ front ++ (back ++ drop (k + m) old)
 put_next front back old now mid buf k m long room is mid_is buf_is =
@@ -16,12 +16,12 @@ put_next front back old now mid buf k m long room is mid_is buf_is =
     ∙ ap (λ (l : List ℕ). front ++ (buf ++ l)) none
     ∙ ap (λ (l : List ℕ). front ++ l) (append-nil buf ∙ buf_is ∙ ap (λ (l : List ℕ). back ++ drop m l) left ∙ ap (λ (l : List ℕ). back ++ l) (drop-drop m k old))
 
--- a byte is written to the front,
+-- a byte that is written to the front changes no other
 pub set_front : (old : List ℕ) (x : ℕ) → 1 ≤ length old → set old 0 x ≡ x ∷ drop 1 old
 set_front [] x some = absurd (omega arith)
 set_front (y ∷ old) x some = refl
 
--- the third byte is written behind two, and all others stay
+-- a byte that is written to the third place changes no other
 pub set_third : (old : List ℕ) (x : ℕ) → 3 ≤ length old → set old 2 x ≡ (take 2 old ++ x ∷ []) ++ drop 3 old
 set_third old x some = set_split old 2 x (omega arith) ∙ sym (append_assoc (take 2 old) (x ∷ []) (drop 3 old))
 
@@ -29,7 +29,7 @@ set_third old x some = set_split old 2 x (omega arith) ∙ sym (append_assoc (ta
 pub length_third : (old : List ℕ) (x : ℕ) → 3 ≤ length old → length (take 2 old ++ x ∷ []) ≡ 3
 length_third old x some = omega (arith, length-append (take 2 old) (x ∷ []), length-take-le 2 old (omega arith))
 
--- behind path and kind stands the rest of a record
+-- A record is put: path and kind, and then the rest of its bytes.
 module _ (p k : ℕ) (body old one new : List ℕ) (size : ℕ) (long : size ≡ suc (suc (length body))) (head : one ≡ p ∷ k ∷ drop 2 old) (is : new ≡ take 2 one ++ (body ++ drop size one)) where
   -- the slice is the record, and then what stood behind its place
   put_all : new ≡ (p ∷ k ∷ body) ++ drop size old
@@ -40,10 +40,10 @@ module _ (p k : ℕ) (body old one new : List ℕ) (size : ℕ) (long : size ≡
       ap (λ n. drop n one) long ∙ ap (drop (suc (suc (length body)))) head ∙ drop-drop (length body) 2 old ∙ ap (λ n. drop n old) all in
       is ∙ (λ i. front i ++ (body ++ behind i))
 
-  -- the bytes in front are the record's,
+  -- the bytes at the front are the record's
   pub put_front : take size new ≡ p ∷ k ∷ body
   put_front = ap (take size) put_all ∙ take_at (p ∷ k ∷ body) (drop size old) size (omega (arith, long))
 
-  -- and those behind them are as they were
+  -- the bytes after the record are as they were
   pub put_back : drop size new ≡ drop size old
   put_back = ap (drop size) put_all ∙ drop_at (p ∷ k ∷ body) (drop size old) size (omega (arith, long))

@@ -1,4 +1,5 @@
--- A record that is read, and why there is none.
+-- The record of an edit that is read, or why its numbers are none. For the proof of `take_edit`
+-- (src/reading.rt).
 use Rattle.std.proofs.Common.{◌≡◌, ℕ, ◌≤◌, List, ◌∷◌, ◌++◌, length, drop, refl, sym, ◌∙◌, ap, arith, true, false, Some, None}
 use Rattle.std.specs.Prelude.{is_none}
 use Rattle.std.proofs.lemmas.Bool.Decides.{nat_tests}
@@ -19,11 +20,12 @@ pub edit_spells : (path : Path) (numbers : EditNumbers) (edit : Edit) (bytes : L
 edit_spells path numbers edit bytes is read =
     ap (λ (l : List ℕ). number_of path ∷ 6 ∷ l) (sym (ap (λ n. numbers_bytes n ++ drop 19 bytes) (edit_back numbers edit is).0 ∙ read))
 
--- none of the causes before it holds
+-- if no cause before `BadEdit` holds, and it does, the cause is `BadEdit`
 bad_edit_holds : (bytes : List ℕ) → has_bad_path bytes ≡ false → has_bad_kind bytes ≡ false → has_too_many_stamps bytes ≡ false → is_cut_short bytes ≡ false → has_bad_edit bytes ≡ true → cause_of bytes ≡ Some BadEdit
 bad_edit_holds bytes path kind some whole bad = rw (path, kind, some, whole, bad) refl
 
--- whole numbers of an edit that are those of none
+-- behind a path and the kind of an edit, 19 bytes whose numbers are those of no edit have the cause
+-- `BadEdit`
 pub bad_edit : (path : Path) (bytes : List ℕ) → 19 ≤ length bytes → edit_with (numbers_in bytes) ≡ None → cause_of (number_of path ∷ 6 ∷ bytes) ≡ Some BadEdit
 bad_edit path rest long none =
     let bytes : List ℕ = number_of path ∷ 6 ∷ rest in

@@ -1,4 +1,5 @@
--- Stamps, and their bytes. That they are read again, and have one spelling.
+-- Stamps and their bytes: that they are read again, and have one spelling. For the other files of
+-- proofs here and the loops of `put_each` (src/entry.rt) and `take_stamps` (src/reading.rt).
 use Rattle.std.proofs.Common.{◌≡◌, ℕ, ◌+◌, ◌*◌, ◌^◌, ◌-◌, ◌≤◌, ◌<◌, List, [], ◌∷◌, ◌++◌, length, take, drop, get_or, refl, inl, inr, take-append-drop, sym, ◌∙◌, ap, subst, arith, append_assoc, length-append, length-drop}
 use Rattle.std.proofs.lemmas.List.{get_or-take, get_or-drop, get_or_past, length-take, take_at, drop_at, drop-drop, drop_all, take_rest, take_more, append-nil, length-take-le}
 use borrow.Rule.Slice.PartMut.{put_mid}
@@ -14,7 +15,7 @@ pub length-stamp_bytes : (stamps : List ℕ) → length (stamp_bytes stamps) ≡
 length-stamp_bytes [] = refl
 length-stamp_bytes (s ∷ stamps) = omega (arith, length-stamp_bytes stamps, length-append (big_bytes 4 s) (stamp_bytes stamps))
 
--- the bytes of one stamp more are its own, behind the others'
+-- the bytes of stamps with one more are those of the others and then its own
 pub stamp_bytes-push : (stamps : List ℕ) (s : ℕ) → stamp_bytes (stamps ++ s ∷ []) ≡ stamp_bytes stamps ++ big_bytes 4 s
 stamp_bytes-push [] s = refl
 stamp_bytes-push (x ∷ stamps) s = ap (λ (l : List ℕ). big_bytes 4 x ++ l) (stamp_bytes-push stamps s) ∙ sym (append_assoc (big_bytes 4 x) (stamp_bytes stamps) (big_bytes 4 s))
@@ -25,14 +26,15 @@ bytes_read front size fits =
     let same : big_number 4 front ≡ from_be_bytes w32 front = omega arith in
     be_bytes_4 front (big_number 4 front) size fits same
 
--- two stamps whose four bytes begin one list are the same,
+-- two stamps whose four bytes begin one list are the same, and what follows them is the same
 one_stamp : (a b : ℕ) (rest more : List ℕ) → a < 2 ^ 32 → b < 2 ^ 32 → big_bytes 4 a ++ rest ≡ big_bytes 4 b ++ more → (a ≡ b) × (rest ≡ more)
 one_stamp a b rest more fits also same = (
   sym (from_be_bytes-to_be_bytes_4 a fits) ∙ ap (λ (l : List ℕ). from_be_bytes w32 (take 4 l)) same ∙ from_be_bytes-to_be_bytes_4 b also,
   ap (drop 4) same,
 )
 
--- and so are two lists of stamps of one length
+-- two lists of stamps of one length whose bytes begin one list are the same, and what follows them
+-- is the same
 pub one_list : (a b rest more : List ℕ) → AreStamps a → AreStamps b → length a ≡ length b → stamp_bytes a ++ rest ≡ stamp_bytes b ++ more → (a ≡ b) × (rest ≡ more)
 one_list [] [] rest more fits also size same = (refl, same)
 one_list [] (y ∷ b) rest more fits also size same = absurd (omega arith)
@@ -42,7 +44,7 @@ one_list (x ∷ a) (y ∷ b) rest more fits also size same =
     let others = one_list a b rest more fits.1 also.1 (omega arith) first.1 in
     (let e = first.0 in let f = others.0 in cc, others.1)
 
--- one stamp more, written behind the others
+-- with one stamp more written after the others, the slice begins with the bytes of all of them
 pub stamp_put : (stamps old now mid buf : List ℕ) (i : ℕ) → i < length stamps → 4 * length stamps ≤ length old → length now ≡ length old → now ≡ stamp_bytes (take i stamps) ++ drop (4 * i) old
     → mid ≡ take (length now - 4 * i) (drop (4 * i) now) → buf ≡ big_bytes 4 (get_or stamps i 0) ++ drop 4 mid → put_mid (4 * i) (length now - 4 * i) now buf ≡ stamp_bytes (take (i + 1) stamps) ++ drop (4 * (i + 1)) old
 stamp_put stamps old now mid buf i within room size is mid_is buf_is =
@@ -61,18 +63,18 @@ stamp_put stamps old now mid buf i within room size is mid_is buf_is =
     ∙ sym (append_assoc before (big_bytes 4 s) (drop (4 * (i + 1)) old))
     ∙ ap (λ (l : List ℕ). l ++ drop (4 * (i + 1)) old) (sym more)
 
--- bytes stay bytes in a part of a list
+-- if each item of a list is a byte, each item of its front is
 pub fits_front : (bytes : List ℕ) (n : ℕ) → ((i : ℕ) → get_or bytes i 0 < 256) → (i : ℕ) → get_or (take n bytes) i 0 < 256
 fits_front bytes n fits i = elim (cases_lt i n) [
   | inl within ↦ let same = get_or-take n bytes i 0 within in omega (arith, same, fits i)
   | inr past ↦ let none = get_or_past (take n bytes) i 0 (omega (arith, length-take n bytes)) in omega (arith, none)
 ]
 
--- and in what is left of it
+-- if each item of a list is a byte, each item of what is left without its front is
 pub fits_back : (bytes : List ℕ) (n : ℕ) → ((i : ℕ) → get_or bytes i 0 < 256) → (i : ℕ) → get_or (drop n bytes) i 0 < 256
 fits_back bytes n fits i = let same = get_or-drop n bytes i 0 in omega (arith, same, fits (n + i))
 
--- one stamp more, read before the others
+-- with one stamp more read from the next four bytes, the stamps and what is left spell the bytes
 pub stamp_read : (stamps more rest front after bytes : List ℕ) (stamp : ℕ) → stamp_bytes stamps ++ rest ≡ bytes → 4 ≤ length rest → ((i : ℕ) → get_or rest i 0 < 256) → front ≡ take 4 rest → after ≡ drop 4 rest
     → stamp ≡ big_number 4 front → more ≡ stamps ++ stamp ∷ [] → stamp_bytes more ++ after ≡ bytes
 stamp_read stamps more rest front after bytes stamp so_far long fits front_is after_is stamp_is more_is =
@@ -87,11 +89,11 @@ stamp_read stamps more rest front after bytes stamp so_far long fits front_is af
     ∙ ap (λ (l : List ℕ). stamp_bytes stamps ++ l) (take-append-drop 4 rest)
     ∙ so_far
 
--- one stamp more of four bytes leaves all so,
+-- stamps with one more that fits four bytes all fit four bytes
 pub are_push : (stamps : List ℕ) (stamp : ℕ) → AreStamps stamps → stamp < 2 ^ 32 → AreStamps (stamps ++ stamp ∷ [])
 are_push [] stamp are fits = (fits, tt)
 are_push (s ∷ stamps) stamp are fits = (are.0, are_push stamps stamp are.1 fits)
 
--- and, if there were fewer than 32, few enough for a record
+-- fewer than 32 stamps with one more that fits four bytes are few enough for a record
 pub few_push : (stamps : List ℕ) (stamp : ℕ) → AreFew stamps → length stamps < 32 → stamp < 2 ^ 32 → AreFew (stamps ++ stamp ∷ [])
 few_push stamps stamp are room fits = (omega (arith, length-append stamps (stamp ∷ [])), are_push stamps stamp are.1 fits)

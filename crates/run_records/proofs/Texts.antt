@@ -1,5 +1,6 @@
--- Texts behind their lengths, and headers of three of them.
--- run_journal uses these lemmas.
+-- Texts after their lengths, and headers of three of them: a header has one spelling. For the law
+-- `a_header_has_one_spelling` (src/laws.rt) and `parts_of` (src/header.rt); run_journal takes facts
+-- too.
 use Rattle.std.proofs.Common.{◌≡◌, ℕ, ◌+◌, ◌^◌, ◌<◌, List, [], ◌++◌, length, take, drop, get_or, refl, sym, ◌∙◌, ap, arith, append_assoc, length-append}
 use Rattle.std.proofs.lemmas.List.{take_at, drop_at, append-nil}
 use Rattle.std.proofs.lemmas.Nat.{from_be_bytes-to_be_bytes_4}
@@ -9,7 +10,7 @@ use Rattle.run_records.specs.declared.version.Version.{Version}
 use Rattle.run_records.specs.declared.version.Version.TheVariants.{One, Two}
 use Rattle.run_records.specs.Headers.{text_bytes, version_number, header_mark, header_bytes, IsShort}
 
--- two texts whose bytes begin one list are the same, and so is what follows them
+-- two texts whose bytes begin one list are the same, and what follows them is the same
 pub one_text : (text other rest more : List ℕ) → length text < 2 ^ 32 → length other < 2 ^ 32 → text_bytes text ++ rest ≡ text_bytes other ++ more → (text ≡ other) × (rest ≡ more)
 one_text text other rest more short also same =
     let size : length text ≡ length other =
@@ -26,29 +27,30 @@ one_version Two Two same = refl
 one_version One Two same = absurd (omega arith)
 one_version Two One same = absurd (omega arith)
 
--- a header is its mark and then three texts, each behind the one before
+-- a header is its mark and then three texts, one after the other
 nested : (header : Header) → header_bytes header ≡ header_mark header.version ++ (text_bytes header.settings ++ (text_bytes header.left ++ text_bytes header.right))
 nested header =
     append_assoc (header_mark header.version ++ text_bytes header.settings) (text_bytes header.left) (text_bytes header.right)
     ∙ append_assoc (header_mark header.version) (text_bytes header.settings) (text_bytes header.left ++ text_bytes header.right)
 
--- what stands behind the mark, behind the settings, and behind the left tape
+-- The bytes of a short header, cut text by text: what is left after each is what the header has
+-- there.
 module _ (header : Header) (bytes : List ℕ) (short : IsShort header) (is : bytes ≡ header_bytes header) where
-  -- of a short header: what stands behind the mark,
+  -- after the mark come the settings and both tapes
   pub behind_mark : (version : Version) (rest : List ℕ) → bytes ≡ header_mark version ++ rest → rest ≡ text_bytes header.settings ++ (text_bytes header.left ++ text_bytes header.right)
   behind_mark version rest split = ap (drop 6) (sym split ∙ is ∙ nested header)
 
-  -- behind the settings,
+  -- after the mark and the settings come both tapes
   pub behind_settings : (version : Version) (rest settings after : List ℕ) → bytes ≡ header_mark version ++ rest → rest ≡ text_bytes settings ++ after → length settings < 2 ^ 32 → after ≡ text_bytes header.left ++ text_bytes header.right
   behind_settings version rest settings after split first fits =
       (one_text settings header.settings after (text_bytes header.left ++ text_bytes header.right) fits (omega (arith, short)) (sym first ∙ behind_mark version rest split)).1
 
-  -- behind the left tape,
+  -- after the mark, the settings and the left tape comes the right tape
   pub behind_left : (version : Version) (rest settings after left last : List ℕ) → bytes ≡ header_mark version ++ rest → rest ≡ text_bytes settings ++ after → length settings < 2 ^ 32 → after ≡ text_bytes left ++ last → length left < 2 ^ 32 → last ≡ text_bytes header.right ++ []
   behind_left version rest settings after left last split first fits second also =
       (one_text left header.left last (text_bytes header.right) also (omega (arith, short)) (sym second ∙ behind_settings version rest settings after split first fits)).1 ∙ sym (append-nil (text_bytes header.right))
 
-  -- and behind the right one, where nothing stands
+  -- after the mark and the three texts comes nothing
   pub behind_right : (version : Version) (rest settings after left last right end : List ℕ) → bytes ≡ header_mark version ++ rest → rest ≡ text_bytes settings ++ after → length settings < 2 ^ 32 → after ≡ text_bytes left ++ last → length left < 2 ^ 32
       → last ≡ text_bytes right ++ end → length right < 2 ^ 32 → end ≡ []
   behind_right version rest settings after left last right end split first fits second also third too =
@@ -73,6 +75,6 @@ length-header header =
     let third = length-append (header_mark header.version ++ text_bytes header.settings ++ text_bytes header.left) (text_bytes header.right) in
     omega (arith, first, second, third)
 
--- a header is short where its bytes are few
+-- a header whose bytes are fewer than 2^32 fits a body of the journal
 pub short_header : (header : Header) (bytes : List ℕ) → bytes ≡ header_bytes header → length bytes < 2 ^ 32 → IsShort header
 short_header header bytes is few = omega (arith, ap length is, length-header header)

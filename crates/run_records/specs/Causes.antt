@@ -1,5 +1,5 @@
--- Why bytes begin with no record. How a record is spelled is in Spelling.
--- run_journal uses these words.
+-- Why bytes begin with no record, and the numbers of all causes. How a record is spelled is in
+-- Spelling. `take_entry` (src/reading.rt) answers the cause, and run_journal cites it.
 use Rattle.std.specs.Prelude.{ℕ, ◌+◌, ◌*◌, ◌==◌, ◌||◌, ◌&&◌, not, nat_lt, Bool, List, length, drop, slice_index, Option, Some, None, is_none, if◌then◌else◌}
 use Rattle.std.specs.Int.{w64, cast_signed}
 use Rattle.nc_number.specs.declared.limits.TheConstants.{MOST_READS}
@@ -22,11 +22,11 @@ cause_number TooManyRecords = 8
 cause_number RefusedTapes = 9
 cause_number BadEdit = 10
 
--- the second byte, the kind, is that of an edit: 6
+-- the second byte of a record, its kind, is that of an edit: 6
 abbrev pub is_edit : List ℕ → Bool
 is_edit bytes = slice_index bytes 1 == 6
 
--- the numbers of an edit, as its record has them behind the kind
+-- the numbers of an edit, as its record has them after the kind
 abbrev pub numbers_in : List ℕ → EditNumbers
 numbers_in bytes = record {
   what = slice_index bytes 0;
@@ -60,7 +60,7 @@ is_cut_short bytes = nat_lt (length bytes) 3 || nat_lt (length bytes) (record_si
 abbrev pub has_bad_edit : List ℕ → Bool
 has_bad_edit bytes = is_edit bytes && is_none (edit_with (numbers_in (drop 2 bytes)))
 
--- the least cause that holds of the bytes that are there
+-- why the bytes begin with no record: the least cause that holds of the bytes that are there
 abbrev pub cause_of : List ℕ → Option BadRecord
 cause_of bytes =
     if has_bad_path bytes then Some NoPath

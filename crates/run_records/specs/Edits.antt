@@ -1,6 +1,5 @@
 -- An edit as the four numbers that its record has: what is set, by its kind and its number, and two
--- numbers for what it gets.
--- For this crate alone.
+-- numbers for what it gets. Spelling has their bytes. For this crate alone.
 use Rattle.std.specs.Prelude.{ℕ, ◌≤◌, ◌==◌, ℤ, pos, Option, Some, None, if◌then◌else◌}
 use Rattle.std.specs.Option.{option_map, option_and_then}
 use Rattle.std.specs.Ordering.{int_eq}
@@ -36,14 +35,15 @@ abbrev pub IsEdit : Edit → Type 0
 IsEdit (Offset slot to) = IsSlot slot × IsPosition to
 IsEdit (Common variable to) = IsCommon variable × IsVar to
 
--- of an offset: 1 a work offset, 2 a geometry offset, 3 a wear offset; its number; X and Z
+-- the numbers of an edit of an offset: 1 a work offset, 2 a geometry offset, 3 a wear offset; its
+-- number; X and Z in 0.001 mm
 abbrev pub offset_numbers : Slot → Point → EditNumbers
 offset_numbers (Work n) to = record { what = 1; number = n; a = to.x; b = to.z }
 offset_numbers (Geometry n) to = record { what = 2; number = n; a = to.x; b = to.z }
 offset_numbers (Wear n) to = record { what = 3; number = n; a = to.x; b = to.z }
 
--- of a common variable: 4; its number; 0 and 0 where it is made vacant, 1 and its millionths where
--- it gets a value
+-- the numbers of an edit of a common variable: 4; its number; 0 and 0 if it is made vacant, 1 and
+-- its millionths if it gets a value
 abbrev pub variable_numbers : ℕ → Var → EditNumbers
 variable_numbers variable Vacant = record { what = 4; number = variable; a = pos 0; b = pos 0 }
 variable_numbers variable (Is value) = record { what = 4; number = variable; a = pos 1; b = value }
@@ -53,7 +53,7 @@ abbrev pub numbers_of : Edit → EditNumbers
 numbers_of (Offset slot to) = offset_numbers slot to
 numbers_of (Common variable to) = variable_numbers variable to
 
--- the offset of these two numbers, if there is one
+-- the offset that the first two numbers of an edit name, if there is one
 abbrev pub slot_of : ℕ → ℕ → Option Slot
 slot_of what number =
     if what == 1 then option_map Work (work_number (pos number))
@@ -61,7 +61,7 @@ slot_of what number =
     else if what == 3 then option_map Wear (tool_number (pos number))
     else None
 
--- what a variable gets by a and b, if it may be that
+-- what a variable gets by the last two numbers of an edit, if it may be that
 abbrev pub var_of : ℤ → ℤ → Option Var
 var_of a b =
     if int_eq a (pos 0) then (if int_eq b (pos 0) then Some Vacant else None)

@@ -1,7 +1,5 @@
 -- What clauses see of a record of a run. How it is spelled is in Spelling. Which records are legal
--- is in two_path.
--- lathe_calls, lathe_looks, lathe_top, move_list, nc_restart, run_branch, run_edits, run_journal,
--- run_table, trace_list, turn_order, turret_run, two_path and zone_check use these words.
+-- is in two_path. Every crate that speaks of a journal or a history cites it.
 use Rattle.std.specs.Prelude.{◌≡◌, ℕ, Bool, true, false, List, [], Option, Some, None, IsSome}
 use Rattle.nc_number.specs.declared.path.Path.{Path}
 use Rattle.run_records.specs.declared.edit.Edit.{Edit}
@@ -11,8 +9,11 @@ use Rattle.run_records.specs.declared.entry.EntryKind.TheVariants.{Did, Arrived,
 -- The path, what it did or what was corrected, and for each read of the step the number of records
 -- at that moment.
 pub record Entry : Type 0 where
+  -- the path that made the step, or that was corrected
   pub path : Path
+  -- what it did, or what was corrected
   pub kind : EntryKind
+  -- for each read of the step, the number of records at that moment
   pub stamps : List ℕ
 
 -- the edit that a kind is, if it is one and no step
@@ -33,6 +34,6 @@ is_meeting Ended = false
 is_meeting Alarmed = false
 is_meeting (Edited edit) = false
 
--- an edit has no stamps, since it reads nothing
+-- a record of this kind may have these stamps: an edit has none, since it reads nothing
 abbrev pub MayHave : EntryKind → List ℕ → Type 0
 MayHave kind stamps = IsSome (edit_of kind) → stamps ≡ []

@@ -1,6 +1,5 @@
 -- What the heads of records stand for, over the stamps and the edits of all of them, and for how
--- many more there is room.
--- For this crate alone.
+-- many more there is room. For src/lists.rt and its proofs alone.
 use Rattle.std.specs.Prelude.{◌≡◌, ℕ, ◌+◌, ◌-◌, ◌*◌, ◌≤◌, ◌<◌, List, [], ◌∷◌, length, map, take, drop, slice_index_or, Option, Some, None, is_none, if◌then◌else◌}
 use Rattle.nc_number.specs.declared.limits.TheConstants.{MOST_READS}
 use Rattle.nc_number.specs.declared.value.Var.TheVariants.{Vacant}
@@ -26,7 +25,7 @@ step_of HeadEdited = None
 abbrev pub no_edit : Edit
 no_edit = Common 100 Vacant
 
--- the edit of an index
+-- the edit of an index in a list of edits
 abbrev pub edit_at : List Edit → ℕ → Edit
 edit_at edits i = slice_index_or edits i no_edit
 
@@ -35,7 +34,7 @@ abbrev pub kind_at : List Edit → ℕ → Option EntryKind → EntryKind
 kind_at edits first (Some kind) = kind
 kind_at edits first None = Edited (edit_at edits first)
 
--- the record of a head
+-- the record of a head, over the stamps and the edits of all records
 abbrev pub entry_of : List ℕ → List Edit → Head → Entry
 entry_of stamps edits head = record {
   path = head.path;
@@ -55,28 +54,33 @@ IsPlaced None first count stamps edits = (count ≡ 0) × (first < edits)
 -- the record's stamps stand among the stamps, and are no more than a record may have; an edit
 -- stands among the edits
 pub record StandsIn (stamps : List ℕ) (edits : List Edit) (head : Head) : Type 0 where
+  -- it has no more stamps than a record may have
   pub few : head.count ≤ MOST_READS
+  -- its stamps, or its edit, stand within those of all
   pub within : IsPlaced (step_of head.kind) head.first head.count (length stamps) (length edits)
 
 -- There is room for so many records in all: for the head of each, and for an edit and the most
 -- stamps of each that is to come.
 pub record HasRoom (room heads most_heads stamps most_stamps edits most_edits : ℕ) : Type 0 where
-  -- no more records than fit
+  -- there are no more records than fit
   pub few : heads ≤ room
+  -- there is room for the head of each record
   pub for_heads : room ≤ most_heads
+  -- there is room for 32 stamps of each record to come
   pub for_stamps : stamps + MOST_READS * (room - heads) ≤ most_stamps
+  -- there is room for an edit of each record to come
   pub for_edits : edits + (room - heads) ≤ most_edits
 
 -- the step that a kind is, if it is no edit
 abbrev pub step_in : EntryKind → Option EntryKind
 step_in kind = if is_none (edit_of kind) then Some kind else None
 
--- the edit that a kind is, if it is one
+-- the edit that may be there, as a list of one or none
 abbrev pub edits_in : Option Edit → List Edit
 edits_in None = []
 edits_in (Some edit) = edit ∷ []
 
--- where a record's stamps will stand, behind so many stamps; or its edit, behind so many edits
+-- where a new record's stamps will stand, after so many stamps; or its edit, after so many edits
 abbrev pub place_of : Option EntryKind → ℕ → ℕ → ℕ
 place_of (Some kind) stamps edits = stamps
 place_of None stamps edits = edits

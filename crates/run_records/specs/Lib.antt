@@ -1,5 +1,5 @@
--- The words in which contracts speak of records, edits and headers, and of their bytes. Other
--- crates cite Causes, Entries, Headers, Room and Spelling.
+-- Records, edits and headers, and their bytes. Other crates cite Causes, Entries, Headers, Room and
+-- Spelling; Edits, Heads and Stamps are for this crate alone.
 pub mod Causes
 pub mod Edits
 pub mod Entries

@@ -1,9 +1,12 @@
 -- What callers see of a list of records: the records, and for how many of them there is room.
--- run_table uses these words.
+-- run_table makes room before a step by it, so that its record can be kept.
 use Rattle.std.specs.Prelude.{ℕ, List}
 use Rattle.run_records.specs.Entries.{Entry}
 
--- a list of records, with its room for more; memory is taken before, so adding one can't fail
+-- a list of records, with its room; memory is taken before, so adding one within the room can't
+-- fail
 pub record Entries : Type 0 where
+  -- the records, the first one first
   pub items : List Entry
+  -- how many records there is room for in all
   pub room : ℕ

@@ -1,6 +1,6 @@
--- How a record is spelled: path and kind, and behind them, of a step, the number of stamps, and
--- each stamp in four bytes, of an edit its four numbers. The high byte of a number comes first.
--- lathe_top, run_branch, run_edits, run_journal and run_table use these words.
+-- How a record is spelled: path and kind, and then, of a step, the number of stamps, and each stamp
+-- in four bytes, of an edit its four numbers. The high byte of a number comes first. run_journal
+-- makes batches of it; lathe_top, run_branch, run_edits and run_table cite it too.
 use Rattle.std.specs.Prelude.{ℕ, ◌≤◌, List, [], ◌∷◌, ◌++◌, length, Option, Some, None}
 use Rattle.std.specs.Int.{w64, cast_unsigned}
 use Rattle.byteorder.specs.Endian.{big_bytes}
@@ -23,7 +23,7 @@ kind_number Ended = 4
 kind_number Alarmed = 5
 kind_number (Edited edit) = 6
 
--- each stamp in four bytes
+-- the bytes of stamps: each in four bytes
 abbrev pub stamp_bytes : List ℕ → List ℕ
 stamp_bytes [] = []
 stamp_bytes (stamp ∷ stamps) = big_bytes 4 stamp ++ stamp_bytes stamps
@@ -34,13 +34,13 @@ numbers_bytes numbers =
     numbers.what ∷ (big_bytes 2 numbers.number
     ++ (big_bytes 8 (cast_unsigned w64 numbers.a) ++ big_bytes 8 (cast_unsigned w64 numbers.b)))
 
--- what stands behind the kind: of a step the number of its stamps and these, of an edit its
+-- the bytes after the kind: of a step the number of its stamps and the stamps, of an edit its
 -- numbers
 abbrev pub bytes_behind : Option Edit → List ℕ → List ℕ
 bytes_behind None stamps = length stamps ∷ stamp_bytes stamps
 bytes_behind (Some edit) stamps = numbers_bytes (numbers_of edit)
 
--- the bytes of a record: path, kind, and what stands behind them
+-- the bytes of a record: path, kind, and then the stamps or the numbers of the edit
 abbrev pub entry_bytes : Entry → List ℕ
 entry_bytes entry = number_of entry.path ∷ kind_number entry.kind ∷ bytes_behind (edit_of entry.kind) entry.stamps
 
@@ -51,7 +51,11 @@ IsKind (Some edit) = IsEdit edit
 
 -- what is true of every record: 32 stamps at most, each of four bytes, and none of an edit
 pub record IsEntry (entry : Entry) : Type 0 where
+  -- there are 32 stamps at most
   pub few : length entry.stamps ≤ MOST_READS
+  -- each stamp fits four bytes
   pub stamps : AreStamps entry.stamps
+  -- an edit has no stamps
   pub bare : MayHave entry.kind entry.stamps
+  -- an edit sets what is there, to what is in range
   pub edit : IsKind (edit_of entry.kind)

@@ -1,6 +1,5 @@
 -- What is true of the stamps of every record. A stamp is the number of records at the moment of a
--- read.
--- For this crate alone.
+-- read. For this crate alone.
 use Rattle.std.specs.Prelude.{ℕ, ◌^◌, ◌≤◌, ◌<◌, List, [], ◌∷◌, length}
 use Rattle.nc_number.specs.declared.limits.TheConstants.{MOST_READS}
 
@@ -9,6 +8,6 @@ abbrev pub AreStamps : List ℕ → Type 0
 AreStamps [] = Unit {0}
 AreStamps (stamp ∷ stamps) = (stamp < 2 ^ 32) × AreStamps stamps
 
--- there are 32 of them at most, and each fits four bytes
+-- the stamps are few enough for a record: 32 at most, and each fits four bytes
 abbrev pub AreFew : List ℕ → Type 0
 AreFew stamps = (length stamps ≤ MOST_READS) × AreStamps stamps

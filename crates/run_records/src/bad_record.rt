@@ -1,6 +1,5 @@
-//! Why the bytes of a run are none. Which of them holds is found in reading.rt, in run_journal and
-//! in nc_restart.
-//! nc_restart and run_journal use what it exports.
+//! Why the bytes of a run's journal are none: the numbered causes of `Cause::BadRecord` (80). Which
+//! of them holds is found in reading.rt, in run_journal and in nc_restart.
 
 ghost use Rattle.std.specs.Prelude.{◌≡◌};
 ghost use Rattle.run_records.specs.Causes.{cause_number};
@@ -8,7 +7,7 @@ ghost use Rattle.run_records.specs.Causes.{cause_number};
 use thiserror::Error;
 
 /// Why the bytes of a run's journal spell no header, no batch or no record that may stand there:
-/// what stands behind the offset in a report of `Cause::BadRecord`.
+/// what is printed after the offset in a report of `Cause::BadRecord`.
 #[derive(Clone, Copy, Debug, PartialEq, Eq, Error)]
 pub enum BadRecord {
     /// The first byte of a record is the number of no path.
@@ -20,7 +19,7 @@ pub enum BadRecord {
     /// A record has more than 32 stamps.
     #[error("too many stamps")]
     TooManyStamps,
-    /// The bytes end before a record does, or a batch goes on behind its last record.
+    /// The bytes end before a record does, or a batch goes on after its last record.
     #[error("wrong length")]
     WrongLength,
     /// A batch is empty, or counts no records or more than 64.

@@ -1,5 +1,5 @@
-//! What an operator corrects between two runs of the tapes: an offset or a common variable.
-//! edit_texts, path_state and two_path use what it exports.
+//! What an operator corrects in a run before it goes on: an offset or a common variable of a path.
+//! edit_texts reads it, path_state and two_path do it, and a record of the journal has it.
 
 ghost use Rattle.std.specs.Prelude.{◌≡◌};
 
@@ -10,8 +10,8 @@ use offset_store::{Offset, Slot};
 /// A correction of one path: an offset, or a common variable, is set by the operator.
 #[derive(Clone, Copy, Debug, PartialEq, Eq)]
 pub enum Edit {
-    /// This offset of the path gets this point.
+    /// An offset of the path gets this point.
     Offset { slot: Slot, to: Offset },
-    /// This common variable, the path's own or a shared one, gets a value or is made vacant.
+    /// A common variable, the path's own or a shared one, gets a value or is made vacant.
     Common { variable: CommonNumber, to: Var },
 }

@@ -1,6 +1,5 @@
-//! A record, and its bytes. It is written here, and read in reading.rt.
-//! lathe_calls, nc_restart, run_branch, run_journal, run_table, trace_list, two_path and
-//! zone_check use what it exports.
+//! A record of a run, and its bytes: it is spelled here, and read in reading.rt. run_journal writes
+//! records, two_path makes them and does them again, and all crates of histories list them.
 
 ghost use Rattle.std.specs.Prelude.{◌≡◌, ◌↔◌, ◌+◌, ◌*◌, ◌≤◌, ◌++◌, ◌∷◌, [], ℕ, List, length, take, drop, Option, Some, None, is_none, IsTrue};
 ghost use Rattle.std.specs.Option.{option_copied};
@@ -23,17 +22,17 @@ pub const LONGEST_RECORD: usize = 131;
 /// What a path did in a step, or what was corrected of it.
 #[derive(Clone, Copy, Debug, PartialEq, Eq)]
 pub enum EntryKind {
-    /// It did a whole block.
+    /// The path did a whole block.
     Did,
-    /// It arrived at a wait.
+    /// The path arrived at a wait.
     Arrived,
-    /// It met the other path at a wait.
+    /// The path met the other path at a wait.
     Met,
-    /// It ended.
+    /// The path ended.
     Ended,
-    /// It raised an alarm.
+    /// The path raised an alarm.
     Alarmed,
-    /// An operator corrected one of its offsets or variables.
+    /// An operator corrected one of the path's offsets or variables.
     Edited(Edit),
 }
 
@@ -52,7 +51,7 @@ impl EntryKind {
         }
     }
 
-    /// The edit that it is, if it is one and no step.
+    /// The edit that the kind is, if it is one and no step.
     pub fn edit(&self) -> Option<&Edit>
         ensures { option_copied result ≡ edit_of self.now }
     {
@@ -62,14 +61,14 @@ impl EntryKind {
         }
     }
 
-    /// Whether it is a step of the path, and no edit.
+    /// Whether the kind is a step of the path, and no edit.
     pub fn is_step(&self) -> bool
         ensures { result ≡ is_none (edit_of self.now) }
     {
         self.edit().is_none()
     }
 
-    /// Whether it is a meeting of both paths.
+    /// Whether the kind is a meeting of both paths.
     pub fn is_meeting(&self) -> bool
         ensures { result ≡ is_meeting self.now }
     {
@@ -83,7 +82,7 @@ impl EntryKind {
         }
     }
 
-    /// Whether both are the same step.
+    /// Whether both kinds are one and the same step; an edit is none.
     pub fn is_same_step(&self, other: &EntryKind) -> bool
         ensures { IsTrue result ↔ ((self.now ≡ other.now) × (edit_of self.now ≡ None)) }
     {
@@ -94,7 +93,9 @@ impl EntryKind {
 /// One record of a run. An edit has no stamps, since it reads nothing.
 #[derive(Debug, Drop)]
 pub struct Entry {
+    /// The path that made the step, or that was corrected.
     pub path: Path,
+    /// What it did, or what was corrected.
     pub kind: EntryKind,
     /// For each read of the step, the number of records at that moment.
     pub stamps: StampList,
@@ -152,7 +153,7 @@ pub fn put_entry(entry: &Entry, into: &mut [u8]) -> usize
     }
 }
 
-/// Path and kind.
+/// Puts the bytes of path and kind at the front of the slice.
 fn put_head(path: Path, kind: &EntryKind, into: &mut [u8])
     requires { 2 ≤ length into.old }
     ensures { into.new ≡ number_of path ∷ kind_number kind.now ∷ drop 2 into.old }
@@ -160,7 +161,7 @@ fn put_head(path: Path, kind: &EntryKind, into: &mut [u8])
     into[..2].copy_from_slice(&[path.number(), kind.number()]);
 }
 
-/// The numbers of an edit, behind path and kind.
+/// Puts the numbers of an edit after path and kind, and answers how many bytes the record has.
 fn put_edit(edit: &Edit, into: &mut [u8]) -> usize
     requires { 21 ≤ length into.old }
     ensures bytes { into.new ≡ take 2 into.old ++ (numbers_bytes (numbers_of edit.now) ++ drop 21 into.old) }
@@ -171,7 +172,7 @@ fn put_edit(edit: &Edit, into: &mut [u8]) -> usize
     21
 }
 
-/// The bytes of the numbers of an edit, at the front.
+/// Puts the bytes of the numbers of an edit at the front of the slice.
 fn put_numbers(numbers: &EditNumbers, into: &mut [u8])
     requires { 19 ≤ length into.old }
     ensures { into.new ≡ numbers_bytes numbers.now ++ drop 19 into.old }
@@ -182,7 +183,8 @@ fn put_numbers(numbers: &EditNumbers, into: &mut [u8])
     BigEndian::write_i64(&mut into[11..], numbers.b);
 }
 
-/// The number of stamps, and each of them, behind path and kind.
+/// Puts the number of stamps and each of them after path and kind, and answers how many bytes the
+/// record has.
 fn put_stamps(stamps: &[u32], into: &mut [u8]) -> usize
     requires few { length stamps.now ≤ MOST_READS }
     requires room { LONGEST_RECORD ≤ length into.old }
@@ -195,7 +197,7 @@ fn put_stamps(stamps: &[u32], into: &mut [u8]) -> usize
     3 + 4 * stamps.len()
 }
 
-/// The bytes of each stamp, from the front on.
+/// Puts the bytes of each stamp, four of them, at the front of the slice.
 fn put_each(stamps: &[u32], into: &mut [u8])
     requires { 4 * length stamps.now ≤ length into.old }
     ensures { into.new ≡ stamp_bytes stamps.now ++ drop (4 * length stamps.now) into.old }

@@ -1,5 +1,5 @@
-//! What a list of records keeps of each one beside its stamps, or beside its edit.
-//! For this crate alone: lists.rt uses it.
+//! What a list of records keeps of each one beside its stamps, or beside its edit: a head of 16
+//! bytes. For lists.rt of this crate alone.
 
 ghost use Rattle.std.specs.Prelude.{◌≡◌, Some, None, IfSome};
 ghost use Rattle.run_records.specs.Entries.{edit_of};
@@ -8,7 +8,7 @@ ghost use Rattle.run_records.specs.Heads.{step_of, step_in};
 use crate::EntryKind;
 use nc_number::Path;
 
-/// The kind of a record without its edit.
+/// The kind of a record without its edit, by the names of `EntryKind`.
 #[derive(Clone, Copy, Debug)]
 pub(crate) enum HeadKind {
     Did,
@@ -34,7 +34,7 @@ impl HeadKind {
         }
     }
 
-    /// The step that it is, if it is no edit.
+    /// The step that the kind is, if it is no edit.
     pub(crate) fn step(self) -> Option<EntryKind>
         ensures step { result ≡ step_of self }
         ensures no_edit { IfSome result (λ kind. edit_of kind ≡ None) }
@@ -50,12 +50,14 @@ impl HeadKind {
     }
 }
 
-/// The head of a record in a list. A record has place for 32 stamps, and most records have none: so
-/// a list keeps the stamps of all its records behind one another, and its edits too, and of each
-/// record a head, which says where its stamps stand among the stamps, or its edit among the edits.
+/// The head of a record in a list. A record has place for 32 stamps, and most records have none. A
+/// list keeps the stamps of all its records in one row and the edits in another, and of each record
+/// a head, which says where its stamps stand among the stamps, or its edit among the edits.
 #[derive(Clone, Copy, Debug)]
 pub(crate) struct Head {
+    /// The path of the record.
     pub(crate) path: Path,
+    /// The kind of the record, without its edit.
     pub(crate) kind: HeadKind,
     /// How many stamps the record has, at most 32.
     pub(crate) count: u8,

@@ -1,6 +1,6 @@
-//! The header of a run, and its bytes. It is written and read here. Batches of records are
-//! run_journal's.
-//! lathe_top, nc_restart, run_branch, run_journal and run_table use what it exports.
+//! The header of a run, and its bytes: it is spelled and read here. run_journal writes it before
+//! the batches of records; nc_restart judges its texts again, and run_branch begins a new journal
+//! with it.
 
 ghost use Rattle.std.specs.Prelude.{◌≡◌, ◌+◌, ◌*◌, ◌^◌, ◌≤◌, ◌<◌, ◌++◌, [], ◌∷◌, ℕ, List, length, take, drop, IfOk, IfErr, IfSome, IfNone, OnOk};
 ghost use Rattle.run_records.specs.declared.header.Header.{Header};
@@ -21,16 +21,20 @@ const TOO_LONG: usize = 1 << 32;
 /// journal that begins with them.
 #[derive(Debug, Drop)]
 pub struct Header {
+    /// How the journal may go on.
     pub version: Version,
+    /// The text of the settings.
     pub settings: ByteList,
+    /// The tape of path 1.
     pub left: ByteList,
+    /// The tape of path 2.
     pub right: ByteList,
 }
 
 /// Why bytes are no header.
 #[derive(Clone, Copy, Debug, PartialEq, Eq, Error)]
 pub enum HeaderFault {
-    /// They spell none: `BadRecord::NoHeader`.
+    /// The bytes spell no header: `BadRecord::NoHeader`.
     #[error("bad header")]
     Bad,
     /// There is no memory left.
@@ -41,6 +45,7 @@ pub enum HeaderFault {
 impl From<AllocError> for HeaderFault {
     ghost from_gives = { λ _ fault. fault ≡ Memory };
 
+    /// Memory that runs out while a header is read is `NoMemory`.
     fn from(_e: AllocError) -> HeaderFault {
         HeaderFault::NoMemory
     }
@@ -58,7 +63,7 @@ pub fn put_header(alloc: Global, header: &Header) -> Result<Vec<u8>, NoMemory>
     Ok(bytes)
 }
 
-/// The length of a text in four bytes, and the text.
+/// Adds the length of a text in four bytes, and the text. The error is that memory ran out.
 fn put_text(into: &mut Vec<u8>, text: &[u8]) -> Result<(), NoMemory>
     requires { length text.now < 2 ^ 32 }
     ensures { OnOk result (into.new.items ≡ into.old.items ++ text_bytes text.now) }
@@ -70,8 +75,8 @@ fn put_text(into: &mut Vec<u8>, text: &[u8]) -> Result<(), NoMemory>
     Ok(())
 }
 
-/// Reads a header that these bytes spell, all of them. The error is `Bad` only where they spell
-/// none; else that memory ran out.
+/// Reads the header that these bytes spell, all of them. The error is `Bad` only if they spell
+/// none; else it is that memory ran out.
 pub fn take_header(alloc: Global, bytes: &[u8]) -> Result<Header, HeaderFault>
     ensures header { IfOk result (λ header. bytes.now ≡ header_bytes header) }
     ensures short { IfOk result IsShort }
@@ -92,7 +97,7 @@ pub fn take_header(alloc: Global, bytes: &[u8]) -> Result<Header, HeaderFault>
     })
 }
 
-/// The version and the three texts of a header.
+/// The version and the three texts of the header that the bytes spell, if they spell one.
 fn parts_of(bytes: &[u8]) -> Option<(Version, &[u8], &[u8], &[u8])>
     ensures some { IfSome result (λ parts. bytes.now ≡ header_mark parts.0
         ++ text_bytes parts.1.now ++ text_bytes parts.2.now ++ text_bytes parts.3.now) }
@@ -116,7 +121,7 @@ fn parts_of(bytes: &[u8]) -> Option<(Version, &[u8], &[u8], &[u8])>
     Some((version, settings, left, right))
 }
 
-/// The version, and what stands behind it.
+/// The version by the mark at the front, and what follows the mark; none if there is no mark.
 fn behind_mark(bytes: &[u8]) -> Option<(Version, &[u8])>
     ensures some { IfSome result (λ found. bytes.now ≡ header_mark found.0 ++ found.1.now) }
     ensures none { IfNone result ((version : Version) (rest : List ℕ) → bytes.now ≡ header_mark version ++ rest → ⊥) }
@@ -128,7 +133,8 @@ fn behind_mark(bytes: &[u8]) -> Option<(Version, &[u8])>
     }
 }
 
-/// A text and what stands behind it.
+/// The text at the front, which follows its length, and what comes after it; none if the bytes are
+/// too few.
 fn text_at(bytes: &[u8]) -> Option<(&[u8], &[u8])>
     ensures some { IfSome result (λ found. (bytes.now ≡ text_bytes found.0.now ++ found.1.now)
         × (length found.0.now < 2 ^ 32)) }

@@ -1,4 +1,5 @@
-//! Each record and each header has one spelling.
+//! Laws of spelling: each record and each header has one. run_journal and two_path take their
+//! lemmas (proofs/OneSpelling.antt, proofs/Texts.antt), so that a journal has one meaning.
 
 ghost use Rattle.std.specs.Prelude.{◌≡◌, ◌++◌, ℕ, List, None};
 ghost use Rattle.run_records.specs.Entries.{Entry};
@@ -7,8 +8,8 @@ ghost use Rattle.run_records.specs.Spelling.{entry_bytes, IsEntry};
 ghost use Rattle.run_records.specs.Headers.{header_bytes, IsShort};
 ghost use Rattle.run_records.specs.Causes.{cause_of};
 
-/// A record has one spelling, which is no beginning of another record's, and whatever follows it,
-/// there is no cause why it is none.
+/// A record has one spelling, which is no prefix of another record's, and whatever follows it, no
+/// cause says that it is none.
 pub fn an_entry_has_one_spelling()
     ensures one { (entry other : Entry) (rest more : List ℕ) → IsEntry entry → IsEntry other
         → entry_bytes entry ++ rest ≡ entry_bytes other ++ more
@@ -16,7 +17,7 @@ pub fn an_entry_has_one_spelling()
     ensures read_again { (entry : Entry) (rest : List ℕ) → IsEntry entry → cause_of (entry_bytes entry ++ rest) ≡ None }
 {}
 
-/// A header has one spelling.
+/// A header has one spelling: two headers with the same bytes are the same.
 pub fn a_header_has_one_spelling()
     ensures { (header other : Header) → IsShort header → IsShort other
         → header_bytes header ≡ header_bytes other → header ≡ other }

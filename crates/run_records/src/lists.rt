@@ -1,6 +1,5 @@
-//! The lists that records and headers are made of.
-//! lathe_calls, lathe_top, move_list, nc_restart, run_branch, run_journal, run_table, trace_list,
-//! turn_order, turret_run, two_path and zone_check use what it exports.
+//! The list of a record's stamps, and lists of records. run_table keeps a history in such a list,
+//! nc_restart reads one from a journal, and reports, traces and zones are made of it.
 
 ghost use Rattle.std.specs.Prelude.{◌≡◌, ◌+◌, ◌^◌, ◌≤◌, ◌<◌, ◌++◌, [], ◌∷◌, List, ℕ, length, get_or, OnOk, vec_len, vec_capacity};
 ghost use Rattle.nc_number.specs.declared.limits.TheConstants.{MOST_READS};
@@ -20,6 +19,7 @@ use std::marker::Model;
 /// moment. It takes no memory.
 #[derive(Debug, Drop)]
 pub struct StampList {
+    /// The stamps, in order.
     stamps: ArrayVec<u32, MOST_READS>,
 }
 
@@ -45,7 +45,7 @@ impl StampList {
         }
     }
 
-    /// These stamps.
+    /// The list of these stamps, at most 32.
     pub(crate) fn of(stamps: &[u32]) -> StampList
         requires { length stamps.now ≤ MOST_READS }
         ensures { result ≡ stamps.now }
@@ -66,7 +66,7 @@ impl StampList {
         self.stamps.as_slice()
     }
 
-    /// Adds a stamp behind the others.
+    /// Adds a stamp after the others.
     pub fn push(&mut self, stamp: u32)
         requires { length self.old < MOST_READS }
         ensures { self.new ≡ self.old ++ stamp ∷ [] }
@@ -81,7 +81,9 @@ impl StampList {
 pub struct EntryList {
     /// The head of each record.
     heads: Vec<Head>,
+    /// The stamps of all records, record by record.
     stamps: Vec<u32>,
+    /// The edits of all records, in order.
     edits: Vec<Edit>,
     /// How many records there is room for in all.
     room: usize,
@@ -156,7 +158,7 @@ impl EntryList {
         Ok(())
     }
 
-    /// Adds a record behind the others. It takes no memory.
+    /// Adds a record after the others. It takes no memory.
     pub fn push(&mut self, entry: Entry)
         requires { length self.old.items < self.old.room }
         ensures items { self.new.items ≡ self.old.items ++ entry ∷ [] }
@@ -175,7 +177,8 @@ impl EntryList {
     }
 }
 
-/// Where the stamps of a record, or its edit, will stand: behind so many stamps, or so many edits.
+/// Where the stamps of a new record, or its edit, will stand: after so many stamps, or so many
+/// edits.
 fn place_of(kind: HeadKind, stamps: usize, edits: usize) -> usize
     ensures { result ≡ place_of (step_of kind) stamps edits }
 {
@@ -185,7 +188,7 @@ fn place_of(kind: HeadKind, stamps: usize, edits: usize) -> usize
     }
 }
 
-/// Puts the edit that a kind is, if it is one, behind the others.
+/// Adds the edit that a kind is, if it is one, after the others.
 fn push_edit(edits: &mut Vec<Edit>, kind: &EntryKind)
     requires { vec_len edits.old < vec_capacity edits.old }
     ensures items { edits.new.items ≡ edits.old.items ++ edits_in (edit_of kind.now) }

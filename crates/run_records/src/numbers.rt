@@ -1,6 +1,5 @@
-//! An edit as the four numbers that its record has. An edit becomes numbers, and numbers that are
-//! those of an edit become one.
-//! For this crate alone: entry.rt and reading.rt use it.
+//! An edit as the four numbers that its record has: an edit becomes numbers, and numbers that are
+//! those of an edit become one. For entry.rt and reading.rt of this crate alone.
 
 ghost use Rattle.std.specs.Prelude.{◌≡◌, IfSome};
 ghost use Rattle.run_records.specs.Edits.{numbers_of, offset_numbers, variable_numbers, slot_of, var_of, edit_with, IsEdit};
@@ -18,7 +17,7 @@ pub(crate) struct EditNumbers {
     /// The number of the offset, where work offset 0 is the external one and 1 to 6 are those of
     /// G54 to G59, or of the variable.
     pub(crate) number: u16,
-    /// Of an offset X in 0.001 mm; 0 where a variable is made vacant, and 1 where it gets a value.
+    /// Of an offset X in 0.001 mm; of a variable 0 if it is made vacant, and 1 if it gets a value.
     pub(crate) a: i64,
     /// Of an offset Z in 0.001 mm; of a variable its value in millionths, or 0.
     pub(crate) b: i64,
@@ -107,7 +106,7 @@ fn slot_of(what: u8, number: u16) -> Option<Slot>
     }
 }
 
-/// The value that these numbers stand for, if there is one.
+/// What a variable gets by these numbers: vacant, or a value; none if they stand for neither.
 fn var_of(a: i64, b: i64) -> Option<Var>
     ensures { result ≡ var_of a b }
 {

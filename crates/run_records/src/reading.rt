@@ -1,6 +1,5 @@
-//! A record, read from its bytes. It is written in entry.rt. Whether it is legal is not asked
-//! here.
-//! run_journal uses what it exports.
+//! A record, read from its bytes, or the cause why they begin with none. entry.rt spells it.
+//! Whether it is legal is not asked here. run_journal reads the records of a batch by it.
 
 ghost use Rattle.std.specs.Prelude.{◌≡◌, ◌+◌, ◌*◌, ◌≤◌, ◌++◌, ◌∷◌, ℕ, List, length, take, drop, Some, None, Ok, IfOk, IfErr, IfSome, IsSome, ◌↔◌, ◌⊎◌};
 ghost use Rattle.nc_number.specs.declared.limits.TheConstants.{MOST_READS};
@@ -22,8 +21,8 @@ const EDITED: u8 = 6;
 const EDIT_SIZE: usize = 19;
 
 /// Reads the record that the bytes begin with, and answers it and how many bytes it has. It takes
-/// no memory. Where there is none, the error is the least cause that holds of the bytes that are
-/// there: `NoPath`, `NoKind`, `TooManyStamps`, `WrongLength` where the bytes end before the record
+/// no memory. If there is none, the error is the least cause that holds of the bytes that are
+/// there: `NoPath`, `NoKind`, `TooManyStamps`, `WrongLength` if the bytes end before the record
 /// does, or `BadEdit`.
 pub fn take_entry(bytes: &[u8]) -> Result<(Entry, usize), BadRecord>
     ensures whole { IfOk result (λ found. cause_of bytes.now ≡ None) }
@@ -50,7 +49,8 @@ pub fn take_entry(bytes: &[u8]) -> Result<(Entry, usize), BadRecord>
     }
 }
 
-/// The record of an edit of this path, where its numbers are at the front of the bytes.
+/// The record of an edit of this path, whose numbers the bytes begin with, and its size. Errors:
+/// `WrongLength`, or `BadEdit`.
 fn take_edit(path: Path, bytes: &[u8]) -> Result<(Entry, usize), BadRecord>
     ensures whole { IfOk result (λ found. cause_of (number_of path ∷ 6 ∷ bytes.now) ≡ None) }
     ensures bytes { IfOk result (λ found. number_of path ∷ 6 ∷ bytes.now
@@ -69,7 +69,7 @@ fn take_edit(path: Path, bytes: &[u8]) -> Result<(Entry, usize), BadRecord>
     }
 }
 
-/// The numbers of an edit.
+/// The numbers of an edit, which the bytes begin with.
 fn take_numbers(bytes: &[u8]) -> EditNumbers
     requires { 19 ≤ length bytes.now }
     ensures numbers { result ≡ numbers_in bytes.now }
@@ -86,8 +86,8 @@ fn take_numbers(bytes: &[u8]) -> EditNumbers
     }
 }
 
-/// The record of a step of this path and this kind, where its stamps are at the front of the bytes,
-/// behind their number.
+/// The record of a step of this path and this kind, and its size. The bytes begin with the number
+/// of its stamps and the stamps. Errors: `WrongLength`, or `TooManyStamps`.
 fn take_step(path: Path, kind: EntryKind, bytes: &[u8]) -> Result<(Entry, usize), BadRecord>
     requires { edit_of kind ≡ None }
     ensures whole { IfOk result (λ found. cause_of (number_of path ∷ kind_number kind ∷ bytes.now) ≡ None) }
@@ -112,7 +112,7 @@ fn take_step(path: Path, kind: EntryKind, bytes: &[u8]) -> Result<(Entry, usize)
     Ok((Entry::of_step(path, kind, stamps), 3 + 4 * count))
 }
 
-/// The step of this kind byte.
+/// The step of this kind byte, if it is one of 1 to 5.
 fn kind_of(byte: u8) -> Option<EntryKind>
     ensures some { IfSome result (λ kind. kind_number kind ≡ byte) }
     ensures step { IfSome result (λ kind. edit_of kind ≡ None) }

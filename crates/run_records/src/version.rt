@@ -1,5 +1,5 @@
-//! Versions of the journal. docs/JOURNAL.md has what differs.
-//! lathe_top, run_edits and run_journal use what it exports.
+//! Versions of the journal, which the header begins with; docs/JOURNAL.md has what differs.
+//! run_journal opens both, run_edits raises a run to version 2 before its first edit.
 ghost use Rattle.std.specs.Prelude.{◌≡◌};
 ghost use Rattle.run_records.specs.Headers.{version_number, header_mark};
 
@@ -14,7 +14,7 @@ pub enum Version {
 }
 
 impl Version {
-    /// 1 or 2.
+    /// The number of the version, 1 or 2.
     pub fn number(self) -> u8
         ensures { result ≡ version_number self }
     {
@@ -24,7 +24,7 @@ impl Version {
         }
     }
 
-    /// `TWIN`, and the version in two bytes.
+    /// The mark that a header of this version begins with: `TWIN`, and the version in two bytes.
     pub(crate) fn mark(self) -> [u8; 6]
         ensures { result ≡ header_mark self }
     {

@@ -1,4 +1,4 @@
--- Lines one after the other, as the loops write them.
+-- Lines one after the other, as the loops of `put_round` and `tape` (src/tape.rt) write them.
 use Rattle.std.proofs.Common.{◌≡◌, ℕ, zero, suc, ◌+◌, ◌-◌, ◌≤◌, List, [], ◌∷◌, ◌++◌, map, refl, ap, sym, arith, append_assoc, codes}
 use Rattle.std.specs.List.{flat_map, range_with_len}
 use Rattle.std.proofs.lemmas.Grind.{flat_map-append}
@@ -6,17 +6,17 @@ use Rattle.std.proofs.lemmas.List.{append-nil, map-append}
 use Rattle.nc_number.specs.declared.path.Path.{Path}
 use Rattle.tape_maker.specs.MadeTape.{cut_line, cuts, end_lines, ended, head_lines, made_lines, made_tape, round_lines, rounds, text_of, variable_line, wait_line}
 
--- the text of lines in two parts,
+-- the text of two lists of lines is the text of the first and that of the second
 pub text_of-append : (xs ys : List (List ℕ)) → text_of (xs ++ ys) ≡ text_of xs ++ text_of ys
 unfolding text_of
 text_of-append xs ys = flat_map-append ended xs ys
 
--- of one line,
+-- the text of one line is that line and its line feed
 pub text_of-one : (x : List ℕ) → text_of (x ∷ []) ≡ ended x
 unfolding text_of
 text_of-one x = append-nil (ended x)
 
--- and of two lines
+-- the text of two lines is each line and its line feed
 pub text_of-two : (x y : List ℕ) → text_of (x ∷ y ∷ []) ≡ ended x ++ ended y
 unfolding text_of
 text_of-two x y = ap (λ t. ended x ++ t) (append-nil (ended y))
@@ -34,7 +34,7 @@ pub first_line : (f : ℕ → List ℕ) (before : List ℕ) → before ≡ befor
 unfolding text_of
 first_line f before = sym (append-nil before)
 
--- one more line, made from a number, at the end of a text
+-- a text that ends with n lines made from numbers, and the next such line, ends with n + 1 of them
 pub line_more : (f : ℕ → List ℕ) (before now after : List ℕ) (n : ℕ)
     → now ≡ before ++ text_of (map f (range_with_len 0 n)) → after ≡ now ++ ended (f n)
     → after ≡ before ++ text_of (map f (range_with_len 0 (n + 1)))
@@ -42,7 +42,7 @@ line_more f before now after n so_far here =
     let e = range_more 0 n n (omega arith) in
     rw (e, map-append, text_of-append, text_of-one (f n), ← append_assoc, ← so_far) here
 
--- the text behind one more round ends with its lines
+-- a text of a head and rounds, and the text of one round more, is that of the head and all rounds
 pub round_more : (f : ℕ → List (List ℕ)) (head : List (List ℕ)) (now after : List ℕ) (round : ℕ) → 1 ≤ round
     → now ≡ text_of (head ++ flat_map f (range_with_len 1 (round - 1))) → after ≡ now ++ text_of (f round)
     → after ≡ text_of (head ++ flat_map f (range_with_len 1 (round + 1 - 1)))
@@ -52,12 +52,12 @@ round_more f head now after round counted so_far here =
     let last : flat_map f (round ∷ []) ≡ f round = append-nil (f round) in
     rw (next, e, flat_map-append, last, ← append_assoc, text_of-append, ← so_far) here
 
--- a round has 98 cuts,
+-- the cuts of a round are the numbers from 0 on, 98 of them
 cuts_are : (n : ℕ) → n ≡ 98 → cuts ≡ range_with_len 0 n
 unfolding cuts
 cuts_are n e = rw e refl
 
--- and a tape has 50 rounds
+-- the rounds of a tape are the numbers from 1 on, 50 of them
 rounds_are : (n : ℕ) → n ≡ 50 → rounds ≡ range_with_len 1 n
 unfolding rounds
 rounds_are n e = rw e refl
@@ -68,7 +68,7 @@ round_lines_are : (path : Path) (number round : ℕ)
 unfolding round_lines
 round_lines_are path number round = refl
 
--- a round is its cuts, its line on a variable and its wait
+-- after 98 cuts, the line on a variable and the wait a text ends with a whole round
 pub round_done : (path : Path) (number round : ℕ) (before now later : List ℕ) (cut : ℕ) → cut ≡ 98
     → now ≡ before ++ text_of (map (cut_line path number round) (range_with_len 0 cut))
     → later ≡ now ++ ended (variable_line path round)
@@ -76,7 +76,7 @@ pub round_done : (path : Path) (number round : ℕ) (before now later : List ℕ
 round_done path number round before now later cut all so_far statement =
     rw (round_lines_are path number round, cuts_are cut all, text_of-append, text_of-two, ← append_assoc, ← append_assoc, ← so_far, statement) refl
 
--- before the first round stand the lines of the head
+-- the text of the head and no round is the four lines that the code writes first
 pub first_round : (f : ℕ → List (List ℕ)) → text_of (head_lines ++ flat_map f (range_with_len 1 0)) ≡ codes "%\nO0001\nG00 X200. Z100.\nG99 F0.2\n"
 unfolding head_lines text_of
 first_round f = refl
@@ -92,7 +92,7 @@ pub made_tape_is : (path : Path) (number : ℕ)
 unfolding made_tape made_lines
 made_tape_is path number = refl
 
--- a tape is its head, its rounds and its end
+-- after the head, 50 rounds and the end a text is a made tape
 pub tape_done : (path : Path) (number : ℕ) (now after : List ℕ) (round : ℕ) → round ≡ 51
     → now ≡ text_of (head_lines ++ flat_map (round_lines path number) (range_with_len 1 (round - 1)))
     → after ≡ now ++ codes "M30\n%\n"

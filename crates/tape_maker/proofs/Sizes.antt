@@ -1,4 +1,5 @@
--- How many bytes a made tape has at most.
+-- How many bytes a made tape has at most: for `law_of_sizes` (src/laws.rt) and `make_tapes`
+-- (src/tape.rt).
 use Rattle.std.proofs.Common.{◌≡◌, ℕ, ◌+◌, ◌*◌, ◌%◌, ◌<◌, ◌≤◌, cond, true, false, List, [], ◌∷◌, ◌++◌, map, length, refl, ap, ◌∙◌, arith, length-append, codes}
 use Rattle.std.specs.Prelude.{nat_eq}
 use Rattle.std.specs.List.{flat_map, range_with_len}
@@ -10,11 +11,11 @@ use Rattle.nc_number.specs.declared.path.Path.TheVariants.{One, Two}
 use Rattle.tape_maker.specs.MadeTape.{cut_depth, cut_diameter, cut_line, cuts, end_lines, ended, head_lines, made_tape, round_lines, rounds, text_of, variable_line, wait_code, wait_line}
 use Rattle.tape_maker.proofs.Lines.{made_tape_is, text_of-append, text_of-two}
 
--- the bytes of five parts are those of each
+-- the length of five parts in a row is the sum of their lengths
 joined : (a b c d e : List ℕ) → length (a ++ b ++ c ++ d ++ e) ≡ length a + (length b + (length c + (length d + length e)))
 joined a b c d e = omega (arith, length-append (a ++ b ++ c ++ d) e, length-append (a ++ b ++ c) d, length-append (a ++ b) c, length-append a b)
 
--- a cut has 14 bytes at most,
+-- the line of a cut has 14 bytes at most
 cut_length : (path : Path) (number round cut : ℕ) → length (cut_line path number round cut) ≤ 14
 unfolding cut_line
 cut_length path number round cut =
@@ -26,7 +27,7 @@ cut_length path number round cut =
     let few_z : length (decimal z) ≤ 2 = length-decimal-le 2 z (omega arith) small_z (omega (arith, small_z)) in
     omega (arith, joined (codes "G01 X") (decimal x) (codes ". Z-") (decimal z) (codes "."), few_x, few_z)
 
--- a line on a variable 11,
+-- a line on a variable has 11 bytes at most
 variable_length : (path : Path) (round : ℕ) → length (variable_line path round) ≤ 11
 unfolding variable_line
 variable_length One round =
@@ -34,7 +35,7 @@ variable_length One round =
 variable_length Two round =
     elim (nat_eq (round % 2) 1) as (λ b. length (cond b (codes "#1=#1+1") (codes "#502=#501")) ≤ 11) [ true ↦ omega arith | false ↦ omega arith ]
 
--- and a wait 4
+-- the line of a wait has 4 bytes at most
 wait_length : (number round : ℕ) → length (wait_line number round) ≤ 4
 unfolding wait_line
 wait_length number round =
@@ -47,7 +48,7 @@ wait_length number round =
 one_longer : (line : List ℕ) → length (ended line) ≡ length line + 1
 one_longer line = length-append line (10 ∷ [])
 
--- the cuts of a round have 15 bytes each at most,
+-- the cuts of a round have 15 bytes each at most, with their line feeds
 cuts_length : (path : Path) (number round : ℕ) (ks : List ℕ) → length (text_of (map (cut_line path number round) ks)) ≤ 15 * length ks
 unfolding text_of
 cuts_length path number round [] = omega arith
@@ -56,7 +57,7 @@ cuts_length path number round (k ∷ ks) =
     let rest = flat_map ended (map (cut_line path number round) ks) in
     omega (arith, length-append (ended line) rest, one_longer line, cut_length path number round k, cuts_length path number round ks)
 
--- so a round has 1,487: 98 cuts of 15, 12 of the variable and 5 of the wait
+-- a round has 1,487 bytes at most: 98 cuts of 15, 12 of the variable and 5 of the wait
 round_length : (path : Path) (number round : ℕ) → length (text_of (round_lines path number round)) ≤ 1487
 unfolding round_lines cuts
 round_length path number round =
@@ -77,12 +78,12 @@ round_length path number round =
       wait_length number round,
     )
 
--- no lines have no bytes
+-- the text of no lines has no bytes
 nothing : length (text_of []) ≡ 0
 unfolding text_of
 nothing = refl
 
--- all rounds have so many each,
+-- rounds have 1,487 bytes each at most
 rounds_length : (path : Path) (number : ℕ) (ks : List ℕ) → length (text_of (flat_map (round_lines path number) ks)) ≤ 1487 * length ks
 rounds_length path number [] = omega (arith, nothing)
 rounds_length path number (k ∷ ks) =
@@ -92,22 +93,22 @@ rounds_length path number (k ∷ ks) =
     = ap length (text_of-append lines rest) ∙ length-append (text_of lines) (text_of rest) in
     omega (arith, whole, round_length path number k, rounds_length path number ks)
 
--- the head has 33,
+-- the head of a made tape has 33 bytes
 head_length : length (text_of head_lines) ≡ 33
 unfolding head_lines text_of
 head_length = refl
 
--- the end has 6,
+-- the end of a made tape has 6 bytes
 end_length : length (text_of end_lines) ≡ 6
 unfolding end_lines text_of
 end_length = refl
 
--- and there are 50 rounds,
+-- a made tape has 50 rounds
 rounds_are : length rounds ≡ 50
 unfolding rounds
 rounds_are = refl
 
--- so a made tape has 74,389 bytes at most: 33, 50 times 1,487, and 6
+-- a made tape has 74,389 bytes at most: 33, 50 times 1,487, and 6
 pub made_length : (path : Path) (number : ℕ) → length (made_tape path number) ≤ 74389
 made_length path number =
     let middle = flat_map (round_lines path number) rounds in

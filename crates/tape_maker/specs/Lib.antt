@@ -1,2 +1,2 @@
--- The words in which contracts speak of made tapes. Other crates cite them.
+-- The text of a made tape. lathe_top cites it.
 pub mod MadeTape

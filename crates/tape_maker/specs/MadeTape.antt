@@ -1,5 +1,5 @@
--- The text of a made tape, line by line.
--- lathe_top uses these words.
+-- The text of a made tape, line by line: what src/tape.rt writes. lathe_top says by it what `make`
+-- runs.
 use Rattle.std.specs.Prelude.{ℕ, Bool, ◌+◌, ◌*◌, ◌%◌, ◌==◌, if◌then◌else◌, List, [], ◌∷◌, ◌++◌, map, codes}
 use Rattle.std.specs.List.{flat_map, range_with_len, slice_index}
 use Rattle.std.specs.Fmt.{decimal}
@@ -18,43 +18,43 @@ cut_diameter path number round cut = 10 + (number + 7 * round + 3 * cut + number
 abbrev pub cut_depth : ℕ → ℕ → ℕ → ℕ
 cut_depth number round cut = (number + round + cut) % 80
 
--- a cut in a straight line (G01), to such a diameter and depth
+-- the line of a cut: straight (G01), to the diameter and the depth of that cut
 unfoldable pub cut_line : Path → ℕ → ℕ → ℕ → List ℕ
 cut_line path number round cut =
     codes "G01 X" ++ decimal (cut_diameter path number round cut) ++ codes ". Z-" ++ decimal (cut_depth number round cut) ++ codes "."
 
--- path 1 counts the shared variable #501 in the odd rounds and path 2 copies it in the even ones;
--- in its other rounds a path counts a local
+-- the line on a variable in a round: path 1 counts the shared variable #501 in the odd rounds and
+-- path 2 copies it in the even ones; in its other rounds a path counts a local
 unfoldable pub variable_line : Path → ℕ → List ℕ
 variable_line One round = if round % 2 == 1 then codes "#501=#501+1" else codes "#1=#1+1"
 variable_line Two round = if round % 2 == 1 then codes "#1=#1+1" else codes "#502=#501"
 
--- the wait that ends a round: the codes M100 to M197 in turn
+-- the number after M of the wait that ends a round: 100 to 197 in turn
 abbrev pub wait_code : ℕ → ℕ → ℕ
 wait_code number round = 100 + (number + round) % 98
 
--- the line of that wait
+-- the line of the wait that ends a round
 unfoldable pub wait_line : ℕ → ℕ → List ℕ
 wait_line number round = codes "M" ++ decimal (wait_code number round)
 
--- the cuts of a round are counted from 0 to 97
+-- the numbers of the cuts of a round: 0 to 97
 unfoldable pub cuts : List ℕ
 cuts = range_with_len 0 98
 
--- a round: its cuts, its line on a variable and its wait
+-- the lines of a round: its cuts, its line on a variable and its wait
 unfoldable pub round_lines : Path → ℕ → ℕ → List (List ℕ)
 round_lines path number round =
     map (cut_line path number round) cuts ++ variable_line path round ∷ wait_line number round ∷ []
 
--- how a tape begins: the sign %, the program O0001, a rapid, and the feed per turn
+-- how a made tape begins: the sign %, the program O0001, a rapid, and the feed in mm per revolution
 unfoldable pub head_lines : List (List ℕ)
 head_lines = codes "%" ∷ codes "O0001" ∷ codes "G00 X200. Z100." ∷ codes "G99 F0.2" ∷ []
 
--- how it ends: M30 and the sign %
+-- how a made tape ends: M30 and the sign %
 unfoldable pub end_lines : List (List ℕ)
 end_lines = codes "M30" ∷ codes "%" ∷ []
 
--- the rounds are counted from 1
+-- the numbers of the rounds: 1 to 50
 unfoldable pub rounds : List ℕ
 rounds = range_with_len 1 50
 
@@ -70,10 +70,10 @@ ended line = line ++ 10 ∷ []
 unfoldable pub text_of : List (List ℕ) → List ℕ
 text_of lines = flat_map ended lines
 
--- the made tape of a path
+-- the made tape of a path for a number, as a text
 unfoldable pub made_tape : Path → ℕ → List ℕ
 made_tape path number = text_of (made_lines path number)
 
--- a line whose first byte is M (77): a wait or the end of the program
+-- the first byte of the line is M (77): of a made tape, a wait or the end of the program
 unfoldable pub begins_with_m : List ℕ → Bool
 begins_with_m line = slice_index line 0 == 77

@@ -1,4 +1,5 @@
-//! Laws of the made pairs, each the contract of a function that does nothing.
+//! Laws of the made pairs, each the contract of a function that does nothing: what a reader may
+//! rely on of `make N` without reading the text of a tape.
 ghost use Rattle.std.specs.Prelude.{◌≡◌, ◌≢◌, ℕ, ◌+◌, ◌<◌, ◌≤◌, ◌^◌, [], ◌∷◌, ◌++◌, codes, filter, length, map};
 ghost use Rattle.std.specs.Str.Lines.{lines};
 ghost use Rattle.nc_number.specs.declared.path.Path.{Path};
@@ -16,7 +17,7 @@ pub fn law_of_lines()
 {}
 
 /// The lines of a made tape that begin with M are fifty waits and then `M30`, and which waits these
-/// are hangs on the number alone: both paths wait for each other at the same codes in the same
+/// are depends on the number alone: both paths wait for each other at the same codes in the same
 /// order. The codes are waiting codes, and no two waits that follow each other have the same one.
 pub fn law_of_waits()
     ensures waits { (path : Path) (number : ℕ) → filter begins_with_m (made_lines path number)
@@ -26,7 +27,7 @@ pub fn law_of_waits()
     ensures turns { (number round : ℕ) → wait_code number (round + 1) ≢ wait_code number round }
 {}
 
-/// A made tape has at most 74,389 bytes. So both tapes of a pair, with empty settings, fit a run's
+/// A made tape has at most 74,389 bytes, and both tapes of a pair, with empty settings, fit a run's
 /// header, whose eighteen bytes and three texts are fewer than 2^32 together.
 pub fn law_of_sizes()
     ensures longest { (path : Path) (number : ℕ) → length (made_tape path number) ≤ LONGEST_MADE }

@@ -1,5 +1,5 @@
 //! Made tapes, written line by line. The laws of their lines, waits and sizes are in laws.rt.
-//! lathe_top uses what it exports.
+//! lathe_top runs them (`make N`), and race_vectors tests with them.
 ghost use Rattle.std.specs.Prelude.{◌≡◌, ◌≤◌, ◌++◌, IfOk, OnOk, length};
 ghost use Rattle.std.specs.Fmt.{decimal};
 ghost use Rattle.tape_maker.specs.MadeTape.{cut_depth, cut_diameter, cut_line, ended, made_tape, round_lines, text_of, variable_line, wait_line};
@@ -14,7 +14,7 @@ const ROUNDS: u32 = 50;
 /// How many cuts a round has.
 const CUTS: u32 = 98;
 
-/// No made tape has more bytes.
+/// The most bytes of a made tape.
 pub const LONGEST_MADE: usize = 74_389;
 
 /// The tapes of path 1 and path 2 that the number stands for.
@@ -90,8 +90,8 @@ fn depth(number: u32, round: u32, cut: u32) -> u64
     (u64::from(number) + u64::from(round) + u64::from(cut)) % 80
 }
 
-/// Path 1 counts `#501`, which the paths share, in the odd rounds; path 2 copies it in the even
-/// ones.
+/// The line on a variable in a round: path 1 counts `#501`, which the paths share, in the odd
+/// rounds, and path 2 copies it in the even ones; else a path counts a local variable.
 #[tactic(auto, unfolding(crate::specs::MadeTape::variable_line))]
 fn line_on_variable(path: Path, round: u32) -> &'static [u8]
     ensures { result.now ≡ variable_line path round }

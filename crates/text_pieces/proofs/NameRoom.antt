@@ -1,4 +1,5 @@
--- How long the name of a cause is. So that a piece has room for it.
+-- How long the name of a cause is, so that a piece has room for it: for `add_name` (src/piece.rt).
+-- A longer name of a cause needs more room there.
 use Rattle.std.proofs.Common.{◌≡◌, ◌≤◌, nat_le, true, length, refl, rules}
 use Rattle.std.specs.List.{list_all}
 use Rattle.std.proofs.lemmas.List.Elements.{All-contains}
@@ -7,7 +8,7 @@ use Rattle.nc_number.specs.declared.cause.Cause.{Cause}
 use Rattle.nc_number.specs.Causes.{cause_name, every_cause}
 use Rattle.nc_number.proofs.CauseTable.{cause_is_listed}
 
--- each name of the list of all causes is so,
+-- each name in the list of all causes has 19 bytes at most
 short : list_all (λ cause. nat_le (length (cause_name cause)) 19) every_cause ≡ true
 short = refl
 

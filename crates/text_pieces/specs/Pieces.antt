@@ -18,11 +18,11 @@ abbrev pub name_text : Option Cause → List ℕ
 name_text None = []
 name_text (Some cause) = codes " " ++ cause_name cause
 
--- a machine position, or an offset
+-- a point, such as a position or an offset: X and Z in mm with three decimals
 unfoldable pub point_text : Point → List ℕ
 point_text to = codes " X" ++ length_text to.x ++ codes " Z" ++ length_text to.z
 
--- a G or M code has at least two digits
+-- the number of a G or M code, with at least two digits
 unfoldable pub code_text : ℕ → List ℕ
 code_text code = if nat_lt code 10 then codes "0" ++ decimal code else decimal code
 

@@ -1,6 +1,6 @@
-//! A piece of a text. Up to 512 bytes in an array, for one call of a sink.
-//! lathe_looks, lathe_top, move_list, move_text, nc_verify, race_report, trace_list, turret_lines,
-//! wait_verify and zone_cell use what it exports.
+//! A piece of a text: up to 512 bytes in an array, for one call of a sink. All crates that write
+//! reports, verdicts, traces and zones make their lines of pieces. A clause `requires` says how
+//! much room a call asks for.
 ghost use Rattle.std.specs.Prelude.{◌≡◌, ◌+◌, ◌≤◌, ◌%◌, [], ◌++◌, length, codes, decimal};
 ghost use Rattle.nc_number.specs.Printed.{last_digits, length_text, value_text};
 ghost use Rattle.text_pieces.specs.Pieces.{code_text, name_text, numbered, path_name, point_text};
@@ -16,6 +16,7 @@ const MOST_BYTES: usize = 512;
 /// A piece of a text, of which each part is put behind what is there. It takes no memory.
 #[derive(Drop)]
 pub struct Piece {
+    /// The bytes so far, in order.
     bytes: ArrayVec<u8, MOST_BYTES>,
 }
 
@@ -28,7 +29,7 @@ impl Model for Piece {
 }
 
 impl Piece {
-    /// Without a byte.
+    /// A piece without a byte.
     pub fn empty() -> Self
         ensures { result ≡ [] }
     {
@@ -37,7 +38,7 @@ impl Piece {
         }
     }
 
-    /// Its bytes.
+    /// The bytes of the piece, in order.
     pub fn as_slice(&self) -> &[u8]
         ensures { result.now ≡ self.now }
     {
@@ -83,7 +84,7 @@ impl Piece {
         self.add(buffer.format(count).as_bytes());
     }
 
-    /// Adds a length of 0.001 mm with three decimals.
+    /// Adds a length, given in 0.001 mm, in mm with three decimals.
     pub fn add_length(&mut self, increments: i64)
         requires { length self.old + 24 ≤ 512 }
         ensures text { self.new ≡ self.old ++ length_text increments }
@@ -132,7 +133,7 @@ impl Piece {
         self.add_number(u64::from(code));
     }
 
-    /// Adds a path by its number.
+    /// Adds a path as `path` and its number.
     #[tactic(auto, unfolding(crate::specs::Pieces::path_name))]
     pub fn add_path(&mut self, path: Path)
         requires { length self.old + 25 ≤ 512 }
@@ -156,7 +157,7 @@ impl Piece {
         }
     }
 
-    /// Adds the X and the Z of a point.
+    /// Adds the X and the Z of a point, given in 0.001 mm, in mm with three decimals.
     #[tactic(auto, unfolding(crate::specs::Pieces::point_text))]
     pub fn add_point(&mut self, to: Point)
         requires { length self.old + 52 ≤ 512 }

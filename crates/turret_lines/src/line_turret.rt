@@ -50,15 +50,16 @@ impl<K: Sink + Drop> LineTurret<K> {
         }
     }
 
-    /// Its sink. If that tells what was written, it has the lines of what the turret got.
+    /// The sink of the turret. If it tells what was written, that is the lines of what the turret
+    /// got; after a fault a part of one more line may follow.
     pub fn sink(&self) -> &K
         ensures lines { HasStream (K.state result.now).written self.now.told.got self.now.faults }
     {
         &self.sink
     }
 
-    /// Writes the line of a thing that it got. After a call has failed each further one fails too,
-    /// and writes nothing.
+    /// Writes the line of a place or a move, and keeps it as got. After a call has failed each
+    /// further one fails too, and writes nothing.
     fn write(&mut self, line: &Piece, what: &Got) -> Result<(), Failed>
         requires { line.now ≡ got_text what.now }
         ensures ok { OnOk result (Receives (told_state self.old.told.got self.old.calls self.old.settles self.old.faults)
@@ -97,7 +98,7 @@ impl<K: Sink + Drop> Turret for LineTurret<K> {
         self.faults
     }
 
-    /// Writes the line of its place.
+    /// Writes the line of the turret's place.
     fn place(&mut self, at: Point) -> Result<(), Failed> {
         self.write(&place_line(at), &Got::Placed(at))
     }
@@ -107,14 +108,14 @@ impl<K: Sink + Drop> Turret for LineTurret<K> {
         self.write(&move_line(what.line, &what.what), &Got::Moved(*what))
     }
 
-    /// Nothing is left to write: each call wrote its line.
+    /// Counts a settle, which never fails: nothing is left to write, as each call wrote its line.
     fn settle(&mut self) -> Result<(), Failed> {
         self.settles = self.settles.saturating_add(1);
         Ok(())
     }
 }
 
-/// What may go to another thread does.
+/// Only a type whose values may go to another thread fits here.
 fn crosses<T: Send>() {}
 
 /// A law, and no code: a turret may go to another thread if its sink may.

@@ -1,6 +1,5 @@
 //! What a turret got, for clauses alone: it has no bytes, so its two functions are proved by hand
-//! (proofs/told).
-//! For line_turret.rt of this crate.
+//! (proofs/told). For line_turret.rt of this crate alone.
 ghost use Rattle.std.specs.Prelude.{◌≡◌, List, [], ◌∷◌, ◌++◌};
 ghost use Rattle.std.specs.Borrow.{ftrue};
 ghost use Rattle.nc_outside.specs.declared.got.Got.{Got};
@@ -22,14 +21,14 @@ impl Model for Told {
 unsafe impl Send for Told {}
 
 impl Told {
-    /// What a turret got that was not called yet.
+    /// The empty list: what a turret got that was not called yet.
     pub(crate) fn nothing() -> Told
         ensures { result.got ≡ [] }
     {
         Told {}
     }
 
-    /// The same, and this thing after it.
+    /// What a turret got before, and this place or move after it.
     pub(crate) fn with(_before: &Told, _what: &Got) -> Told
         ensures { result.got ≡ _before.now.got ++ _what.now ∷ [] }
     {

@@ -1,12 +1,13 @@
-//! Word lists with the commands that they give.
+//! Words of the command line with the commands that they give, as one table. It tests `read_words`
+//! of clap_reading.
 
 use clap_reading::read_words;
 use command_words::{Command, ProgramRange, TurretFiles, WordsFault};
 use std::alloc::{AllocError, Global};
 use std::test::Fail;
 
-/// Words, each one space behind the one before, and what they give. Two spaces hold an empty word.
-/// A file of a turret stands behind a `>`, as `1>a`.
+/// Words, with one space between two, and what they give. Two spaces hold an empty word.
+/// A file of a turret stands after a `>`, as `1>a`.
 const ROWS: &str = "verify l r s -> verify [l] [r] [s]
 verify -> usage
 verify l -> usage
@@ -197,6 +198,7 @@ help -> usage
 codes -> usage
  -> usage";
 
+/// Each row's words give the row's command.
 #[test]
 fn commands_of_words(rt: HostRuntime) -> Result<(), Fail> {
     for line in ROWS.lines() {
@@ -208,6 +210,7 @@ fn commands_of_words(rt: HostRuntime) -> Result<(), Fail> {
     Ok(())
 }
 
+/// The words of a row, cut at each space.
 fn words_of(alloc: Global, row: &str) -> Result<Vec<String>, AllocError> {
     let mut words = Vec::new(alloc);
     for word in row.split(' ') {
@@ -216,6 +219,7 @@ fn words_of(alloc: Global, row: &str) -> Result<Vec<String>, AllocError> {
     Ok(words)
 }
 
+/// A command, or why there is none, as the rows write it.
 fn shown(alloc: Global, answer: Result<Command, WordsFault>) -> Result<String, AllocError> {
     match answer {
         Ok(Command::Verify(left, right, settings)) => {
@@ -282,6 +286,7 @@ fn shown(alloc: Global, answer: Result<Command, WordsFault>) -> Result<String, A
     }
 }
 
+/// A range of programs as the rows write it: a space before each end, and nothing if there is none.
 fn range_shown(alloc: Global, outside: Option<ProgramRange>) -> Result<String, AllocError> {
     match outside {
         Some(range) => {
@@ -293,6 +298,7 @@ fn range_shown(alloc: Global, outside: Option<ProgramRange>) -> Result<String, A
     }
 }
 
+/// The files of turrets as the rows write them: ` 1>` and ` 2>` before the names.
 fn files_shown(alloc: Global, files: &TurretFiles) -> Result<String, AllocError> {
     let mut shown = String::new(alloc);
     if let Some(one) = &files.one {
@@ -306,6 +312,7 @@ fn files_shown(alloc: Global, files: &TurretFiles) -> Result<String, AllocError>
     Ok(shown)
 }
 
+/// No words at all give no command.
 #[test]
 fn no_words_are_no_command(rt: HostRuntime) {
     let words: Vec<String> = Vec::new(rt.alloc());

@@ -1,4 +1,4 @@
--- Leaves out the offset for the same path, kind and number (src/preset.rt).
+-- `leave_out` takes the offset for the same path, kind and number out of the list (src/preset.rt).
 use Rattle.std.proofs.Common.{rules, not}
 use Rattle.std.proofs.lemmas.Fn.{filter_same}
 use Rattle.cell_settings.specs.Preset.{is_same_place}

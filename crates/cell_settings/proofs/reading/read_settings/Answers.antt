@@ -1,5 +1,5 @@
--- The settings are those of the text, or the fault is its first line that is not allowed
--- (src/reading.rt).
+-- `read_settings` answers the settings of the text, or its first line that is not allowed, unless
+-- memory runs out (src/reading.rt).
 use Rattle.std.proofs.Common.{◌≡◌, ◌+◌, [], ap, sym, ◌∙◌}
 use Rattle.std.proofs.lemmas.Bool.{eqb-true}
 use Rattle.std.proofs.lemmas.List.{nil_from_length}

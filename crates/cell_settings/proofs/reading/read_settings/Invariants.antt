@@ -1,5 +1,5 @@
--- The lines so far are taken, and those that are left decide the fault and the rest of the
--- settings; the text gets shorter (loop of src/reading.rt).
+-- The lines so far are taken into the settings, and those that are left decide the fault and the
+-- rest of the settings; the text gets shorter (loop of `read_settings`, src/reading.rt).
 use Rattle.std.proofs.Common.{◌≡◌, ◌+◌, ◌≤◌, length}
 use Rattle.std.specs.Str.Lines.{lines}
 use Rattle.field_lines.specs.Line.{line_says, entries_of, first_refused}

@@ -1,4 +1,4 @@
--- One bit more is set, and the mask still has only switches 1 to 9 (src/settings.rt).
+-- `with_switch` sets one bit more, and the mask still has only switches 1 to 9 (src/settings.rt).
 use Rattle.std.proofs.Common.{bit_or, arith, ap, sym, subst}
 use Rattle.std.proofs.lemmas.Nat.{one_shl}
 use Rattle.cell_settings.specs.Settings.{IsSwitches}

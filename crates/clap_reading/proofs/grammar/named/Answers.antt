@@ -1,4 +1,5 @@
--- One word more is added, and the command read so far is that of the words so far (src/grammar.rt).
+-- `named` adds one word more at each turn, and what a parse reads of the command is that of the
+-- words so far (src/grammar.rt).
 use Rattle.std.proofs.Common.{[], arith}
 use Rattle.clap.specs.Words.{new_app}
 use Rattle.clap_reading.specs.Grammar.{with_name_rule}

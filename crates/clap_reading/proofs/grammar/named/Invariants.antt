@@ -1,4 +1,5 @@
--- The command so far is that of the row's words so far (loop of src/grammar.rt).
+-- The command so far is that of the row's words so far (loop of `named`,
+-- src/grammar.rt).
 use Rattle.std.proofs.Common.{map, take}
 use Rattle.std.specs.List.{fold}
 use Rattle.clap.specs.Words.{new_app}

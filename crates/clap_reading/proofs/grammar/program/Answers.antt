@@ -1,4 +1,5 @@
--- One row more is added; after the last the command is the program's (src/grammar.rt).
+-- `program` adds one row more at each turn; after the last the command is the program's
+-- (src/grammar.rt).
 use Rattle.std.proofs.Common.{[], arith}
 use Rattle.clap_reading.specs.Grammar.{bare_app, with_row}
 use Rattle.command_words.specs.Table.{row_seen}

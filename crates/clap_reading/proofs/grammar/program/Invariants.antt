@@ -1,4 +1,4 @@
--- The command so far is that of the rows so far (loop of src/grammar.rt).
+-- The command so far is that of the rows so far (loop of `program`, src/grammar.rt).
 use Rattle.std.proofs.Common.{map, take}
 use Rattle.std.specs.List.{fold}
 use Rattle.clap_reading.specs.Grammar.{IsRead, bare_app, with_row}

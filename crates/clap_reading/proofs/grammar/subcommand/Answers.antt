@@ -1,5 +1,5 @@
--- One option more is added, and the command read so far is that of the options so far
--- (src/grammar.rt).
+-- `subcommand` adds one option more at each turn, and what a parse reads of the command is that of
+-- the options so far (src/grammar.rt).
 use Rattle.std.proofs.Common.{[], arith}
 use Rattle.command_words.specs.Table.{row_seen}
 use Rattle.clap_reading.specs.Grammar.{with_names, with_option_rule}

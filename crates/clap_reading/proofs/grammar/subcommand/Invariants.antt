@@ -1,4 +1,5 @@
--- The command so far is that of the row's words and its options so far (loop of src/grammar.rt).
+-- The command so far is that of the row's words and its options so far (loop of
+-- `subcommand`, src/grammar.rt).
 use Rattle.std.proofs.Common.{map, take}
 use Rattle.std.specs.List.{fold}
 use Rattle.command_words.specs.Table.{row_seen}

@@ -1,4 +1,4 @@
--- The law of src/law.rt is the lemma of TopWords.
+-- `clap` reads the listed command in any words: the law of src/law.rt, proved in TopWords.
 use Rattle.clap_reading.proofs.TopWords.{all_texts, listed_is}
 use Rattle.clap_reading.proofs.law.law_of_clap.Goals as goal
 

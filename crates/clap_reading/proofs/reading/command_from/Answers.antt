@@ -1,4 +1,5 @@
--- The names and texts that were found give the command of the row (src/reading.rt).
+-- `command_from` makes the command of the row of the names and texts that clap found
+-- (src/reading.rt).
 use Rattle.std.proofs.Common.{map, rules, sym}
 use Rattle.clap.specs.Words.{found_of, rows_of}
 use Rattle.command_words.specs.Table.{row_seen}

@@ -1,4 +1,4 @@
--- A name with a row has the command of the row, another has none (src/reading.rt).
+-- A subcommand's name with a row has the command of the row, another has none (src/reading.rt).
 use Rattle.std.proofs.Common.{rules}
 use Rattle.clap.specs.Words.{found_of, rows_of}
 use Rattle.command_words.specs.Table.{row_seen}

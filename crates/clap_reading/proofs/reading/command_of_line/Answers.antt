@@ -1,5 +1,5 @@
--- A line that `clap` takes has the command that was met; a line with an error has none
--- (src/reading.rt).
+-- A line of words that `clap` takes has the command of the subcommand that was met; a line with an
+-- error has none (`command_of_line`, src/reading.rt).
 use Rattle.std.proofs.Common.{◌∙◌, ap, map}
 use Rattle.clap_reading.specs.ClapReading.{fault_by}
 use Rattle.clap_reading.proofs.FromMatches.{line_refused, line_taken}

@@ -1,4 +1,5 @@
--- The line so far is the program's name and the words so far (loop of src/reading.rt).
+-- The line so far is the program's name and the words so far (loop of `line_of`,
+-- src/reading.rt).
 use Rattle.std.proofs.Common.{◌≡◌, take, map}
 use Rattle.std.specs.Prelude.{string_bytes}
 use Rattle.clap_reading.specs.ClapReading.{line_of}

@@ -1,4 +1,5 @@
--- The names so far and those of the words ahead are those of all (loop of src/reading.rt).
+-- The names so far and those of the words ahead are the names of all words (loop of `names_in`,
+-- src/reading.rt).
 use Rattle.std.proofs.Common.{◌≡◌, drop, map, option_map, ◌++◌}
 use Rattle.clap.specs.Words.{found_of, rows_of}
 use Rattle.clap_reading.specs.ClapReading.{names_in}

@@ -1,4 +1,4 @@
--- The command that `clap` reads is the listed one, and `Usage` says that there is none
+-- The command that `read_words` answers is the listed one, and `Usage` says that there is none
 -- (src/reading.rt).
 use Rattle.std.proofs.Common.{◌≡◌, ◌∙◌, ap, map}
 use Rattle.std.specs.Prelude.{string_bytes}

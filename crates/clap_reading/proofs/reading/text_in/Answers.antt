@@ -1,4 +1,4 @@
--- The text that was found is the first in clap's rows (src/reading.rt).
+-- The text that `text_in` finds for a name is the first in clap's rows (src/reading.rt).
 use Rattle.std.proofs.Common.{◌∙◌}
 use Rattle.clap.proofs.WalkLemmas.{first_value-rows}
 use Rattle.clap.specs.Words.{found_of}

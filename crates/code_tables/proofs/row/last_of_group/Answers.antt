@@ -1,4 +1,5 @@
--- The row that counts is of the group, and there is none only if no row is of it (src/row.rt).
+-- `last_of_group` answers the last row of the group, and none exactly if no row is of it
+-- (src/row.rt).
 use Rattle.std.proofs.Common.{sym, arith, take_all, length, ◌≤◌}
 use Rattle.code_tables.specs.declared.kind.CodeKind.TheVariants.{Rapid}
 use Rattle.code_tables.specs.declared.row.Row.{Row}

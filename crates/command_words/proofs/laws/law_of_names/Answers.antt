@@ -1,4 +1,5 @@
--- Words that do not begin with `-` are names, and so are all words after `--` (src/laws.rt).
+-- On the command line words that do not begin with `-` are names, and so are all words after `--`
+-- (a law of src/laws.rt).
 use Rattle.command_words.proofs.PlainWords.{behind_dashes, names_alone}
 use Rattle.command_words.proofs.laws.law_of_names.Goals as goal
 

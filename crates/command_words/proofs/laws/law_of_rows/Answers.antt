@@ -1,4 +1,4 @@
--- No two commands have one name, and each gives a command (src/laws.rt).
+-- No two rows of commands have one name, and each gives a command (src/laws.rt).
 use Rattle.std.proofs.Common.{refl}
 use Rattle.command_words.specs.Number.{number_of}
 use Rattle.command_words.specs.Table.{listings}

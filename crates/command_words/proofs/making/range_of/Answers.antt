@@ -1,4 +1,5 @@
--- Two numbers with a dash between them are a range; without a dash there is none (src/making.rt).
+-- `range_of` reads two numbers with a dash between them as a range; without a dash there is none
+-- (src/making.rt).
 use Rattle.std.proofs.Common.{◌≡◌, ◌≤◌, ◌+◌, ℕ, IfSome, [], length, Option, refl, sym, ap, ◌∙◌, subst, arith}
 use Rattle.std.specs.List.{after_first, before_first, position_or_len}
 use Rattle.std.proofs.lemmas.List.{drop_all}

@@ -1,4 +1,4 @@
--- Only one to seven digits are read, and only a value between the limits is answered
+-- `read_number` reads one to seven digits alone, and answers only a value between the limits
 -- (src/number.rt).
 use Rattle.std.proofs.Common.{◌≡◌, ℕ, true, Option, Some, None, Ok, ap, sym, ◌∙◌, arith}
 use Rattle.std.specs.Result.{result_ok}

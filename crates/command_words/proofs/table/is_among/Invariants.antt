@@ -1,4 +1,5 @@
--- None of the texts so far is the one (loop of src/table.rt).
+-- None of the names of options so far is the one that is looked for (loop of `is_among`,
+-- src/table.rt).
 use Rattle.std.proofs.Common.{◌≡◌, drop, map}
 use Rattle.std.specs.List.{list_any}
 use Rattle.std.specs.Str.{bytes_eq}

@@ -1,4 +1,4 @@
--- None of the rows so far has the name (loop of src/table.rt).
+-- None of the rows of commands so far has the name (loop of `row_in`, src/table.rt).
 use Rattle.std.proofs.Common.{◌≡◌, drop, map}
 use Rattle.command_words.specs.Table.{row_in, row_seen}
 use Rattle.command_words.proofs.table.row_in.Given as goal

@@ -1,4 +1,4 @@
--- The write that is found is the latest early enough; without one the variable is vacant
+-- `value_at` finds the latest write that is early enough; without one the variable is vacant
 -- (src/links.rt).
 use Rattle.common_vars.proofs.Latest.{value-read, value-none}
 use Rattle.common_vars.proofs.links.value_at.Goals as goal

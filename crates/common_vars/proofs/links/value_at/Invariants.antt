@@ -1,4 +1,5 @@
--- No later write of the variable is early enough (src/links.rt).
+-- No write of the variable after the place is early enough, and each step goes to an earlier place
+-- (loop of `value_at`, src/links.rt).
 use Rattle.common_vars.specs.Links.{IsPast}
 use Rattle.common_vars.proofs.Steps.{steps_left}
 use Rattle.common_vars.proofs.links.value_at.Given as goal

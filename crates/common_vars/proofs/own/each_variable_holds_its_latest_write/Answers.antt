@@ -1,4 +1,4 @@
--- Each common variable holds what the latest write of it wrote (src/own.rt).
+-- Each common variable of a path holds what the latest write of it wrote (a law of src/own.rt).
 use Rattle.common_vars.proofs.Laws.{latest_is_held}
 use Rattle.common_vars.proofs.own.each_variable_holds_its_latest_write.Goals as goal
 

@@ -1,4 +1,5 @@
--- What the code names is what the table of numbers names (src/variable.rt).
+-- What `variable_of` names by a number is what the table of specs/Variables.antt names
+-- (src/variable.rt).
 use Rattle.common_vars.proofs.VariableNumbers.{settled}
 use Rattle.common_vars.proofs.variable.variable_of.Goals as goal
 

@@ -1,4 +1,5 @@
--- One ended image more is looked at (loop of src/ended.rt).
+-- `add_left` adds, of all ended images, those that a crash since then may have left: one more is
+-- looked at in each turn (src/ended.rt).
 use Rattle.std.proofs.Common.{◌≡◌, ◌++◌, ◌∷◌, [], take, get_or, sym, ◌∙◌, ap, append_assoc}
 use Rattle.std.proofs.lemmas.List.{take_more}
 use Rattle.disk_images.specs.Among.{Ended, left_since}

@@ -1,5 +1,5 @@
--- The list has those of the images so far that may have been left since then (loop of
--- src/ended.rt).
+-- The list has those of the ended images so far that a crash since then may have left (loop of
+-- `add_left`, src/ended.rt).
 use Rattle.std.proofs.Common.{◌≡◌, ◌++◌, take}
 use Rattle.disk_images.specs.Among.{left_since}
 use Rattle.disk_images.proofs.ended.add_left.Given as goal

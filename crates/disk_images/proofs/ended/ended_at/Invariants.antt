@@ -1,4 +1,4 @@
--- What a read gave and the images so far are ended (loop of src/ended.rt).
+-- What a read gave and the images so far are ended (loop of `ended_at`, src/ended.rt).
 use Rattle.std.proofs.Common.{◌≡◌, ◌∷◌, take}
 use Rattle.disk_images.specs.Among.{all_ended}
 use Rattle.disk_images.proofs.ended.ended_at.Given as goal

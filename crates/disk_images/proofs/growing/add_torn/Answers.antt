@@ -1,4 +1,5 @@
--- One first part more of the write is put over the image (loop of src/growing.rt).
+-- `add_torn` adds the image with each first part of the write over it, one byte more in each turn
+-- (src/growing.rt).
 use Rattle.std.proofs.Common.{rules, ◌≡◌, ◌+◌, ◌++◌, ◌∷◌, [], take, sym, ◌∙◌, ap, append_assoc, append-nil}
 use Rattle.disk_model.specs.Device.{written_over}
 use Rattle.disk_images.specs.Images.{torn_to}

@@ -1,4 +1,5 @@
--- The first parts of so many bytes are put over the image (loop of src/growing.rt).
+-- The list has the image with each first part so far of the write over it (loop of `add_torn`,
+-- src/growing.rt).
 use Rattle.std.proofs.Common.{◌≡◌, ◌++◌}
 use Rattle.disk_images.specs.Images.{torn_to}
 use Rattle.disk_images.proofs.growing.add_torn.Given as goal

@@ -1,4 +1,5 @@
--- The bytes are over the old ones, with zeros between if they begin after the end (src/image.rt).
+-- `write_over` puts bytes over the old ones, with zeros between if they begin after the end
+-- (src/image.rt).
 use Rattle.std.proofs.Common.{◌≡◌, length, ◌∙◌, arith}
 use Rattle.std.proofs.lemmas.List.{with_items_is}
 use Rattle.disk_model.proofs.Written.{filled_up}

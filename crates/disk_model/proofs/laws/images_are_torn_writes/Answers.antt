@@ -1,5 +1,5 @@
--- Without writes the only image is what was synced; with one more it is torn in that range
--- (src/laws.rt).
+-- What a crash between two syncs may leave: without writes only what was synced, and with one write
+-- more an image from before it that this write tore (src/laws.rt).
 use Rattle.std.proofs.Common.{[], sym, subst}
 use Rattle.disk_model.specs.Image.{IsImage}
 use Rattle.disk_model.proofs.Images.{image_only, image_synced, image_back, image_torn}

@@ -1,4 +1,4 @@
--- One stretch more is filled, within the room (src/memory.rt).
+-- `fill_stretches` fills one stretch more at each turn, within the room (src/memory.rt).
 use Rattle.std.proofs.Common.{◌≡◌, length, take, get_or, ◌∙◌, arith}
 use Rattle.std.proofs.lemmas.List.{with_items_is, take_more}
 use Rattle.disk_model.specs.declared.stretch.Stretch.{Stretch}

@@ -1,4 +1,4 @@
--- The stretches so far are filled, and room stays (loop of src/memory.rt).
+-- The stretches so far are filled, and room stays (loop of `fill_stretches`, src/memory.rt).
 use Rattle.std.proofs.Common.{◌≤◌, take, vec_capacity}
 use Rattle.disk_model.specs.Memory.{IsFilled}
 use Rattle.disk_model.proofs.memory.fill_stretches.Given as goal

@@ -1,4 +1,5 @@
--- Filled up to the end of the write and put in, the bytes are written over (src/memory.rt).
+-- `put_over` fills the content up to the end of the write and puts the bytes in: that writes them
+-- over what was there (src/memory.rt).
 use Rattle.std.proofs.Common.{◌≡◌, length, ◌∙◌, arith}
 use Rattle.std.proofs.lemmas.List.{with_items_is}
 use Rattle.disk_model.proofs.Written.{filled_up}

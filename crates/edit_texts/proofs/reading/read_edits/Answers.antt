@@ -1,4 +1,5 @@
--- The edits that are read are those of the text, or a line is the first bad one (src/reading.rt).
+-- `read_edits` answers the edits of the text, or its first line that is not allowed, unless memory
+-- runs out (src/reading.rt).
 use Rattle.std.proofs.Common.{rules, ◌≡◌, ◌+◌, [], None, ap, sym, ◌∙◌}
 use Rattle.std.proofs.lemmas.Bool.{eqb-true}
 use Rattle.std.proofs.lemmas.List.{nil_from_length}

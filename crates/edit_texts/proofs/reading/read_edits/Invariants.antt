@@ -1,5 +1,5 @@
--- What the lines ahead give behind the edits so far is what the whole text gives (loop of
--- src/reading.rt).
+-- What the lines ahead give after the edits so far is what the whole text gives; the text gets
+-- shorter (loop of `read_edits`, src/reading.rt).
 use Rattle.std.proofs.Common.{◌≡◌, ◌+◌, ◌≤◌, length, []}
 use Rattle.std.specs.Str.Lines.{lines}
 use Rattle.edit_texts.specs.Edits.{edits_from}

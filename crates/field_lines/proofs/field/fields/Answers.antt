@@ -1,4 +1,4 @@
--- The parts that are collected are the fields of the line (src/field.rt).
+-- The parts of a line that `fields` collects are its fields (src/field.rt).
 use Rattle.std.proofs.Common.{eqb, not, length, rules, tests}
 use Rattle.std.proofs.lemmas.Iterator.Consumers.{map_from_collect, YieldsList-from_filter}
 use Rattle.std.proofs.lemmas.Iterator.Splits.{YieldsList-from_slice_split}

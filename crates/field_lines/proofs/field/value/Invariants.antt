@@ -1,4 +1,5 @@
--- The number so far is that of the digits so far, or the largest (loop of src/field.rt).
+-- The number so far is that of the digits so far, or the greatest `u64` if that is larger (loop of
+-- `value`, src/field.rt).
 use Rattle.std.proofs.Common.{◌≡◌, ◌-◌, ◌^◌, min, take}
 use Rattle.field_lines.specs.Field.{value_of}
 use Rattle.field_lines.proofs.field.value.Given as goal

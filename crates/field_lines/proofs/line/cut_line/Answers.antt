@@ -1,4 +1,5 @@
--- A line feed ends the first line; without one it is all of the text (src/line.rt).
+-- `cut_line` ends the first line at a line feed; without one the line is all of the text
+-- (src/line.rt).
 use Rattle.std.proofs.Common.{sym}
 use Rattle.field_lines.proofs.TextLines.{lines_at, lines_last}
 use Rattle.field_lines.proofs.line.cut_line.Goals as goal

@@ -1,4 +1,5 @@
--- Where each row of the work group names a work offset, the last one is in force (src/modal.rt).
+-- `work_after` answers the last code of the work group if each of its rows names a work offset
+-- (src/modal.rt).
 use Rattle.std.proofs.Common.{arith, ◌≤◌}
 use Rattle.std.proofs.lemmas.Bool.Decides.{nat_tests}
 use Rattle.code_tables.specs.declared.group.TheConstants.{WORK_GROUP}

@@ -1,4 +1,5 @@
--- The quotient, rounded to the millionth, is what the control answers (src/arithmetic.rt).
+-- `div` answers the quotient, rounded to the millionth, or ZeroDivide or Overflow
+-- (src/arithmetic.rt).
 use Rattle.std.proofs.Common.{◌≡◌, pos, false, rules, arith}
 use Rattle.std.specs.Prelude.{FitsSigned}
 use Rattle.std.specs.Int.{w128}

@@ -1,4 +1,4 @@
--- The remainder is what the control answers (src/arithmetic.rt).
+-- `modulo` answers the remainder of the division, or ZeroDivide (src/arithmetic.rt).
 use Rattle.std.proofs.Common.{◌≡◌, false}
 use Rattle.nc_number.specs.Arithmetic.{is_zero}
 use Rattle.nc_number.proofs.Wide.{wide_is, wide_rest_is, divides, remainder_is}

@@ -1,4 +1,4 @@
--- The product, rounded to the millionth, is what the control answers (src/arithmetic.rt).
+-- `mul` answers the product, rounded to the millionth, or Overflow (src/arithmetic.rt).
 use Rattle.std.proofs.Common.{rules}
 use Rattle.std.specs.Prelude.{FitsSigned}
 use Rattle.std.specs.Int.{w128}

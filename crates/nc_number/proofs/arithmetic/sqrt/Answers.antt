@@ -1,4 +1,4 @@
--- The root, cut to the millionth, is what the control answers (src/arithmetic.rt).
+-- `sqrt` answers the root, cut to the millionth, or NegativeRoot (src/arithmetic.rt).
 use Rattle.std.proofs.Common.{◌≡◌, ◌*◌, ◌+◌, ◌<◌, ◌≤◌, pos, false, subst, arith}
 use Rattle.std.specs.Prelude.{unsigned_abs}
 use Rattle.std.specs.Int.{w128, is_negative}

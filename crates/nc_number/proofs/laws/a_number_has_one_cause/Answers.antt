@@ -1,4 +1,5 @@
--- No two causes have one number, and none is missing in the table (src/laws.rt).
+-- No two alarms or refusals have one number, and none is missing in the table (a law of
+-- src/laws.rt).
 use Rattle.nc_number.proofs.CauseTable.{number_has_one_cause, cause_is_listed}
 use Rattle.nc_number.proofs.laws.a_number_has_one_cause.Goals as goal
 

@@ -1,4 +1,4 @@
--- A printed length reads back as that length, with a minus only below 0 (src/laws.rt).
+-- A printed length reads back as that length, with a minus exactly below 0 (a law of src/laws.rt).
 use Rattle.nc_number.proofs.ReadsBack.{length_minus, length_reads_back}
 use Rattle.nc_number.proofs.laws.a_printed_length_reads_back.Goals as goal
 

@@ -1,4 +1,5 @@
--- A printed value is a literal and reads back as that value (src/laws.rt).
+-- A printed value is a literal and reads back as that value, with a minus exactly below 0 (a law of
+-- src/laws.rt).
 use Rattle.nc_number.proofs.ReadsBack.{value_is_literal, value_minus, value_reads_back}
 use Rattle.nc_number.proofs.laws.a_printed_value_reads_back.Goals as goal
 

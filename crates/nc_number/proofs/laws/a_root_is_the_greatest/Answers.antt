@@ -1,4 +1,5 @@
--- A root's square is at most the number, and the next one's is more (src/laws.rt).
+-- The square of a number's root is at most the number, and the square of the next one is more (a
+-- law of src/laws.rt).
 use Rattle.nc_number.proofs.Roots.{root_squares, root_next}
 use Rattle.nc_number.proofs.laws.a_root_is_the_greatest.Goals as goal
 

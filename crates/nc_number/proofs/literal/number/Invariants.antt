@@ -1,4 +1,4 @@
--- The sum so far is the number that the digits so far write (loop of src/literal.rt).
+-- The sum so far is the number that the digits so far write (loop of `number`, src/literal.rt).
 use Rattle.std.proofs.Common.{◌≡◌, take}
 use Rattle.std.specs.Str.Parse.{digits_value}
 use Rattle.nc_number.proofs.literal.number.Given as goal

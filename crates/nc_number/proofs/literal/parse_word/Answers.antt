@@ -1,4 +1,5 @@
--- A literal reads as its meaning: the number and whether it has a point (src/literal.rt).
+-- `parse_word` reads a literal as its meaning: the number and whether it has a point, or too many
+-- digits (src/literal.rt).
 use Rattle.std.proofs.Common.{◌≡◌, ◌≤◌, length, ap, subst, ◌∙◌}
 use Rattle.std.specs.List.{before_first, after_first}
 use Rattle.nc_number.specs.Literals.{is_point, significant, whole_part, fraction_part}

@@ -1,4 +1,5 @@
--- What is left has no zero at its end, whether the last digit is one or not (src/printing.rt).
+-- What `trimmed` leaves is the digits without the zeros at their end, whether the last one is a
+-- zero or not (src/printing.rt).
 use Rattle.std.proofs.Common.{◌∙◌}
 use Rattle.nc_number.proofs.TrailingZeros.{trims_zero, keeps_digit}
 use Rattle.nc_number.proofs.printing.+trimmed.Goals as goal

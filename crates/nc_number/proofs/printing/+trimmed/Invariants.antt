@@ -1,4 +1,5 @@
--- Each call has one digit less, so the calls end (src/printing.rt).
+-- Each call of `trimmed` has one digit less than the one before, so the calls end
+-- (src/printing.rt).
 use Rattle.std.proofs.Common.{length}
 use Rattle.nc_number.proofs.printing.+trimmed.Given as goal
 

@@ -1,4 +1,5 @@
--- Two lists of calls in a row have the moves of both, and one last answer (src/laws.rt).
+-- Two lists of calls of a stepper in a row have the moves of both, and the last answer of the
+-- second, or else of the first (src/laws.rt).
 use Rattle.nc_outside.proofs.Listed.{moves_of_both, last_of_both}
 use Rattle.nc_outside.proofs.laws.calls_add_up.Goals as goal
 

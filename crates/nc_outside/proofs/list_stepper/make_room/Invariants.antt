@@ -1,4 +1,5 @@
--- The calls kept so far stay (src/list_stepper.rt).
+-- The calls that a stepper kept stay while memory is waited for (loop of `make_room`,
+-- src/list_stepper.rt).
 use Rattle.std.proofs.Common.{◌≡◌}
 use Rattle.nc_outside.proofs.list_stepper.make_room.Given as goal
 

@@ -1,5 +1,5 @@
--- The bytes are those of the first file of the name, and a file of another name is passed
--- (src/memory_shelf.rt).
+-- `find` answers the bytes of the first file of the name on a shelf in memory; a file of another
+-- name is passed (src/memory_shelf.rt).
 use Rattle.std.proofs.Common.{◌∙◌, sym, refl}
 use Rattle.nc_outside.proofs.Finding.{named_here, named_behind}
 use Rattle.nc_outside.proofs.memory_shelf.find.Goals as goal

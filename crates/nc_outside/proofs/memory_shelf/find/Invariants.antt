@@ -1,4 +1,4 @@
--- No file so far has the name (loop of src/memory_shelf.rt).
+-- No file of the shelf in memory so far has the name (loop of `find`, src/memory_shelf.rt).
 use Rattle.std.proofs.Common.{◌≡◌, drop}
 use Rattle.nc_outside.specs.Files.{file_named}
 use Rattle.nc_outside.specs.Kept.{files_of}

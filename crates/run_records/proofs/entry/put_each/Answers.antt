@@ -1,5 +1,5 @@
--- One stamp more is written behind the others, and what lies behind them stays (loop of
--- src/entry.rt).
+-- `put_each` writes one stamp more after the others at each turn, and what lies after them stays
+-- (src/entry.rt).
 use Rattle.std.proofs.Common.{refl}
 use Rattle.run_records.proofs.Stamps.{stamp_put}
 use Rattle.run_records.proofs.entry.put_each.Goals as goal

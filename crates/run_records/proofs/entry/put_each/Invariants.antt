@@ -1,5 +1,5 @@
--- The bytes of the stamps so far stand at the front; behind them all is as it was (loop of
--- src/entry.rt).
+-- The bytes of the stamps so far stand at the front; after them all is as it was (loop of
+-- `put_each`, src/entry.rt).
 use Rattle.std.proofs.Common.{◌≡◌, ◌*◌, ◌++◌, take, drop}
 use Rattle.run_records.specs.Spelling.{stamp_bytes}
 use Rattle.run_records.proofs.entry.put_each.Given as goal

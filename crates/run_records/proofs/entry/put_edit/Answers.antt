@@ -1,4 +1,5 @@
--- The numbers of an edit stand behind path and kind, and nothing else has changed (src/entry.rt).
+-- `put_edit` puts the numbers of an edit after path and kind, and changes nothing else
+-- (src/entry.rt).
 use Rattle.std.proofs.Common.{◌++◌, take, drop, refl, sym, ◌∙◌, ap, arith, take-append-drop}
 use Rattle.std.proofs.lemmas.List.{length-take-le}
 use Rattle.run_records.specs.Spelling.{numbers_bytes}

@@ -1,4 +1,5 @@
--- The bytes of the record stand at the front, of a step as of an edit (src/entry.rt).
+-- `put_entry` puts the bytes of the record at the front, of a step as of an edit, and changes no
+-- byte after them (src/entry.rt).
 use Rattle.std.proofs.Common.{◌+◌, ◌*◌, ◌∷◌, None, length, take, sym, ◌∙◌, ap, arith}
 use Rattle.std.specs.Option.{option_copied}
 use Rattle.nc_number.specs.Path.{number_of}

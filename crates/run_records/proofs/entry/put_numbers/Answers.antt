@@ -1,4 +1,5 @@
--- The bytes of an edit's four numbers stand at the front: 1, 2, 8 and 8 of them (src/entry.rt).
+-- `put_numbers` puts the bytes of an edit's four numbers at the front: 1, 2, 8 and 8 of them
+-- (src/entry.rt).
 use Rattle.std.proofs.Common.{rules, ◌∷◌, [], ◌++◌, ℤ, List, ℕ, drop, refl, ◌∙◌, arith}
 use Rattle.std.specs.Prelude.{FitsSigned}
 use Rattle.std.specs.Int.{w64, cast_signed, cast_unsigned}

@@ -1,4 +1,4 @@
--- The number of stamps and their bytes stand behind path and kind (src/entry.rt).
+-- `put_stamps` puts the number of stamps and their bytes after path and kind (src/entry.rt).
 use Rattle.std.proofs.Common.{◌≤◌, ◌+◌, ◌*◌, ◌∷◌, [], ◌++◌, length, take, drop, refl, ◌∙◌, arith, append_assoc}
 use Rattle.run_records.specs.Spelling.{stamp_bytes}
 use Rattle.run_records.proofs.PutBehind.{put_next, set_third, length_third}

@@ -1,4 +1,5 @@
--- Bytes that lack a text, or have more behind the last one, are no header (src/header.rt).
+-- `parts_of` answers the version and the texts of the header; bytes that lack a text, or have more
+-- after the last one, are no header (src/header.rt).
 use Rattle.std.proofs.Common.{◌≡◌, [], length, ap, arith}
 use Rattle.std.proofs.lemmas.Bool.Decides.{nat_tests}
 use Rattle.run_records.specs.Headers.{text_bytes}

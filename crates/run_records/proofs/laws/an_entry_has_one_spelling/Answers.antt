@@ -1,4 +1,5 @@
--- Two records whose bytes begin one list are the same, and no cause refuses them (src/laws.rt).
+-- Two records of a journal whose bytes begin one list are the same, and no cause says that they are
+-- none (a law of src/laws.rt).
 use Rattle.run_records.proofs.OneSpelling.{one_entry, no_cause}
 use Rattle.run_records.proofs.laws.an_entry_has_one_spelling.Goals as goal
 

@@ -1,4 +1,5 @@
--- The record that is read spells the bytes that it was read from (src/reading.rt).
+-- The record of an edit that `take_edit` reads spells the bytes that it was read from, or there is
+-- the least cause that it is none (src/reading.rt).
 use Rattle.std.proofs.Common.{sym, ◌∙◌}
 use Rattle.run_records.proofs.Read.{edit_spells}
 use Rattle.run_records.proofs.reading.take_edit.Goals as goal

@@ -1,4 +1,5 @@
--- The numbers that are read spell the 19 bytes at the front (src/reading.rt).
+-- The numbers of an edit that `take_numbers` reads spell the 19 bytes at the front
+-- (src/reading.rt).
 use Rattle.std.proofs.Common.{rules, ◌≡◌, ◌<◌, ◌++◌, List, ℕ, drop, get_or, ◌∙◌, ap}
 use Rattle.std.specs.Prelude.{FitsSigned}
 use Rattle.std.specs.Int.{w64, cast_signed, cast_unsigned}

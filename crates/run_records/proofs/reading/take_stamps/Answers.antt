@@ -1,4 +1,4 @@
--- One stamp more is read from the next four bytes (loop of src/reading.rt).
+-- `take_stamps` reads one stamp more from the next four bytes at each turn (src/reading.rt).
 use Rattle.std.proofs.Common.{◌≤◌, ◌∷◌, [], length, ℕ, get_or, ◌<◌, List, subst, sym, ap, arith, length-append}
 use Rattle.run_records.specs.Stamps.{AreStamps}
 use Rattle.run_records.proofs.Stamps.{stamp_read, fits_back, are_push}

@@ -1,4 +1,4 @@
--- The stamps so far spell the bytes so far, and what is left stands behind them (loop of
+-- The stamps so far spell the bytes so far, and what is left follows them (loop of `take_stamps`,
 -- src/reading.rt).
 use Rattle.std.proofs.Common.{◌≡◌, ◌<◌, ◌+◌, ◌*◌, ◌++◌, ℕ, length, get_or}
 use Rattle.run_records.specs.Spelling.{stamp_bytes}

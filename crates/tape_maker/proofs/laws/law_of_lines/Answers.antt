@@ -1,4 +1,4 @@
--- A made tape has 5006 lines, and its text reads as them (src/laws.rt).
+-- A made tape has 5006 lines, and its text reads as these lines (src/laws.rt).
 use Rattle.tape_maker.proofs.MadeLines.{length_made, read_made}
 use Rattle.tape_maker.proofs.laws.law_of_lines.Goals as goal
 

@@ -1,4 +1,5 @@
--- A made tape has 74,389 bytes at most, so both fit the header of a run (src/laws.rt).
+-- A made tape has 74,389 bytes at most, and both tapes of a pair fit the header of a run
+-- (src/laws.rt).
 use Rattle.std.proofs.Common.{arith}
 use Rattle.nc_number.specs.declared.path.Path.TheVariants.{One, Two}
 use Rattle.tape_maker.proofs.Sizes.{made_length}

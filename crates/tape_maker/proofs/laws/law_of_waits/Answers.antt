@@ -1,4 +1,4 @@
--- The lines that begin with M are the same in both made tapes: the waits, and M30 (src/laws.rt).
+-- The lines that begin with M are alike in both made tapes: the waits, and M30 (src/laws.rt).
 use Rattle.tape_maker.proofs.MadeLines.{made_begins}
 use Rattle.tape_maker.proofs.laws.law_of_waits.Goals as goal
 

@@ -1,4 +1,5 @@
--- One cut more is written, and behind the cuts the line on a variable and the wait (src/tape.rt).
+-- `put_round` writes one cut more at each turn, and after the cuts the line on a variable and the
+-- wait (src/tape.rt).
 use Rattle.std.proofs.Common.{◌≡◌, arith}
 use Rattle.tape_maker.specs.MadeTape.{cut_line}
 use Rattle.tape_maker.proofs.Lines.{first_line, line_more, round_done}

@@ -1,4 +1,5 @@
--- The text so far ends with the cuts so far of this round (loop of src/tape.rt).
+-- The text so far ends with the cuts so far of this round (loop of `put_round`,
+-- src/tape.rt).
 use Rattle.std.proofs.Common.{◌≡◌, ◌++◌, map}
 use Rattle.std.specs.List.{range_with_len}
 use Rattle.tape_maker.specs.MadeTape.{cut_line, text_of}

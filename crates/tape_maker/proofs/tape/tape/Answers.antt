@@ -1,4 +1,5 @@
--- One round more is written, and behind the rounds the end of the tape (src/tape.rt).
+-- `tape` writes one round more at each turn, and after the rounds the end of the tape
+-- (src/tape.rt).
 use Rattle.std.proofs.Common.{◌≡◌, ◌≤◌, arith, rules}
 use Rattle.tape_maker.specs.MadeTape.{head_lines, round_lines}
 use Rattle.tape_maker.proofs.Lines.{first_round, round_more, tape_done}

@@ -1,4 +1,4 @@
--- The text so far is the head and the rounds so far (loop of src/tape.rt).
+-- The text so far is the head and the rounds so far (loop of `tape`, src/tape.rt).
 use Rattle.std.proofs.Common.{◌≡◌, ◌-◌, ◌++◌}
 use Rattle.std.specs.List.{flat_map, range_with_len}
 use Rattle.tape_maker.specs.MadeTape.{head_lines, round_lines, text_of}

@@ -1,5 +1,5 @@
--- An offset takes the place of one for its path, kind and number, and each offset of the list stays
--- allowed (src/preset.rt).
+-- An opening offset that `set` adds takes the place of one for its path, kind and number, and each
+-- offset of the list stays allowed, with memory or without (src/preset.rt).
 use Rattle.cell_settings.proofs.Kept.{set_keeps}
 use Rattle.cell_settings.proofs.preset.PresetList.set.Goals as goal
 

@@ -1,4 +1,4 @@
--- The row of a code is the only one with it (src/table.rt).
+-- `find` answers the one row of the code, and none exactly if no row has it (src/table.rt).
 use Rattle.std.proofs.Common.{◌∙◌, rules}
 use Rattle.code_tables.proofs.Lookup.{row_of_is, row_of_only}
 use Rattle.code_tables.proofs.table.CodeTable.find.Goals as goal

@@ -1,4 +1,5 @@
--- The code that counts is the last whose row is of the group (src/table.rt).
+-- `group_last` answers the last code whose row is of the group, and none exactly if there is no
+-- such code (src/table.rt).
 use Rattle.std.proofs.Common.{◌≡◌, ◌≤◌, length, sym, ◌∙◌, arith, take_all, rules}
 use Rattle.std.specs.Option.{option_map}
 use Rattle.code_tables.specs.declared.row.Row.{Row}

@@ -1,4 +1,5 @@
--- With the new node the writes are linked, and the latest places are right (src/shared.rt).
+-- After a write of a shared variable the nodes are linked with the new one, and the latest places
+-- are right (src/shared.rt).
 use Rattle.std.proofs.Common.{◌≡◌, ◌≤◌, ◌<◌, All, arith, ap, sym, subst, set, ℕ, Some, List, length}
 use Rattle.common_vars.specs.Links.{AreEnds, IsSomeBefore, stamp_at}
 use Rattle.common_vars.specs.declared.links.Node.{Node}

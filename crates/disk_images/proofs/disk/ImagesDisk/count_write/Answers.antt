@@ -1,4 +1,5 @@
--- A write that is counted keeps what is true of every such disk (src/disk.rt).
+-- `count_write`, which counts a write, keeps what the type of the disk promises (`IsKept`,
+-- src/disk.rt).
 use Rattle.std.proofs.Common.{arith}
 use Rattle.disk_images.proofs.Parts.{ended_later}
 use Rattle.disk_images.proofs.disk.ImagesDisk.count_write.Goals as goal

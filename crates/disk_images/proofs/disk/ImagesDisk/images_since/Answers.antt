@@ -1,4 +1,5 @@
--- The images that are listed are exactly those that a crash since then may leave (src/disk.rt).
+-- The images that `images_since` lists are exactly those that a crash since then may have left
+-- (src/disk.rt).
 use Rattle.disk_images.proofs.Parts.{just_listed}
 use Rattle.disk_images.proofs.disk.ImagesDisk.images_since.Goals as goal
 

@@ -1,4 +1,4 @@
--- The list has what a read gives and the other images so far (loop of src/disk.rt).
+-- The list has what a read gives and the other images so far (loop of `listed_since`, src/disk.rt).
 use Rattle.std.proofs.Common.{◌≡◌, ◌∷◌, take}
 use Rattle.disk_images.proofs.disk.ImagesDisk.listed_since.Given as goal
 

@@ -1,4 +1,5 @@
--- A call that is counted keeps what is true of every such disk (src/disk.rt).
+-- `look`, which counts a call, keeps what the type of the disk promises (`IsKept`), and an error
+-- raised the count of faults (src/disk.rt).
 use Rattle.std.proofs.Common.{arith}
 use Rattle.disk_images.proofs.Parts.{ended_later}
 use Rattle.disk_images.proofs.disk.ImagesDisk.look.Goals as goal

@@ -1,4 +1,5 @@
--- A sync that ends images keeps what is true of every such disk (src/disk.rt).
+-- `settle`, which ends the images at a sync, keeps what the type of the disk promises (`IsKept`,
+-- src/disk.rt).
 use Rattle.std.proofs.Common.{rules, ◌≡◌, ◌++◌, ◌∷◌, List, sym, subst}
 use Rattle.disk_images.specs.Among.{AreEnded, Ended, all_ended}
 use Rattle.disk_images.proofs.Parts.{ended_all}

@@ -1,4 +1,5 @@
--- The length is told, or the call fails; no image is added (src/disk.rt).
+-- A disk that keeps its images tells its length, or the call fails by its number; no image is added
+-- (src/disk.rt).
 use Rattle.std.proofs.Common.{rules, sym, subst}
 use Rattle.disk_model.specs.Device.{Looks}
 use Rattle.disk_images.specs.Images.{Images, images_state}

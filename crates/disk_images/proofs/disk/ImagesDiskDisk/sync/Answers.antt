@@ -1,4 +1,5 @@
--- A sync puts all on the disk, or fails and puts nothing there (src/disk.rt).
+-- A sync of a disk that keeps its images puts all on the disk, or fails by its number or without
+-- memory and puts nothing there (src/disk.rt).
 use Rattle.std.proofs.Common.{rules, ◌≡◌, true, false, refl, sym, subst, ap, ◌∙◌}
 use Rattle.disk_model.specs.Device.{Looks}
 use Rattle.nc_number.specs.Faults.{next}

@@ -1,4 +1,6 @@
--- A write is refused, fails and may be torn, or is made; each adds only torn images (src/disk.rt).
+-- A write to a disk that keeps its images has four outcomes: it is refused, it fails by its number
+-- and may be torn, it runs out of memory and writes nothing, or it is made. Each adds only torn
+-- images (src/disk.rt).
 use Rattle.std.proofs.Common.{rules, ◌≡◌, inl, inr, ◌+◌, length, true, false, refl, sym, ap, ◌∙◌}
 use Rattle.disk_images.specs.Images.{Images, grown, next_fails, overwritten, refuses_write, with_fault}
 use Rattle.disk_images.proofs.Coming.{comes_due, comes_wanting, listed_fails, refused_fails, write_passes, write_short}

@@ -1,4 +1,5 @@
--- Asked for its length, the fuse passes the call on to the disk below, or fails it (src/fuse.rt).
+-- Asked for its length, a disk with a fuse passes the call on to the disk below, or fails it
+-- (src/fuse.rt).
 use Rattle.std.proofs.Common.{refl, ◌∙◌}
 use Rattle.disk_model.proofs.Fused.{carried_measures}
 use Rattle.disk_model.proofs.fuse.FuseDiskDisk.len.Goals as goal

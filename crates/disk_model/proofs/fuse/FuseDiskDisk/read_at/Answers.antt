@@ -1,4 +1,4 @@
--- A read is passed on to the disk below, or fails (src/fuse.rt).
+-- A disk with a fuse passes a read on to the disk below, or fails it (src/fuse.rt).
 use Rattle.std.proofs.Common.{refl, ◌∙◌}
 use Rattle.disk_model.proofs.Fused.{carried_fetches}
 use Rattle.disk_model.proofs.fuse.FuseDiskDisk.read_at.Goals as goal

@@ -1,4 +1,4 @@
--- A sync is passed on to the disk below, or fails (src/fuse.rt).
+-- A disk with a fuse passes a sync on to the disk below, or fails it (src/fuse.rt).
 use Rattle.std.proofs.Common.{refl, ◌∙◌}
 use Rattle.disk_model.proofs.Fused.{carried_syncs}
 use Rattle.disk_model.proofs.fuse.FuseDiskDisk.sync.Goals as goal

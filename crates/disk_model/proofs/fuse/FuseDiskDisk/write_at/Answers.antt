@@ -1,4 +1,5 @@
--- A write is passed on to the disk below, or fails and reaches nothing (src/fuse.rt).
+-- A disk with a fuse passes a write on to the disk below, or fails it, and then the write reaches
+-- nothing (src/fuse.rt).
 use Rattle.std.proofs.Common.{refl, ◌∙◌}
 use Rattle.disk_model.proofs.Fused.{carried_writes, carried_model}
 use Rattle.disk_model.proofs.fuse.FuseDiskDisk.write_at.Goals as goal

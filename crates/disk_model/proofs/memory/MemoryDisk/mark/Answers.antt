@@ -1,4 +1,4 @@
--- A stretch noted keeps the facts of the disk, and its record has room (src/memory.rt).
+-- A disk in memory that notes a stretch keeps its facts, and its record has room (src/memory.rt).
 use Rattle.std.proofs.Common.{◌+◌, ◌≤◌, ◌<◌, length, ap, arith}
 use Rattle.disk_model.specs.Inside.{memory_of}
 use Rattle.disk_model.proofs.Kept.{kept_marked}

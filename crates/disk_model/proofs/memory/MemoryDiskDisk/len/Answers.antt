@@ -1,4 +1,4 @@
--- Asked for its length, the disk counts the call and writes nothing, also if it fails
+-- Asked for its length, a disk in memory counts the call and writes nothing, also if it fails
 -- (src/memory.rt).
 use Rattle.std.proofs.Common.{rules, sym, subst}
 use Rattle.disk_model.specs.Device.{Looks}

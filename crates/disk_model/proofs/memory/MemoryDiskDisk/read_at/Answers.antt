@@ -1,4 +1,4 @@
--- At a read the disk counts the call and writes nothing, also if it fails (src/memory.rt).
+-- At a read a disk in memory counts the call and writes nothing, also if it fails (src/memory.rt).
 use Rattle.std.proofs.Common.{rules, sym, subst}
 use Rattle.disk_model.specs.Device.{Looks}
 use Rattle.disk_model.specs.Memory.{Memory, memory_state}

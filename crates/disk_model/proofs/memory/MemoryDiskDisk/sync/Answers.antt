@@ -1,5 +1,5 @@
--- A sync that succeeds leaves what a read gives; one that fails puts nothing on the disk
--- (src/memory.rt).
+-- After a sync of a disk in memory that succeeds, a crash leaves what a read gives; one that fails
+-- puts nothing on the disk (src/memory.rt).
 use Rattle.std.proofs.Common.{rules, ◌≡◌, false, ap, ◌∙◌, sym, subst}
 use Rattle.disk_model.specs.Device.{Looks}
 use Rattle.disk_model.specs.Memory.{Memory, memory_state, next_fails, after_look, after_settling}

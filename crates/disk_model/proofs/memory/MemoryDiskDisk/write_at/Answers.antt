@@ -1,4 +1,5 @@
--- A write tears its range only, done or failed, and a read then gives its bytes (src/memory.rt).
+-- A write to a disk in memory is refused, fails by its number, or is made: it tears its range only,
+-- and after an Ok a read gives its bytes (src/memory.rt).
 use Rattle.std.proofs.Common.{rules, ◌≡◌, ◌+◌, ◌^◌, ◌<◌, length, true, ap, sym, subst, ◌∙◌, arith}
 use Rattle.std.proofs.lemmas.Bool.Decides.{nat_tests}
 use Rattle.disk_model.specs.declared.stretch.Stretch.{Stretch}

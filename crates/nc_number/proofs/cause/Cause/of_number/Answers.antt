@@ -1,4 +1,4 @@
--- A cause is found by its number (src/cause.rt).
+-- `of_number` finds the cause of each number that a cause has (src/cause.rt).
 use Rattle.nc_number.proofs.CauseTable.{found_by_number}
 use Rattle.nc_number.proofs.cause.Cause.of_number.Goals as goal
 

@@ -1,4 +1,5 @@
--- `none` makes a value of no bytes, at the empty list (src/asked.rt).
+-- `none` makes a list of names for clauses alone, without a name: a value of no bytes whose ghost
+-- is the empty list (src/asked.rt). Proved by hand on the code of the function.
 use mathlib.Core.Path.{refl}
 use mathlib.Core.List.{[], ◌∷◌}
 use seplogic.Ra.Ura.{Ura}
@@ -28,12 +29,15 @@ use Rattle.nc_outside.specs.contracts.asked.Asked.none as it
 use Rattle.nc_outside.proofs.asked.Asked.none.Statement as stated
 use Rattle.nc_outside.proofs.asked.Asked.none.Code as code
 
+-- the value that the code makes: it has no bytes
 abbrev v : Val
 v = vstruct (vcons (vstruct vnil) vnil)
 
+-- the list that the value stands for: no name
 abbrev r : Asked
 r = record { marker = record {}; names = [] }
 
+-- the code of the function meets its contract
 meets : {M : Type 1} {𝓤 : Ura M} (𝓛 : Logic 𝓤) → (at_mem : Memory → SProp 𝓤) (run : Routine → Fun 𝓤) (𝓣 : Tables 𝓤 𝓛.H)
     → Meets 𝓛 it.signature (WpFn 𝓤 𝓛.H 𝓣.C 𝓣.Λ code.function) (it.spec 𝓛 at_mem run)
 meets {𝓤 = 𝓤} 𝓛 at_mem run 𝓣 =
@@ -47,6 +51,7 @@ meets {𝓤 = 𝓤} 𝓛 at_mem run 𝓣 =
     suffices ! _ (ends_at 𝓛 it.ended tt (it.clauses 𝓛 at_mem run) ((κs, qs, bounds, a, tt), g) v r tt tt) $ says ! refl $
     nothing ! $ join ! $ nothing ! $ done !)))
 
+-- the statement of the contract, which the tool asks for
 pub none_spec : {M : Type 1} → stated.statement M
 unfolding tables_of
 none_spec 𝓤 𝓛 𝓜 𝓡 wired =

@@ -1,4 +1,5 @@
--- An empty body. The borrow is opened and closed at another ghost value (src/asked.rt).
+-- `note` adds a name to a list for clauses alone: its body is empty, and the borrow is opened and
+-- closed at the list with one name more (src/asked.rt). Proved by hand on the code of the function.
 use Rattle.std.proofs.Common.{ℕ, List, [], ◌∷◌, ◌++◌, refl, MutBor}
 use seplogic.Ra.Ura.{Ura}
 use mir.Syntax.{named}
@@ -38,30 +39,39 @@ use denote.Slice.{ShrSlice, slice_val, shr_slice_vals, shr_slice_Tells}
 use denote.Triple.Walked.{stay_none_slice, Goes-none_slice}
 use Rattle.std.proofs.Common.{◌<◌, ◌^◌, length}
 
+-- the arguments: the list, by a reference that may change it, and the name
 abbrev Arg : Type 0
 Arg = MutBor Asked × (Bor (List ℕ) × Unit {0})
 
+-- what of the arguments is as it was when the function returns: all but the list
 abbrev stayed : Stays (it.ended).signature.params (it.ended).kept
 stayed = (stay_ref (0 ∷ []) tt (plain (λ _. T.the_row)), (stay_none_slice (1 ∷ []) tt (plain (λ _. u8)) yes, tt))
 
+-- One call, with its list h and its name s.
 module _ {M : Type 1} {𝓤 : Ura M} (𝓛 : Logic 𝓤) (at_mem : Memory → SProp 𝓤) (run : Routine → Fun 𝓤) (κ κ' : Lft) (q q' : Share) (b o : ℕ) (γ : GName) (h : Asked) (s : Bor (List ℕ)) where
   open 𝓛 use {H, A}
 
+  -- the arguments of the call
   abbrev x : Arg
   x = (record { ref_ptr = (b, o); ghost_name = γ; now = h }, (s, tt))
 
+  -- the list with the name added
   abbrev h' : Asked
   h' = record { marker = h.marker; names = h.names ++ s.now ∷ [] }
 
+  -- where the arguments are in memory
   abbrev at : List Val × (List Val × Unit {0})
   at = (vptr b o ∷ [], (slice_val s.ref_ptr (length s.now) ∷ [], tt))
 
+  -- that the name is lent to the function
   abbrev rest : base.Fml.Fml
   rest = owns (ShrSlice (named 1) κ' u8 ∷ []) x.1 at.1
 
+  -- what must hold when the function returns
   abbrev Post : Val → SProp 𝓤
   Post = (walk_of 𝓛 it.ended stayed (it.clauses 𝓛 at_mem run)).post (((κ, (κ', tt)), (q, (q', tt)), tt, x, at), tt)
 
+  -- with the list at its new value the postcondition holds
   exits : ent 𝓤 (sep 𝓤 (A.obs γ ((T.the_row).coded.code h')) (sep 𝓤 (A.bor κ (Body (mem T.the_row) b o γ)) (sep 𝓤 (A.lft κ q) (sep 𝓤 (types.Logic.sem 𝓛 rest) (sep 𝓤 (A.lft κ' q') (emp 𝓤)))))) (Post vunit)
   exits =
       qed 𝓛 (‵ (fobs γ ((T.the_row).coded.code h')) ∷ ‵ (fbor κ (Body (mem T.the_row) b o γ)) ∷ ‵ (flft κ q) ∷ ‵ rest ∷ (‵ (flft κ' q') ⊛ ‵ ftrue) ∷ []) ∵
@@ -81,20 +91,25 @@ module _ {M : Type 1} {𝓤 : Ura M} (𝓛 : Logic 𝓤) (at_mem : Memory → SP
         returns ! (look_at ! 0 refl) $ free_all ! refl $
         keep ! (0 ∷ 1 ∷ 2 ∷ 3 ∷ 4 ∷ []) $ by ! exits))
 
+-- Any call.
 module _ {M : Type 1} {𝓤 : Ura M} (𝓛 : Logic 𝓤) (at_mem : Memory → SProp 𝓤) (run : Routine → Fun 𝓤) where
   open 𝓛 use {H}
 
+  -- the walk through the code for any arguments
   walks : (C : Calls 𝓤 H) (Λ : Loops 𝓤 H) → Walks 𝓛 it.ended stayed (WpFn 𝓤 H C Λ code.function) (it.clauses 𝓛 at_mem run)
   walks C Λ = walked 𝓛 it.ended stayed (it.clauses 𝓛 at_mem run) (WpFn 𝓤 H C Λ code.function) (λ κs. (mut_vals, (shr_slice_vals, tt))) (λ κs. (mut_Tells (named 0) κs.0 T.the_row, (shr_slice_Tells (named 1) κs.1.0 u8, tt)))
       (λ κs qs bounds a _ are. via 𝓤 _ (fst∗ 𝓤 _ (emp 𝓤)) (walk 𝓛 at_mem run κs.0 κs.1.0 qs.0 qs.1.0 a.0.ref_ptr.0 a.0.ref_ptr.1 a.0.ghost_name a.0.now a.1.0 C Λ are.1.0.0.1.0))
 
+  -- the references are given back when the function returns
   goes : AllGo 𝓛 2 (it.signature).params (it.ended).kept stayed
   goes = (Goes-ref 𝓛 2 0 tt (plain (λ _. T.the_row)), (Goes-none_slice 𝓛 2 (1 ∷ []) tt (plain (λ _. u8)) yes, tt))
 
+-- the code of the function meets its contract
 meets : {M : Type 1} {𝓤 : Ura M} (𝓛 : Logic 𝓤) → (at_mem : Memory → SProp 𝓤) (run : Routine → Fun 𝓤) (𝓣 : Tables 𝓤 𝓛.H)
     → Meets 𝓛 it.signature (WpFn 𝓤 𝓛.H 𝓣.C 𝓣.Λ code.function) (it.spec 𝓛 at_mem run)
 meets {𝓤 = 𝓤} 𝓛 at_mem run 𝓣 = walk_Meets 𝓛 it.ended stayed (goes 𝓛 at_mem run) (it.clauses 𝓛 at_mem run) (WpFn 𝓤 𝓛.H 𝓣.C 𝓣.Λ code.function) (WpFn-mono 𝓤 𝓛.H 𝓛.laws 𝓣 code.function) (walks 𝓛 at_mem run 𝓣.C 𝓣.Λ)
 
+-- the statement of the contract, which the tool asks for
 pub note_spec : {M : Type 1} → stated.statement M
 unfolding tables_of
 note_spec 𝓤 𝓛 𝓜 𝓡 wired =

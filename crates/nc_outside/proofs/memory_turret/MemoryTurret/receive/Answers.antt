@@ -1,5 +1,5 @@
--- A call that fails raises the count of faults, and one that does not leaves it
--- (src/memory_turret.rt).
+-- A place or a move that a turret in memory refuses raises the count of faults, and one that it
+-- keeps leaves it (src/memory_turret.rt).
 use Rattle.std.proofs.Common.{◌≡◌, true, false, subst, sym}
 use Rattle.nc_outside.specs.Faults.{CountsFault}
 use Rattle.nc_outside.specs.Kept.{KeptMoves, turret_of}

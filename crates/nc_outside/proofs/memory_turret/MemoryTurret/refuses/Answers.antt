@@ -1,5 +1,5 @@
--- A call is refused by its plan or without room, and then the count of faults is raised
--- (src/memory_turret.rt).
+-- A turret in memory refuses a call by its plan or without room, and then the count of faults is
+-- raised (src/memory_turret.rt).
 use Rattle.std.proofs.Common.{true, IsTrue, refl, subst}
 use Rattle.nc_outside.specs.Faults.{CountsFault}
 use Rattle.nc_outside.specs.Kept.{KeptMoves, turret_of}

@@ -1,4 +1,4 @@
--- A settle that fails raises the count of faults (src/memory_turret.rt).
+-- A settle of a turret in memory that fails raises the count of faults (src/memory_turret.rt).
 use Rattle.std.proofs.Common.{◌≡◌, true, refl, subst}
 use Rattle.nc_outside.specs.Faults.{CountsFault}
 use Rattle.nc_outside.specs.Kept.{KeptMoves, turret_of}

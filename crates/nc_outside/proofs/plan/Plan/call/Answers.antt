@@ -1,4 +1,5 @@
--- The count of planned faults rises by a call that is to fail, and by no other (src/plan.rt).
+-- The count of planned faults rises by a call that is to fail, and stays at any other (`call`,
+-- src/plan.rt).
 use Rattle.std.proofs.Common.{◌≡◌, ◌∙◌, ◌≤◌, ◌<◌, false, arith, subst, sym}
 use Rattle.nc_outside.specs.Plan.{PlanView, fault_count}
 use Rattle.nc_outside.proofs.Coming.{fault_count-≤, fault_count-<, fault_count-kept}

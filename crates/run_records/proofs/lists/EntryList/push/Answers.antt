@@ -1,4 +1,5 @@
--- One record more stands behind the others, with its stamps or its edit (src/lists.rt).
+-- A list of records that gets one more has it after the others, with its stamps or its edit
+-- (src/lists.rt).
 use Rattle.std.proofs.Common.{rules, ◌≡◌, ◌<◌, ◌≤◌, ◌+◌, ◌++◌, ◌∷◌, [], List, ℕ, length, refl, ◌∙◌, ap, subst, sym, arith}
 use Rattle.std.specs.Prelude.{All, vec_len, vec_capacity}
 use Rattle.std.proofs.lemmas.List.{length-map}

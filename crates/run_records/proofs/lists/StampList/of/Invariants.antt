@@ -1,4 +1,4 @@
--- The stamps so far are the first of those given (loop of src/lists.rt).
+-- The stamps of a record so far are the first of those given (loop of `of`, src/lists.rt).
 use Rattle.std.proofs.Common.{◌≡◌, take}
 use Rattle.run_records.proofs.lists.StampList.of.Given as goal
 

@@ -1,4 +1,4 @@
--- One stamp more leaves few enough for a record (src/lists.rt).
+-- A list of stamps that gets one more still has few enough for a record (src/lists.rt).
 use Rattle.std.proofs.Common.{◌<◌, length, ap, arith}
 use Rattle.run_records.proofs.Stamps.{few_push}
 use Rattle.run_records.proofs.lists.StampList.push.Goals as goal

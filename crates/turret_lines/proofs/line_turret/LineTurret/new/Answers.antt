@@ -1,4 +1,4 @@
--- A new turret has no line, and its sink tells none (src/line_turret.rt).
+-- A new turret that writes lines got nothing, and its sink has no byte (src/line_turret.rt).
 use Rattle.std.proofs.Common.{◌≡◌}
 use Rattle.std.specs.Option.{ForSome}
 use Rattle.turret_lines.specs.Stream.{stream_of}

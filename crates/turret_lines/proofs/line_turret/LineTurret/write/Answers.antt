@@ -1,4 +1,5 @@
--- The line is written whole, or a part of it is left by a fault (src/line_turret.rt).
+-- `write` leaves the whole line, or after a fault a part of it; after an earlier fault it writes
+-- nothing (src/line_turret.rt).
 use Rattle.std.proofs.Common.{◌≡◌, ℕ, [], ◌∷◌, ◌++◌, take, rules, sym, subst}
 use Rattle.std.specs.Option.{ForSome}
 use Rattle.std.specs.Io.KnownBytes.{Appends}

@@ -1,4 +1,5 @@
--- Settling adds one to the count of settles, and writes nothing (src/line_turret.rt).
+-- A settle of a turret that writes lines adds one to the count of settles, and writes nothing
+-- (src/line_turret.rt).
 use Rattle.std.proofs.Common.{[], ◌++◌, refl, rules, sym}
 use Rattle.std.proofs.lemmas.List.{append-nil}
 use Rattle.turret_lines.proofs.Growing.{no_more, one_more, same_received}

@@ -1,4 +1,5 @@
--- An empty body makes the value without bytes, at another ghost value (src/told.rt).
+-- `with` makes the value without bytes whose ghost is the list with one thing more (src/told.rt).
+-- Proved by hand on the code of the function.
 use mathlib.Core.Path.{refl}
 use mathlib.Core.List.{[], ◌∷◌, ◌++◌}
 use seplogic.Ra.Ura.{Ura}
@@ -34,9 +35,11 @@ use Rattle.turret_lines.proofs.told.Told.with.Code as code
 use Rattle.turret_lines.specs.contracts.told.Told as told
 use Rattle.nc_outside.specs.contracts.got.Got as got
 
+-- both arguments are as they were when the function returns
 abbrev stayed : Stays (f.ended).signature.params (f.ended).kept
 stayed = (stay_none_ref (0 ∷ []) tt (plain (λ _. told.the_row)) yes, (stay_none_ref (1 ∷ []) tt (plain (λ _. got.the_row)) yes, tt))
 
+-- One call.
 module _ {M : Type 1} {𝓤 : Ura M} (𝓛 : Logic 𝓤) (mem : Memory → SProp 𝓤) (run : Routine → Fun 𝓤) (C : Calls 𝓤 𝓛.H) (Λ : Loops 𝓤 𝓛.H) where
   open 𝓛 use {H}
 
@@ -63,18 +66,21 @@ module _ {M : Type 1} {𝓤 : Ura M} (𝓛 : Logic 𝓤) (mem : Memory → SProp
         says ! refl $ pure_i ! (told.the_row.own_val (record { got = a.0.now.got ++ a.1.0.now ∷ [] }) (vstruct vnil ∷ [])) ((λ vss. (tt, tt)), tt) ((tt, (refl, tt)), tt) $
         move ! (1 ∷ 2 ∷ 0 ∷ []) $ done !)
 
+  -- the walk through the code for any arguments
   walks : Walks 𝓛 f.ended stayed (WpFn 𝓤 H C Λ code.function) (f.clauses 𝓛 mem run)
   walks =
       walked 𝓛 f.ended stayed (f.clauses 𝓛 mem run) (WpFn 𝓤 H C Λ code.function) (λ κs. (shr_vals, (shr_vals, tt)))
       (λ κs. (shr_Tells (named 0) κs.0 told.the_row, (shr_Tells (named 1) κs.1.0 got.the_row, tt)))
       (λ κs qs bounds a g are. via 𝓤 _ (fst∗ 𝓤 _ (emp 𝓤)) (walk κs qs a))
 
+-- the code of the function meets its contract
 meets : {M : Type 1} {𝓤 : Ura M} (𝓛 : Logic 𝓤) (mem : Memory → SProp 𝓤) (run : Routine → Fun 𝓤) (𝓣 : Tables 𝓤 𝓛.H)
     → Meets 𝓛 f.signature (WpFn 𝓤 𝓛.H 𝓣.C 𝓣.Λ code.function) (f.spec 𝓛 mem run)
 meets {𝓤 = 𝓤} 𝓛 mem run 𝓣 =
     walk_Meets 𝓛 f.ended stayed (Goes-none_ref 𝓛 2 (0 ∷ []) tt (plain (λ _. told.the_row)) yes, (Goes-none_ref 𝓛 2 (1 ∷ []) tt (plain (λ _. got.the_row)) yes, tt)) (f.clauses 𝓛 mem run) (WpFn 𝓤 𝓛.H 𝓣.C 𝓣.Λ code.function)
     (WpFn-mono 𝓤 𝓛.H 𝓛.laws 𝓣 code.function) (walks 𝓛 mem run 𝓣.C 𝓣.Λ)
 
+-- the statement of the contract, which the tool asks for
 pub with_spec : {M : Type 1} → stated.statement M
 unfolding tables_of
 with_spec 𝓤 𝓛 𝓜 𝓡 wired =
