@@ -15,7 +15,8 @@ pub enum Cause {
     NegativeRoot,
     /// A number that must be whole is not: of AND, OR and XOR, a variable's, a sequence's.
     NotWhole,
-    /// A literal of more than 8 whole digits or more than 6 fraction digits.
+    /// A literal of more than 8 whole digits, leading zeros not counted, or more than 6 fraction
+    /// digits.
     TooManyDigits,
     /// A byte that is not allowed where it stands.
     BadCharacter,

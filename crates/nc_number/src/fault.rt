@@ -23,7 +23,8 @@ pub enum NumberFault {
     /// An operand of a bit call that is no whole number from 0 to 2,147,483,647.
     #[error("no whole number from 0 to 2147483647")]
     NotWhole,
-    /// A literal of more than 8 whole digits or more than 6 fraction digits.
+    /// A literal of more than 8 whole digits, leading zeros not counted, or more than 6 fraction
+    /// digits.
     #[error("too many digits")]
     TooManyDigits,
 }
