@@ -1,7 +1,8 @@
 //! Whether a call of a disk answered what a row wants.
+//! medium_tests.rt and system_tests.rt use it.
 use disk_model::Failed;
 
-/// The row wants `done` or `failed`.
+/// Whether the answer is what the row wants: `done` or `failed`.
 pub(crate) fn is_done(answer: Result<(), Failed>, wanted: &str) -> bool {
     match answer {
         Ok(()) => wanted == "done",
@@ -9,7 +10,7 @@ pub(crate) fn is_done(answer: Result<(), Failed>, wanted: &str) -> bool {
     }
 }
 
-/// The row wants a number or `failed`.
+/// Whether the answer is what the row wants: a number or `failed`.
 pub(crate) fn is_count(answer: Result<u64, Failed>, wanted: &str) -> bool {
     match answer {
         Ok(count) => wanted.parse::<u64>() == Ok(count),

@@ -1,4 +1,6 @@
-//! A folder with one file, whose calls can be made to fail, and which knows what it was asked.
+//! A folder in memory with one file, whose calls can be made to fail, and which knows what it was
+//! asked. It stands for the operating system under a `FileDisk`.
+//! medium_tests.rt uses it.
 use crate::medium::{Bytes, Medium, get, no_bytes};
 use real_outside::{Folder, Identity, RawFile};
 use std::cell::Cell;
@@ -9,7 +11,7 @@ use std::os::unix::fs::FileExt;
 /// How many calls are noted.
 const MOST_NOTED: usize = 64;
 
-/// A call of the system, and the letter that stands for it.
+/// A call of the system.
 #[derive(Clone, Copy, Debug, PartialEq, Eq)]
 pub(crate) enum Call {
     Open,
@@ -21,6 +23,7 @@ pub(crate) enum Call {
     Folder,
 }
 
+/// The letter of a call in the rows of medium_tests.rt.
 fn letter_of(call: Call) -> u8 {
     match call {
         Call::Open => b'o',
@@ -33,12 +36,14 @@ fn letter_of(call: Call) -> u8 {
     }
 }
 
-/// All that the system knows.
+/// All that the system knows of the folder and its file.
 #[derive(Clone, Copy)]
 pub(crate) struct System {
+    /// The file, in memory and on the medium.
     pub(crate) file: Medium,
-    /// Whether the folder has the file, in memory and on the medium.
+    /// Whether the folder has the file in memory.
     pub(crate) is_there: bool,
+    /// Whether the folder has the file on the medium.
     pub(crate) is_listed: bool,
     /// Which file has the name.
     pub(crate) number: u64,
@@ -46,15 +51,18 @@ pub(crate) struct System {
     pub(crate) failing: Option<(Call, ErrorKind)>,
     /// After so many more calls nothing is done any more.
     pub(crate) calls_left: u64,
-    /// Reads and writes come to two bytes at most, and every other one is interrupted.
+    /// Reads and writes come to two bytes at most.
     pub(crate) is_short: bool,
+    /// Whether the last read or write was interrupted, if every other one is.
     pub(crate) is_interrupted: bool,
+    /// Whether another program has the lock of the file.
     pub(crate) is_held: bool,
+    /// The letters of the calls since they were asked for last.
     noted: [u8; MOST_NOTED],
     count: usize,
 }
 
-/// The folder, without a file.
+/// A folder without a file.
 pub(crate) fn new_system() -> System {
     System {
         file: Medium::of(no_bytes()),
@@ -72,7 +80,7 @@ pub(crate) fn new_system() -> System {
 }
 
 impl System {
-    /// Takes a call, notes it, and fails where it is to fail.
+    /// Takes a call and notes it. It fails if the call is to fail.
     fn take(&mut self, call: Call) -> io::Result<()> {
         if self.calls_left == 0 {
             return Err(io::Error::from(ErrorKind::Other));
@@ -103,14 +111,14 @@ impl System {
         same
     }
 
-    /// The file has these bytes, in memory and on the medium.
+    /// Gives the file these bytes, in memory and on the medium.
     pub(crate) fn has(&mut self, bytes: Bytes) {
         self.file = Medium::of(bytes);
         self.is_there = true;
         self.is_listed = true;
     }
 
-    /// The power goes and comes.
+    /// Cuts the power and gives it back: what is not on the medium is lost.
     pub(crate) fn cut(&mut self) {
         self.file.cut();
         self.is_there = self.is_listed;
@@ -134,17 +142,18 @@ impl System {
 /// The folder, as a program has it.
 #[derive(Drop)]
 pub(crate) struct FakeFolder<'a> {
+    /// What the system knows.
     pub(crate) system: &'a Cell<System>,
 }
 
-/// An open file of it.
+/// An open file of the folder, as a program has it.
 #[derive(Drop)]
 pub(crate) struct FakeFile<'a> {
     system: &'a Cell<System>,
     number: u64,
 }
 
-/// Makes a call of the system.
+/// Makes a call of the system, and gives what the system knows after it.
 fn ask(cell: &Cell<System>, what: Call) -> io::Result<System> {
     let mut system = cell.get();
     let outcome = system.take(what);
@@ -154,6 +163,7 @@ fn ask(cell: &Cell<System>, what: Call) -> io::Result<System> {
 }
 
 impl<'a> FakeFolder<'a> {
+    /// Opens the file by this call, if the folder has one.
     fn opened(&self, kind: Call) -> io::Result<FakeFile<'a>> {
         let system = ask(self.system, kind)?;
         if !system.is_there {

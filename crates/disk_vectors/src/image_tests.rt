@@ -1,17 +1,17 @@
-//! Files of gates on a disk that keeps every image: what a crash at any moment leaves, over several
-//! syncs.
+//! Tests of files of gates (gate_file) on a disk that keeps every image (disk_images): what a crash
+//! at any moment leaves, over several syncs.
 use disk_images::{Image, ImagesDisk};
 use disk_model::Disk;
 use gate_file::{BodyList, GateFault, GateFile, LONGEST_BODY};
 use std::alloc::{AllocError, Global};
 use std::test::Fail;
 
-/// `BODIES|FAILING|DONE|TIME LEFT, ..`: a file of gates is begun on an empty disk with the first
-/// body, or with all up to the one with a `;` at once, and the others are appended. The calls of
-/// these numbers fail. So many bodies were acknowledged. Of each image that a crash since the time
-/// may have left the file has that many bodies, or `-`, no run: all of these occur, and no other;
-/// and they are the first ones. A beginning makes 8 calls, of which the last ones sync, write the
-/// gate and sync. An append writes, syncs, writes the gate and syncs.
+/// A row: `BODIES|FAILING|DONE|TIME LEFT, ..`. A file of gates is begun on an empty disk with the
+/// first body, or with all up to the one with a `;` at once, and the others are appended. The calls
+/// of the numbers FAILING fail. DONE bodies were acknowledged. Of each image that a crash since the
+/// time may have left, the file has that many bodies, or `-`, no run: all of these occur, and no
+/// other; and they are the first ones. A beginning makes 8 calls, of which the last ones sync,
+/// write the gate and sync. An append writes, syncs, writes the gate and syncs.
 const ROWS: &str = "\
 a||1|0 - 1, 7 - 1, 8 1
 a bcd||2|0 - 1 2, 7 - 1 2, 8 1 2, 11 1 2, 12 2
@@ -35,7 +35,7 @@ a bcd;|6|0|0 -, 6 -
 a bcd;|7|0|0 - 2, 7 - 2
 a bcd;|8|0|0 - 2, 8 - 2";
 
-/// The parts between the strokes of a row. Those that are not there are empty.
+/// The parts between the strokes of a row. A missing part is empty.
 fn columns(row: &str) -> [&str; 4] {
     let mut parts = row.split("|");
     let first = parts.next().unwrap_or("");
@@ -49,12 +49,13 @@ fn number(text: &str) -> u64 {
     text.parse().unwrap_or(u64::MAX)
 }
 
-/// Appends the body, as far as the file is live, and says whether that was done.
+/// Appends the body, if the file is live, and says whether that was done.
 fn is_appended(file: &mut GateFile<ImagesDisk>, body: &[u8]) -> bool {
     file.is_live() && body.len() <= LONGEST_BODY && file.append(body).is_ok()
 }
 
-/// Appends the other bodies: how many were acknowledged, those that are there among them.
+/// Appends the other bodies. It answers how many bodies were acknowledged, with those that were
+/// there.
 fn append_each(file: &mut GateFile<ImagesDisk>, there: u64, bodies: &str) -> u64 {
     let mut done = there;
     for body in bodies.split_whitespace() {
@@ -77,8 +78,8 @@ fn list_of(alloc: Global, bodies: &str) -> Result<BodyList, AllocError> {
     Ok(list)
 }
 
-/// Begins a file of the first bodies at once and appends the others: the disk then, and how many
-/// were acknowledged.
+/// Begins a file of the first bodies at once and appends the others. It answers the disk then, and
+/// how many were acknowledged.
 fn filled(alloc: Global, disk: ImagesDisk, list: &BodyList, others: &str) -> (ImagesDisk, u64) {
     if list.is_empty() {
         return (disk, 0);
@@ -93,8 +94,8 @@ fn filled(alloc: Global, disk: ImagesDisk, list: &BodyList, others: &str) -> (Im
     }
 }
 
-/// Begins a file of the first body and appends the others: the disk then, and how many were
-/// acknowledged.
+/// Begins a file of the first body and appends the others. It answers the disk then, and how many
+/// were acknowledged.
 fn created(alloc: Global, disk: ImagesDisk, bodies: &str) -> (ImagesDisk, u64) {
     let (first, others) = bodies.split_once(' ').unwrap_or((bodies, ""));
     let first = first.as_bytes();
@@ -111,7 +112,7 @@ fn created(alloc: Global, disk: ImagesDisk, bodies: &str) -> (ImagesDisk, u64) {
     }
 }
 
-/// Begins a file as the row says: the disk then, and how many bodies were acknowledged.
+/// Begins a file as the row says. It answers the disk then, and how many bodies were acknowledged.
 fn used(alloc: Global, disk: ImagesDisk, bodies: &str) -> Result<(ImagesDisk, u64), AllocError> {
     match bodies.split_once(";") {
         Some((first, others)) => {
@@ -122,7 +123,7 @@ fn used(alloc: Global, disk: ImagesDisk, bodies: &str) -> Result<(ImagesDisk, u6
     }
 }
 
-/// The bytes of a body, without the `;` behind it.
+/// The bytes of a body, without the `;` after it.
 fn body_of(word: &str) -> &[u8] {
     word.strip_suffix(";").unwrap_or(word).as_bytes()
 }
@@ -147,7 +148,7 @@ fn word_of(fault: GateFault) -> &'static str {
     }
 }
 
-/// How many bodies there are, if they are the first ones of the row.
+/// Writes how many bodies there are, if they are the first ones of the row, and else `others`.
 fn put_count(out: &mut String, list: &BodyList, bodies: &str) -> Result<(), AllocError> {
     if are_first(list, bodies) {
         write!(out, "{}", list.len())
@@ -156,7 +157,7 @@ fn put_count(out: &mut String, list: &BodyList, bodies: &str) -> Result<(), Allo
     }
 }
 
-/// What an opening of the disk finds, as a word.
+/// Writes what an opening of the disk finds, as a word.
 fn put_found(
     alloc: Global,
     out: &mut String,
@@ -169,7 +170,7 @@ fn put_found(
     }
 }
 
-/// What stands in each of the images, a word for each.
+/// What each of the images holds, a word for each.
 fn found_in(alloc: Global, images: &[Image], bodies: &str) -> Result<String, Fail> {
     let mut out = String::new(alloc);
     for image in images {
@@ -197,7 +198,7 @@ fn leaves(alloc: Global, disk: &ImagesDisk, bodies: &str, part: &str) -> Result<
     Ok(are_among(words, found.as_str()) && are_among(found.as_str(), words))
 }
 
-/// Whether that holds of each part.
+/// Whether a crash may have left what each part says, and nothing else.
 fn leaves_each(alloc: Global, disk: &ImagesDisk, bodies: &str, parts: &str) -> Result<bool, Fail> {
     let mut are_right = true;
     for part in parts.split(", ") {

@@ -1,19 +1,22 @@
-//! One file, in memory and on its medium.
+//! One file of the fake folder, as the system has it in memory and as its medium has it.
+//! fake_folder.rt and medium_tests.rt use it.
 ghost use Rattle.std.specs.Prelude.{◌≡◌, ◌≤◌, length, take};
 
-/// How many bytes it has room for.
+/// How many bytes the file has room for.
 pub(crate) const ROOM: usize = 64;
 
 /// How many bytes the system writes at once.
 const PAGE: usize = 8;
 
-/// How many pages there are.
+/// How many pages the file has.
 const PAGES: usize = 8;
 
 /// Bytes, and how many there are.
 #[derive(Clone, Copy)]
 pub(crate) struct Bytes {
+    /// The room; what lies behind the bytes is 0.
     pub(crate) all: [u8; ROOM],
+    /// How many bytes there are.
     pub(crate) len: usize,
 }
 
@@ -24,11 +27,14 @@ pub(crate) struct Bytes {
 /// then has nothing to write.
 #[derive(Clone, Copy)]
 pub(crate) struct Medium {
+    /// The file as the system has it in memory.
     pub(crate) memory: Bytes,
+    /// The file as the medium has it.
     pub(crate) stored: Bytes,
     marks: [bool; PAGES],
 }
 
+/// A file's bytes if it has none.
 pub(crate) fn no_bytes() -> Bytes {
     Bytes {
         all: [0; ROOM],

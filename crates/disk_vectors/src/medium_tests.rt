@@ -1,4 +1,5 @@
-//! What is on the medium, call by call, and what a power cut leaves of it.
+//! Tests of a `FileDisk` over the fake folder: what is on the medium, call by call, and what a
+//! power cut leaves of it.
 use crate::answers::{is_count, is_done};
 use crate::fake_folder::{Call, FakeFolder, System, new_system};
 use crate::medium::{are, bytes_of, no_bytes};
@@ -8,6 +9,7 @@ use std::cell::Cell;
 use std::io::ErrorKind;
 use std::test::Fail;
 
+/// The name of the journal, which the fake folder does not look at.
 const NAME: &str = "a.journal";
 
 /// Steps, one after the other. A body of two bytes after an open gate is `10002ab`, and the next
@@ -85,6 +87,7 @@ fn call_of(letter: &str) -> Call {
     }
 }
 
+/// The number that the text writes, or 0.
 fn number(text: &str) -> u64 {
     text.parse::<u64>().unwrap_or(0)
 }
@@ -107,8 +110,8 @@ fn reads(disk: &mut FileDisk<'_, FakeFolder<'_>>, wanted: &str) -> bool {
     }
 }
 
-/// A call of the disk, and whether it gets its answer, or what the disk says. None where the step
-/// is none.
+/// Makes the step as a call of the disk, and tells whether it gets its answer. None if the step is
+/// no call of the disk.
 fn of_disk(
     disk: &mut FileDisk<'_, FakeFolder<'_>>,
     words: (&str, &str, &str, &str),
@@ -124,7 +127,8 @@ fn of_disk(
     }
 }
 
-/// What happens to the system, or whether it is as the step says.
+/// Makes the step as something that happens to the system, or tells whether the system is as the
+/// step says.
 fn of_system(system: &mut System, words: (&str, &str, &str, &str)) -> bool {
     match words.0 {
         "calls" => return system.were(words.1),

@@ -1,4 +1,4 @@
-//! Files that are read as tapes are.
+//! Tests of a `FileShelf` over real files: whole files, and each fault.
 use nc_outside::Shelf;
 use real_outside::FileShelf;
 use std::alloc::{AllocError, Global};
@@ -6,12 +6,14 @@ use std::fs;
 use std::rt::Files;
 use std::test::Fail;
 
+/// The folder that the test makes and removes.
 const FOLDER: &str = "file_shelf_test";
 
+/// The file in it, with the text `M30` and a line end.
 const FILE: &str = "file_shelf_test/a.nc";
 
-/// A name, the most bytes, the answer, the text behind a `%` that was there before, and the faults
-/// so far.
+/// A row: a name, the most bytes, the answer, the text after a `%` that was there before, and the
+/// faults so far.
 const ROWS: &str = "\
 file_shelf_test/a.nc|4|Ok(())|%M30~|0
 file_shelf_test/a.nc|18446744073709551615|Ok(())|%M30~|0
@@ -22,7 +24,7 @@ file_shelf_test/a.nc/b.nc|4|Err(Absent)|%|0
 file_shelf_test|4|Err(Failed)|%|1
 file_shelf_test/a.nc|4|Ok(())|%M30~|1";
 
-/// A text with `~` for the end of a line.
+/// Writes a text with `~` for the end of a line.
 fn put_text(out: &mut String, text: &[u8]) -> Result<(), AllocError> {
     for byte in text {
         out.push(if *byte == b'\n' {
@@ -34,8 +36,8 @@ fn put_text(out: &mut String, text: &[u8]) -> Result<(), AllocError> {
     Ok(())
 }
 
-/// What a shelf answers to a name and a number of bytes, and what then stands behind the `%`, with
-/// its faults.
+/// What a shelf answers to a name and a number of bytes, what then stands after the `%`, and its
+/// faults.
 fn answer<R: Files>(
     alloc: Global,
     shelf: &mut FileShelf<'_, R>,

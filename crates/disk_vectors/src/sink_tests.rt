@@ -1,4 +1,4 @@
-//! An output that is closed.
+//! Tests of a `StdSink`: each write to an output that is closed is a fault that is counted.
 use nc_outside::{PutFault, Sink};
 use real_outside::StdSink;
 use std::fmt::Display;

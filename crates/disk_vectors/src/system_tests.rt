@@ -1,4 +1,5 @@
-//! A journal over the files of the system.
+//! Tests of a `FileDisk` over the files of the system: a journal that is made, held and shown, and
+//! files that can't be written.
 use crate::answers::{is_count, is_done};
 use disk_model::{Disk, Failed};
 use real_outside::{Access, FileDisk, SystemFolder};
@@ -7,29 +8,32 @@ use std::fs::File;
 use std::rt::Files;
 use std::test::Fail;
 
+/// The name of a file that is made and removed.
 const NAME: &str = "file_disk_test.journal";
 
-/// A file that two have.
+/// The name of a file that several have open at once.
 const SHARED: &str = "shared_file_disk_test.journal";
 
 /// A file that is not there yet, call for call with its answer: a read asks for four bytes.
 const LOOKED_FOR: &str = "len 0, read 0 0, sync done";
 
-/// The same file as it is made: a write has two bytes.
+/// The calls of a file as it is made: a write has two bytes.
 const MADE: &str = "write 2 done, sync done, len 4, faults 0";
 
-/// The same file opened once more to be written, while the one that made it has it.
+/// The calls of a file that is opened once more to be written, while the one that made it has it.
 const HELD: &str = "len failed, sync failed, read 1 failed, write 0 failed, faults 4";
 
-/// The same file looked at meanwhile: its first gate is shut, and no more of it counts.
+/// The calls of a file that is looked at while another has it: its first gate is shut, and no more
+/// of it counts.
 const SHOWN: &str = "sync done, len 1, read 0 1, read 1 0, faults 0";
 
-/// The same file opened after the first. No byte may stand at or past 2^62.
+/// The calls of a file that is opened after the first one was closed. No byte may stand at or past
+/// 2^62.
 const OPENED: &str = "write 4 done, len 6, write 4611686018427387903 failed, len failed, faults 2";
 
-/// What stands under the name, and the calls. A full device takes no byte, one that keeps nothing
-/// can't be synced, and a folder can't be opened to be written. After a failed write or sync a
-/// write of no byte fails too.
+/// A row: the name of a file, and calls. A full device takes no byte, one that keeps nothing can't
+/// be synced, and a folder can't be opened to be written. After a failed write or sync a write of
+/// no byte fails too.
 const FAILING: &str = "\
 /dev/full|write 0 failed, sync failed, faults 2, len failed, read 0 failed, touch failed, sync failed, faults 6
 /dev/null|write 0 done, sync failed, faults 1, len failed, read 0 failed, touch failed, sync failed, faults 5

@@ -1,4 +1,4 @@
-//! The turrets of the program that log nothing.
+//! A test of `LogTurret` (real_outside): it takes every move and never fails.
 use nc_moves::Move;
 use nc_number::Point;
 use nc_outside::{LinedMove, Turret};

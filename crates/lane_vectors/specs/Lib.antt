@@ -1,2 +1,2 @@
--- Words of the tests.
+-- The words of these tests. No other crate uses them.
 pub mod Waiting

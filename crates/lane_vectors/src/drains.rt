@@ -1,5 +1,5 @@
-//! A turret that queues its moves, and a stepper that sees at each drain whether the turret has
-//! made every move before it.
+//! Tests of drains (path_worker): a turret that queues its moves, and a stepper that sees at each
+//! drain whether the turret has made every move before it.
 use crate::workers::block;
 use drive_line::{Drained, Driven, Line};
 use nc_moves::Move;
@@ -14,8 +14,8 @@ use std::test::Fail;
 use std::thread;
 use std::thread::Threads;
 
-/// Queues the moves that it is handed, and makes them only where it is to settle. It counts those
-/// that it has made, where another thread sees them. It is slow.
+/// Queues the moves that it is handed, and makes them only when it is to settle. It counts those
+/// that it has made where another thread sees the count. It is slow.
 #[derive(Drop)]
 struct Queue<'a> {
     made: &'a AtomicU64,
@@ -50,8 +50,8 @@ impl<'a> Turret for Queue<'a> {
     }
 }
 
-/// Asks for a drain behind each block but the last, and notes whether it came before the turret had
-/// made the moves before it.
+/// Asks for a drain after each block but the last, and notes whether its answer came before the
+/// turret had made the moves before it.
 #[derive(Drop)]
 struct Watcher<'a> {
     made: &'a AtomicU64,
@@ -60,6 +60,7 @@ struct Watcher<'a> {
 }
 
 impl<'a> Watcher<'a> {
+    /// A watcher at its first step, which reads this count.
     fn new(made: &'a AtomicU64) -> Watcher<'a> {
         Watcher {
             made,
@@ -99,7 +100,8 @@ impl<'a> Drainable<Drained> for Watcher<'a> {
     }
 }
 
-/// Runs path 2 with such a turret and such a stepper, and answers whether a drain came early.
+/// Runs path 2 with such a turret and such a stepper. It answers whether a drain was answered too
+/// early.
 fn watch<R: Threads + Wait + Sync>(
     rt: &R,
     alloc: Global,

@@ -1,8 +1,9 @@
-//! Tests of the parts of a run in threads: the seats of two paths at a table, the line from a
-//! worker to its drive, both of one path, and both paths at once.
+//! Tests of the parts of a run in threads: the seats of two paths at a table (seat_table), the line
+//! from a worker to its drive (drive_line), both of one path (path_worker), and both paths at once
+//! (turret_run).
 //!
 //! The answers that are expected are worked by hand from the rules of runs, and never from what a
-//! run answered.
+//! run answered. No crate uses it.
 #![tactic(auto)]
 
 #[cfg(test)]

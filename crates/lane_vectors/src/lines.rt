@@ -1,4 +1,5 @@
-//! Rests that cross a line, a drain among them, and the end behind them.
+//! Tests of a line of moves between two threads (drive_line): rests, a drain among them, and the
+//! end come out in the order in which they were sent.
 ghost use Rattle.std.specs.Prelude.{◌≡◌, ◌<◌, false, []};
 ghost use Rattle.drive_line.specs.Line.{has_end};
 
@@ -14,7 +15,7 @@ use std::thread;
 use std::thread::Threads;
 
 /// Sends the rests from `first` to `last` milliseconds, each with its number as its line, with a
-/// drain behind one of them, and the end. It answers what the drain told.
+/// drain after one of them, and then the end. It answers what the drain told.
 fn send_rests<R: Wait>(
     line: LineIn<'_, R>,
     first: u32,
@@ -37,7 +38,7 @@ fn send_rests<R: Wait>(
     (told, line)
 }
 
-/// Takes all with a turret, and gives that back.
+/// Takes all that comes along the line with a turret, until the end, and gives the turret back.
 fn take_rests<'r, R: Wait>(
     rt: &R,
     alloc: Global,
@@ -54,7 +55,7 @@ fn take_rests<'r, R: Wait>(
     (driven.into_turret(), line)
 }
 
-/// The number behind those of the rests that were got in order, from the first on.
+/// The number after those of the rests that the turret got in order, from the first on.
 fn next_of(got: &[Got], first: u32) -> u32 {
     let mut next = first;
     for what in got {
@@ -69,11 +70,12 @@ fn next_of(got: &[Got], first: u32) -> u32 {
     next
 }
 
-/// What the drain told, the number behind the last rest that the turret got in order, how many it
-/// got, and whether the end was taken.
+/// What the drain told, the number after the last rest that the turret got in order, how many rests
+/// it got, and whether the end was taken.
 type Crossed = (u64, u32, usize, bool);
 
-/// Rests cross a line of that bound: the first, the one with a drain behind it, and the last.
+/// Rests cross a line of this bound in two threads. Given are the first rest, the one with a drain
+/// after it, and the last.
 fn cross<R: Threads + Wait + Sync>(
     rt: &R,
     alloc: Global,

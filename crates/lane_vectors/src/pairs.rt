@@ -1,3 +1,3 @@
-//! Both paths of a table in memory, with a turret each.
+//! Tests of turret_run: both paths of a table in memory, with a turret each.
 mod codes;
 mod runs;

@@ -1,4 +1,5 @@
-//! A worker and the drive beside it, over a stepper that answers a list and a turret in memory.
+//! Tests of path_worker: a worker and the drive beside it, over a stepper that answers from a list
+//! and a turret in memory. drains.rt takes its blocks from here.
 ghost use Rattle.std.specs.Prelude.{◌≡◌, ◌<◌, ◌≤◌, length, IfOk};
 ghost use Rattle.drive_line.specs.Driving.{fresh};
 
@@ -12,12 +13,14 @@ use std::sync::Wait;
 use std::test::Fail;
 use std::thread::Threads;
 
+/// A worker and a drive over lists, with a turret in memory.
 type ListLane<'r, R> = Lane<ListStepper<'r, R>, ListStepper<'r, R>, MemoryTurret>;
 
+/// What such a worker and drive leave.
 type End<'r, R> = LaneEnd<ListStepper<'r, R>, ListStepper<'r, R>, MemoryTurret>;
 
-/// What path 1 runs with: a stepper of these answers, and a turret that fails at the call and at
-/// the settle of these numbers.
+/// What path 1 runs with: a stepper that gives these answers, and a turret that fails at the call
+/// and at the settle of these numbers.
 fn lane_of<'r, R>(
     rt: &'r R,
     alloc: Global,
@@ -35,7 +38,7 @@ fn lane_of<'r, R>(
     })
 }
 
-/// Runs path 1 over a line of that bound.
+/// Runs path 1 over a line of this bound.
 fn run<'r, R: Threads + Wait + Sync>(
     rt: &'r R,
     alloc: Global,
@@ -50,7 +53,7 @@ fn run<'r, R: Threads + Wait + Sync>(
     }
 }
 
-/// A block of these moves at a line.
+/// A block of these moves at this line, as a stepper answers it.
 pub(crate) fn block(line: u32, moves: &[Move]) -> Next
     requires { length moves.now ≤ 8 }
 {
@@ -59,7 +62,7 @@ pub(crate) fn block(line: u32, moves: &[Move]) -> Next
     Next::Moves(Moves { line, list })
 }
 
-/// The answer of a word.
+/// The answer that a word of the tests stands for.
 fn answer_of(word: &str) -> Next {
     match word {
         "silent" => Next::Silent,
@@ -83,6 +86,7 @@ fn every_answer(alloc: Global, last: &str) -> Result<Vec<Next>, NoMemory> {
     Ok(answers)
 }
 
+/// The word for an answer of a stepper.
 fn word_of(answer: &Next) -> &'static str {
     match answer {
         Next::Silent => "silent",
@@ -93,6 +97,7 @@ fn word_of(answer: &Next) -> &'static str {
     }
 }
 
+/// Writes one call of a stepper.
 fn put_call(out: &mut String, call: &Call) -> Result<(), AllocError> {
     match call {
         Call::Step { answer, .. } => write!(out, " {}", word_of(answer)),
@@ -102,6 +107,7 @@ fn put_call(out: &mut String, call: &Call) -> Result<(), AllocError> {
     }
 }
 
+/// Writes the calls of a stepper, in order.
 fn put_calls(out: &mut String, calls: &[Call]) -> Result<(), AllocError> {
     for call in calls {
         put_call(out, call)?;
@@ -109,6 +115,7 @@ fn put_calls(out: &mut String, calls: &[Call]) -> Result<(), AllocError> {
     Ok(())
 }
 
+/// Writes the moves that a turret got, each with its line.
 fn put_got(out: &mut String, got: &[Got]) -> Result<(), AllocError> {
     for what in got {
         match *what {
@@ -124,6 +131,7 @@ fn put_got(out: &mut String, got: &[Got]) -> Result<(), AllocError> {
     Ok(())
 }
 
+/// The word for why a worker ended.
 fn reason_of(why: Why) -> &'static str {
     match why {
         Why::Finished => "finished",
@@ -150,7 +158,7 @@ fn told<R>(alloc: Global, end: End<'_, R>) -> Result<String, AllocError> {
     Ok(out)
 }
 
-/// What a worker does whose stepper gives every answer.
+/// What is left of a run whose stepper gives every answer, with this one as the last.
 fn outcome<R: Threads + Wait + Sync>(
     rt: &R,
     alloc: Global,
@@ -167,7 +175,7 @@ fn outcome<R: Threads + Wait + Sync>(
     Ok(told(alloc, end)?)
 }
 
-/// The calls of a worker whose stepper gives every answer, but for the last.
+/// The calls of a worker whose stepper gives every answer, without the last one.
 const CALLS: &str = "silent moves drain drained 1 moves moves drain drained 3 moves";
 
 #[test]
@@ -218,7 +226,7 @@ fn a_worker_steps_sends_and_drains_until_the_turret_fails(rt: HostRuntime) -> Re
     Ok(())
 }
 
-/// Blocks of a rest each, of as many milliseconds as blocks stand before it, and a drain behind
+/// Blocks of one rest each, as long in milliseconds as blocks come before it, and a drain after
 /// each tenth.
 fn many_blocks(alloc: Global, count: u64) -> Result<Vec<Next>, NoMemory> {
     let mut answers = Vec::new(alloc);
@@ -231,7 +239,7 @@ fn many_blocks(alloc: Global, count: u64) -> Result<Vec<Next>, NoMemory> {
     Ok(answers)
 }
 
-/// How many of them are the rests of those blocks, from the first on.
+/// How many of the moves that were got are the rests of those blocks, in order from the first on.
 fn in_order(got: &[Got]) -> u64 {
     let mut count = 0u64;
     for what in got {
@@ -246,11 +254,11 @@ fn in_order(got: &[Got]) -> u64 {
     count
 }
 
-/// Whether the path finished and whether the turret failed, how many it missed, the moves that it
-/// got and those of them in order, and the worker's calls.
+/// Whether the path finished, whether the turret failed, how many moves it missed, how many it got,
+/// how many of them came in order, and how many calls the worker made.
 type Rested = (bool, bool, u64, usize, u64, usize);
 
-/// What a worker of so many blocks of a rest each does.
+/// What is left of a run of so many blocks with one rest each.
 fn rested<R: Threads + Wait + Sync>(
     rt: &R,
     alloc: Global,

@@ -1,4 +1,5 @@
--- What an export says is what the call of lathe_calls said, of the same texts.
+-- What an export says of the texts that C passes is what the call of lathe_calls said of them.
+-- For the proofs of the exports (src/exports.rt).
 use Rattle.std.proofs.Common.{◌≡◌, ℕ, List, subst}
 use Rattle.nc_verify.specs.Verdict.{Texts}
 use Rattle.lathe_calls.specs.declared.event.Event.{Event}
@@ -7,13 +8,15 @@ use Rattle.lathe_calls.specs.declared.said.Said.{Said}
 use Rattle.lathe_calls.specs.Due.{IsAnswerTo}
 use Rattle.lathe_calls.specs.Order.{AreToldOf}
 
--- The same answer to the same texts.
+-- an answer to texts is one to the same texts as C passes them, with the length that went to the
+-- caller
 pub answered : (question : Question) {texts these : Texts} {before after : List ℕ} {it told : Said} → texts ≡ these → it ≡ told
     → IsAnswerTo question texts before after it → IsAnswerTo question these before after told
 answered question {texts} {these} {before} {after} {it} {told} same is answer =
     subst (λ t. IsAnswerTo question t before after told) same (subst (λ i. IsAnswerTo question texts before after i) is answer)
 
--- The same events of the same texts.
+-- events of texts are those of the same texts as C passes them, with the length that went to the
+-- caller
 pub events_told : (order : List ℕ) {texts these : Texts} {before after : List Event} {it told : Said} → texts ≡ these → it ≡ told
     → AreToldOf order texts before after it → AreToldOf order these before after told
 events_told order {texts} {these} {before} {after} {it} {told} same is events =

@@ -1,6 +1,6 @@
-//! The calls of `include/lathe.h`. Each is total for every memory that C passes rightly: as many
-//! bytes as the lengths say, and a room and a length of the caller's own. What is answered is in
-//! lathe_calls.
+//! The calls of `include/lathe.h`, one for each; they change together with it. Each is total for
+//! every memory that C passes rightly: as many bytes as the lengths say, and a room and a length of
+//! the caller's own. What is answered is in lathe_calls. No crate calls them.
 //!
 //! All answer the same way: the texts are the tape of path 1, the tape of path 2 and the settings;
 //! the result is the exit status; the front of the answer is put into `room`, and its whole length
@@ -16,7 +16,7 @@ use lathe_calls::{Event, PairTexts, Question, Said, answer, events};
 use open_order::Outside;
 use std::alloc::Global;
 
-/// The status of an answer; its length goes to `len`.
+/// Gives the status of an answer, and puts its length into `len`.
 fn told(it: Said, len: &mut usize) -> u8
     ensures { it ≡ said result len.new }
 {
@@ -24,7 +24,7 @@ fn told(it: Said, len: &mut usize) -> u8
     it.status
 }
 
-/// The verdict of two tapes under the settings of the cell. The length is in bytes.
+/// The verdict on two tapes under the settings of the cell. The length is in bytes.
 #[unsafe(no_mangle)]
 pub extern "C" fn lathe_verify(
     alloc: Global,
@@ -60,7 +60,8 @@ pub extern "C" fn lathe_run(
     told(answer(alloc, &texts, Question::Run(limit), room), len)
 }
 
-/// The trace of that run, and after it the races of the pair. The length is in bytes.
+/// The trace of the run whose paths take turns, of at most `limit` records, and after it the races
+/// of the pair. The length is in bytes.
 #[unsafe(no_mangle)]
 pub extern "C" fn lathe_trace(
     alloc: Global,
@@ -78,7 +79,8 @@ pub extern "C" fn lathe_trace(
     told(answer(alloc, &texts, Question::Trace(limit), room), len)
 }
 
-/// The state of the machine after the records of that run. The length is in bytes.
+/// The state of the machine after the run whose paths take turns, of at most `limit` records. The
+/// length is in bytes.
 #[unsafe(no_mangle)]
 pub extern "C" fn lathe_state(
     alloc: Global,
@@ -96,8 +98,8 @@ pub extern "C" fn lathe_state(
     told(answer(alloc, &texts, Question::State(limit), room), len)
 }
 
-/// The meetings of both tapes, read for their waits alone. They may lack the programs from `least`
-/// to `greatest`. The length is in bytes.
+/// The meetings of both tapes, read for their waits alone. The tapes may lack the programs from
+/// `least` to `greatest`. The length is in bytes.
 #[unsafe(no_mangle)]
 pub extern "C" fn lathe_waits(
     alloc: Global,

@@ -1,4 +1,5 @@
--- What is due to texts and an order, from what came of their verdict.
+-- The events that are due to texts and an order, from what came of their verdict.
+-- For the proof of `events_due` (src/happening.rt).
 use Rattle.std.proofs.Common.{◌≡◌, ℕ, List, [], true, map, Result, Ok, Err, IfOk, subst}
 use Rattle.nc_number.specs.declared.fault.Failing.{Failing}
 use Rattle.nc_number.specs.declared.fault.Failing.TheVariants.{Fault}
@@ -10,15 +11,16 @@ use Rattle.nc_verify.specs.Verdict.{Texts, IsRefusalOf}
 use Rattle.lathe_calls.specs.declared.event.Event.{Event}
 use Rattle.lathe_calls.specs.Order.{AreDue, AreEventsOf, is_order, path_at, ran, refused}
 
+-- texts and an order whose bytes name paths, and what came of their verdict
 module _ {H E : Type 0} (status_of : H → ℕ) (list_of : H → List Event) (order : List ℕ) (texts : Texts) (ordered : is_order order ≡ true) where
-  -- the events of their pair are due
+  -- the events of the pair of accepted texts are due
   pub due_of_pair : (result : Result H E) (pair : Verified) → IsPairOf texts pair
       → IfOk result (λ h. AreEventsOf pair (map path_at order) (status_of h) (list_of h))
       → IfOk result (λ h. AreDue order texts (status_of h) (list_of h))
   due_of_pair (Ok h) pair is are = ran pair ordered is are
   due_of_pair (Err e) pair is are = tt
 
-  -- and where they are refused none
+  -- no events and status 1 are due if the texts are refused
   pub due_of_refusal : (result : Result H E) (error : Failing Refusal) → IfFault error (IsRefusalOf texts)
       → IfOk result (λ h. (status_of h ≡ 1) × (list_of h ≡ []) × ((refusal : Refusal) × (error ≡ Fault refusal)))
       → IfOk result (λ h. AreDue order texts (status_of h) (list_of h))

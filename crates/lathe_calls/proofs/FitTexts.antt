@@ -1,4 +1,5 @@
--- What it says of texts that a call takes.
+-- What it means that a call takes the texts: their settings are short enough for a verdict.
+-- For the proofs of `answer` (src/answering.rt) and `events_due` (src/happening.rt).
 use Rattle.std.proofs.Common.{◌≡◌, ◌<◌, ◌^◌, ◌&&◌, true, length, arith}
 use Rattle.std.specs.Prelude.{nat_le}
 use Rattle.nc_number.proofs.Bools.{both}

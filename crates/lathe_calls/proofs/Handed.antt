@@ -1,4 +1,5 @@
 -- What a call says, from what was told and handed out.
+-- For the proofs of `answer` (src/answering.rt) and `events` (src/happening.rt).
 use Rattle.std.proofs.Common.{◌≡◌, ℕ, List, [], true, length, refl, sym, subst, ◌∙◌, ap, arith}
 use Rattle.nc_verify.specs.Verdict.{Texts}
 use Rattle.lathe_calls.specs.Answers as answers
@@ -10,7 +11,7 @@ use Rattle.lathe_calls.specs.Said.{IsHanded, IsSaid, handed, said}
 use Rattle.lathe_calls.specs.Said as says
 use Rattle.lathe_calls.specs.Texts.{are_fit, written}
 
--- what was told into a text in memory was handed out
+-- if a text that was told into memory was handed out, the call said what is due
 pub said_of : {IsDue : Answer → Type 0} {texts : Texts} {text before after : List ℕ} {it : Said} (status : ℕ) → are_fit texts ≡ true
     → Ends IsDue (written []) (written text) status → IsHanded status text before after it
     → IsSaid texts (λ s t. IsDue (tells s t)) before after it
@@ -21,7 +22,7 @@ said_of status fit (answers.cut due rose n is) (says.whole some same left) = abs
 said_of status fit (answers.unwritten due n is) (says.whole some same left) = absurd (some refl)
 said_of status fit (answers.untold due is) (says.whole some same left) = absurd (some refl)
 
--- events were handed out
+-- if events that are due were handed out, the call told them
 pub events_said : {order : List ℕ} {texts : Texts} {list given before after : List Event} {it : Said} (status : ℕ) → are_fit texts ≡ true
     → AreDue order texts status list → given ≡ list → it ≡ said status (length given) → after ≡ handed given before
     → AreToldOf order texts before after it

@@ -1,4 +1,5 @@
--- The lemmas of this crate, each file by its subject.
+-- The lemmas of this crate, each file by its subject. lathe_looks and lathe_top take Ended; the
+-- others are for the proofs of this crate.
 pub mod Ended
 pub mod VerdictTold
 pub mod TurnsTold

@@ -1,4 +1,5 @@
--- What is answered of the pair of texts, from what was put.
+-- An answer about the pair of texts is one that is due, from what was put.
+-- For the proofs of src/running.rt and src/racing.rt.
 use Rattle.std.proofs.Common.{◌≡◌, ℕ, List, sym, subst}
 use Rattle.nc_outside.specs.declared.reason.Reason.{Reason}
 use Rattle.nc_number.specs.declared.fault.Failing.{Failing}
@@ -16,19 +17,19 @@ use Rattle.lathe_calls.specs.Statuses.{reason_status}
 use Rattle.lathe_calls.specs.Traced.{end_of}
 use Rattle.lathe_calls.specs.Due.{AreRecordsInTurn, IsOfPair, IsReportOf, IsStateOf, ran, refused, stands, unjudged}
 
--- a refusal of the texts is answered by itself
+-- the line of a refusal, or nothing without memory, is due to texts with that refusal
 pub refused_texts : {IsDue : Verified → Answer → Type 0} {texts : Texts} (error : Failing Refusal) → IfFault error (IsRefusalOf texts)
     → (answer : Answer) → IsRefusing error answer → IsOfPair IsDue texts answer
 refused_texts {IsDue} {texts} (Fault refusal) of_texts answer is = subst (IsOfPair IsDue texts) (sym is.2) (refused of_texts is.1)
 refused_texts {IsDue} {texts} NoMemory of_texts answer is = subst (IsOfPair IsDue texts) (sym is) unjudged
 
--- the report of a run whose paths took turns, which ended so
+-- the report of a run whose paths took turns is due, with the status of how it ended
 pub reported : (limit : ℕ) (pair : Verified) (entries : List Entry) (end : Reason) → AreRecordsInTurn limit pair entries
     → end ≡ end_of pair entries → IsReportOf limit pair (tells (reason_status end) (report_of pair entries end))
 reported limit pair entries end run is =
     subst (λ e. IsReportOf limit pair (tells (reason_status e) (report_of pair entries e))) (sym is) (ran entries run)
 
--- the state behind its records
+-- the state of the machine after a run whose paths took turns is due
 pub state_told : (limit : ℕ) (pair : Verified) (entries : List Entry) → AreRecordsInTurn limit pair entries
     → (answer : Answer) → IsJust (tells exit.done (state_of pair entries)) answer → IsStateOf limit pair answer
 state_told limit pair entries run answer is = subst (IsStateOf limit pair) (sym is) (stands entries run)

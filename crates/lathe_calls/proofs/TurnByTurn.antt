@@ -1,4 +1,5 @@
 -- Turns in the order of a caller, one by one.
+-- For the proof of `give_turns` (src/ordering.rt).
 use Rattle.std.proofs.Common.{◌≡◌, ℕ, ◌<◌, ◌≤◌, Bool, true, false, List, [], ◌∷◌, ◌++◌, refl, sym, ◌∙◌, ap, append_assoc, append-nil, arith}
 use Rattle.std.specs.Prelude.{if◌then◌else◌, nat_le}
 use Rattle.nc_number.specs.declared.path.Path.{Path}
@@ -16,14 +17,14 @@ given_full tapes most m (path ∷ order) full =
     let is_full : nat_le most m.count ≡ true = grind arith in
     ap (λ (b : Bool). if b then [] else path ∷ given tapes most (turn_of tapes path m).machine order) is_full
 
--- and before, the next one is
+-- if there are fewer records than there may be, the next turn of the order is given
 pub given_more : (tapes : Tapes) (most : ℕ) (m : MachineView) (path : Path) (order : List Path) → m.count < most
     → given tapes most m (path ∷ order) ≡ path ∷ given tapes most (turn_of tapes path m).machine order
 given_more tapes most m path order few =
     let has_room : nat_le most m.count ≡ false = grind arith in
     ap (λ (b : Bool). if b then [] else path ∷ given tapes most (turn_of tapes path m).machine order) has_room
 
--- behind one turn more, the events so far and those of the further turns are all
+-- after one turn more, the events so far and those of the further turns are all
 pub events_go_on : (tapes : Tapes) (most : ℕ) (m after : MachineView) (path : Path) (order rest : List Path) (done more all : List Event)
     → order ≡ path ∷ rest → m.count < most → after ≡ (turn_of tapes path m).machine
     → more ≡ done ++ turn_events (stamp_of tapes path m) (turn_of tapes path m).turn
@@ -39,7 +40,7 @@ events_go_on tapes most m after path order rest done more all is few is_after is
     ∙ ap (λ (ps : List Path). done ++ events_from tapes m (given tapes most m ps)) (sym is)
     ∙ so_far
 
--- and the machine behind the further turns is that behind all
+-- the machine after one turn and the further turns is that after all
 pub run_goes_on : (tapes : Tapes) (most : ℕ) (m after to : MachineView) (path : Path) (order rest : List Path)
     → order ≡ path ∷ rest → m.count < most → after ≡ (turn_of tapes path m).machine
     → run tapes m (turns_of (given tapes most m order)) ≡ to → run tapes after (turns_of (given tapes most after rest)) ≡ to
@@ -50,13 +51,13 @@ run_goes_on tapes most m after to path order rest is few is_after so_far =
     ∙ ap (λ (ps : List Path). run tapes m (turns_of (given tapes most m ps))) (sym is)
     ∙ so_far
 
--- where no turn is given any more, the events so far are all
+-- if no turn is given any more, the events so far are all
 pub events_at_end : (tapes : Tapes) (most : ℕ) (m : MachineView) (order : List Path) (done all : List Event) → given tapes most m order ≡ []
     → done ++ events_from tapes m (given tapes most m order) ≡ all → done ≡ all
 events_at_end tapes most m order done all none so_far =
     sym (append-nil done) ∙ ap (λ (ps : List Path). done ++ events_from tapes m ps) (sym none) ∙ so_far
 
--- and the machine is that behind all
+-- if no turn is given any more, the machine is that after all
 pub run_at_end : (tapes : Tapes) (most : ℕ) (m to : MachineView) (order : List Path) → given tapes most m order ≡ []
     → run tapes m (turns_of (given tapes most m order)) ≡ to → m ≡ to
 run_at_end tapes most m to order none so_far = ap (λ (ps : List Path). run tapes m (turns_of ps)) (sym none) ∙ so_far

@@ -1,4 +1,5 @@
--- What is answered of the waits of a pair, from what was put.
+-- An answer about the waits of a pair is one that is due, from what was put.
+-- For the proof of `judge_waits` (src/waiting.rt).
 use Rattle.std.proofs.Common.{List, Option, sym, subst}
 use Rattle.nc_number.specs.declared.fault.Failing.{Failing}
 use Rattle.nc_number.specs.declared.fault.Failing.TheVariants.{Fault, NoMemory}
@@ -15,13 +16,13 @@ use Rattle.lathe_calls.specs.Judged.{IsRefusing}
 use Rattle.lathe_calls.specs.Statuses as exit
 use Rattle.lathe_calls.specs.Waited.{AreWaits, asked_of, told, refused, unjudged}
 
--- an accepted pair is answered by its text
+-- the text of a pair that is accepted for its waits is due
 pub waits_told : (outside : Option Outside) {texts : Texts} {judged : Judged} {left right : List Labelled} {trust : TrustView}
     → IsTold (asked_of outside texts) judged left right trust → (answer : Answer)
     → IsJust (tells exit.done (waits_text left right trust)) answer → AreWaits outside texts answer
 waits_told outside {texts} are answer is = subst (AreWaits outside texts) (sym is) (told are)
 
--- a refusal of the texts is answered by itself
+-- the line of a refusal, or nothing without memory, is due to texts with that refusal
 pub waits_refused : (outside : Option Outside) {texts : Texts} (error : Failing Refusal)
     → IfFault error (IsRefusalOf (asked_of outside texts)) → (answer : Answer) → IsRefusing error answer
     → AreWaits outside texts answer

@@ -21,29 +21,38 @@ use Rattle.lathe_calls.specs.declared.question.Question.{Question}
 use Rattle.lathe_calls.specs.declared.question.Question.TheVariants as ask
 use Rattle.lathe_calls.specs.Said.{IsSaid}
 
--- the records of the run of a pair whose paths take turns, of so many at most and of no more than
--- the settings allow
+-- the records of the run of a pair whose paths take turns: `limit` at most, and no more than the
+-- settings allow
 abbrev pub AreRecordsInTurn : ℕ → Verified → List Entry → Type 0
 AreRecordsInTurn limit pair entries = IsInTurn (tapes_in pair) (opening_of pair) (min limit pair.settings.records) entries
 
--- the report of that run, and how it ended; or nothing if memory runs out
+-- the report of the run of a pair whose paths take turns, with the status of how it ended; or
+-- nothing if memory runs out
 pub data IsReportOf (limit : ℕ) (pair : Verified) : Answer → Type 0 where
+  -- the report of the records of that run
   ran : (entries : List Entry) → AreRecordsInTurn limit pair entries → IsReportOf limit pair
       (tells (exit.reason_status (end_of pair entries)) (report_of pair entries (end_of pair entries)))
+  -- memory ran out
   unran : IsReportOf limit pair nothing
 
--- the state of the machine behind the records of that run; or nothing if memory runs out
+-- the state of the machine after the run of a pair whose paths take turns; or nothing if memory
+-- runs out
 pub data IsStateOf (limit : ℕ) (pair : Verified) : Answer → Type 0 where
+  -- the state after the records of that run
   stands : (entries : List Entry) → AreRecordsInTurn limit pair entries
       → IsStateOf limit pair (tells exit.done (state_of pair entries))
+  -- memory ran out
   unran : IsStateOf limit pair nothing
 
--- what is due to the pair of accepted texts; 1 where they are refused, with the line of that;
--- nothing if memory runs out
+-- what is due to the pair of accepted texts; status 1 and the line of the refusal if they are
+-- refused; nothing if memory runs out
 pub data IsOfPair (IsDue : Verified → Answer → Type 0) (texts : Texts) : Answer → Type 0 where
+  -- the texts are accepted, as this pair
   accepted : (pair : Verified) {answer : Answer} → IsPairOf texts pair → IsDue pair answer → IsOfPair IsDue texts answer
+  -- the texts are refused
   refused : {refusal : Refusal} {text : List ℕ} → IsRefusalOf texts refusal → IsVerdictText (Some refusal) text
       → IsOfPair IsDue texts (tells exit.refused text)
+  -- memory ran out for the verdict
   unjudged : IsOfPair IsDue texts nothing
 
 -- what is due to three texts and a question
@@ -55,6 +64,6 @@ IsDueTo (ask.State limit) texts = IsOfPair (IsStateOf limit) texts
 IsDueTo (ask.Waits outside) texts = AreWaits outside texts
 IsDueTo ask.Races texts = IsOfPair AreRacesOf texts
 
--- what a call says of three texts and a question, and what it leaves in the room
+-- what a call says of three texts and a question, and what it leaves in the caller's room
 abbrev pub IsAnswerTo : Question → Texts → List ℕ → List ℕ → Said → Type 0
 IsAnswerTo question texts before after it = IsSaid texts (λ status text. IsDueTo question texts (tells status text)) before after it

@@ -1,5 +1,6 @@
--- The events of a turn, as C has them.
--- For this crate alone.
+-- The events of a turn, as C has them: which event comes of which move and turn, and which of its
+-- fields are set.
+-- For this crate alone. The numbers are those of `include/lathe.h`, and change with it.
 use Rattle.std.specs.Prelude.{ℕ, Bool, true, false, pos, List, [], ◌∷◌, ◌++◌, map}
 use Rattle.nc_number.specs.declared.path.Path.{Path}
 use Rattle.nc_number.specs.declared.point.Point.{Point}
@@ -19,7 +20,7 @@ use Rattle.lathe_calls.specs.declared.event.Kind.{Kind}
 use Rattle.lathe_calls.specs.declared.event.Kind.TheVariants as kind
 use Rattle.lathe_calls.specs.declared.event.Stamp.{Stamp}
 
--- the number of a kind
+-- the number of a kind of event
 abbrev pub kind_number : Kind → ℕ
 kind_number kind.Placed = 0
 kind_number kind.Rapid = 1
@@ -63,7 +64,7 @@ bare_event at what = record {
   value = pos 0;
 }
 
--- an event that tells a number of its kind: an M code or the cause of an alarm
+-- an event that tells a code: of a wait, an auxiliary code, a tool, or the cause of an alarm
 abbrev pub coded_event : Stamp → Kind → ℕ → Event
 coded_event at what code = record (bare_event at what) { code = code }
 
@@ -75,12 +76,12 @@ counting_event at what amount = record (bare_event at what) { amount = amount }
 abbrev pub moving_event : Stamp → Kind → Point → Event
 moving_event at what to = record (bare_event at what) { x = to.x; z = to.z }
 
--- an arc by its centre or by its radius
+-- the event of an arc, by its centre or by its radius
 abbrev pub arc_event : Stamp → Point → Centre → Event
 arc_event at to (centre.Offset i k) = record (moving_event at kind.Arc to) { by_centre = 1; i = i; k = k }
 arc_event at to (centre.Radius r) = record (moving_event at kind.Arc to) { i = r }
 
--- a move of a block
+-- the event of a move of a block
 abbrev pub move_event : Stamp → Move → Event
 move_event at (move.Rapid to) = moving_event at kind.Rapid to
 move_event at (move.Feed to feed per_rev) =
@@ -94,24 +95,24 @@ move_event at (move.Limit s) = counting_event at kind.Limit s
 move_event at (move.Tool t) = coded_event at kind.Tool t
 move_event at (move.Aux m) = coded_event at kind.Aux m
 
--- an alarm, with its cause and its value
+-- the event of an alarm, with its cause and its value
 abbrev pub alarm_event : Stamp → Alarm → Event
 alarm_event at alarm = record (coded_event at kind.Alarm alarm.cause) { value = alarm.value }
 
--- the turret of a path stands at a point
+-- the event that the turret of a path stands at a point before its first block
 abbrev pub placed_event : Path → Point → Event
 placed_event path to = moving_event (record { records = 0; path = path; line = 0 }) kind.Placed to
 
--- a block: its moves, or that it has none
+-- the events of a block: its moves, or that it has none
 abbrev pub block_events : Stamp → List Move → List Event
 block_events at [] = bare_event at kind.Block ∷ []
 block_events at (what ∷ moves) = map (move_event at) (what ∷ moves)
 
--- a block with which its path ends
+-- the events of a block with which its path ends: its moves, and the end
 abbrev pub end_events : Stamp → List Move → List Event
 end_events at moves = map (move_event at) moves ++ bare_event at kind.Ended ∷ []
 
--- what a turn came to
+-- the events of a turn; a turn that waits, or that comes after an end or an alarm, has none
 abbrev pub turn_events : Stamp → Turn → List Event
 turn_events at (turn.Read variable stamp) = counting_event at kind.Read variable ∷ []
 turn_events at (turn.Did moves) = block_events at moves.list
@@ -124,6 +125,7 @@ turn_events at (turn.Alarm alarm) = alarm_event at alarm ∷ []
 turn_events at (turn.Halted alarm) = []
 turn_events at turn.Edited = []
 
--- how many records there are behind a path's turn, and the line at which it stood
+-- when and where the events of a path's turn are: how many records there are after it, and the line
+-- at which the path stood before it
 abbrev pub stamp_of : Tapes → Path → MachineView → Stamp
 stamp_of tapes path m = record { records = (turn_of tapes path m).machine.count; path = path; line = line_of tapes path m }

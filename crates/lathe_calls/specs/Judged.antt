@@ -1,5 +1,5 @@
 -- The verdict that is due to three texts.
--- lathe_top takes `IsJudged` and `IsRefusing`.
+-- Due says by it what `verify` answers; lathe_top takes `IsJudged` and `IsRefusing`.
 use Rattle.std.specs.Prelude.{◌≡◌, ℕ, List, Some, None}
 use Rattle.nc_number.specs.declared.fault.Failing.{Failing}
 use Rattle.nc_number.specs.declared.fault.Failing.TheVariants.{Fault, NoMemory}
@@ -11,13 +11,16 @@ use Rattle.nc_verify.specs.Printed.{IsVerdictText}
 use Rattle.lathe_calls.specs.Answers.{Answer, tells, nothing}
 use Rattle.lathe_calls.specs.Statuses as exit
 
--- the verdict: 0 where the texts are accepted, 1 where they are refused, each with its line;
--- nothing if memory runs out
+-- the verdict with its line: status 0 if the texts are accepted, 1 if they are refused; nothing if
+-- memory runs out
 pub data IsJudged (texts : Texts) : Answer → Type 0 where
+  -- the texts are accepted
   accepted : {cell : Cell} {left right : List ProgramForm} {text : List ℕ} → AreAccepted texts cell left right
       → IsVerdictText None text → IsJudged texts (tells exit.done text)
+  -- the texts are refused
   refused : {refusal : Refusal} {text : List ℕ} → IsRefusalOf texts refusal → IsVerdictText (Some refusal) text
       → IsJudged texts (tells exit.refused text)
+  -- memory ran out
   unjudged : IsJudged texts nothing
 
 -- an accepted pair is answered by its line

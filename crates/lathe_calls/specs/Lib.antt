@@ -1,5 +1,5 @@
--- What is due to texts and a question. The first group is what callers read: lathe_top, lathe_looks
--- and lathe_c. The second is for this crate.
+-- What is due to texts and a question, or an order of turns. lathe_looks and lathe_top cite the
+-- files up to Due, and lathe_c Texts, Due, Said and Order. Events is for this crate alone.
 pub mod Statuses
 pub mod Answers
 pub mod Texts

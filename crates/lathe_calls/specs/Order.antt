@@ -27,19 +27,20 @@ is_order order = list_all (λ byte. byte == 1 || byte == 2) order
 abbrev pub path_at : ℕ → Path
 path_at byte = if byte == 2 then Two else One
 
--- the turns of an order that are given: none once there are as many records as there may be
+-- the turns of an order that are given: no more of them once there are as many records as there may
+-- be
 abbrev pub given : Tapes → ℕ → MachineView → List Path → List Path
 given tapes most m [] = []
 given tapes most m (path ∷ order) =
     if nat_le most m.count then [] else path ∷ given tapes most (turn_of tapes path m).machine order
 
--- what the turns of these paths came to, from a machine on
+-- the events of the turns of these paths, from a machine on
 abbrev pub events_from : Tapes → MachineView → List Path → List Event
 events_from tapes m [] = []
 events_from tapes m (path ∷ order) =
     turn_events (stamp_of tapes path m) (turn_of tapes path m).turn ++ events_from tapes (turn_of tapes path m).machine order
 
--- where both turrets begin
+-- the first two events: where both turrets stand before their first blocks
 abbrev pub placed_events : MachineView → List Event
 placed_events m = placed_event One m.paths.one.path.position ∷ placed_event Two m.paths.two.path.position ∷ []
 
@@ -52,22 +53,28 @@ end_after most m = unwrap_or (end_of m) (if nat_le most m.count then Reason.Full
 -- where both turrets begin, and what each turn came to, up to so many records. The records of these
 -- turns are one legal history, and the status says how far it has come.
 pub record AreEventsFrom (tapes : Tapes) (start : MachineView) (most : ℕ) (order : List Path) (status : ℕ) (list : List Event) : Type 0 where
+  -- the records of the turns that are given are a legal history
   pub legal : IsLegal tapes start (history tapes start (turns_of (given tapes most start order)))
+  -- the events are where both turrets begin, and those of the turns that are given
   pub events : list ≡ placed_events start ++ events_from tapes start (given tapes most start order)
+  -- the status says how far the run has come
   pub ends : status ≡ exit.reason_status (end_after most (run tapes start (turns_of (given tapes most start order))))
 
--- the events of a pair, up to as many records as the settings allow
+-- the events of a pair in this order of turns, up to as many records as its settings allow
 abbrev pub AreEventsOf : Verified → List Path → ℕ → List Event → Type 0
 AreEventsOf pair order status list = AreEventsFrom (tapes_in pair) (opening_of pair) pair.settings.records order status list
 
--- What is due to three texts and an order: 2 where it has a byte that names no path, 1 where the
--- texts are refused, and else the events of their pair.
+-- What is due to three texts and an order: status 2 if the order has a byte that names no path, 1
+-- if the texts are refused, and else the events of their pair.
 pub data AreDue (order : List ℕ) (texts : Texts) : ℕ → List Event → Type 0 where
+  -- a byte of the order names no path
   disordered : is_order order ≡ false → AreDue order texts exit.usage []
+  -- the texts are refused
   refused : {refusal : Refusal} → is_order order ≡ true → IsRefusalOf texts refusal → AreDue order texts exit.refused []
+  -- the texts are accepted, as this pair
   ran : (pair : Verified) {status : ℕ} {list : List Event} → is_order order ≡ true → IsPairOf texts pair
       → AreEventsOf pair (map path_at order) status list → AreDue order texts status list
 
--- what a call says of three texts and an order, and what it leaves in the room
+-- what a call says of three texts and an order, and what it leaves in the caller's room
 abbrev pub AreToldOf : List ℕ → Texts → List Event → List Event → Said → Type 0
 AreToldOf order texts before after it = IsSaid texts (AreDue order texts) before after it

@@ -1,5 +1,5 @@
 -- The races that are due to the pair of three texts.
--- lathe_top takes `AreRaces`, `AreRacesOf`, `listed` and `unlisted`.
+-- Due and Traced cite it; lathe_top takes `AreRaces`, `AreRacesOf`, `listed` and `unlisted`.
 use Rattle.std.specs.Prelude.{List}
 use Rattle.nc_verify.specs.declared.verified.Verified.{Verified}
 use Rattle.race_report.specs.declared.race.Race.{Race}
@@ -12,7 +12,9 @@ use Rattle.lathe_calls.specs.Statuses as exit
 abbrev pub AreRaces : Verified → List Race → Type 0
 AreRaces pair races = IsRaceList (shared_by pair.settings) pair.left pair.right races
 
--- 0 and the list of the races of a pair; nothing if memory runs out
+-- status 0 and the list of the races of a pair; nothing if memory runs out
 pub data AreRacesOf (pair : Verified) : Answer → Type 0 where
+  -- the list of all races
   listed : (races : List Race) → AreRaces pair races → AreRacesOf pair (tells exit.done (list_text races))
+  -- memory ran out
   unlisted : AreRacesOf pair nothing

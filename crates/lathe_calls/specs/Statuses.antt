@@ -1,17 +1,18 @@
--- The statuses of calls and of the program.
--- lathe_looks and lathe_top take words from here.
+-- The statuses of calls and of the program, as `Status` (src/ending.rt) has them. A new one needs
+-- its line there, and in `include/lathe.h` if a call of C can give it.
+-- lathe_looks and lathe_top cite them.
 use Rattle.std.specs.Prelude.{ℕ}
 use Rattle.nc_outside.specs.declared.reason.Reason.{Reason}
 
--- accepted, ended, written or shown
+-- the texts are accepted, both paths have ended, or the text was written
 abbrev pub done : ℕ
 done = 0
 
--- a tape, the settings or the edits are refused
+-- a text is refused: a tape, the settings, edits or zones
 abbrev pub refused : ℕ
 refused = 1
 
--- the words are no command, or an order is no order
+-- the words are no command, or an order of turns names no path
 abbrev pub usage : ℕ
 usage = 2
 
@@ -27,7 +28,7 @@ shelf_fault = 4
 abbrev pub sink_fault : ℕ
 sink_fault = 5
 
--- the journal can't be used
+-- the disk with the journal failed
 abbrev pub disk_fault : ℕ
 disk_fault = 6
 
@@ -35,7 +36,7 @@ disk_fault = 6
 abbrev pub turret_fault : ℕ
 turret_fault = 7
 
--- a run is there already, or there is none
+-- there is a run on the disk already, or there is none
 abbrev pub run_or_none : ℕ
 run_or_none = 8
 
@@ -43,11 +44,11 @@ run_or_none = 8
 abbrev pub bad_journal : ℕ
 bad_journal = 9
 
--- the call made as many steps as it may
+-- as many records were made as the call allows, or the order of turns is over
 abbrev pub stopped : ℕ
 stopped = 10
 
--- memory ran out, or there were too few threads
+-- memory ran out, or a thread was refused
 abbrev pub no_memory : ℕ
 no_memory = 12
 

@@ -17,26 +17,31 @@ use Rattle.lathe_calls.specs.Answers.{Answer, tells, nothing}
 use Rattle.lathe_calls.specs.Races.{AreRaces}
 use Rattle.lathe_calls.specs.Statuses as exit
 
--- the trace of a history of a pair, and behind it the races of the pair, as `races` prints them
+-- the trace of a history of a pair, and after it the races of the pair, as `races` prints them
 abbrev pub trace_of : Verified → List Entry → Reason → List Race → List ℕ
 trace_of pair entries end races = trace_text (tapes_in pair) (opening_of pair) entries end ++ list_text races
 
--- how the run of a pair with these records ended
+-- how the run of a pair with these records ended: by its machine, full, or stopped
 abbrev pub end_of : Verified → List Entry → Reason
 end_of pair entries = end_told (tapes_in pair) (opening_of pair) pair.settings.records entries
 
 -- a trace of a pair: that of its run whose paths take turns, of so many records at most and of no
 -- more than the settings allow, with all races of the pair; or nothing if memory runs out
 pub data IsTraceOf (limit : ℕ) (pair : Verified) : Answer → Type 0 where
+  -- the trace of that run with the races of the pair
   ran : (entries : List Entry) (races : List Race) → IsInTurn (tapes_in pair) (opening_of pair) (min limit pair.settings.records) entries
       → AreRaces pair races
       → IsTraceOf limit pair (tells (exit.reason_status (end_of pair entries)) (trace_of pair entries (end_of pair entries) races))
+  -- memory ran out
   unran : IsTraceOf limit pair nothing
 
--- the trace of the accepted pair; 1 where the texts are refused, with the line of that; nothing
--- if memory runs out
+-- the trace of the accepted pair; status 1 and the line of the refusal if the texts are refused;
+-- nothing if memory runs out
 pub data IsTraced (limit : ℕ) (texts : Texts) : Answer → Type 0 where
+  -- the texts are accepted, as this pair
   traced : (pair : Verified) {answer : Answer} → IsPairOf texts pair → IsTraceOf limit pair answer → IsTraced limit texts answer
+  -- the texts are refused
   refused : {refusal : Refusal} {text : List ℕ} → IsRefusalOf texts refusal → IsVerdictText (Some refusal) text
       → IsTraced limit texts (tells exit.refused text)
+  -- memory ran out for the verdict
   untraced : IsTraced limit texts nothing

@@ -1,6 +1,7 @@
 //! What is answered to three texts and a question: into a sink (`tell`), or into a caller's room
-//! (`answer`). What is due to each question has a file of its own.
-//! lathe_c and lathe_looks use it.
+//! (`answer`). What is due to a question is told in judging.rt, running.rt, waiting.rt and
+//! racing.rt.
+//! lathe_looks calls `tell`, lathe_c `answer`.
 ghost use Rattle.std.specs.Prelude.{◌<◌, ◌^◌, length};
 ghost use Rattle.lathe_calls.specs.Answers.{Ends};
 ghost use Rattle.lathe_calls.specs.Due.{IsAnswerTo, IsDueTo};
@@ -22,7 +23,7 @@ use std::alloc::Global;
 /// Writes what is due to the texts and a question, and gives its status. The program's commands
 /// answer so over their files.
 ///
-/// The status is that of [`answer`], or 5 where the sink failed, 12 where it had no memory.
+/// The status is that of [`answer`] with a text, or 5 if the sink failed, or 12 if memory ran out.
 pub fn tell<K: Sink>(alloc: Global, texts: &PairTexts<'_>, question: Question, out: &mut K) -> u8
     requires { length texts.now.settings.now < 2 ^ 32 }
     ensures { Ends (IsDueTo question (texts_of texts.now)) (K.state out.old) (K.state out.new) result }
@@ -40,8 +41,8 @@ pub fn tell<K: Sink>(alloc: Global, texts: &PairTexts<'_>, question: Question, o
 /// Answers a question about the texts: the front of the text that is due goes into the room, and
 /// what lies behind it there stays as it was.
 ///
-/// The status is the program's: 0, 1, 3, 10 or 14 with a text. Without one: 12 out of memory, 13 a
-/// text is longer than a file of its kind may be.
+/// The status is the program's: 0, 1, 3, 10 or 14 with a text. Without one it is 12 if memory ran
+/// out, or 13 if a text is longer than a file of its kind may be.
 pub fn answer(alloc: Global, texts: &PairTexts<'_>, question: Question, room: &mut [u8]) -> Said
     ensures { IsAnswerTo question (texts_of texts.now) room.old room.new result }
 {

@@ -1,5 +1,6 @@
-//! How a call ends: a text is written, and there is a status.
-//! lathe_looks and lathe_top use it.
+//! How a call ends: a text is written, and there is a status. The numbers are those of
+//! specs/Statuses.antt.
+//! The modules of this crate that answer, lathe_looks and lathe_top use it.
 ghost use Rattle.std.specs.Prelude.{◌≡◌};
 ghost use Rattle.lathe_calls.specs.Answers.{Ends, IsJust, status_behind, tells};
 ghost use Rattle.lathe_calls.specs.Statuses.{reason_status};
@@ -11,27 +12,27 @@ use nc_outside::{PutFault, Reason, Sink};
 pub enum Status {
     /// The tapes are accepted, both paths ran to their ends, or the text was written.
     Done = 0,
-    /// The tapes or the settings are refused.
+    /// A text is refused: a tape, the settings, edits or zones.
     Refused = 1,
-    /// The words are no command.
+    /// The words are no command, or an order of turns names no path.
     Usage = 2,
     /// A path raised an alarm.
     Alarm = 3,
-    /// The shelf failed.
+    /// A file can't be read: the shelf failed.
     ShelfFault = 4,
-    /// The sink failed.
+    /// The output failed, and the text is cut short.
     SinkFault = 5,
-    /// The disk failed.
+    /// The disk with the journal failed.
     DiskFault = 6,
     /// The turret of a path failed.
     TurretFault = 7,
     /// There is a run on the disk already, or there is none.
     RunOrNone = 8,
-    /// The journal on the disk is bad.
+    /// The journal on the disk is damaged.
     BadJournal = 9,
-    /// As many blocks were recorded as the call allows.
+    /// As many records were made as the call allows, or the order of turns is over.
     Stopped = 10,
-    /// Memory ran out.
+    /// Memory ran out, or a thread was refused.
     NoMemory = 12,
     /// A file is missing or too long.
     NoFile = 13,
@@ -54,7 +55,7 @@ pub fn reason_status(reason: &Reason) -> u8
     status as u8
 }
 
-/// The status after a text that was put: that of the text, or of what went wrong.
+/// The status after a text was put with this result: the text's own, or that of what went wrong.
 pub fn status_behind(put: Result<(), PutFault>, status: u8) -> u8
     ensures { result ≡ status_behind put status }
 {

@@ -1,5 +1,6 @@
-//! The events of a run, as C has them.
-//! lathe_c uses it.
+//! The events of a run, as C has them: the layout and the numbers are those of `include/lathe.h`,
+//! and change with it. How each event comes of a turn is defined in specs/Events.antt.
+//! lathe_c hands them out.
 ghost use Rattle.std.specs.Prelude.{◌≡◌};
 ghost use Rattle.lathe_calls.specs.Events.{alarm_event, arc_event, bare_event, coded_event, counting_event, flag, move_event, moving_event, placed_event};
 
@@ -11,15 +12,21 @@ use nc_number::{Path, Point};
 pub enum Kind {
     /// The turret of the path stands here before its first block.
     Placed = 0,
+    /// A rapid move to a point.
     Rapid = 1,
+    /// A straight cut to a point.
     Feed = 2,
+    /// A cut along a thread to a point.
     Thread = 3,
+    /// A cut along an arc to a point.
     Arc = 4,
+    /// A dwell.
     Dwell = 5,
     /// The speed of the spindle.
     Speed = 6,
     /// The highest speed of the spindle.
     Limit = 7,
+    /// The tool and its offset are taken.
     Tool = 8,
     /// An auxiliary code.
     Aux = 9,
@@ -65,13 +72,13 @@ pub struct Event {
     pub amount: u64,
     /// Where the turret stands, or comes to, along X.
     pub x: i64,
-    /// The same along Z.
+    /// Where the turret stands, or comes to, along Z.
     pub z: i64,
     /// Of an arc the way from its start to its centre along X, or its radius.
     pub i: i64,
     /// Of an arc the way from its start to its centre along Z.
     pub k: i64,
-    /// The feed or the lead of a thread, or what a macro alarm was given, in millionths.
+    /// The feed, the lead of a thread, or what a macro alarm was given, in 0.000001.
     pub value: i64,
 }
 
@@ -79,12 +86,15 @@ pub struct Event {
 /// tape.
 #[derive(Clone, Copy, Debug, PartialEq, Eq)]
 pub(crate) struct Stamp {
+    /// How many records there are with the event's own.
     pub(crate) records: u32,
+    /// The path of the event.
     pub(crate) path: Path,
+    /// The line of that path's tape.
     pub(crate) line: u32,
 }
 
-/// An event of which nothing is told but its kind.
+/// An event that tells nothing but its kind.
 pub(crate) fn bare_event(at: Stamp, kind: Kind) -> Event
     ensures { result ≡ bare_event at kind }
 {
@@ -107,7 +117,7 @@ pub(crate) fn bare_event(at: Stamp, kind: Kind) -> Event
     }
 }
 
-/// An event with a code.
+/// An event with a code: of a wait, an auxiliary code, a tool, or the number of an alarm.
 pub(crate) fn coded_event(at: Stamp, kind: Kind, code: u16) -> Event
     ensures { result ≡ coded_event at kind code }
 {
@@ -117,7 +127,7 @@ pub(crate) fn coded_event(at: Stamp, kind: Kind, code: u16) -> Event
     }
 }
 
-/// That the turret of a path stands at a point.
+/// The event that the turret of a path stands at a point before its first block.
 pub(crate) fn placed_event(path: Path, to: Point) -> Event
     ensures { result ≡ placed_event path to }
 {
@@ -129,7 +139,7 @@ pub(crate) fn placed_event(path: Path, to: Point) -> Event
     moving_event(at, Kind::Placed, to)
 }
 
-/// That a path raised an alarm.
+/// The event that a path raised an alarm.
 pub(crate) fn alarm_event(at: Stamp, alarm: &Alarm) -> Event
     ensures { result ≡ alarm_event at alarm.now }
 {
@@ -139,14 +149,14 @@ pub(crate) fn alarm_event(at: Stamp, alarm: &Alarm) -> Event
     }
 }
 
-/// A truth value as C has it.
+/// A truth value as C has it: 1 or 0.
 fn flag(is: bool) -> u8
     ensures { result ≡ flag is }
 {
     if is { 1 } else { 0 }
 }
 
-/// An event at a point.
+/// An event that leads to a point.
 fn moving_event(at: Stamp, kind: Kind, to: Point) -> Event
     ensures { result ≡ moving_event at kind to }
 {
@@ -157,7 +167,7 @@ fn moving_event(at: Stamp, kind: Kind, to: Point) -> Event
     }
 }
 
-/// An event with an amount.
+/// An event with an amount: milliseconds, a speed, or the number of a variable.
 pub(crate) fn counting_event(at: Stamp, kind: Kind, amount: u64) -> Event
     ensures { result ≡ counting_event at kind amount }
 {
@@ -167,7 +177,7 @@ pub(crate) fn counting_event(at: Stamp, kind: Kind, amount: u64) -> Event
     }
 }
 
-/// A move along an arc, of which the direction and the feed are not told yet.
+/// The event of a move along an arc, whose direction and feed are not told yet.
 fn arc_event(at: Stamp, to: Point, centre: Centre) -> Event
     ensures { result ≡ arc_event at to centre }
 {
@@ -183,7 +193,7 @@ fn arc_event(at: Stamp, to: Point, centre: Centre) -> Event
     }
 }
 
-/// A move of a block.
+/// The event of a move of a block.
 pub(crate) fn move_event(at: Stamp, what: &Move) -> Event
     ensures { result ≡ move_event at what.now }
 {

@@ -1,6 +1,6 @@
-//! How a caller gets what there is: the front of it in the caller's room, and the length of the
+//! How a caller gets what is due: the front of it in the caller's room, and the length of the
 //! whole.
-//! For this crate alone.
+//! For this crate alone: answering.rt and happening.rt use it.
 ghost use Rattle.std.specs.Prelude.{◌≡◌, length};
 ghost use Rattle.lathe_calls.specs.Said.{IsHanded, handed, said};
 
@@ -8,7 +8,8 @@ use crate::ending::Status;
 use crate::event::Event;
 use crate::said::Said;
 
-/// Copies the front of a text into the room that there is, and tells how long the text is.
+/// Copies the front of a text into the room, as far as it holds, and tells how long the whole text
+/// is.
 fn hand_out(text: &[u8], room: &mut [u8]) -> usize
     ensures room { room.new ≡ handed text.now room.old }
     ensures len { result ≡ length text.now }
@@ -18,8 +19,8 @@ fn hand_out(text: &[u8], room: &mut [u8]) -> usize
     text.len()
 }
 
-/// Copies the front of a list of events into the room that there is, and tells how long the list
-/// is.
+/// Copies the front of a list of events into the room, as far as it holds, and tells how long the
+/// whole list is.
 fn hand_out_events(list: &[Event], room: &mut [Event]) -> usize
     ensures room { room.new ≡ handed list.now room.old }
     ensures len { result ≡ length list.now }
@@ -29,7 +30,7 @@ fn hand_out_events(list: &[Event], room: &mut [Event]) -> usize
     list.len()
 }
 
-/// Hands out a text that was told with this status. Where memory ran out there is none.
+/// Hands out a text that was told with this status. If memory ran out, nothing is handed out.
 pub(crate) fn hand_text(status: u8, text: &[u8], room: &mut [u8]) -> Said
     ensures { IsHanded status text.now room.old room.new result }
 {
@@ -42,7 +43,7 @@ pub(crate) fn hand_text(status: u8, text: &[u8], room: &mut [u8]) -> Said
     }
 }
 
-/// Hands out events that were told with this status.
+/// Hands out events, which go with this status.
 pub(crate) fn hand_events(status: u8, list: &[Event], room: &mut [Event]) -> Said
     ensures said { result ≡ said status (length list.now) }
     ensures room { room.new ≡ handed list.now room.old }

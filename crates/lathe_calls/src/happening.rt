@@ -1,5 +1,6 @@
-//! The events of a run in the order of turns that the caller gives.
-//! lathe_c uses it.
+//! The events of a run in the order of turns that the caller gives, and what is due if the texts or
+//! the order are no good.
+//! lathe_c calls `events`.
 ghost use Rattle.std.specs.Prelude.{◌≡◌, true, [], IfOk, map};
 ghost use Rattle.nc_number.specs.declared.fault.Failing.TheVariants.{Fault};
 ghost use Rattle.two_path.specs.Turns.{tapes_of};
@@ -28,7 +29,7 @@ struct Happened {
     list: Vec<Event>,
 }
 
-/// No event, only this status.
+/// No events, and this status.
 fn nothing_happened(alloc: Global, status: u8) -> Happened
     ensures status { result.status ≡ status }
     ensures list { result.list.items ≡ [] }
@@ -39,7 +40,7 @@ fn nothing_happened(alloc: Global, status: u8) -> Happened
     }
 }
 
-/// The events of where both turrets begin.
+/// The first two events: where both turrets stand before their first blocks.
 fn first_events(alloc: Global, machine: &Machine) -> Result<Vec<Event>, NoMemory>
     ensures { IfOk result (λ list. list.items ≡ placed_events machine.now.machine) }
 {
@@ -85,7 +86,7 @@ fn events_of(alloc: Global, pair: &Verified, order: &[u8]) -> Result<Happened, N
     events_in(alloc, pair.left(), pair.right(), pair.settings(), order)
 }
 
-/// No event, since the texts are refused.
+/// No events and status 1, since the texts are refused; or memory ran out.
 fn refused_events(alloc: Global, error: Failing<Refusal>) -> Result<Happened, NoMemory>
     ensures { IfOk result (λ happened. (happened.status ≡ exit.refused) × (happened.list.items ≡ [])
         × ((refusal : Refusal) × (error ≡ Fault refusal))) }
@@ -114,8 +115,9 @@ fn events_due(alloc: Global, texts: &PairTexts<'_>, order: &[u8]) -> Result<Happ
 }
 
 /// The events of a pair whose paths get their turns in this order, a byte for each turn, 1 or 2:
-/// where both turrets begin, and then what each turn came to. A path that waits or has ended is
-/// passed over, and so are both behind an alarm or with as many records as the settings allow.
+/// where both turrets begin, and then what each turn came to. The turn of a path that waits or has
+/// ended does nothing, and so do all turns after an alarm. No turn is given once there are as many
+/// records as the settings allow.
 ///
 /// Statuses: 0 both paths have ended, 3 an alarm, 10 the order is over, 14 as many records as the
 /// settings allow. Without an event: 1 the texts are refused, 2 the order has another byte, 12 out

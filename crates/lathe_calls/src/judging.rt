@@ -1,5 +1,5 @@
-//! The verdict of three texts: the line of an accepted pair, or of the refusal.
-//! lathe_top uses it.
+//! The verdict on three texts: the line of an accepted pair, or of the refusal.
+//! For answering.rt; the other questions and lathe_top write their refusals by `refuse`.
 ghost use Rattle.std.specs.Prelude.{◌<◌, ◌^◌, length};
 ghost use Rattle.lathe_calls.specs.Answers.{Ends};
 ghost use Rattle.lathe_calls.specs.Judged.{IsAcceptance, IsJudged, IsRefusing};
@@ -12,14 +12,14 @@ use nc_outside::Sink;
 use nc_verify::{Refusal, Verified, verdict, write_verdict};
 use std::alloc::Global;
 
-/// Writes that the pair is accepted. The pair itself is let go.
+/// Writes the line of an accepted pair, and gives status 0. The pair itself is dropped.
 fn accept<K: Sink>(_pair: Verified, out: &mut K) -> u8
     ensures { Ends IsAcceptance (K.state out.old) (K.state out.new) result }
 {
     status_behind(write_verdict(None, out), Status::Done as u8)
 }
 
-/// Writes the verdict of the texts, and gives its status.
+/// Writes the verdict on the texts, and gives its status.
 pub(crate) fn judge<K: Sink>(alloc: Global, texts: &PairTexts<'_>, out: &mut K) -> u8
     requires { length texts.now.settings.now < 2 ^ 32 }
     ensures { Ends (IsJudged (texts_of texts.now)) (K.state out.old) (K.state out.new) result }
@@ -30,7 +30,8 @@ pub(crate) fn judge<K: Sink>(alloc: Global, texts: &PairTexts<'_>, out: &mut K) 
     }
 }
 
-/// Writes a refusal. Where memory was lacking nothing is written.
+/// Writes the line of a refusal, and gives status 1. If memory ran out nothing is written, and the
+/// status is 12.
 pub fn refuse<K: Sink>(error: &Failing<Refusal>, out: &mut K) -> u8
     ensures { Ends (IsRefusing error.now) (K.state out.old) (K.state out.new) result }
 {

@@ -1,5 +1,5 @@
-//! What is due to three texts and a question, for programs that call and for the commands: over
-//! texts in memory, with no thread, no file and no disk.
+//! What is due to three texts and a question, for programs that call (lathe_c) and for the commands
+//! (lathe_looks, lathe_top): over texts in memory, with no thread, no file and no disk.
 //!
 //! [`tell`] writes the text that is due to a sink and gives its status: a command that has fetched
 //! its files answers so. [`answer`] hands the same to a caller; [`events`] gives the events of a

@@ -1,5 +1,5 @@
 //! The events of one turn, added to a list. What an event is, is in event.rt.
-//! For this crate alone.
+//! For this crate alone: ordering.rt uses it.
 ghost use Rattle.std.specs.Prelude.{◌≡◌, [], ◌∷◌, ◌++◌, OnOk, map};
 ghost use Rattle.lathe_calls.specs.Events.{bare_event, block_events, end_events, move_event, turn_events};
 
@@ -18,7 +18,7 @@ fn push_event(list: &mut Vec<Event>, event: Event) -> Result<(), NoMemory>
     Ok(())
 }
 
-/// Lists the moves of a block.
+/// Lists the moves of a block, an event each.
 fn push_moves(list: &mut Vec<Event>, at: Stamp, moves: &[Move]) -> Result<(), NoMemory>
     ensures { OnOk result (list.new.items ≡ list.old.items ++ map (move_event at) moves.now) }
 {
@@ -39,7 +39,7 @@ fn push_block(list: &mut Vec<Event>, at: Stamp, moves: &[Move]) -> Result<(), No
     }
 }
 
-/// Lists the moves of a block with which its path ends, and that end.
+/// Lists the moves of a block with which its path ends, and then that end.
 fn push_end(list: &mut Vec<Event>, at: Stamp, moves: &[Move]) -> Result<(), NoMemory>
     ensures { OnOk result (list.new.items ≡ list.old.items ++ end_events at moves.now) }
 {

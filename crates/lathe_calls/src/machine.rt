@@ -1,5 +1,5 @@
-//! The machine behind a history, whose records are done again one by one.
-//! For this crate alone.
+//! The machine after a history, whose records are done again one by one.
+//! For this crate alone: running.rt shows the state of it.
 ghost use Rattle.std.specs.Prelude.{◌≡◌, ◌≤◌, ◌<◌, length, IfOk, OnOk};
 ghost use Rattle.nc_number.specs.declared.limits.TheConstants.{MOST_RECORDS};
 ghost use Rattle.two_path.specs.Start.{machine_at_start};
@@ -17,7 +17,7 @@ use std::alloc::Global;
 use tape_flow::Flow;
 use two_path::{Machine, histories_are_runs};
 
-/// Does a record again that is legal there.
+/// Does a record again that is legal there. It asks for memory first.
 fn do_again(machine: &mut Machine, left: &Flow, right: &Flow, entry: &Entry) -> Result<(), NoMemory>
     requires legal { IsNext (tapes_of left.now right.now) machine.old.machine entry.now }
     requires few { machine.old.machine.count ≤ MOST_RECORDS }
@@ -33,7 +33,7 @@ fn do_again(machine: &mut Machine, left: &Flow, right: &Flow, entry: &Entry) -> 
     Ok(())
 }
 
-/// The machine behind a history: its records are done again once.
+/// The machine after a history of two flows: its records are done again once.
 fn machine_done(
     alloc: Global,
     left: &Flow,
@@ -57,7 +57,7 @@ fn machine_done(
     Ok(machine)
 }
 
-/// The machine behind a history of the pair.
+/// The machine after a history of the pair.
 pub(crate) fn machine_behind(
     alloc: Global,
     pair: &Verified,

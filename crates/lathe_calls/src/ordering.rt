@@ -1,5 +1,5 @@
 //! Turns in the order that a caller gives, one byte a turn, and the events of each.
-//! For this crate alone.
+//! For this crate alone: happening.rt uses it.
 ghost use Rattle.std.specs.Prelude.{◌≡◌, ◌≤◌, ◌<◌, ◌++◌, map, OnOk};
 ghost use Rattle.nc_number.specs.declared.limits.TheConstants.{MOST_RECORDS};
 ghost use Rattle.two_path.specs.Turns.{tapes_of, turn_of};
@@ -30,7 +30,7 @@ fn path_at(byte: u8) -> Path
     if byte == 2 { Path::Two } else { Path::One }
 }
 
-/// The line at which a path stands.
+/// The line of its tape at which a path stands.
 fn line_of(machine: &Machine, left: &Flow, right: &Flow, path: Path) -> u32
     ensures { result ≡ line_of (tapes_of left.now right.now) path machine.now.machine }
 {
@@ -95,7 +95,8 @@ pub(crate) fn give_turns(
     Ok(())
 }
 
-/// How far a run has come that may have so many records.
+/// How far a run has come that may have so many records: to its end, to that many, or to the end of
+/// the order.
 pub(crate) fn end_after(machine: &Machine, most: u32) -> Reason
     ensures { result ≡ end_after most machine.now.machine }
 {

@@ -1,11 +1,11 @@
 //! The three texts of a pair, as a caller lends them, and whether a call takes them.
-//! lathe_c, lathe_looks and lathe_top use it.
+//! lathe_c and lathe_looks use it, and clauses of lathe_top the bound of the settings.
 ghost use Rattle.std.specs.Prelude.{◌≡◌};
 ghost use Rattle.lathe_calls.specs.Texts.{are_fit, texts_of, three_texts};
 
 use nc_number::LONGEST_TAPE;
 
-/// Bytes of the settings of a cell.
+/// How many bytes the settings of a cell may have at most.
 pub const LONGEST_SETTINGS: usize = 65_536;
 
 /// The texts of a call: the tape of path 1, that of path 2, and the settings of the cell.
@@ -31,7 +31,7 @@ impl<'a> PairTexts<'a> {
         }
     }
 
-    /// Whether none of them is longer than a file of its kind may be.
+    /// Whether none of the texts is longer than a file of its kind may be.
     pub fn are_fit(&self) -> bool
         ensures { result ≡ are_fit (texts_of self.now) }
     {

@@ -1,4 +1,5 @@
-//! What is asked of three texts: a variant for each question.
+//! What is asked of three texts: a variant for each question. A new one needs its line in
+//! specs/Due.antt and its arm in answering.rt.
 //! lathe_c, lathe_looks and lathe_top use it.
 use open_order::Outside;
 
@@ -11,7 +12,7 @@ pub enum Question {
     Run(u32),
     /// The trace of that run, with the races of the pair.
     Trace(u32),
-    /// The state of the machine behind the records of that run.
+    /// The state of the machine after the records of that run.
     State(u32),
     /// The meetings of both tapes, read for their waits alone; they may lack the programs outside.
     Waits(Option<Outside>),

@@ -1,5 +1,5 @@
 //! The list of races that is due to three texts. What a race is, is in race_order.
-//! For this crate alone.
+//! For this crate alone: answering.rt uses it.
 ghost use Rattle.std.specs.Prelude.{◌<◌, ◌^◌, length};
 ghost use Rattle.lathe_calls.specs.Answers.{Ends};
 ghost use Rattle.lathe_calls.specs.Due.{IsOfPair};
@@ -24,7 +24,7 @@ fn tell_races<K: Sink>(alloc: Global, pair: &Verified, out: &mut K) -> u8
     }
 }
 
-/// Writes the races of the texts, and gives their status.
+/// Writes the races of the texts, or their refusal, and gives the status.
 pub(crate) fn list_races<K: Sink>(alloc: Global, texts: &PairTexts<'_>, out: &mut K) -> u8
     requires { length texts.now.settings.now < 2 ^ 32 }
     ensures { Ends (IsOfPair AreRacesOf (texts_of texts.now)) (K.state out.old) (K.state out.new) result }

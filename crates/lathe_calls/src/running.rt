@@ -1,5 +1,6 @@
-//! The texts of the run of a pair whose paths take turns: its report, its trace, its state.
-//! For this crate alone.
+//! The texts of the run of a pair whose paths take turns: its report, its trace, and the state of
+//! its machine.
+//! For this crate alone: answering.rt uses it.
 ghost use Rattle.std.specs.Prelude.{◌≤◌, ◌<◌, ◌^◌, length};
 ghost use Rattle.nc_number.specs.declared.limits.TheConstants.{MOST_RECORDS};
 ghost use Rattle.nc_restart.specs.Pair.{opening_of, tapes_in};
@@ -26,7 +27,7 @@ use std::alloc::Global;
 use trace_list::write_trace;
 use turn_order::records_in_turn;
 
-/// Writes the report of a pair, and gives its status.
+/// Writes the report of the run of a pair, and gives its status.
 fn report_pair<K: Sink>(alloc: Global, pair: &Verified, limit: u32, out: &mut K) -> u8
     ensures { Ends (IsReportOf limit pair.now) (K.state out.old) (K.state out.new) result }
 {
@@ -40,7 +41,7 @@ fn report_pair<K: Sink>(alloc: Global, pair: &Verified, limit: u32, out: &mut K)
     }
 }
 
-/// Writes the trace of a history of a pair, and behind it the races of the pair.
+/// Writes the trace of a history of a pair, and after it the races of the pair.
 fn write_traced<K: Sink>(
     alloc: Global,
     pair: &Verified,
@@ -59,7 +60,7 @@ fn write_traced<K: Sink>(
     }
 }
 
-/// Writes the trace of a pair that has these races, and gives its status.
+/// Writes the trace of the run of a pair that has these races, and gives its status.
 fn trace_with<K: Sink>(
     alloc: Global,
     pair: &Verified,
@@ -80,7 +81,7 @@ fn trace_with<K: Sink>(
     }
 }
 
-/// Writes the trace of a pair, and gives its status.
+/// Finds the races of a pair, writes the trace of its run with them, and gives its status.
 fn trace_pair<K: Sink>(alloc: Global, pair: &Verified, limit: u32, out: &mut K) -> u8
     ensures { Ends (IsTraceOf limit pair.now) (K.state out.old) (K.state out.new) result }
 {
@@ -90,7 +91,7 @@ fn trace_pair<K: Sink>(alloc: Global, pair: &Verified, limit: u32, out: &mut K) 
     }
 }
 
-/// Writes the state of the machine behind a history of a pair.
+/// Writes the state of the machine after a history of a pair, and gives its status.
 fn show_machine<K: Sink>(alloc: Global, pair: &Verified, entries: &EntryList, out: &mut K) -> u8
     requires legal { IsLegal (tapes_in pair.now) (opening_of pair.now) entries.now.items }
     requires few { length entries.now.items ≤ MOST_RECORDS }
@@ -103,7 +104,7 @@ fn show_machine<K: Sink>(alloc: Global, pair: &Verified, entries: &EntryList, ou
     }
 }
 
-/// Writes the state of a pair, and gives its status.
+/// Writes the state of the machine after the run of a pair, and gives its status.
 fn show_pair<K: Sink>(alloc: Global, pair: &Verified, limit: u32, out: &mut K) -> u8
     ensures { Ends (IsStateOf limit pair.now) (K.state out.old) (K.state out.new) result }
 {
@@ -113,7 +114,7 @@ fn show_pair<K: Sink>(alloc: Global, pair: &Verified, limit: u32, out: &mut K) -
     }
 }
 
-/// Writes the report of the run of the texts, and gives its status.
+/// Writes the report of the run of the texts, or their refusal, and gives the status.
 pub(crate) fn report<K: Sink>(alloc: Global, texts: &PairTexts<'_>, limit: u32, out: &mut K) -> u8
     requires { length texts.now.settings.now < 2 ^ 32 }
     ensures { Ends (IsOfPair (IsReportOf limit) (texts_of texts.now)) (K.state out.old) (K.state out.new) result }
@@ -124,7 +125,8 @@ pub(crate) fn report<K: Sink>(alloc: Global, texts: &PairTexts<'_>, limit: u32, 
     }
 }
 
-/// Writes the trace of the run of the texts with the races of their pair, and gives its status.
+/// Writes the trace of the run of the texts with the races of their pair, or their refusal, and
+/// gives the status.
 pub(crate) fn trace<K: Sink>(alloc: Global, texts: &PairTexts<'_>, limit: u32, out: &mut K) -> u8
     requires { length texts.now.settings.now < 2 ^ 32 }
     ensures { Ends (IsTraced limit (texts_of texts.now)) (K.state out.old) (K.state out.new) result }
@@ -135,7 +137,7 @@ pub(crate) fn trace<K: Sink>(alloc: Global, texts: &PairTexts<'_>, limit: u32, o
     }
 }
 
-/// Writes the state of the machine behind the records of the run of the texts, and gives its
+/// Writes the state of the machine after the run of the texts, or their refusal, and gives the
 /// status.
 pub(crate) fn show<K: Sink>(alloc: Global, texts: &PairTexts<'_>, limit: u32, out: &mut K) -> u8
     requires { length texts.now.settings.now < 2 ^ 32 }

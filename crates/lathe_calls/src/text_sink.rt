@@ -1,5 +1,5 @@
 //! A sink that is a text in memory.
-//! For this crate alone.
+//! For this crate alone: `answer` (answering.rt) has its text written there before it hands it out.
 ghost use Rattle.std.specs.Prelude.{◌≡◌, ◌≢◌, [], ◌++◌, Err, if◌then◌else◌, is_ok};
 ghost use Rattle.lathe_calls.specs.Texts.{written};
 

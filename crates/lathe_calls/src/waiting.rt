@@ -1,5 +1,5 @@
 //! The meetings of texts that are read for their waits alone.
-//! For this crate alone.
+//! For this crate alone: answering.rt uses it.
 ghost use Rattle.std.specs.Prelude.{◌<◌, ◌^◌, length};
 ghost use Rattle.open_order.specs.Basis.{seen};
 ghost use Rattle.wait_verify.specs.Printed.{waits_text};
@@ -28,7 +28,7 @@ fn tell_waits<K: Sink>(alloc: Global, pair: &WaitPair, out: &mut K) -> u8
     write_text(out, text.as_slice(), Status::Done as u8)
 }
 
-/// Writes the meetings of the texts, and gives their status.
+/// Writes the meetings of the texts, or their refusal, and gives the status.
 pub(crate) fn judge_waits<K: Sink>(
     alloc: Global,
     texts: &PairTexts<'_>,

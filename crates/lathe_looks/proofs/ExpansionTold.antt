@@ -1,4 +1,5 @@
 -- What is answered of a tape that is written out, or refused.
+-- For the proofs of `expand_text` and `refuse_tape` (src/expanding.rt).
 use Rattle.std.proofs.Common.{◌≡◌, ℕ, List, Option, Some, Ok, Err, IfSome, refl, sym, subst}
 use Rattle.nc_number.specs.declared.cause.Cause.{Cause}
 use Rattle.nc_number.specs.Causes.{cause_number}

@@ -1,5 +1,6 @@
--- The first file of a list that can't be read: from one file to the list, that no file of texts
--- that exist is one, and that there is one at most. lathe_top takes the lemmas on lists.
+-- The first file of a list that can't be read: how it follows from one file, that no file with a
+-- text is one, and that there is at most one.
+-- The proofs of this crate use it, and lathe_top takes the lemmas on lists.
 use Rattle.std.proofs.Common.{◌≡◌, ℕ, zero, suc, ◌≤◌, ◌<◌, Option, Some, None, List, [], ◌∷◌, ◌++◌, length, map, take, IsSomeAnd, refl, sym, ap, subst, arith, ◌∙◌, append_assoc}
 use Rattle.std.proofs.lemmas.List.{map-append}
 use Rattle.nc_number.specs.declared.fault.Failing.{Failing}
@@ -64,7 +65,7 @@ first_not_had old new one files (Fault missing) asked is = record {
 }
 first_not_had old new one files NoMemory asked is = (1, asked)
 
--- The same of the second file, if the first has a text.
+-- If the first file has a text and the second can't be read, that is the list's.
 pub second_not_had : (old middle new : ShelfState) (one two : Named) (text : List ℕ) (error : Failing Unfetched)
     → IsText old.files one text → HoldsOn old middle → old.faults ≤ middle.faults → AreAsked old.asked middle.asked (one ∷ [])
     → AreAsked middle.asked new.asked (two ∷ [])
@@ -80,7 +81,7 @@ second_not_had old middle new one two text (Fault missing) is_text same later fi
 second_not_had old middle new one two text NoMemory is_text same later first second is =
     (2, asked_more old.asked middle.asked new.asked (one ∷ []) (two ∷ []) first second)
 
--- The same of the third file, if the first two have texts.
+-- If the first two files have texts and the third can't be read, that is the list's.
 pub third_not_had : (old middle new : ShelfState) (one two three : Named) (a b : List ℕ) (error : Failing Unfetched)
     → AreHad old middle (one ∷ two ∷ []) (a ∷ b ∷ []) → HoldsOn old middle → old.faults ≤ middle.faults
     → AreAsked middle.asked new.asked (three ∷ [])
@@ -120,8 +121,8 @@ pub tape_had : (old new : ShelfState) (one : Named) (text : List ℕ) → IsText
     → AreHad old new (one ∷ []) (text ∷ [])
 tape_had old new one text is asked = record { each = (is, tt); asked = asked }
 
--- The same of both tapes. Between the two calls the shelf had these files, and was asked for these
--- names.
+-- Two files that have texts are a list that has texts. Between the two calls the shelf had these
+-- files, and was asked for these names.
 pub tapes_had : (old new : ShelfState) (told : Option Files) (names : Option (List (List ℕ))) (one two : Named) (a b : List ℕ)
     → IsText old.files one a → told ≡ old.files → AreAsked old.asked names (one ∷ []) → IsText told two b
     → AreAsked names new.asked (two ∷ []) → AreHad old new (one ∷ two ∷ []) (a ∷ b ∷ [])
@@ -130,7 +131,7 @@ tapes_had old new told names one two a b first same asked second then_asked = re
   asked = asked_more old.asked names new.asked (one ∷ []) (two ∷ []) asked then_asked;
 }
 
--- The same of both tapes and the settings.
+-- Both tapes and the settings, each with a text, are a list that has texts.
 pub texts_had : (old middle new : ShelfState) (one two three : Named) (a b c : List ℕ) → AreHad old middle (one ∷ two ∷ []) (a ∷ b ∷ [])
     → HoldsOn old middle → IsText middle.files three c → AreAsked middle.asked new.asked (three ∷ [])
     → AreHad old new (one ∷ two ∷ three ∷ []) (a ∷ b ∷ c ∷ [])

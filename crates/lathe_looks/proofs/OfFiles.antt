@@ -1,5 +1,5 @@
 -- What a command answers of its files is what is due to their texts, if the shelf did not fail.
--- src/laws.rt says it to the caller.
+-- For the proof of the law in src/laws.rt.
 use Rattle.std.proofs.Common.{◌≡◌, ◌⊎◌, inl, inr, ℕ, List, Some, refl, sym, subst}
 use Rattle.nc_outside.specs.Faults.{Rose}
 use Rattle.nc_outside.specs.Files.{Files, ShelfState}
@@ -24,6 +24,7 @@ same_texts a b is =
     let last : a.settings ≡ b.settings = cc in
     three a.left a.right a.settings b.left b.right b.settings one two last
 
+-- a command of these files, over a shelf that has these texts and did not fail
 module _ (files : Files) (old new : ShelfState) (names : List Named) (texts : Texts) (question : Question)
     (told : old.files ≡ Some files) (calm : Rose old.faults new.faults → ⊥) (are : AreTexts (Some files) names (listed texts)) where
   -- What is due to a command of these files is due to their texts, or memory ran out, if the shelf

@@ -1,4 +1,5 @@
 -- The settings that were read are short enough to be judged.
+-- For the proof of `ask` (src/asking.rt).
 use Rattle.std.proofs.Common.{◌≡◌, ◌<◌, ◌≤◌, ◌^◌, length, sym, subst, arith}
 use Rattle.nc_verify.specs.Verdict.{Texts}
 use Rattle.lathe_calls.specs.declared.pair_texts.TheConstants.{LONGEST_SETTINGS}

@@ -1,4 +1,5 @@
--- What is shown of a run that was found, by its machine.
+-- What is shown of a run that was found is said of its history, by its machine.
+-- For the proof of `put` (src/showing.rt).
 use Rattle.std.proofs.Common.{◌≡◌, List, ap, ◌∙◌}
 use Rattle.nc_outside.specs.declared.reason.Reason.{Reason}
 use Rattle.move_list.specs.State.{state_text}

@@ -1,4 +1,5 @@
--- What is told of a file of zones, by what its text says.
+-- What is told of a text of zones is told of the file that has it.
+-- For the proof of `zones_of_file` (src/zoning.rt).
 use Rattle.std.proofs.Common.{◌≡◌, ℕ, List, Result, Ok, Err}
 use Rattle.std.specs.Prelude.{IfOk, IfErr}
 use Rattle.nc_outside.specs.Files.{ShelfState}

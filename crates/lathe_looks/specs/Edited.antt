@@ -1,5 +1,6 @@
--- What `edit` answers if its text of edits can't be read, and the edits of a file. What an edit
--- does to a run is in lathe_top, which reads this.
+-- What `edit` answers if its file or the text of edits is no good, and which edits a file has. What
+-- edits do to a run is in run_edits.
+-- lathe_top cites it.
 use Rattle.std.specs.Prelude.{◌≡◌, ℕ, List, ◌++◌, codes, decimal, Ok, Err}
 use Rattle.edit_texts.specs.declared.edit_list.PathEdit.{PathEdit}
 use Rattle.edit_texts.specs.Edits.{edits_of}
@@ -14,13 +15,18 @@ use Rattle.lathe_looks.specs.Named.{alone, edits_named}
 unfoldable pub bad_edit_text : ℕ → List ℕ
 bad_edit_text line = codes "refused 91 " ++ (codes "BadEdit line " ++ (decimal line ++ codes "\n"))
 
--- 1 and the first line that is not allowed; or no text, if memory ran out.
+-- Status 1 and the first line that is not allowed; or no text, if memory ran out.
 pub data IsUnedited (text : List ℕ) : Answer → Type 0 where
+  -- the first line that is no edit
   bad_edits : {line : ℕ} → edits_of text ≡ Err line → IsUnedited text (tells exit.refused (bad_edit_text line))
+  -- memory ran out
   unread_edits : IsUnedited text nothing
 
--- The shelf has a text of the file, and these are its edits.
+-- The shelf has a text of the file, and the edits of that text are these.
 pub record AreEditsOf (old new : ShelfState) (name : List ℕ) (edits : List PathEdit) : Type 0 where
+  -- the text of the file
   pub text : List ℕ
+  -- the shelf has this text, and was asked for the file
   pub had : AreHad old new (edits_named name) (alone text)
+  -- the edits of the text are these
   pub are : edits_of text ≡ Ok edits

@@ -1,5 +1,6 @@
 -- What `expand` answers over the text of its tape: the status and the text. How cycles are written
--- out is in tape_expand. lathe_top reads this.
+-- out is in tape_expand.
+-- lathe_top cites it.
 use Rattle.std.specs.Prelude.{◌≡◌, ℕ, List, ◌++◌, codes, Option, Ok, Err}
 use Rattle.nc_number.specs.declared.cause.Cause.{Cause}
 use Rattle.cycle_form.specs.Faults.{fault_name}
@@ -18,7 +19,7 @@ abbrev pub fault_name_text : Option Cause → ExpandFault → List ℕ
 fault_name_text cause (Unreadable fault) = name_text cause
 fault_name_text cause (Cycle fault) = codes " " ++ fault_name fault
 
--- The line of the tape at which it is refused, and the end of the line.
+-- The line of the tape at which it is refused, and the end of the line of output.
 unfoldable pub at_line_text : ℕ → List ℕ
 at_line_text line = numbered (codes " line ") line ++ codes "\n"
 
@@ -31,14 +32,17 @@ refusal_text cause fault =
 abbrev pub IsRefusalText : ExpandFault → List ℕ → Type 0
 IsRefusalText fault text = (cause : Option Cause) × IsCauseOf (expand_number fault) cause × (text ≡ refusal_text cause fault)
 
--- 0 and the tape with its roughing cycles written out, where no move of a cycle's blocks lies
--- inside its contour; 1 and the line of the refusal; or no text, if memory ran out.
+-- Status 0 and the tape with its roughing cycles written out, where no move of a cycle's blocks
+-- lies inside its contour; status 1 and the line of the refusal; or no text, if memory ran out.
 pub data IsExpanded (text : List ℕ) : Answer → Type 0 where
+  -- the text with its cycles written out
   expanded : {bytes : List ℕ} → expansion_of text ≡ Ok bytes → AreClearParts (parts_in text) → IsExpanded text (tells exit.done bytes)
+  -- the tape is refused
   refused : {fault : ExpandFault} {line : List ℕ} → expansion_of text ≡ Err fault → IsRefusalText fault line
       → IsExpanded text (tells exit.refused line)
+  -- memory ran out
   unexpanded : IsExpanded text nothing
 
--- The answer is 1 and the line of this refusal.
+-- The answer is status 1 and the line of this refusal.
 abbrev pub IsTapeRefusing : ExpandFault → Answer → Type 0
 IsTapeRefusing fault answer = (text : List ℕ) × IsRefusalText fault text × (answer ≡ tells exit.refused text)

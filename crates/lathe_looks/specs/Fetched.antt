@@ -1,5 +1,6 @@
 -- The texts of the files of a command, or the first file that can't be read: what the shelf must
--- have, what it was asked for, and what is answered. lathe_top reads this.
+-- have, what it was asked for, and what is answered.
+-- lathe_top cites it for each command that names files.
 use Rattle.std.specs.Prelude.{◌≡◌, ℕ, zero, suc, ◌≤◌, Option, Some, None, List, [], ◌∷◌, ◌++◌, length, map, take, codes}
 use Rattle.nc_number.specs.declared.fault.Failing.{Failing}
 use Rattle.nc_number.specs.declared.fault.Failing.TheVariants.{Fault, NoMemory}
@@ -48,13 +49,18 @@ AreAsked (Some was) after files = after ≡ Some (was ++ map (λ (file : Named).
 pub record IsNotHad (old new : ShelfState) (files : List Named) (file : Named) (fault : FileFault) : Type 0 where
   -- How many files of the list come before it.
   pub before : ℕ
+  -- the shelf has a text of each file before it
   pub reached : Reaches old.files file files before
+  -- why the file can't be read
   pub cause : FileCause old new file fault
+  -- the shelf was asked for the files up to this one, in order
   pub asked : AreAsked old.asked new.asked (take (suc before) files)
 
 -- The shelf has these texts of the files, and was asked for each file once, in order.
 pub record AreHad (old new : ShelfState) (files : List Named) (texts : List (List ℕ)) : Type 0 where
+  -- the shelf has these texts
   pub each : AreTexts old.files files texts
+  -- the shelf was asked for each file once, in order
   pub asked : AreAsked old.asked new.asked files
 
 -- Memory ran out at a file of the list: the shelf was asked for a prefix of the list.

@@ -1,4 +1,4 @@
--- What callers read.
+-- What the commands answer that only look. lathe_top cites all files but Texts in its specs.
 pub mod Named
 pub mod Fetched
 pub mod Standing
@@ -6,5 +6,5 @@ pub mod Shown
 pub mod Expanded
 pub mod Zoned
 pub mod Edited
--- Words of the inside.
+-- The names and texts of the code, for clauses of this crate and of lathe_top.
 pub mod Texts

@@ -1,5 +1,6 @@
 -- The files that a command names: which kinds there are, how long each may be, and the lists in
--- which they are read. lathe_top reads this.
+-- which they are read.
+-- lathe_top cites it.
 use Rattle.std.specs.Prelude.{ℕ, List, [], ◌∷◌}
 use Rattle.nc_number.specs.declared.limits.TheConstants.{LONGEST_TAPE}
 use Rattle.nc_verify.specs.Verdict.{Texts}
@@ -9,7 +10,9 @@ use Rattle.lathe_looks.specs.declared.files.CommandFile.TheVariants.{Left, Right
 
 -- A file of a command: which of its files it is, and its name.
 pub record Named : Type 0 where
+  -- which of the command's files it is
   pub file : CommandFile
+  -- the name that the command gives it
   pub name : List ℕ
 
 -- A file of this kind and name.

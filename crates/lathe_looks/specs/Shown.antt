@@ -1,5 +1,6 @@
 -- What a command answers that shows the run whose journal is on a disk (`moves`, `state`, `zones`),
--- or why there is none. lathe_top reads this.
+-- or why there is none.
+-- lathe_top cites it.
 use Rattle.std.specs.Prelude.{ℕ, List, ◌++◌, codes, decimal, Ok, Err}
 use Rattle.disk_model.specs.Device.{DiskState}
 use Rattle.nc_restart.specs.declared.fault.RestartFault.{RestartFault}
@@ -37,6 +38,8 @@ shown_text State = state_of
 -- What a command answers that looks for a run on the disk and shows its history by `text_of`: why
 -- none is found, or that text. It writes nothing to the disk.
 pub data IsShown (text_of : Verified → List Entry → List ℕ) (old new : DiskState) : Answer → Type 0 where
+  -- no run is found
   unshown : (fault : RestartFault) → Recovers old new (Err fault) → IsShown text_of old new (unfound fault)
+  -- the text of the history that is found
   shown : (found : FoundRun) (pair : Verified) → IsPairOf (texts_of found.header) pair → IsHistory pair found.entries
       → Recovers old new (Ok found) → IsShown text_of old new (tells exit.done (text_of pair found.entries))

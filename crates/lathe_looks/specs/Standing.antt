@@ -1,5 +1,5 @@
--- Why the machine of a run stands where it does, and the report of its history so far. lathe_top
--- reads this.
+-- Why the machine of a run stands where it does, and the report of its history so far.
+-- Shown and lathe_top cite it.
 use Rattle.std.specs.Prelude.{ℕ, Bool, ◌&&◌, ◌||◌, is_some, List, Option, unwrap_or}
 use Rattle.nc_moves.specs.declared.alarm.Alarm.{Alarm}
 use Rattle.nc_outside.specs.declared.reason.Reason.{Reason}
@@ -19,7 +19,7 @@ reason_by alarm finished = unwrap_or (end_by alarm finished) Reason.Stopped
 abbrev pub are_finished : MachineView → Bool
 are_finished m = m.paths.one.finished && m.paths.two.finished
 
--- The same of a machine, by its alarm and its paths.
+-- Why a machine stands where it does, by its alarm and by whether both paths have ended.
 abbrev pub reason_of : MachineView → Reason
 reason_of m = reason_by m.alarm (are_finished m)
 
@@ -27,6 +27,6 @@ reason_of m = reason_by m.alarm (are_finished m)
 abbrev pub is_over : MachineView → Bool
 is_over m = is_some m.alarm || are_finished m
 
--- The report of a history so far, with its reason.
+-- The report of a history so far, with why its machine stands where it does.
 abbrev pub moves_text : Verified → List Entry → List ℕ
 moves_text pair entries = report_of pair entries (reason_of (machine_behind pair entries))

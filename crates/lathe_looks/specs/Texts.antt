@@ -1,4 +1,5 @@
--- The names and texts that the code keeps, as clauses see them. lathe_top reads this.
+-- The names and texts that the code keeps, as clauses see them.
+-- Clauses of this crate and of lathe_top cite it.
 use Rattle.std.specs.Prelude.{ℕ, List}
 use denote.Ref.{Bor}
 use Rattle.nc_number.specs.declared.both.Both.{Both}

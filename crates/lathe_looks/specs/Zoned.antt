@@ -1,5 +1,6 @@
--- What `zones` answers if its text of zones can't be read, the zones of a file, and the text that
--- is shown. How zones are found is in zone_check. lathe_top reads this.
+-- What `zones` answers if its file or the text of zones is no good, which zones a file has, and the
+-- text that is shown. How zones are found is in zone_check.
+-- lathe_top cites it.
 use Rattle.std.specs.Prelude.{◌≡◌, ℕ, List, ◌++◌, codes, decimal, Ok, Err}
 use Rattle.nc_outside.specs.Files.{ShelfState}
 use Rattle.nc_restart.specs.Pair.{opening_of, tapes_in}
@@ -18,15 +19,20 @@ use Rattle.lathe_looks.specs.Named.{alone, zones_named}
 unfoldable pub bad_zone_text : ℕ → List ℕ
 bad_zone_text line = codes "refused 92 " ++ (codes "BadZone line " ++ (decimal line ++ codes "\n"))
 
--- 1 and the first line that is not allowed; or no text, if memory ran out.
+-- Status 1 and the first line that is not allowed; or no text, if memory ran out.
 pub data IsUnzoned (text : List ℕ) : Answer → Type 0 where
+  -- the first line that is no entry of zones
   bad_zones : {line : ℕ} → zones_of text ≡ Err line → IsUnzoned text (tells exit.refused (bad_zone_text line))
+  -- memory ran out
   unread_zones : IsUnzoned text nothing
 
--- The shelf has a text of the file, and these are its zones.
+-- The shelf has a text of the file, and the zones of that text are these.
 pub record AreZonesOf (old new : ShelfState) (name : List ℕ) (zones : ZonesView) : Type 0 where
+  -- the text of the file
   pub text : List ℕ
+  -- the shelf has this text, and was asked for the file
   pub had : AreHad old new (zones_named name) (alone text)
+  -- the zones of the text are these
   pub are : zones_of text ≡ Ok zones
 
 -- The text of the zones of a history of a pair.

@@ -1,5 +1,6 @@
 //! The commands that answer a question of the files of a pair: `verify`, `waits`, `races` and
-//! `trace`. What is due to the texts is in lathe_calls. lathe_top calls `ask`.
+//! `trace`. What is due to the texts is in lathe_calls.
+//! lathe_top calls `ask` for each of them.
 ghost use Rattle.std.specs.Prelude.{◌≡◌};
 ghost use Rattle.lathe_calls.specs.Answers.{Ends};
 ghost use Rattle.lathe_calls.specs.Due.{IsDueTo};
@@ -14,8 +15,9 @@ use lathe_calls::{PairTexts, Question, tell};
 use nc_outside::{Shelf, Sink};
 use std::alloc::Global;
 
-/// Writes what is due to the texts of the files and a question, and gives the exit status; or which
-/// file can't be read. What is due is what the library answers to these texts.
+/// Writes what is due to the texts of the files and a question, and gives the exit status. If a
+/// file can't be read, that is written instead. What is due is what the library answers to these
+/// texts.
 pub fn ask<H: Shelf, K: Sink>(
     alloc: Global,
     names: &FileNames<'_>,
@@ -32,7 +34,7 @@ pub fn ask<H: Shelf, K: Sink>(
     }
 }
 
-/// The three texts as the answering function takes them.
+/// The three texts as lathe_calls takes them.
 fn lent(texts: &Texts) -> PairTexts<'_>
     ensures { lent_texts result ≡ texts_of texts.now }
 {

@@ -1,5 +1,6 @@
-//! The text of the edits that an operator makes, read from a file. What an edit does is in
-//! lathe_top, which calls `edits_of_file`.
+//! The edits that an operator makes, read from a file of `edit`; a bad line is refused as 91. What
+//! edits do to a run is in run_edits.
+//! lathe_top calls `edits_of_file`.
 ghost use Rattle.std.specs.Prelude.{◌≡◌, ◌<◌, ◌^◌, Ok, length, IfOk, IfErr};
 ghost use Rattle.edit_texts.specs.Edits.{edits_of};
 ghost use Rattle.lathe_calls.specs.Answers.{Ends, IsJust, tells};
@@ -35,7 +36,8 @@ pub fn edits_of_file<H: Shelf, K: Sink>(
     }
 }
 
-/// The edits of a text. If a line is bad, the first is written, and the error is the exit status.
+/// The edits of a text. If a line is bad, the first such line is written, and the error is the exit
+/// status.
 fn edits_of_text<K: Sink>(alloc: Global, text: &[u8], out: &mut K) -> Result<EditList, u8>
     requires { length text.now < 2 ^ 32 }
     ensures read { IfOk result (λ edits. edits_of text.now ≡ Ok edits) }

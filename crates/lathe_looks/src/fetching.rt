@@ -1,5 +1,6 @@
 //! The texts of the files of a command, or the first file that can't be read, with its line of
-//! output. lathe_top calls these functions.
+//! output. The commands of this crate read their files so.
+//! lathe_top calls `fetch_texts` and `tell_unfetched` for a run.
 ghost use Rattle.std.specs.Prelude.{◌≡◌, ◌≤◌, ◌<◌, ◌^◌, [], ◌∷◌, ◌++◌, length, OnOk, IfOk, IfErr};
 ghost use Rattle.block_order.specs.Answers.{IfFault};
 ghost use Rattle.nc_outside.specs.Files.{HoldsOn};
@@ -29,15 +30,20 @@ pub enum FileFault {
 /// A file that can't be read, by the name that the command gives it, and why.
 #[derive(Clone, Copy, Debug)]
 pub struct Unfetched<'a> {
+    /// Which of the command's files it is.
     pub file: CommandFile,
+    /// The name that the command gives it.
     pub name: &'a str,
+    /// Why it can't be read.
     pub fault: FileFault,
 }
 
 /// The texts of both tapes and of the settings.
 #[derive(Drop)]
 pub struct Texts {
+    /// The texts of the tapes, by path.
     pub tapes: Both<Vec<u8>>,
+    /// The text of the settings.
     pub settings: Vec<u8>,
 }
 

@@ -1,4 +1,6 @@
-//! The files that a command names. What is read from them is in `fetching`.
+//! The files that a command names: their kinds, and how many bytes each may have. fetching.rt reads
+//! them.
+//! lathe_top makes `FileNames` of the words.
 ghost use Rattle.std.specs.Prelude.{◌≡◌};
 ghost use Rattle.lathe_looks.specs.Named.{most_bytes};
 
@@ -16,9 +18,9 @@ pub enum CommandFile {
     Settings,
     /// A tape by itself.
     Tape,
-    /// How the paths lie in one cell.
+    /// The file of `zones`: how the paths lie in one cell.
     Zones,
-    /// What an operator corrects.
+    /// The file of `edit`: what an operator corrects.
     Edits,
 }
 

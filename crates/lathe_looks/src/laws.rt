@@ -1,5 +1,5 @@
-//! What holds of every call. The law is the contract of a function that does nothing: who calls it
-//! has the law.
+//! That the program and the library agree. The law is the contract of a function that does nothing.
+//! No crate calls it: it says to a reader what `ask` answers.
 ghost use Rattle.std.specs.Prelude.{◌≡◌, ◌⊎◌, ℕ, List, Some};
 ghost use Rattle.nc_outside.specs.Faults.{Rose};
 ghost use Rattle.nc_outside.specs.Files.{Files, ShelfState};

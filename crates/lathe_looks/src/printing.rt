@@ -1,4 +1,5 @@
-//! Text that is gathered in memory before it is written.
+//! Adds bytes and numbers to a text in memory; nothing is printed or written here.
+//! For this crate alone: expanding.rt and fetching.rt gather a line so before they write it.
 ghost use Rattle.std.specs.Prelude.{◌≡◌, ◌++◌, OnOk, decimal};
 
 use itoa::Buffer;

@@ -1,5 +1,6 @@
 //! What is written if a command can't begin: its words are no command, or there is no run to go on
-//! with or to show. lathe_top calls these too.
+//! with or to show.
+//! showing.rt and zoning.rt use it, and lathe_top for the commands that run.
 ghost use Rattle.std.specs.Prelude.{◌≡◌, codes};
 ghost use Rattle.lathe_calls.specs.Answers.{Ends, IsJust, tells};
 ghost use Rattle.lathe_looks.specs.Shown.{bad_text, unfound};

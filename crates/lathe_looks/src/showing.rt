@@ -1,5 +1,6 @@
 //! The commands that show the run whose journal is on the disk: `moves` and `state`. They write
-//! nothing to the disk. The zones of a run: `zoning`.
+//! nothing to the disk. The zones of a run are in zoning.rt.
+//! lathe_top calls `show`.
 ghost use Rattle.nc_restart.specs.Recovered.{IsRecovered};
 ghost use Rattle.nc_verify.specs.Printed.{IsPut};
 ghost use Rattle.lathe_calls.specs.Answers.{Ends};
@@ -26,7 +27,9 @@ pub enum Showing {
 /// The exit status of a command that only looks, and the disk that was handed in.
 #[derive(Drop)]
 pub struct Shown<D: Disk> {
+    /// The exit status.
     pub status: u8,
+    /// The disk that was handed in.
     pub disk: D,
 }
 

@@ -1,4 +1,5 @@
-//! Whether a run is over, and why its machine stands where it does. lathe_top asks this too.
+//! Whether a run is over, and why its machine stands where it does.
+//! showing.rt uses it for the report, and lathe_top before a run goes on.
 ghost use Rattle.std.specs.Prelude.{◌≡◌};
 ghost use Rattle.lathe_looks.specs.Standing.{are_finished, is_over, reason_of};
 
@@ -20,7 +21,8 @@ pub fn is_over(machine: &Machine) -> bool
     machine.alarm().is_some() || are_finished(machine)
 }
 
-/// Why the machine stands where it does, if nothing else stopped it: an alarm, the end, or a stop.
+/// Why the machine stands where it does, if nothing but its own records stopped it: an alarm, the
+/// ends of both paths, or a stop before.
 pub fn reason_of(machine: &Machine) -> Reason
     ensures { result ≡ reason_of machine.now.machine }
 {

@@ -1,5 +1,6 @@
-//! The command `zones`: its file, and the zones of the run whose journal is on the disk. How zones
-//! are found is in zone_check.
+//! The command `zones`: its file, whose bad line is refused as 92, and the zones of the run whose
+//! journal is on the disk. How zones are found is in zone_check.
+//! lathe_top calls both public functions.
 ghost use Rattle.std.specs.Prelude.{◌≡◌, ◌<◌, ◌^◌, Ok, length, IfOk, IfErr};
 ghost use Rattle.nc_restart.specs.Recovered.{IsRecovered};
 ghost use Rattle.nc_verify.specs.Printed.{IsPut};
@@ -43,7 +44,8 @@ pub fn zones_of_file<H: Shelf, K: Sink>(
     }
 }
 
-/// The zones of a text. If a line is bad, the first is written, and the error is the exit status.
+/// The zones of a text. If a line is bad, the first such line is written, and the error is the exit
+/// status.
 fn zones_of_text<K: Sink>(alloc: Global, text: &[u8], out: &mut K) -> Result<Zones, u8>
     requires { length text.now < 2 ^ 32 }
     ensures read { IfOk result (λ zones. zones_of text.now ≡ Ok zones) }

@@ -1,5 +1,5 @@
 -- Answers that agree: one status and one text, or nothing was told.
--- `top` (src/control.rt) rests on it.
+-- DueOnce, FaultsFirst and the proof of `top` (src/control.rt) use it.
 use Rattle.std.proofs.Common.{◌≡◌, ℕ, List, take, sym, subst}
 use Rattle.nc_outside.specs.Written.{SinkState, Writes}
 use Rattle.lathe_calls.specs.Answers.{Answer, tells, nothing, Ends, whole, cut, unwritten, untold}
@@ -16,12 +16,13 @@ pub agree_nothing : (a : Answer) → Agree a nothing
 agree_nothing nothing = tt
 agree_nothing (tells status text) = tt
 
--- this status is told, or nothing
+-- the answer has this status, or is nothing
 abbrev pub HasStatus : ℕ → Answer → Type 0
 HasStatus wanted nothing = Unit {0}
 HasStatus wanted (tells status text) = status ≡ wanted
 
--- if all answers that are due have one status, it is answered
+-- if all answers that are due have one status, the call ended with it, or with that of what went
+-- wrong at the sink
 pub ends_or : {Due : Answer → Type 0} {old new : SinkState} (status : ℕ) (result : ℕ)
     → ((answer : Answer) → Due answer → HasStatus status answer) → Ends Due old new result → IsOr old new status result
 ends_or {Due} {old} {new} status result only (whole {status = s} {text = t} due written) =
@@ -30,7 +31,8 @@ ends_or status result only (cut due rose n written) = sink_failed rose
 ends_or status result only (unwritten due n written) = memory_wanting
 ends_or status result only (untold due written) = memory_wanting
 
--- if all answers that are due agree with one, it is told
+-- if all answers that are due agree with one, that one was told, as far as the sink and the memory
+-- allowed
 pub ends_told : {Due : Answer → Type 0} {old new : SinkState} (status : ℕ) (text : List ℕ) (result : ℕ)
     → ((answer : Answer) → Due answer → Agree answer (tells status text)) → Ends Due old new result → IsTold old new status text result
 ends_told {Due} {old} {new} status text result only (whole {status = s} {text = t} due written) =

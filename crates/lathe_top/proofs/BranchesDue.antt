@@ -1,5 +1,5 @@
--- What is due to a branch of one run is one answer.
--- DueOnce rests on it.
+-- To a branch of one run one answer is due.
+-- DueOnce uses it.
 use Rattle.std.proofs.Common.{◌≡◌, ℕ, List, refl, ap, arith}
 use Rattle.disk_model.specs.Device.{DiskState, Reads, Rose}
 use Rattle.nc_restart.specs.Recovered.{FoundRun}
@@ -7,7 +7,7 @@ use Rattle.lathe_calls.specs.Answers.{Answer}
 use Rattle.lathe_top.specs.Branched.{IsBranchOf, no_meeting, made, run_seen, failed, unmade, branched_text}
 use Rattle.lathe_top.proofs.Agreed.{Agree}
 
--- over a second disk that told its bytes and did not fail
+-- over a second disk that made its bytes known and did not fail
 module _ {E : Type 0} (state : E → DiskState) (run : FoundRun) (n : ℕ) (old new : E) (bytes : List ℕ) (holds : Reads (state old) bytes)
     (calm : Rose (state old).faults (state new).faults → ⊥) where
   -- two answers that are due to one branch agree

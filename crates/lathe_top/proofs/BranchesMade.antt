@@ -1,5 +1,5 @@
--- What is answered to a branch of a run that was found.
--- `branch_found` (src/branching.rt) rests on it.
+-- What is answered to a branch of a run that was found is what is due to it.
+-- For the proof of `branch_found` (src/branching.rt).
 use Rattle.std.proofs.Common.{inl, inr, ℕ, suc, ◌≤◌, ◌<◌, List, Result, Ok, Err, refl, arith}
 use Rattle.std.proofs.Math.Nat.{lt_of_not-le}
 use Rattle.disk_model.specs.Device.{DiskState}
@@ -21,7 +21,7 @@ use Rattle.lathe_calls.specs.Statuses as exit
 use Rattle.lathe_top.specs.Branched.{IsBranched, branched, IsBranchOf, no_meeting, made, run_seen, failed, unmade, IsWhileBranching, KeepsBranch, StandsForBranch, branched_text, unbranched}
 use Rattle.lathe_top.proofs.StopsLeave.{NeverBad}
 
--- what is told of a branch
+-- what is told of a branch, by what crate run_branch answered
 abbrev told_by : ℕ → Result ℕ BranchFault → Answer
 told_by n (Ok k) = tells exit.done (branched_text n k)
 told_by n (Err f) = unbranched f
@@ -52,7 +52,7 @@ module _ {D E : Type 0} (state : D → DiskState) (second : E → DiskState) (ne
   as_while image c (inr (inl none)) = inr (inl none)
   as_while image c (inr (inr stands)) = inr (inr (as_branch c stands))
 
-  -- Crate run_branch answered this.
+  -- what crate run_branch answered, with the second disk after it
   module _ (result : Result ℕ BranchFault) (does : Branches second header entries n onto left result) where
     -- what it did to the second disk is what a branch may do
     keeps : KeepsBranch run n (second onto) (second left)
@@ -68,7 +68,7 @@ module _ {D E : Type 0} (state : D → DiskState) (second : E → DiskState) (ne
     enough : (IsNoMeeting result → ⊥) → n ≤ meetings entries
     enough other = no_less (meetings entries) n (λ fewer. other (does.no_meeting.1 fewer))
 
-  -- its answer is one that is due to a branch of this run
+  -- the answer of run_branch is one that is due to a branch of this run
   of_run : (result : Result ℕ BranchFault) → Branches second header entries n onto left result → IsBranchOf second run n onto left (told_by n result)
   of_run (Ok k) does =
       made k (enough (Ok k) does (λ never. never))

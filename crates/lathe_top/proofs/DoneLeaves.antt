@@ -1,5 +1,6 @@
--- What a command does to the disk and to the turrets is what its kind may do.
--- `a_call_leaves_as_its_kind_may` (src/laws.rt) rests on it.
+-- What a command does to the disk and to the turrets is what its kind may do. A new command needs
+-- its line here.
+-- For the proof of `a_call_leaves_as_its_kind_may` (src/laws.rt).
 use Rattle.std.proofs.Common.{inl, inr, ℕ, List, Some, Ok, Err, sym, subst}
 use Rattle.command_words.specs.declared.command.Command.{Command}
 use Rattle.command_words.specs.declared.command.Command.TheVariants as command
@@ -48,7 +49,7 @@ module _ {D : Type 0} (state : D → DiskState) where
     keeps = keeps;
   }
 
-  -- `run` over its texts
+  -- `run` over its texts leaves what its kind may leave
   run_left : (limit : ℕ) (text_of : TextOf) (texts : Texts) (old new : LatheState) (answer : Answer) → IsRun state limit text_of texts old new answer
       → Leaves state (begins limit) old new
   run_left limit text_of texts old new answer (refused of_texts text rests) = inl (record { disk = inl rests.disk; turrets = rests.turrets })
@@ -58,7 +59,7 @@ module _ {D : Type 0} (state : D → DiskState) where
   run_left limit text_of texts old new answer (ran s is same opened report) =
       inr (session_left anew limit text_of s old new answer is opened report)
 
-  -- `run` over its files
+  -- `run` over its files leaves what its kind may leave
   files_left : {E : Type 0} (limit : ℕ) (text_of : TextOf) (files : List Named) (old new : TopState E) (answer : Answer)
       → IsOfFiles listed files (RestsWhole old.lathe new.lathe) (λ texts. IsRun state limit text_of texts old.lathe new.lathe) old.shelf new.shelf answer
       → Leaves state (begins limit) old.lathe new.lathe
@@ -66,20 +67,20 @@ module _ {D : Type 0} (state : D → DiskState) where
   files_left limit text_of files old new answer (unread some rests) = inl (record { disk = inl rests.disk; turrets = rests.turrets })
   files_left limit text_of files old new answer (answers texts are run) = run_left limit text_of texts old.lathe new.lathe answer run
 
-  -- a command that only shows the journal
+  -- a command that only shows the journal leaves what its kind may leave
   look_left : (text_of : Verified → List Entry → List ℕ) (old new : LatheState) (answer : Answer) → IsShown text_of old.disk new.disk answer
       → AreAtRest old new → OnlyLooks old new
   look_left text_of old new answer (unshown fault recovers) rest = record { disk = inr (record { result = Err fault; recovers = recovers }); turrets = rest }
   look_left text_of old new answer (shown found pair accepted history recovers) rest =
       record { disk = inr (record { result = Ok found; recovers = recovers }); turrets = rest }
 
-  -- `zones` over the text of its file
+  -- `zones` over the text of its file leaves what its kind may leave
   zoned_left : (text : List ℕ) (old new : LatheState) (answer : Answer) → IsZoned old new text answer → OnlyLooks old new
   zoned_left text old new answer (bad_zones is rests) = record { disk = inl rests.disk; turrets = rests.turrets }
   zoned_left text old new answer (unread_zones rests) = record { disk = inl rests.disk; turrets = rests.turrets }
   zoned_left text old new answer (zoned is told rest) = look_left _ old new answer told rest
 
-  -- `zones` over its file
+  -- `zones` over its file leaves what its kind may leave
   zones_left : {E : Type 0} (files : List Named) (old new : TopState E) (answer : Answer)
       → IsOfFiles alone files (RestsWhole old.lathe new.lathe) (IsZoned old.lathe new.lathe) old.shelf new.shelf answer
       → OnlyLooks old.lathe new.lathe
@@ -87,14 +88,14 @@ module _ {D : Type 0} (state : D → DiskState) where
   zones_left files old new answer (unread some rests) = record { disk = inl rests.disk; turrets = rests.turrets }
   zones_left files old new answer (answers text are is) = zoned_left text old.lathe new.lathe answer is
 
-  -- edits of a run that was found
+  -- an editing that only found the run leaves what its kind may leave
   looked_left : (e : Editing) (old new : LatheState) → IsOnlyFound e old.disk new.disk → AreAtRest old new → Leaves state kind.edits old new
   looked_left e old new only rest = inl (record {
     disk = inr (record { result = Ok (record { header = e.header; entries = e.found }); recovers = only.recovers });
     turrets = rest;
   })
 
-  -- edits of a run that is found, made or not
+  -- edits of a run that was found, made or not, leave what their kind may leave
   found_left : (e : Editing) (old new : LatheState) (answer : Answer) → IsEditOf e old.disk new.disk answer → AreAtRest old new
       → Leaves state kind.edits old new
   found_left e old new answer (edit.alarmed is only) rest = looked_left e old new only rest
@@ -104,20 +105,20 @@ module _ {D : Type 0} (state : D → DiskState) where
   found_left e old new answer (edit.made none some are) rest = inr (record { editing = e; writing = are.writing; turrets = rest })
   found_left e old new answer (edit.failed none some writing rose) rest = inr (record { editing = e; writing = writing; turrets = rest })
 
-  -- edits of the run on the disk, if there is one
+  -- edits of the run on the disk, if there is one, leave what their kind may leave
   edit_left : (edits : List PathEdit) (old new : LatheState) (answer : Answer) → IsEditedRun edits old.disk new.disk answer → AreAtRest old new
       → Leaves state kind.edits old new
   edit_left edits old new answer (edit.not_found fault recovers) rest =
       inl (record { disk = inr (record { result = Err fault; recovers = recovers }); turrets = rest })
   edit_left edits old new answer (edit.in_run e are is) rest = found_left e old new answer is rest
 
-  -- `edit` over the text of its file
+  -- `edit` over the text of its file leaves what its kind may leave
   edited_left : (text : List ℕ) (old new : LatheState) (answer : Answer) → IsEdited old new text answer → Leaves state kind.edits old new
   edited_left text old new answer (edit.bad_edits is rests) = inl (record { disk = inl rests.disk; turrets = rests.turrets })
   edited_left text old new answer (edit.unread_edits rests) = inl (record { disk = inl rests.disk; turrets = rests.turrets })
   edited_left text old new answer (edit.edited {edits} is told rest) = edit_left edits old new answer told rest
 
-  -- `edit` over its file
+  -- `edit` over its file leaves what its kind may leave
   edits_left : {E : Type 0} (files : List Named) (old new : TopState E) (answer : Answer)
       → IsOfFiles alone files (RestsWhole old.lathe new.lathe) (IsEdited old.lathe new.lathe) old.shelf new.shelf answer
       → Leaves state kind.edits old.lathe new.lathe
@@ -125,7 +126,7 @@ module _ {D : Type 0} (state : D → DiskState) where
   edits_left files old new answer (unread some rests) = inl (record { disk = inl rests.disk; turrets = rests.turrets })
   edits_left files old new answer (answers text are is) = edited_left text old.lathe new.lathe answer is
 
-  -- `resume`
+  -- `resume` leaves what its kind may leave
   resumed_left : (limit : ℕ) (old new : LatheState) (answer : Answer) → IsResumed state limit old new answer
       → Leaves state (goes_on limit) old new
   resumed_left limit old new answer (not_found fault recovers rest) =
@@ -140,7 +141,7 @@ module _ {D : Type 0} (state : D → DiskState) where
   branch_left second n old new onto left answer (branch.branched run pair is history recovers of_run) rest =
       record { disk = inr (record { result = Ok run; recovers = recovers }); turrets = rest }
 
-  -- any command, by its kind
+  -- any command leaves what its kind may leave
   due_left : {E : Type 0} (second : E → DiskState) (asked : Command) (old new : TopState E) (answer : Answer) → IsDueTo state second asked old new answer
       → Leaves state (kind_of (Some asked)) old.lathe new.lathe
   due_left second (command.Verify left right settings) old new answer due = due.1
@@ -157,7 +158,7 @@ module _ {D : Type 0} (state : D → DiskState) where
   due_left second (command.Branch n) old new answer due = branch_left second n old.lathe new.lathe old.second new.second answer due.0 due.1
   due_left second (command.Expand tape) old new answer due = due.1
 
-  -- who calls nothing does what any kind may
+  -- a command that calls neither the disk nor a turret does what any kind may
   rests_left : (asked : Kind) (old new : LatheState) → RestsWhole old new → Leaves state asked old new
   rests_left kind.rests old new calm = calm
   rests_left kind.looks old new calm = record { disk = inl calm.disk; turrets = calm.turrets }
@@ -166,7 +167,7 @@ module _ {D : Type 0} (state : D → DiskState) where
   rests_left (kind.begins limit) old new calm = inl (record { disk = inl calm.disk; turrets = calm.turrets })
   rests_left (kind.goes_on limit) old new calm = inl (record { disk = inl calm.disk; turrets = calm.turrets })
 
-  -- any call, also one whose words are no command
+  -- any call, also one whose words are no command, leaves what its kind may leave
   call_left : {E : Type 0} (second : E → DiskState) (call : Call E) (answer : Answer) → IsDue state second call answer → Leaves state (kind_of (command_of call)) call.before.lathe call.after.lathe
   call_left second call answer (done.usage none rests still same) = rests_left (kind_of (command_of call)) call.before.lathe call.after.lathe rests
   call_left second call answer (done.unread rests still same) = rests_left (kind_of (command_of call)) call.before.lathe call.after.lathe rests

@@ -1,5 +1,6 @@
--- If the outside tells what it holds and did not fail, one status and one text are due.
--- `top` (src/control.rt) rests on it.
+-- If the outside makes known what it holds and did not fail, one status and one text are due. A new
+-- command needs its line here.
+-- StopsLeave and the proof of `top` (src/control.rt) use it.
 use Rattle.std.proofs.Common.{◌≡◌, ◌⊎◌, inl, inr, ⊎_elim, ℕ, ◌+◌, ◌++◌, Option, Some, None, List, ◌∷◌, [], length, map, take, refl, sym, ap, subst, arith, ◌∙◌, Err}
 use Rattle.std.specs.Prelude.{codes}
 use Rattle.std.proofs.Math.Seq.{take-length}
@@ -259,7 +260,7 @@ files_once {A} list_of by_list told files Rests IsAnswer old new holds calm once
 same_text : (text other : List ℕ) → alone text ≡ alone other → text ≡ other
 same_text text other same = cc
 
--- what is told of a tape that is written out
+-- one answer of `expand` is due to a text
 expanded_once : (text : List ℕ) (a b : Answer) → IsExpanded text a → IsExpanded text b → Agree a b
 expanded_once text a b (expand.expanded {bytes} is clear) (expand.expanded {bytes = other} too clear') = (refl, (let one : bytes ≡ other = cc in one))
 expanded_once text a b (expand.expanded is clear) (expand.refused denied v) = absurd cc
@@ -284,7 +285,7 @@ all_left header history c stands =
     let all : stands.0 ≡ length history = omega (arith, stands.1, stands.2) in
     subst (λ (l : List Entry). Stands header l c) (ap (λ n. take n history) all ∙ take-length history) stands.3
 
--- a text of a history hangs on the machine of its pair, and on what its tapes say
+-- a text of a history depends only on the machine of its pair, and on what its tapes say
 abbrev pub HangsOnPair : TextOf → Type 0
 HangsOnPair text_of = (pair other : Verified) → IsSamePair pair other → (entries : List Entry) (reason : Reason)
     → text_of pair entries reason ≡ text_of other entries reason
@@ -327,14 +328,14 @@ made_hangs number pair other same entries Reason.Full = report_hangs pair other 
 made_hangs number pair other same entries Reason.DiskFault = report_hangs pair other same entries Reason.DiskFault
 made_hangs number pair other same entries (Reason.TurretFault path) = report_hangs pair other same entries (Reason.TurretFault path)
 
--- what is shown of a history does too
+-- what is shown of a history by `moves` or `state` depends only on its pair's texts
 shown_hangs : (showing : Showing) (pair other : Verified) → IsSamePair pair other → (entries : List Entry)
     → shown_text showing pair entries ≡ shown_text showing other entries
 shown_hangs Moves pair other same entries =
     λ i. report_text (same.tapes i) (same.opening i) entries (reason_of (fold (same.tapes i) (same.opening i) entries))
 shown_hangs State pair other same entries = λ i. state_text (same.tapes i) (fold (same.tapes i) (same.opening i) entries)
 
--- so does a text that is shown
+-- a text that is shown of a history depends only on its pair's texts
 abbrev pub ShownHangs : (Verified → List Entry → List ℕ) → Type 0
 ShownHangs text_of = (pair other : Verified) → IsSamePair pair other → (entries : List Entry) → text_of pair entries ≡ text_of other entries
 
@@ -359,15 +360,15 @@ offset_in (cut_at at) = at
 offset_in (bad_at offset cause) = offset
 offset_in (a_run header entries) = 0
 
--- two runs with one header have one pair
+-- two runs with one header have the same pair
 pairs_same : OneMachine → (header other : Header) (pair pair' : Verified) → header ≡ other → IsPairOf (texts_of header) pair
     → IsPairOf (texts_of other) pair' → IsSamePair pair pair'
 pairs_same one_machine header other pair pair' same is also =
     one_machine (texts_of other) pair pair' (subst (λ (h : Header). IsPairOf (texts_of h) pair) same is) also
 
--- Two answers over a disk that told its bytes and did not fail.
+-- two answers over one disk that made its bytes known and did not fail
 module _ (one_run : OneRun) (one_machine : OneMachine) (old new : DiskState) (bytes : List ℕ) (holds : Reads old bytes) (calm : DiskRose old.faults new.faults → ⊥) where
-  -- what is no run is one thing, and no run
+  -- two answers for which no run is found agree
   unfound_once : (f g : RestartFault) → Recovers old new (Err f) → Recovers old new (Err g) → Agree (unfound f) (unfound g)
   unfound_once restart.DiskFault g one two = absurd (calm one.refused)
   unfound_once restart.NoMemory g one two = tt
@@ -397,7 +398,7 @@ module _ (one_run : OneRun) (one_machine : OneMachine) (old new : DiskState) (by
       (refl, ap bad_text (ap offset_in e))
   unfound_once (restart.BadRecord offset cause) restart.NoMemory one two = tt
 
-  -- if there is a run nothing is told of none
+  -- if a run is found, the answer that none is found is `nothing`
   none_found : (f : RestartFault) (header : Header) (entries : List Entry) → Recovers old new (Err f) → StandsForRun (a_run header entries) bytes
       → unfound f ≡ nothing
   none_found restart.DiskFault header entries one stands = absurd (calm one.refused)
@@ -409,7 +410,7 @@ module _ (one_run : OneRun) (one_machine : OneMachine) (old new : DiskState) (by
       let e = one_run bytes (bad_at offset cause) (a_run header entries) (one.refused.1 bytes holds) stands in absurd (cc)
   none_found restart.NoMemory header entries one stands = refl
 
-  -- one text is shown of what the journal holds
+  -- one text is due to what the journal holds
   shown_by_once : (text_of : Verified → List Entry → List ℕ) → ShownHangs text_of → (a b : Answer) → IsShown text_of old new a → IsShown text_of old new b → Agree a b
   shown_by_once text_of hangs a b (unshown f one) (unshown g two) = unfound_once f g one two
   shown_by_once text_of hangs a b (unshown f one) (shown found pair is history two) =
@@ -452,7 +453,8 @@ module _ (one_run : OneRun) (one_machine : OneMachine) (old new : DiskState) (by
       let runs : run ≡ run' = λ i. record { header = header i; entries = entries i } in
       branch_once second run' n onto left there tells_it well a b (subst (λ (r : FoundRun). IsBranchOf second r n onto left a) runs of_run) of_run'
 
--- and of a run, while no turret failed
+-- two answers of a command that runs, over one disk that made its bytes known and did not fail,
+-- with turrets that did not fail
 module _ {D : Type 0} (state : D → DiskState) (both : NotBoth) (one_refusal : OneRefusal) (one_run : OneRun) (one_journal : OneJournal)
     (one_machine : OneMachine) (old new : LatheState) (coherent : IsCoherent new.disk) (bytes : List ℕ) (holds : Reads old.disk bytes)
     (calm : DiskRose old.disk.faults new.disk.faults → ⊥)
@@ -470,7 +472,8 @@ module _ {D : Type 0} (state : D → DiskState) (both : NotBoth) (one_refusal : 
   holds_all opening limit s least (disk_failed rose) enough keeps c image = absurd (calm rose)
   holds_all opening limit s least (turret_failed path rose well) enough keeps c image = absurd (at_work path rose)
 
-  -- both sessions have one machine, as many records, and the same limit of records
+  -- two sessions with one machine, as many records and the same limit of records ended for one
+  -- reason
   reason_once : (limit : ℕ) (s s' : Session) {r r' : Reason} → machine_behind s.pair s.history ≡ machine_behind s'.pair s'.history
       → length s.history ≡ length s'.history → s.pair.settings.records ≡ s'.pair.settings.records
       → EndsBy limit s old new r → EndsBy limit s' old new r' → r ≡ r'
@@ -512,7 +515,7 @@ module _ {D : Type 0} (state : D → DiskState) (both : NotBoth) (one_refusal : 
       reason_once limit s s' (machine_same s.pair s'.pair s.history s'.history pairs entries) (ap length entries) pairs.records ends.cause ends'.cause in
       (ap reason_status reason, hangs s.pair s'.pair pairs s.history _ ∙ (λ i. text_of s'.pair (entries i) (reason i)))
 
-  -- a journal that is not begun, for one cause
+  -- if no journal is begun, one cause is told
   unbegun_once : (texts : Texts) (f g : GateFault) → IsRefusedBeginning texts f old.disk new.disk → IsRefusedBeginning texts g old.disk new.disk
       → Agree (unbegun f) (unbegun g)
   unbegun_once texts gate.DiskFault g one two = absurd (calm one.begins.refused)
@@ -525,7 +528,7 @@ module _ {D : Type 0} (state : D → DiskState) (both : NotBoth) (one_refusal : 
   unbegun_once texts gate.RunThere (gate.Cut at) one two = tt
   unbegun_once texts gate.RunThere gate.NoMemory one two = tt
 
-  -- if there was no run nothing is told of one
+  -- if the disk had no run, the answer that there is one is not due
   none_there : (texts : Texts) (f : GateFault) → IsRefusedBeginning texts f old.disk new.disk → HadNoRun old.disk → unbegun f ≡ nothing
   none_there texts gate.DiskFault one had = absurd (calm one.begins.refused)
   none_there texts gate.NoRun one had = refl
@@ -563,7 +566,7 @@ module _ {D : Type 0} (state : D → DiskState) (both : NotBoth) (one_refusal : 
   run_once limit text_of hangs texts a b (run.ran x sound same had report) (run.ran x' sound' same' had' report') =
       reported_once _ limit text_of hangs x x' a b sound sound' report report'
 
-  -- one answer of `resume`
+  -- one answer of `resume` is due to the disk
   resumed_once : (limit : ℕ) (a b : Answer) → IsResumed state limit old new a → IsResumed state limit old new b → Agree a b
   resumed_once limit a b (run.not_found f one rest) (run.not_found g two rest') =
       unfound_once one_run one_machine old.disk new.disk bytes holds calm f g one two
@@ -574,10 +577,10 @@ module _ {D : Type 0} (state : D → DiskState) (both : NotBoth) (one_refusal : 
   resumed_once limit a b (run.resumed x is found report) (run.resumed x' is' found' report') =
       reported_once _ limit report_of report_hangs x x' a b is is' report report'
 
--- and of zones
+-- two answers of `zones`, over one disk that made its bytes known and did not fail
 module _ (one_run : OneRun) (one_machine : OneMachine) (old new : LatheState) (bytes : List ℕ) (holds : Reads old.disk bytes)
     (calm : DiskRose old.disk.faults new.disk.faults → ⊥) where
-  -- one answer of `zones` to its text
+  -- one answer of `zones` is due to the text of its file
   zoned_once : (text : List ℕ) (a b : Answer) → IsZoned old new text a → IsZoned old new text b → Agree a b
   zoned_once text a b (bad_zones {line} is rests) (bad_zones {line = other} too rests') =
       let same : line ≡ other = cc in (refl, ap bad_zone_text same)
@@ -589,10 +592,10 @@ module _ (one_run : OneRun) (one_machine : OneMachine) (old new : LatheState) (b
   zoned_once text a b (zoned {zones} is told rest) (zoned {zones = other} too told' rest') =
       let same : zones ≡ other = cc in same_zones one_run one_machine old.disk new.disk bytes holds calm zones other a b same told told'
 
--- and of edits
+-- two answers of `edit`, over one disk that made its bytes known and did not fail
 module _ (one_run : OneRun) (one_machine : OneMachine) (old new : LatheState) (bytes : List ℕ) (holds : Reads old.disk bytes)
     (calm : DiskRose old.disk.faults new.disk.faults → ⊥) where
-  -- a disk with a run is not read as one without, unless there was no memory
+  -- if edits are answered in a run, the answer that no run is found is `nothing`
   edits_there : (f : RestartFault) (e : Editing) (b : Answer) → Recovers old.disk new.disk (Err f) → IsEditOf e old.disk new.disk b → unfound f ≡ nothing
   edits_there f e b one is =
       none_found one_run one_machine old.disk new.disk bytes holds calm f e.header e.found one (found_there e old.disk new.disk b is bytes holds)
@@ -610,7 +613,7 @@ module _ (one_run : OneRun) (one_machine : OneMachine) (old new : LatheState) (b
       let told = same_told e e' pairs found edits in
       agree_told a b _ (⊎_elim (λ none. inl none) (λ is. inr (is ∙ told)) (one_told e old.disk new.disk calm a one)) (one_told e' old.disk new.disk calm b two)
 
-  -- one answer to edits, whether there is a run or not
+  -- one answer is due to edits, whether there is a run or not
   edited_run_once : (edits : List PathEdit) (a b : Answer) → IsEditedRun edits old.disk new.disk a → IsEditedRun edits old.disk new.disk b → Agree a b
   edited_run_once edits a b (edit.not_found f one) (edit.not_found g two) =
       unfound_once one_run one_machine old.disk new.disk bytes holds calm f g one two
@@ -618,7 +621,7 @@ module _ (one_run : OneRun) (one_machine : OneMachine) (old new : LatheState) (b
   edited_run_once edits a b (edit.in_run e are is) (edit.not_found g two) = subst (Agree a) (sym (edits_there g e a two is)) (agree_nothing a)
   edited_run_once edits a b (edit.in_run e are is) (edit.in_run e' too is') = in_one_run e e' a b (are ∙ sym too) is is'
 
-  -- one answer of `edit` to its text
+  -- one answer of `edit` is due to the text of its file
   edited_once : (text : List ℕ) (a b : Answer) → IsEdited old new text a → IsEdited old new text b → Agree a b
   edited_once text a b (edit.bad_edits {line} is rests) (edit.bad_edits {line = other} too rests') =
       let same : line ≡ other = cc in (refl, ap bad_edit_text same)
@@ -631,7 +634,7 @@ module _ (one_run : OneRun) (one_machine : OneMachine) (old new : LatheState) (b
       let same : edits ≡ others = cc in
       edited_run_once others a b (subst (λ (l : List PathEdit). IsEditedRun l old.disk new.disk a) same told) told'
 
--- one answer is due to a command, and to a call
+-- two answers of one call
 module _ {D E : Type 0} (state : D → DiskState) (second : E → DiskState) (both : NotBoth) (one_refusal : OneRefusal) (one_run : OneRun) (one_journal : OneJournal)
     (one_machine : OneMachine) (in_turn : OneInTurn) (waits_apart : WaitsApart) (one_wait_refusal : OneWaitRefusal) (call : Call E) (coherent : IsCoherent call.after.lathe.disk) where
   -- one answer is due to each command
@@ -692,7 +695,7 @@ module _ {D E : Type 0} (state : D → DiskState) (second : E → DiskState) (bo
       due_to_once two a b (subst (λ c. ServesFiles (named_by c) call) is' serves.files) (subst (λ c. ServesKind second (kind_of c) call) is' serves.others)
       (subst (λ (c : Command). IsDueTo state second c call.before call.after a) same due) due'
 
--- words that are no command are due usage alone
+-- to words that are no command `usage` alone is due
 pub usage_once : {D E : Type 0} (state : D → DiskState) (second : E → DiskState) (call : Call E) (a : Answer) → command_of call ≡ None
     → IsDue state second call a
     → Agree a (tells exit.usage (codes "usage\n"))

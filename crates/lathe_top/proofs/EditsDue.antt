@@ -1,6 +1,5 @@
--- What is due to `edit`: of a file that gives no edits, and that one answer is due to the edits of
--- a run.
--- `edit` (src/editing.rt) rests on it.
+-- What is due to `edit` if a file gives no edits, and that one answer is due to the edits of a run.
+-- DueOnce and the proof of `edit` (src/editing.rt) use it.
 use Rattle.std.proofs.Common.{◌≡◌, ◌⊎◌, inl, inr, ℕ, ◌+◌, nat_lt, Bool, true, false, Option, Some, None, List, length, refl, sym, ap, subst, arith, ◌∙◌, length-append}
 use Rattle.std.specs.Prelude.{codes}
 use Rattle.std.proofs.lemmas.List.{length-map}
@@ -30,12 +29,12 @@ use Rattle.lathe_top.specs.Kept.{Editing, RestsWhole}
 use Rattle.lathe_top.specs.Lathe.{LatheState}
 use Rattle.lathe_top.proofs.Agreed.{Agree, agree_nothing}
 
--- a text that gives no edits is answered as `edit` answers it
+-- what is told of a text that gives no edits is due to `edit`
 unedited_text : (old new : LatheState) (text : List ℕ) (answer : Answer) → IsUnedited text answer → RestsWhole old new → IsEdited old new text answer
 unedited_text old new text answer (looked.bad_edits is) rests = bad_edits is rests
 unedited_text old new text answer looked.unread_edits rests = unread_edits rests
 
--- a file that gives no edits is answered as `edit` answers it
+-- what is told of a file that gives no edits is due to `edit`
 pub unedited_due : (name : List ℕ) (shelf shelf' : ShelfState) (old new : LatheState) (answer : Answer)
     → IsOfFiles alone (edits_named name) (Unit {0}) IsUnedited shelf shelf' answer → RestsWhole old new
     → IsOfFiles alone (edits_named name) (RestsWhole old new) (IsEdited old new) shelf shelf' answer
@@ -59,16 +58,16 @@ told_in tapes opening records found edits =
 abbrev told_of : Editing → Answer
 told_of e = told_in (tapes_in e.pair) (opening_of e.pair) e.pair.settings.records e.found e.edits
 
--- it hangs on the alarm of the machine, and on whether there is room for the edits
+-- what is due to edits depends on the alarm of the machine, and on whether there is room for them
 by_alarm : (e : Editing) (alarm : Option Alarm) (many : Bool) → (machine_behind e.pair e.found).alarm ≡ alarm
     → nat_lt e.pair.settings.records (length e.found + length e.edits) ≡ many
     → told_of e ≡ told_by (λ a. report_text (tapes_in e.pair) (opening_of e.pair) e.found (Reason.Alarm a)) (length e.edits) alarm many
 by_alarm e alarm many is so =
     λ i. told_by (λ a. report_text (tapes_in e.pair) (opening_of e.pair) e.found (Reason.Alarm a)) (length e.edits) (is i) (so i)
 
--- These edits, over a disk before and after them.
+-- edits of a run, over a disk before and after them
 module _ (e : Editing) (old new : DiskState) where
-  -- one text is told, or nothing
+  -- the answer to edits is what is due to them, or nothing
   pub one_told : (Rose old.faults new.faults → ⊥) → (a : Answer) → IsEditOf e old new a → (a ≡ nothing) ⊎ (a ≡ told_of e)
   one_told calm a (alarmed {alarm} is only) = inr (sym (by_alarm e (Some alarm) _ is refl))
   one_told calm a (full none more only) =
@@ -91,7 +90,7 @@ module _ (e : Editing) (old new : DiskState) where
       inr (sym (by_alarm e None false none many))
   one_told calm a (failed none some writing rose) = absurd (calm rose)
 
-  -- the run was found
+  -- the disk stood for the run that was to be edited
   pub found_there : (a : Answer) → IsEditOf e old new a → (bytes : List ℕ) → Reads old bytes → StandsForRun (a_run e.header e.found) bytes
   found_there a (alarmed is only) bytes reads = only.recovers.found.means bytes reads
   found_there a (full none more only) bytes reads = only.recovers.found.means bytes reads
@@ -109,7 +108,7 @@ module _ (e : Editing) (old new : DiskState) where
   pair_there a (made none some are) = are.writing.is.accepted
   pair_there a (failed none some writing rose) = writing.is.accepted
 
--- the same edits of one run
+-- to the same edits of the same run the same is due
 pub same_told : (e e' : Editing) → IsSamePair e.pair e'.pair → e.found ≡ e'.found → e.edits ≡ e'.edits → told_of e ≡ told_of e'
 same_told e e' same found edits = λ i. told_in (same.tapes i) (same.opening i) (same.records i) (found i) (edits i)
 

@@ -1,5 +1,5 @@
--- What is answered to edits of a run that was found.
--- `edit_found` (src/editing.rt) rests on it.
+-- What is answered to edits of a run that was found is what is due to them.
+-- For the proof of `edit_found` (src/editing.rt).
 use Rattle.std.proofs.Common.{◌≡◌, ◌⊎◌, inl, inr, ℕ, ◌+◌, ◌*◌, ◌≤◌, ◌<◌, max, nat_le, true, false, Option, Some, None, List, [], ◌∷◌, ◌++◌, length, Result, Ok, Err, OnOk, IsOk, refl, sym, ap, subst, arith, ◌∙◌, length-append}
 use Rattle.std.specs.Prelude.{codes, is_some, IfErr}
 use Rattle.std.proofs.lemmas.List.{length-map}
@@ -76,7 +76,7 @@ module _ {D : Type 0} (state : D → DiskState) (coherent : (disk : D) → IsCoh
   full_due none many =
       in_run editing refl (full (alarm_is None none) (less_of (length entries + length edits) pair.settings.records many) only)
 
-  -- The run may be edited, and this came of the writing.
+  -- the run may be edited, and this came of the writing
   module _ (done : Made D) (none : machine.alarm ≡ None) (history_is : IsHistory pair (entries ++ records_of edits))
       (makes : MakesEdits state header entries (records_of edits) log.file.disk done.disk done.result) where
     -- the disk after the edits
@@ -108,7 +108,7 @@ module _ {D : Type 0} (state : D → DiskState) (coherent : (disk : D) → IsCoh
           later = omega (arith, recovers.later, makes.later);
         }
 
-    -- and it is a writing of edits
+    -- what was done to the disk is a writing of these edits
     writing : 1 ≤ length edits → IsWriting editing a new
     writing some = record {
       is = record { accepted = is.accepted; found_is = is.behind.history; history_is = history_is };
@@ -116,7 +116,7 @@ module _ {D : Type 0} (state : D → DiskState) (coherent : (disk : D) → IsCoh
       keeps = keeps some;
     }
 
-    -- if the disk was not called
+    -- without a call of the disk nothing was written
     unchanged : done.disk ≡ log.file.disk → (answer : Answer) → IsEditedRun edits a mid answer → IsEditedRun edits a new answer
     unchanged same answer there = subst (λ (d : D). IsEditedRun edits a (state d) answer) (sym same) there
 
@@ -124,7 +124,7 @@ module _ {D : Type 0} (state : D → DiskState) (coherent : (disk : D) → IsCoh
     abbrev Wholly : Type 0
     Wholly = (bytes : List ℕ) → Reads mid bytes → (c : List ℕ) → new.image c → Stands header (entries ++ records_of edits) c
 
-    -- if they are written, the answer is how many they are
+    -- if the edits were written, the answer is how many they are
     all_made : (asked : List PathEdit) → edits ≡ asked → done.result ≡ Ok tt → IsEditedRun edits a new (tells exit.done (edited_text (length edits)))
     all_made [] are ok =
         let count : length edits ≡ 0 = ap length are in

@@ -1,6 +1,6 @@
--- What going on comes to: from a run with turrets to a session but for its opening.
--- The report is told in GoingReported.
--- `go_on` (src/going.rt) rests on it.
+-- What going on with a run comes to: a run with turrets is a session but for its opening. What is
+-- told of it is in GoingReported.
+-- GoingReported and the proof of `go_on` (src/going.rt) use it.
 use Rattle.std.proofs.Common.{◌≡◌, inl, inr, ℕ, ◌+◌, ◌-◌, ◌*◌, ◌≤◌, max, Bool, true, false, ◌||◌, ◌&&◌, is_some, if◌then◌else◌, List, [], length, take, drop, Option, Some, None, refl, sym, ◌∙◌, ap, subst, arith}
 use Rattle.std.specs.Prelude.{IsTrue}
 use Rattle.std.proofs.Math.Seq.{take-append_seam, drop-append_seam, take-length}
@@ -50,14 +50,14 @@ abbrev pub AreSmall : {D : Type 0} → (D → DiskState) → Type 0
 AreSmall {D} state = (disk : D) (header : Header) (version : Version) (entries : List Entry) (end : ℕ) → Holds header version entries (state disk) end
     → end ≤ 13 + length (header_bytes header) + length (records_bytes entries) + 6 * length entries
 
--- the machine says how the run ended, or that it did not
+-- a machine that gives a reason to end is over, and stands there for that reason
 pub over_by : (alarm : Option Alarm) (finished : Bool) (e : Reason) → end_by alarm finished ≡ Some e
     → ((is_some alarm || finished) ≡ true) × (reason_by alarm finished ≡ e)
 over_by (Some alarm) finished e is = (refl, cc)
 over_by None true e is = (refl, cc)
 over_by None false e is = absurd (cc)
 
--- no reason yet: there is no alarm, and the paths are not both at their ends
+-- a machine that gives no reason to end has no alarm, and not both paths are at their ends
 pub open_by : (alarm : Option Alarm) (finished : Bool) → end_by alarm finished ≡ None → (is_some alarm || finished) ≡ false
 open_by (Some alarm) finished is = absurd (cc)
 open_by None true is = absurd (cc)
@@ -83,7 +83,7 @@ sent_within : (live : Bool) (flushed all : ℕ) → flushed ≤ all → (if live
 sent_within true flushed all within = within
 sent_within false flushed all within = omega arith
 
--- A table that was run for so many records at most, and what has come of it.
+-- a table that was run for so many records at most, and what has come of it
 module _ {D : Type 0} (state : D → DiskState) (small : AreSmall state) (limit : ℕ) (old new : TableView D) (may : MayRun old)
     (behind : old.machine ≡ machine_behind old.verified old.recording.history) (unended : is_over old.machine ≡ false)
     (since : Since state (record old { budget = limit }) new)
@@ -99,27 +99,27 @@ module _ {D : Type 0} (state : D → DiskState) (small : AreSmall state) (limit 
   abbrev pub history : List Entry
   history = new.recording.history
 
-  -- how many of them the disk holds at least
+  -- how many records the disk holds at least
   abbrev pub least : ℕ
   least = new.recording.flushed
 
-  -- the records that this run made
+  -- the records that the run of this table made
   abbrev pub made : List Entry
   made = since.made
 
-  -- the disk and the turrets before
+  -- the disk and the turrets before the run
   abbrev pub d : LatheState
   d = lathe_with (state old.recording.log.file.disk) before
 
-  -- the disk and the turrets after, with the moves missed
+  -- the disk and the turrets after the run, with the moves missed
   abbrev pub e : LatheState
   e = record { disk = state new.recording.log.file.disk; turrets = after; missed = missed }
 
-  -- the session that this run is
+  -- the session that the run of this table is
   abbrev pub session : Session
   session = record { header = header; pair = new.verified; found = found; history = history }
 
-  -- all records begin with those found
+  -- all records begin with those that were found
   begins : take (length found) history ≡ found
   begins = ap (take (length found)) since.recording.history ∙ take-append_seam found made
 
@@ -143,7 +143,7 @@ module _ {D : Type 0} (state : D → DiskState) (small : AreSmall state) (limit 
     rests = λ over_now. let open_now = still in absurd (cc);
   }
 
-  -- what the machine of the table says, the machine after the history says
+  -- if the machine of the table gives a reason to end, the session ended for it
   is_ended : (x : Reason) → machine_end new.machine ≡ Some x → NoneFailed d e → EndsBy limit session d e x
   is_ended x is calm =
       let by = over_by new.machine.alarm (new.machine.paths.one.finished && new.machine.paths.two.finished) x is in
@@ -162,7 +162,7 @@ module _ {D : Type 0} (state : D → DiskState) (small : AreSmall state) (limit 
   spent : new.budget ≡ 0 → length history ≡ length found + limit
   spent none = omega (arith, none, longer, since.budget)
 
-  -- the journal may be written, and each turret got all that is due
+  -- if the journal may be written and each turret got all that is due, no call failed
   calm_by : IsTrue new.recording.log.file.live → ((path : Path) → GetsAll (due path old new) (of_path before path) (of_path after path))
       → NoneFailed d e
   calm_by live got = record { disk = since.recording.calm live; turrets = λ path. (got path).counted.kept (λ is. absurd cc) }
@@ -181,11 +181,11 @@ module _ {D : Type 0} (state : D → DiskState) (small : AreSmall state) (limit 
   no_more : length history ≤ length found + limit
   no_more = omega (arith, longer, since.budget)
 
-  -- the records flushed before are among those found
+  -- no more records were flushed before the run than were found
   within : old.recording.flushed ≤ length found
   within = omega (arith, may.all)
 
-  -- the disk holds no fewer than the found ones, and no more than all
+  -- the disk holds all that were found, no more than there are, and all but 64 at most
   most : AreMost session least
   most = record {
     found = omega (arith, may.all, since.recording.flushed);
@@ -193,7 +193,7 @@ module _ {D : Type 0} (state : D → DiskState) (small : AreSmall state) (limit 
     within = (since.recording.sends within).within;
   }
 
-  -- it holds as many as the reason asks for
+  -- the disk holds as many records as the reason asks for
   enough : (x : Reason) → running.EndsBy state old new x → IsLeast x session least
   enough Reason.Done ends = ends.may.all
   enough (Reason.Alarm alarm) ends = ends.may.all
@@ -212,8 +212,8 @@ module _ {D : Type 0} (state : D → DiskState) (small : AreSmall state) (limit 
       → GetsAll (due_to session least path) (of_path before path) (of_path after path)
   got_all path got = subst (λ (what : List Got). GetsAll what (of_path before path) (of_path after path)) (due_is path) got
 
-  -- a turret that got a first part of what is due by the table got a first part of what is due by
-  -- the session
+  -- a turret that got a prefix of what is due by the table got a prefix of what is due by the
+  -- session
   got_some : (path : Path) → GetsSome (due path old new) (of_path before path) (of_path after path)
       → GetsSome (due_to session least path) (of_path before path) (of_path after path)
   got_some path got = subst (λ (what : List Got). GetsSome what (of_path before path) (of_path after path)) (due_is path) got
@@ -239,7 +239,7 @@ module _ {D : Type 0} (state : D → DiskState) (small : AreSmall state) (limit 
   got_beside path other got =
       subst (λ (what : List Got). GetsBeside path what (of_path before other) (of_path after other)) (due_is other) got
 
-  -- the run did not end before it began
+  -- what the turrets got and missed, as a session has it: the run was not over at its opening
   theirs : (reason : Reason) → AreServed reason session least before after → AreMissed session least d e → GetTheirs reason session least d e
   theirs reason are miss = record { over = λ over_now. let open_now = still in absurd (cc); goes_on = λ open_now. are; missed = λ open_now. miss }
 
@@ -274,7 +274,7 @@ module _ {D : Type 0} (state : D → DiskState) (small : AreSmall state) (limit 
     turrets = theirs (Reason.TurretFault path) (inl (failed_at path failed, got_beside path (other_of path) other)) (missing miss);
   }
 
-  -- a turret that failed at its place
+  -- a turret that failed at its place, in a run without a record
   pub unplaced : (path : Path) → Stays old new → FailsAmong (told (position_of path old.machine) []) (of_path before path) (of_path after path)
       → StandsBeside path (told (position_of (other_of path) old.machine) []) (of_path before (other_of path)) (of_path after (other_of path))
       → missed ≡ none_missed → IsEnding limit (Reason.TurretFault path) session least d e
@@ -293,7 +293,7 @@ module _ {D : Type 0} (state : D → DiskState) (small : AreSmall state) (limit 
         })) (inr (same.history, none));
   }
 
-  -- the records that were sent before are those found
+  -- the records that were sent before the run are those found
   sent_old : sent old.recording ≡ length found
   sent_old = sent_all old.recording.log.file.live old.recording.flushed (length found) may.all
 

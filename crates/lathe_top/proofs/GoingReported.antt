@@ -1,5 +1,6 @@
--- What is told of a run that went on, and a run that did not, for out of memory.
--- `go_on` (src/going.rt) rests on it.
+-- What is told of a run that went on, and of one that did not begin, as memory ran out or a thread
+-- was refused.
+-- For the proof of `go_on` (src/going.rt).
 use Rattle.std.proofs.Common.{◌≡◌, inl, inr, ℕ, ◌+◌, ◌-◌, ◌*◌, ◌≤◌, false, List, [], length, refl, sym, ap, subst, arith, ◌∙◌, Result, Ok, Err}
 use Rattle.std.proofs.Math.Seq.{take-length}
 use Rattle.nc_outside.specs.Received.{TurretState}
@@ -30,19 +31,20 @@ use Rattle.lathe_top.specs.Kept.{end_of}
 use Rattle.lathe_top.specs.Going.{Standing, standing, session_to, IsReport, report, stayed, told_of}
 use Rattle.lathe_top.proofs.GoingOn.{AreSmall, goes_on, ending, failing, unplaced, keeps_going}
 
--- a run of the same pair, and with the disk that it leaves
+-- what holds of a run and the disk that it leaves holds of a run of the same pair with the same
+-- disk
 pub for_pair : {D : Type 0} (state : D → DiskState) (Of : Standing → DiskState → Type 0) (header : Header) (found : List Entry) (pair other : Verified)
     (disk left : D) → pair ≡ other → left ≡ disk → Of (standing header pair found) (state disk) → Of (standing header other found) (state left)
 for_pair state Of header found pair other disk left same is there =
     subst (λ (p : Verified). Of (standing header p found) (state left)) same
     (subst (λ f. Of (standing header pair found) (state f)) (sym is) there)
 
--- what is told of a pair and of records is told of those that they are
+-- what is told of a pair and of records is told of the same pair and records
 pub told_same : (text_of : TextOf) (pair other : Verified) (items entries : List Entry) (reason : Result Reason NoMemory) → pair ≡ other → items ≡ entries
     → told_of text_of pair items reason ≡ told_of text_of other entries reason
 told_same text_of pair other items entries reason same are = λ i. told_of text_of (same i) (are i) reason
 
--- A run with turrets of this table came to this.
+-- a run with turrets of the old table that came to the new one
 module _ {D : Type 0} (state : D → DiskState) (coherent : (disk : D) → IsCoherent (state disk)) (small : AreSmall state) (limit : ℕ)
     (old new : TableView D) (may : MayRun old)
     (behind : old.machine ≡ machine_behind old.verified old.recording.history) (unended : is_over old.machine ≡ false)
@@ -54,21 +56,21 @@ module _ {D : Type 0} (state : D → DiskState) (coherent : (disk : D) → IsCoh
   abbrev pub run : Standing
   run = standing header new.verified old.recording.history
 
-  -- the disk and the turrets before
+  -- the disk and the turrets before the run
   abbrev pub d : LatheState
   d = lathe_with (state old.recording.log.file.disk) before
 
-  -- the disk and the turrets after, with the moves missed
+  -- the disk and the turrets after the run, with the moves missed
   abbrev pub e : LatheState
   e = record { disk = state new.recording.log.file.disk; turrets = after; missed = missed }
 
-  -- a run that did not begin is what it was
+  -- the run did not begin, and the table is what it was
   module _ (not_begun : HasNotBegun state limit old new before after missed) where
     -- a run that did not begin has no further record
     history_is : new.recording.history ≡ old.recording.history
     history_is = not_begun.same.history
 
-    -- each of its records is flushed
+    -- each record of a run that did not begin is flushed
     all : new.recording.flushed ≡ length old.recording.history
     all = not_begun.same.flushed ∙ may.all
 
@@ -78,12 +80,12 @@ module _ {D : Type 0} (state : D → DiskState) (coherent : (disk : D) → IsCoh
     left bytes reads c image =
         subst (λ n. StandsForPrefix header n old.recording.history c) may.all (journaled.left bytes reads c image)
 
-    -- its records are a history of the pair
+    -- the records of a run that did not begin are a history of the pair
     there : IsHistory new.verified old.recording.history
     there =
         subst (λ (l : List Entry). IsHistory new.verified l) history_is (record { legal = kept.legal; few = few })
 
-    -- its machine is the one after these records
+    -- the machine of a run that did not begin is the one after these records
     machine_is : old.machine ≡ machine_behind new.verified old.recording.history
     machine_is = behind ∙ ap (λ (pair : Verified). machine_behind pair old.recording.history) (sym not_begun.same.verified)
 
@@ -124,7 +126,7 @@ module _ {D : Type 0} (state : D → DiskState) (coherent : (disk : D) → IsCoh
       (ending state small limit old new may behind unended ran.since kept few pending header journaled before after missed end ran.ends ran.turrets ran.misses)
       (keeps_going state small limit old new may behind unended ran.since kept few pending header journaled before after missed)
 
-  -- a run is told by its end
+  -- what is told of a run is what is due to its end, or nothing if it did not begin
   pub told_report : (text_of : TextOf) (end : Result Reason NoMemory) → RunsWith state limit old new before after missed end
       → IsReport limit text_of run d e (told_of text_of new.verified new.recording.history end)
   told_report text_of (Ok Reason.Done) ran = ended_report text_of Reason.Done ran
@@ -145,7 +147,7 @@ module _ {D : Type 0} (state : D → DiskState) (coherent : (disk : D) → IsCoh
       (keeps_going state small limit old new may behind unended ran.since kept few pending header journaled before after missed)
   told_report text_of (Err none) ran = has_stayed ran text_of
 
-  -- the pair of the table is the one before
+  -- the pair of the new table is that of the old one
   pub pair_is : (end : Result Reason NoMemory) → RunsWith state limit old new before after missed end → new.verified ≡ old.verified
   pair_is (Ok Reason.Done) ran = ran.since.verified
   pair_is (Ok (Reason.Alarm alarm)) ran = ran.since.verified

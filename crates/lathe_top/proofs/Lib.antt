@@ -1,5 +1,5 @@
--- What proves the clauses of this crate, from what is below to what is above. No other crate takes
--- any of it.
+-- The lemmas of this crate, in the order in which they rest on each other. Its own proofs use them,
+-- and no other crate does.
 pub mod GoingOn
 pub mod GoingReported
 pub mod Opened

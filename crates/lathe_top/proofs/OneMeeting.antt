@@ -1,5 +1,5 @@
 -- What is told of the waits of an accepted pair is one text.
--- DueOnce rests on it.
+-- DueOnce uses it.
 use Rattle.std.proofs.Common.{◌≡◌, List, ap, sym, subst, ◌∙◌}
 use Rattle.nc_number.specs.declared.path.Path.TheVariants.{One, Two}
 use Rattle.cell_settings.specs.Cell.{settings_of}
@@ -13,7 +13,7 @@ use Rattle.wait_verify.specs.Printed.{waits_text}
 use Rattle.wait_verify.specs.Verdict.{Judged, IsLeftOrder, IsRightOrder, IsTold, premises_of, trust_of}
 use Rattle.wait_verify.proofs.NotBoth.{same_order, same_programs}
 
--- the same question about pairs that were judged has one text
+-- the answers to one question about the waits of a pair have one text
 pub one_text : (asked : Asked) (judged other : Judged) (left left' right right' : List Labelled) (trust trust' : TrustView)
     → IsTold asked judged left right trust → IsTold asked other left' right' trust'
     → waits_text left right trust ≡ waits_text left' right' trust'

@@ -1,5 +1,5 @@
--- One list of races is due to three texts.
--- DueOnce rests on it.
+-- One list of races is due to a pair.
+-- DueOnce uses it.
 use Rattle.std.proofs.Common.{◌≡◌, ◌+◌, ◌&&◌, ◌||◌, nat_le, nat_lt, List, refl, ap}
 use Rattle.nc_restart.specs.Pair.{IsSamePair}
 use Rattle.nc_verify.specs.declared.verified.Verified.{Verified}
@@ -11,7 +11,7 @@ use Rattle.lathe_calls.specs.Answers.{Answer}
 use Rattle.lathe_calls.specs.Races.{AreRaces, AreRacesOf, listed, unlisted}
 use Rattle.lathe_top.proofs.Agreed.{Agree}
 
--- a pair that has the same machine shares the same variables
+-- pairs of the same texts share the same variables
 shares_same : (pair other : Verified) → IsSamePair pair other → shared_by pair.settings ≡ shared_by other.settings
 shares_same pair other same =
     let first : pair.settings.shared100 ≡ other.settings.shared100 = ap (λ m. m.paths.one.path.fixed.shared100) same.opening in

@@ -1,5 +1,5 @@
 -- A session: an opening of the disk, and a run that goes on from it.
--- Most functions of this crate rest on it.
+-- RunsBegun, RunsFound and the proofs of most commands use it.
 use Rattle.std.proofs.Common.{◌≡◌, ℕ, ◌+◌, ◌-◌, ◌*◌, ◌≤◌, max, List, [], length, take, Ok, refl, ap, arith, ◌∙◌}
 use Rattle.std.proofs.lemmas.List.{length-take}
 use Rattle.nc_outside.specs.Received.{TurretState}
@@ -24,8 +24,7 @@ use Rattle.lathe_top.specs.Turrets.{IsEnding, IsUnprepared}
 use Rattle.lathe_top.specs.Kept.{Opening, anew, again, opening_calls, IsOfOpening, end_of, KeepsSession, RestsWhole}
 use Rattle.lathe_top.specs.Going.{Standing, session_to, KeepsGoing}
 
--- what ends a run after the opening ends the session; no call of an opening failed, and it calls no
--- turret
+-- an opening, in which no call failed and no turret was called, and a run after it
 module _ (limit : ℕ) (s : Session) (a b : DiskState) (before : Both TurretState) (c : LatheState) (opened : b.faults ≡ a.faults) where
   -- what did not fail since the opening did not fail since the call began
   calm_since : NoneFailed (lathe_with b before) c → NoneFailed (lathe_with a before) c
@@ -55,7 +54,7 @@ ending_since limit s a b before c reason least opened ends = record {
 pub no_fewer : (found history : List Entry) → take (length found) history ≡ found → length found ≤ length history
 no_fewer found history begins = omega (arith, ap length begins, length-take (length found) history)
 
--- An opening that makes so many calls, and leaves an image of its kind, before a run that goes on.
+-- an opening that makes so many calls and leaves an image of its kind, before a run that goes on
 module _ {D : Type 0} (state : D → DiskState) (opening : Opening) (s : Session) (least calls end : ℕ) (a : DiskState) (begun : D) (c : DiskState)
     (uses : Uses calls end a (state begun))
     (moments : (bytes : List ℕ) → Reads a bytes → LeavesOnly (IsOfOpening opening s a.image) a (state begun))
@@ -79,7 +78,7 @@ abbrev pub NoneIsStuck : Type 0
 NoneIsStuck = (texts : Texts) (pair : Verified) (entries : List Entry) → IsPairOf texts pair → IsHistory pair entries
     → IsFree (tapes_in pair) (machine_behind pair entries)
 
--- the run that goes on is a session
+-- a run that goes on is a session
 pub is_session : NoneIsStuck → (run : Standing) (history : List Entry) → IsPairOf (texts_of run.header) run.pair → GoesOn run.pair run.found history
     → IsSession (session_to run history)
 is_session law run history accepted goes = record {
@@ -88,7 +87,7 @@ is_session law run history accepted goes = record {
   free = law (texts_of run.header) run.pair history accepted goes.history_is;
 }
 
--- after a beginning
+-- a new journal and the run that goes on after it do to the disk what a session may
 pub begun_keeps : {A D : Type 0} (state : D → DiskState) (header : Header) (a : DiskState) (begun : D) (c : DiskState) (answer : A)
     → BeginsRun {A = A} header a (state begun) (Ok answer) → (pair : Verified) (history : List Entry) (least : ℕ)
     → KeepsGoing (record { header = header; pair = pair; found = []; history = history }) least (state begun) c
@@ -98,7 +97,7 @@ begun_keeps state header a begun c answer begins pair history least keeps =
     keeps_session state anew s least 12 (length (header_bytes header) + 6) a begun c begins.uses begins.any_moment begins.later
     (omega arith) (omega arith) (omega arith) keeps
 
--- after a recovery
+-- a recovery and the run that goes on after it do to the disk what a session may
 pub found_keeps : {D : Type 0} (state : D → DiskState) (found : FoundRun) (a : DiskState) (begun : D) (c : DiskState)
     → Recovers a (state begun) (Ok found) → (pair : Verified) (history : List Entry) (least : ℕ)
     → take (length found.entries) history ≡ found.entries
@@ -112,7 +111,7 @@ found_keeps state found a begun c recovers pair history least begins keeps =
     keeps_session state again s least (4 * length found.entries + 16) 0 a begun c recovers.found.uses (λ bytes reads. recovers.unwritten.moments)
     recovers.later more nothing_written no_less keeps
 
--- no call of the disk was made, and none of a turret
+-- if no call of the disk and none of a turret was made, both rest
 pub none_called : (disk : DiskState) (turrets : Both TurretState) → IsCoherent disk
     → RestsWhole (lathe_with disk turrets) (lathe_with disk turrets)
 none_called disk turrets coherent = record {
@@ -120,7 +119,7 @@ none_called disk turrets coherent = record {
   turrets = (refl, refl);
 }
 
--- an opening called no turret, whatever it did to the disk
+-- a run that did not begin since the opening did not begin since the call began
 pub unprepared_since : (s : Session) (a b : DiskState) (before : Both TurretState) (c : LatheState) (least : ℕ)
     → IsUnprepared s least (lathe_with b before) c → IsUnprepared s least (lathe_with a before) c
 unprepared_since s a b before c least none = record { unended = none.unended; none = none.none; all = none.all; places = none.places; missed = none.missed }

@@ -1,5 +1,6 @@
--- What the row of a command says of the journal is what its kind does with it.
--- `a_row_says_what_its_kind_does` (src/rows.rt) rests on it.
+-- What the row of a command says of the journal is what its kind does with it. A new command needs
+-- its line here.
+-- For the proof of `a_row_says_what_its_kind_does` (src/rows.rt).
 use Rattle.std.proofs.Common.{◌≡◌, ℕ, Bool, true, false, cond, List, [], ◌∷◌, length, Option, Some, None, refl, sym, subst, ◌∙◌}
 use Rattle.std.specs.Prelude.{◌&&◌, ◌==◌, option_map, option_and_then, if◌then◌else◌}
 use Rattle.std.specs.Str.{bytes_eq}
@@ -44,7 +45,7 @@ made_number files None asked is = absurd cc
 made_number files (Some n) asked is =
     let same : command.Make n files ≡ asked = cc in subst (λ c. Does c journal.Write) same refl
 
--- `branch` looks at it, whichever number it got
+-- `branch` looks at the journal, whichever number it got
 branch_number : (number : Option ℕ) (asked : Command) → option_map command.Branch number ≡ Some asked → Does asked journal.Look
 branch_number None asked is = absurd cc
 branch_number (Some n) asked is =
@@ -106,7 +107,7 @@ does_as task.Expand [] blocks outside files asked is = absurd cc
 does_as task.Expand (a ∷ []) blocks outside files asked is = let same : command.Expand a ≡ asked = cc in subst (λ x. Does x journal.None) same refl
 does_as task.Expand (a ∷ b ∷ rest) blocks outside files asked is = absurd cc
 
--- a command that a task makes of any words does with it what the task does
+-- a command that a task makes of any words does with the journal what the task does
 of_texts : (what : Task) (names : List Text) (texts : OptionTextsView) (asked : Command) → command_of what names texts ≡ Some asked
     → Does asked (journal_by what)
 of_texts what names texts asked is =
@@ -136,17 +137,17 @@ of_row : (row : Listing) (rest : List Text) (asked : Command) → command_behind
 of_row row rest asked is =
     option_and_then_some (command_given row) (given row.options rest) asked is (λ all read made. of_given row all asked made)
 
--- each row says what its task does with the journal
+-- each row of this list says what its task does with the journal
 abbrev Say : List Listing → Type 0
 Say [] = Unit {0}
 Say (row ∷ rows) = (row.journal ≡ journal_by row.task) × Say rows
 
--- the table of commands
+-- the rows of the table of commands say what their tasks do with the journal
 listings_say : Say listings
 unfolding listings
 listings_say = (refl, (refl, (refl, (refl, (refl, (refl, (refl, (refl, (refl, (refl, (refl, (refl, (refl, tt)))))))))))))
 
--- a row that is found in such a table says so too
+-- a row that is found by its name says what its task does with the journal
 found_says : (rows : List Listing) (name : Text) (row : Listing) → Say rows → row_in rows name ≡ Some row → row.journal ≡ journal_by row.task
 found_says [] name row say is = absurd cc
 found_says (first ∷ rows) name row say is = go (bytes_eq first.name name) is (found_says rows name row say.1)

@@ -1,5 +1,6 @@
--- What `run` answers after the beginning of its journal, or after its refusal.
--- `run_pair` and `run_texts` (src/beginning.rt) and `tell_unbegun` (src/refusing.rt) rest on it.
+-- What `run` and `make` answer after the beginning of a journal, or after a refusal.
+-- For the proofs of `run_pair` and `run_texts` (src/beginning.rt) and `tell_unbegun`
+-- (src/refusing.rt).
 use Rattle.std.proofs.Common.{◌≡◌, ◌⊎◌, inl, inr, ℕ, ◌≤◌, false, List, [], length, Ok, Err, refl, sym, ap, subst, arith, ◌∙◌, Option}
 use Rattle.nc_outside.specs.Received.{TurretState}
 use Rattle.nc_number.specs.declared.both.Both.{Both}
@@ -35,7 +36,7 @@ use Rattle.lathe_top.specs.Ran.{TextOf, IsRun, refused, unjudged, ran, reported,
 use Rattle.lathe_top.specs.Session.{Session}
 use Rattle.lathe_top.proofs.Opened.{NoneIsStuck, begun_keeps, ending_since, is_session, unprepared_since}
 
--- a table that was begun may be run, and no path of it has ended
+-- a table that was begun may be run
 pub begun_may : {D : Type 0} (pair : Verified) (t : TableView D) → IsBegun pair t → MayRun t
 begun_may pair t begun = record {
   all = begun.flushed ∙ ap length (sym begun.history);
@@ -54,18 +55,18 @@ begun_behind pair t begun =
 pub begun_unended : {D : Type 0} (pair : Verified) (t : TableView D) → IsBegun pair t → is_over t.machine ≡ false
 begun_unended pair t begun = subst (λ (m : MachineView). is_over m ≡ false) (sym begun.machine) refl
 
--- of the pair and without records
+-- what holds of the run of a table that was begun holds of a run of the pair without records
 pub of_begun : {D : Type 0} (Of : Standing → Type 0) (header : Header) (pair : Verified) (t : TableView D) → IsBegun pair t
     → Of (standing header t.verified t.recording.history) → Of (standing header pair [])
 of_begun Of header pair t begun there =
     subst (λ (l : List Entry). Of (standing header pair l)) begun.history
     (subst (λ (p : Verified). Of (standing header p t.recording.history)) begun.pair there)
 
--- A journal was begun on the disk, for a pair that is accepted.
+-- a journal was begun on the disk, for a pair that is accepted
 module _ {A D : Type 0} (state : D → DiskState) (law : NoneIsStuck) (limit : ℕ) (header : Header) (pair : Verified) (a : DiskState) (begun : D)
     (before : Both TurretState) (c : LatheState) (answer : A) (begins : BeginsRun {A = A} header a (state begun) (Ok answer))
     (accepted : IsPairOf (texts_of header) pair) (version : header.version ≡ Two) where
-  -- what is told of the run that goes on from there is what `run` answers
+  -- what is told of the run that goes on after the beginning is what `run` answers
   pub begun_run : (text_of : TextOf) (told : Answer)
       → IsReport limit text_of (standing header pair []) (lathe_with (state begun) before) c told
       → IsRun state limit text_of (texts_of header) (lathe_with a before) c told
@@ -80,7 +81,7 @@ module _ {A D : Type 0} (state : D → DiskState) (law : NoneIsStuck) (limit : �
       (unprepared least (unprepared_since s a (state begun) before c least none)
       (begun_keeps state header a begun c.disk answer begins pair history least keeps))
 
--- a journal that was not begun
+-- a beginning that failed is a refused beginning for these texts
 pub refused_beginning : {A : Type 0} (header : Header) (pair : Verified) (fault : GateFault) (a c : DiskState) → IsPairOf (texts_of header) pair
     → header.version ≡ Two → BeginsRun {A = A} header a c (Err fault) → IsRefusedBeginning (texts_of header) fault a c
 refused_beginning header pair fault a c accepted version begins = record {
@@ -100,13 +101,13 @@ refused_beginning header pair fault a c accepted version begins = record {
   };
 }
 
--- of no other fault is anything told
+-- for `NoRun`, `Cut` and out of memory nothing is told
 pub none_told : (fault : GateFault) → (fault ≡ gate.NoRun) ⊎ (((at : ℕ) × (fault ≡ gate.Cut at)) ⊎ (fault ≡ gate.NoMemory)) → nothing ≡ unbegun fault
 none_told fault (inl is) = sym (ap unbegun is)
 none_told fault (inr (inl is)) = sym (ap unbegun is.1)
 none_told fault (inr (inr is)) = sym (ap unbegun is)
 
--- texts that are refused
+-- the line of a refusal, or nothing without memory, is due to `run` of texts with that refusal
 pub run_refused : {D : Type 0} (state : D → DiskState) (limit : ℕ) (text_of : TextOf) (texts : Texts) (a c : LatheState) (error : Failing Refusal)
     → RestsWhole a c → IfFault error (IsRefusalOf texts) → (answer : Answer) → IsRefusing error answer → IsRun state limit text_of texts a c answer
 run_refused state limit text_of texts a c (Fault refusal) rest of_texts answer is =

@@ -1,5 +1,5 @@
 -- What is answered after a recovery.
--- `resume` and `resume_found` (src/resuming.rt) rest on it.
+-- DueOnce and the proofs of `resume` and `resume_found` (src/resuming.rt) use it.
 use Rattle.std.proofs.Common.{◌≡◌, ℕ, ◌-◌, ◌*◌, Bool, true, false, List, length, Ok, Some, None, Option, refl, sym, ap, subst, arith, ◌∙◌}
 use Rattle.std.proofs.Math.Seq.{take-length}
 use Rattle.nc_outside.specs.Received.{TurretState}
@@ -32,10 +32,10 @@ use Rattle.lathe_top.specs.Session.{Session, GoesOn, IsLeast, EndsBy, over}
 use Rattle.lathe_top.specs.Turrets.{IsEnding}
 use Rattle.lathe_top.proofs.Opened.{NoneIsStuck, found_keeps, ending_since, is_session, unprepared_since}
 
--- A run was found on the disk, and its pair is accepted.
+-- a run was found on the disk, and its pair is accepted
 module _ {D : Type 0} (state : D → DiskState) (law : NoneIsStuck) (limit : ℕ) (found : FoundRun) (pair : Verified) (a : DiskState) (begun : D)
     (before : Both TurretState) (c : LatheState) (recovers : Recovers a (state begun) (Ok found)) (accepted : IsPairOf (texts_of found.header) pair) where
-  -- what is told of the run that goes on from there is what `resume` answers
+  -- what is told of the run that goes on after the recovery is what `resume` answers
   pub found_run : (answer : Answer)
       → IsReport limit report_of (standing found.header pair found.entries) (lathe_with (state begun) before) c answer
       → IsResumed state limit (lathe_with a before) c answer
@@ -62,17 +62,17 @@ parts_of state header pair machine entries log is = record {
   stands = (header, is.accepted, is.holds);
 }
 
--- a machine that is over ended without an alarm, or by its alarm
+-- the reason of a recovered table is an alarm, or none
 pub none_or_alarm : (alarm : Option Alarm) → IsNoneOrAlarm (reason_in alarm)
 none_or_alarm None = tt
 none_or_alarm (Some alarm) = tt
 
--- what a held journal leaves
+-- a disk that holds these records in a journal leaves them at a crash
 abbrev pub LeavesRecords : {D : Type 0} → (D → DiskState) → Type 0
 LeavesRecords {D} state = (disk : D) (header : Header) (version : Version) (entries : List Entry) (end : ℕ) → Holds header version entries (state disk) end
     → (c : List ℕ) → (state disk).image c → Stands header entries c
 
--- a run that is over leaves all its records
+-- for a run that is over, the disk holds all its records: that is what its reason asks for
 pub least_by : (s : Session) (alarm : Option Alarm) (finished : Bool) → IsLeast (reason_by alarm finished) s (length s.history)
 least_by s (Some alarm) finished = refl
 least_by s None true = refl
@@ -85,7 +85,7 @@ least_is s least (Some alarm) finished is = is
 least_is s least None true is = is
 least_is s least None false is = is
 
--- a run that is over does not go on
+-- a run that is over, and is only reported
 module _ {D : Type 0} (state : D → DiskState) (coherent : (disk : D) → IsCoherent (state disk)) (leaves : LeavesRecords state) (limit : ℕ)
     (header : Header) (pair : Verified) (machine : MachineView) (entries : List Entry) (log : Log D)
     (is : IsRecovered state header pair machine entries log) (turrets : Both TurretState) where
@@ -101,7 +101,7 @@ module _ {D : Type 0} (state : D → DiskState) (coherent : (disk : D) → IsCoh
   abbrev pub session : Session
   session = record { header = header; pair = pair; found = entries; history = entries }
 
-  -- the records stay
+  -- a run that is over goes on to the same records
   pub stays_there : GoesOn pair entries entries
   stays_there = record { history_is = is.behind.history; extends = take-length entries; rests = λ over. refl }
 
@@ -115,7 +115,7 @@ module _ {D : Type 0} (state : D → DiskState) (coherent : (disk : D) → IsCoh
         (leaves log.file.disk header log.version entries log.file.end (is.holds bytes reads) c image),
   )
 
-  -- so nothing was done to the disk
+  -- nothing was done to the disk after the run was found
   pub keeps_there : KeepsGoing session (length entries) disk disk
   keeps_there = record {
     left = all_left;

@@ -1,6 +1,7 @@
--- What a stop at any moment of a call leaves: no journal that is bad; and if there was a run,
--- a history of it that goes on.
--- `a_stop_leaves_one_history` and `calls_make_one_history` (src/laws.rt) rest on it.
+-- What a stop at any moment of a call leaves: no journal that is bad; and if there was a run, a
+-- history of it that goes on.
+-- BranchesMade and the proofs of `a_stop_leaves_one_history` and `calls_make_one_history`
+-- (src/laws.rt) use it.
 use Rattle.std.proofs.Common.{◌≡◌, ◌⊎◌, inl, inr, ⊎_elim, ℕ, ◌≤◌, List, [], ◌∷◌, length, take, drop, sym, ap, subst, arith, ◌∙◌, length-take, take-append-drop}
 use Rattle.std.proofs.Math.Seq.{take-length}
 use Rattle.std.proofs.lemmas.List.{take-append-le}
@@ -26,7 +27,7 @@ use Rattle.lathe_top.specs.Kept.{Editing, HasAllOrNone, HasEdits, IsEditing, his
 use Rattle.lathe_top.specs.Stops.{GoesOnAs, IsNoneOrRun, lathe_before, lathe_behind, StoppedCall, AreStopped, images_of, BecomeOneHistory}
 use Rattle.lathe_top.proofs.DueOnce.{OneRun, header_in, entries_in}
 
--- a beginning of a history is a history
+-- an image that stands for a prefix of a history stands for a run with these records
 abbrev pub NeverBad : Type 0
 NeverBad = (header : Header) (history : List Entry) (kept : ℕ) (image : List ℕ) → HasHistory header history
     → Stands header (take kept history) image → StandsForRun (a_run header (take kept history)) image
@@ -44,31 +45,32 @@ front_kept base found history first begins =
     let within : length found ≤ length history = omega (arith, ap length begins, length-take (length found) history) in
     sym (take_within (length base) (length found) history short within) ∙ ap (take (length base)) begins ∙ first
 
--- more than a shut gate and than one byte
+-- bytes that are not those of no run are those of a run: two at least, of which the first is no
+-- shut gate
 run_there : (bytes : List ℕ) → (IsNoRun bytes → ⊥) → IsRunThere bytes
 run_there [] some = absurd (some (inl (omega arith)))
 run_there (gate ∷ []) some = absurd (some (inl (omega arith)))
 run_there (gate ∷ b ∷ rest) some = (omega arith, λ shut. some (inr shut))
 
--- What holds of each image of a disk holds of each that a call leaves which wrote nothing.
+-- what holds of each image of a disk holds of each image that a call leaves which wrote nothing
 module _ (P : List ℕ → Type 0) where
-  -- a disk that was not written
+  -- what holds of each image of a disk holds of each image left, if the disk was not written
   of_unwritten : (old new : DiskState) → ((c : List ℕ) → old.image c → P c) → Unwritten old new → (c : List ℕ) → new.image_since old.clock c → P c
   of_unwritten old new held unwritten c since = held c (unwritten.moments.each c since)
 
-  -- a call that only looks
+  -- what holds of each image of a disk holds of each image left by a call that only looks for a run
   of_looks : (old new : LatheState) → ((c : List ℕ) → old.disk.image c → P c) → OnlyLooks old new → (c : List ℕ)
       → new.disk.image_since old.disk.clock c → P c
   of_looks old new held looks c since =
       ⊎_elim (λ untouched. of_unwritten old.disk new.disk held untouched.unwritten c since)
       (λ look. of_unwritten old.disk new.disk held look.recovers.unwritten c since) looks.disk
 
-  -- a call that rests
+  -- what holds of each image of a disk holds of each image left by a call that does not call it
   of_rest : (old new : LatheState) → ((c : List ℕ) → old.disk.image c → P c) → RestsWhole old new → (c : List ℕ)
       → new.disk.image_since old.disk.clock c → P c
   of_rest old new held rests c since = of_unwritten old.disk new.disk held rests.disk.unwritten c since
 
--- a crash at any moment of a session leaves an image of its opening, or a beginning of its history
+-- a crash at any moment of a session leaves an image of its opening, or a prefix of its history
 -- that has all that was found
 session_leaves : {D : Type 0} (state : D → DiskState) (opening : Opening) (s : Session) (least : ℕ) (old new : DiskState) (bytes : List ℕ)
     → Reads old bytes → KeepsSession state opening s least old new
@@ -88,16 +90,16 @@ edits_run e is c (inr stands) =
     let has : HasHistory e.header (history_with e) = record { pair = e.pair; accepted = is.accepted; history = is.history_is } in
     (history_with e, (stands, has), take-append-le (length e.found) e.found (made_of e) (omega arith) ∙ take-length e.found)
 
--- No image is bad: neither those before a call nor those that it leaves.
+-- images of histories and of their prefixes are never bad
 module _ (never_bad : NeverBad) where
-  -- a beginning of a session's history
+  -- an image of a prefix of a session's history stands for a run of that prefix
   prefix_run : (s : Session) → IsSession s → (least : ℕ) (c : List ℕ) → StandsForPrefix s.header least s.history c
       → (n : ℕ) × (least ≤ n) × (n ≤ length s.history) × StandsForRun (a_run s.header (take n s.history)) c
   prefix_run s is least c stands =
       let has : HasHistory s.header s.history = record { pair = s.pair; accepted = is.accepted; history = is.goes_on.history_is } in
       (stands.0, stands.1, stands.2, never_bad s.header s.history stands.0 c has stands.3)
 
-  -- no image is bad: neither those before a call nor those that it leaves
+  -- no image while a journal is begun is bad
   beginning_none : (header : Header) (pair : Verified) → IsPairOf (texts_of header) pair → (image : List ℕ → Type 0)
       → ((c : List ℕ) → image c → IsNoneOrRun c) → (c : List ℕ) → IsRunBeginning image header c → IsNoneOrRun c
   beginning_none header pair accepted image held c (inl earlier) = held c earlier
@@ -107,17 +109,17 @@ module _ (never_bad : NeverBad) where
       record { pair = pair; accepted = accepted; history = record { legal = tt; few = omega arith } } in
       inr (header, [], never_bad header [] 0 c has stands)
 
-  -- what an opening leaves
+  -- no image that an opening leaves is bad
   opening_none : (opening : Opening) (s : Session) → IsSession s → (image : List ℕ → Type 0) → ((c : List ℕ) → image c → IsNoneOrRun c)
       → (c : List ℕ) → IsOfOpening opening s image c → IsNoneOrRun c
   opening_none anew s is image held c begun = beginning_none s.header s.pair is.accepted image held c begun
   opening_none again s is image held c earlier = held c earlier
 
-  -- a prefix of a session's history
+  -- no image of a prefix of a session's history is bad
   prefix_none : (s : Session) → IsSession s → (least : ℕ) (c : List ℕ) → StandsForPrefix s.header least s.history c → IsNoneOrRun c
   prefix_none s is least c stands = let p = prefix_run s is least c stands in inr (s.header, take p.0 s.history, p.3)
 
-  -- what a session leaves
+  -- no image that a session leaves is bad
   session_none : {D : Type 0} (state : D → DiskState) (opening : Opening) (limit : ℕ) (old new : LatheState) (bytes : List ℕ) → Reads old.disk bytes
       → ((c : List ℕ) → old.disk.image c → IsNoneOrRun c) → HasSession state opening limit old new → (c : List ℕ)
       → new.disk.image_since old.disk.clock c → IsNoneOrRun c
@@ -126,7 +128,7 @@ module _ (never_bad : NeverBad) where
       ⊎_elim (opening_none opening s has.is old.disk.image held c) (prefix_none s has.is (length s.found) c)
       ((session_leaves state opening s has.least old.disk new.disk bytes reads has.keeps).each c since)
 
-  -- what `run` and `make` leave
+  -- no image that a refused beginning leaves is bad
   begins_none : (old new : LatheState) (bytes : List ℕ) → Reads old.disk bytes → ((c : List ℕ) → old.disk.image c → IsNoneOrRun c)
       → OnlyBegins old new → (c : List ℕ) → new.disk.image_since old.disk.clock c → IsNoneOrRun c
   begins_none old new bytes reads held only c since =
@@ -134,7 +136,7 @@ module _ (never_bad : NeverBad) where
       (λ refused. beginning_none refused.2.header refused.2.pair refused.2.accepted old.disk.image held c
       ((refused.2.begins.any_moment bytes reads).each c since)) only.disk
 
-  -- what edits leave
+  -- no image that edits leave is bad
   edits_none : (old new : LatheState) (bytes : List ℕ) → Reads old.disk bytes → ((c : List ℕ) → old.disk.image c → IsNoneOrRun c)
       → HasEdits old new → (c : List ℕ) → new.disk.image_since old.disk.clock c → IsNoneOrRun c
   edits_none old new bytes reads held has c since =
@@ -142,7 +144,7 @@ module _ (never_bad : NeverBad) where
       ⊎_elim (held c) (λ stands. let r = edits_run e has.writing.is c stands in inr (e.header, r.0, r.1))
       ((has.writing.keeps.any_moment bytes reads).each c since)
 
-  -- what any kind of command leaves
+  -- no image that a command of any kind leaves is bad
   pub none_or_run : {D : Type 0} (state : D → DiskState) (asked : Kind) (old new : LatheState) (bytes : List ℕ) → Reads old.disk bytes
       → ((c : List ℕ) → old.disk.image c → IsNoneOrRun c) → Leaves state asked old new → (c : List ℕ)
       → new.disk.image_since old.disk.clock c → IsNoneOrRun c
@@ -158,13 +160,13 @@ module _ (never_bad : NeverBad) where
   none_or_run state (kind.goes_on limit) old new bytes reads held (inr has) c since =
       session_none state again limit old new bytes reads held has c since
 
--- A run is on the disk, which begins with these records.
+-- a run that begins with these records is on the disk
 module _ {D : Type 0} (state : D → DiskState) (one_run : OneRun) (never_bad : NeverBad) (header : Header) (base : List Entry) where
   -- what a read of a run gives is a run that is there
   goes_there : (bytes : List ℕ) → GoesOnAs header base bytes → IsRunThere bytes
   goes_there bytes goes = run_there bytes (λ none. absurd (let same : no_run ≡ a_run header goes.0 = one_run bytes no_run (a_run header goes.0) none goes.1 in cc))
 
-  -- what a session leaves begins with them
+  -- what a session leaves begins with these records
   session_kept : (limit : ℕ) (old new : LatheState) (bytes : List ℕ) → Reads old.disk bytes → ((c : List ℕ) → old.disk.image c → GoesOnAs header base c)
       → GoesOnAs header base bytes → HasSession state again limit old new → (c : List ℕ) → new.disk.image_since old.disk.clock c → GoesOnAs header base c
   session_kept limit old new bytes reads held goes has c since =
@@ -187,7 +189,7 @@ module _ {D : Type 0} (state : D → DiskState) (one_run : OneRun) (never_bad : 
             front_kept base s.found (take p.0 s.history) first begins,
           )
 
-  -- what edits leave begins with them
+  -- what edits leave begins with these records
   edits_kept : (old new : LatheState) (bytes : List ℕ) → Reads old.disk bytes → ((c : List ℕ) → old.disk.image c → GoesOnAs header base c)
       → GoesOnAs header base bytes → HasEdits old new → (c : List ℕ) → new.disk.image_since old.disk.clock c → GoesOnAs header base c
   edits_kept old new bytes reads held goes has c since =
@@ -224,16 +226,16 @@ module _ {D : Type 0} (state : D → DiskState) (one_run : OneRun) (never_bad : 
   kept_by (kind.goes_on limit) old new bytes reads held goes (inl only) c since = of_looks (GoesOnAs header base) old new held only c since
   kept_by (kind.goes_on limit) old new bytes reads held goes (inr has) c since = session_kept limit old new bytes reads held goes has c since
 
-  -- what any kind of command leaves begins with them
+  -- what any kind of command leaves begins with these records
   pub goes_on_as : (asked : Kind) (old new : LatheState) (bytes : List ℕ) → IsCoherent old.disk → Reads old.disk bytes
       → ((c : List ℕ) → old.disk.image c → GoesOnAs header base c) → Leaves state asked old new → (c : List ℕ)
       → new.disk.image_since old.disk.clock c → GoesOnAs header base c
   goes_on_as asked old new bytes coherent reads held leaves c since =
       kept_by asked old new bytes reads held (held bytes (coherent.as_read bytes reads)) leaves c since
 
--- Over lists of calls, each on what the cut before it left.
+-- lists of calls, each on what the cut before it left
 module _ {D : Type 0} (state : D → DiskState) (coherent : (disk : D) → IsCoherent (state disk)) (one_run : OneRun) (never_bad : NeverBad) where
-  -- an image of a disk that has these bytes and nothing else
+  -- an image of a disk that has these bytes and nothing unsettled is these bytes
   alone : (bytes c : List ℕ) (header : Header) (found : List Entry) → StandsForRun (a_run header found) bytes → c ≡ bytes → GoesOnAs header found c
   alone bytes c header found stands same =
       (found, subst (λ x. StandsForRun (a_run header found) x) (sym same) stands, take-length found)

@@ -1,5 +1,5 @@
 -- What a turret got of a session is written as the lines of its report.
--- `a_stream_has_the_reports_lines` (src/stream_laws.rt) rests on it.
+-- For the proof of `a_stream_has_the_reports_lines` (src/stream_laws.rt).
 use Rattle.std.proofs.Common.{◌≡◌, inl, inr, ℕ, Bool, true, false, true≢false, List, [], ◌∷◌, ◌++◌, length, take, drop, Option, Some, None, refl, sym, ap, ◌∙◌, subst, arith, ◌<◌, ◌+◌}
 use Rattle.std.specs.List.{flat_map}
 use Rattle.std.specs.Option.{ForSome}
@@ -86,14 +86,14 @@ stream_due s path extends =
           ∙ flat_map-append lined_text (moves_of tapes (opening_of s.pair) path s.found) (moves_of tapes (machine_found s) path later);
     }
 
--- a turret that got these more has, if it tells, these at the end
+-- a turret that got these more has, if it makes known what it got, these at the end
 told_on : (old new : TurretState) (what : List Got) (calls settles : ℕ) → Adds old.received new.received what calls settles → (was : Received)
     → old.received ≡ Some was → (now : Received) × (new.received ≡ Some now) × (now.got ≡ was.got ++ what)
 told_on old new what calls settles adds was is =
     let more : Adds (Some was) new.received what calls settles = subst (λ (r : Option Received). Adds r new.received what calls settles) is adds in
     (_, more, refl)
 
--- what was got by what is told
+-- what a turret got, if it makes that known
 got_of : Option Received → List Got
 got_of (Some received) = received.got
 got_of None = []
@@ -175,9 +175,9 @@ unfound_status (restart.Cut at) uncut = no_mid 9 (omega arith) (omega arith) unc
 unfound_status (restart.BadRecord offset cause) uncut = no_mid 9 (omega arith) (omega arith) uncut
 unfound_status restart.NoMemory uncut = no_high 12 (omega arith) (omega arith) uncut
 
--- A call of the program.
+-- a call of the program
 module _ {D E : Type 0} (state : D → DiskState) (second : E → DiskState) (call : Call E) where
-  -- the turrets got all that is due to them
+  -- each turret got all that is due to it by this session
   abbrev AllGot : Session → ℕ → Type 0
   AllGot s least = (path : Path) → GetsAll (due_to s least path) (of_path call.before.lathe.turrets path) (of_path call.after.lathe.turrets path)
 
@@ -200,7 +200,8 @@ module _ {D E : Type 0} (state : D → DiskState) (second : E → DiskState) (ca
         (got more path));
   }
 
-  -- a session that ended with such a status wrote the stream of each path
+  -- a session whose reason has the status of a run that was not cut off wrote the stream of each
+  -- path
   ended : (opening : Opening) (limit : ℕ) (s : Session) (reason : Reason) (least : ℕ) → IsUncut (reason_status reason) → IsSession s
       → IsOpened opening s call.before.lathe.disk → KeepsSession state opening s least call.before.lathe.disk call.after.lathe.disk
       → IsEnding limit reason s least call.before.lathe call.after.lathe → HasStreams state call (reason_status reason)
@@ -215,7 +216,8 @@ module _ {D E : Type 0} (state : D → DiskState) (second : E → DiskState) (ca
   ended opening limit s Reason.DiskFault least uncut is opened keeps ends = absurd (no_mid 6 (omega arith) (omega arith) uncut)
   ended opening limit s (Reason.TurretFault path) least uncut is opened keeps ends = absurd (no_mid 7 (omega arith) (omega arith) uncut)
 
-  -- a session that is reported with such a status wrote the stream of each path
+  -- a session that is reported with the status of a run that was not cut off wrote the stream of
+  -- each path
   told_of_session : (opening : Opening) (limit : ℕ) (text_of : TextOf) (s : Session) (answer : Answer) → IsSession s
       → IsOpened opening s call.before.lathe.disk → IsReported state opening limit text_of s call.before.lathe call.after.lathe answer
       → IsUncut (answer_status answer) → HasStreams state call (answer_status answer)
@@ -224,7 +226,8 @@ module _ {D E : Type 0} (state : D → DiskState) (second : E → DiskState) (ca
   told_of_session opening limit text_of s answer is opened (unprepared least none keeps) uncut =
       absurd (no_high 12 (omega arith) (omega arith) uncut)
 
-  -- `run` over its texts
+  -- `run` over its texts, with the status of a run that was not cut off, wrote the stream of each
+  -- path
   run_streams : (limit : ℕ) (text_of : TextOf) (texts : Texts) (answer : Answer)
       → IsRun state limit text_of texts call.before.lathe call.after.lathe answer → IsUncut (answer_status answer) → HasStreams state call (answer_status answer)
   run_streams limit text_of texts answer (refused of_texts text rests) uncut = absurd (no_low 1 (omega arith) (omega arith) uncut)
@@ -232,7 +235,8 @@ module _ {D E : Type 0} (state : D → DiskState) (second : E → DiskState) (ca
   run_streams limit text_of texts answer (not_begun fault refusal rest) uncut = absurd (unbegun_status fault uncut)
   run_streams limit text_of texts answer (ran s is same opened report) uncut = told_of_session anew limit text_of s answer is opened report uncut
 
-  -- `run` over its files
+  -- `run` over its files, with the status of a run that was not cut off, wrote the stream of each
+  -- path
   files_streams : (limit : ℕ) (text_of : TextOf) (files : List Named) (answer : Answer)
       → IsOfFiles listed files (RestsWhole call.before.lathe call.after.lathe)
       (λ texts. IsRun state limit text_of texts call.before.lathe call.after.lathe) call.before.shelf call.after.shelf answer
@@ -241,13 +245,14 @@ module _ {D E : Type 0} (state : D → DiskState) (second : E → DiskState) (ca
   files_streams limit text_of files answer (unread some rests) uncut = absurd (no_high 12 (omega arith) (omega arith) uncut)
   files_streams limit text_of files answer (answers texts are run) uncut = run_streams limit text_of texts answer run uncut
 
-  -- `resume`
+  -- `resume`, with the status of a run that was not cut off, wrote the stream of each path
   resumed_streams : (limit : ℕ) (answer : Answer) → IsResumed state limit call.before.lathe call.after.lathe answer → IsUncut (answer_status answer)
       → HasStreams state call (answer_status answer)
   resumed_streams limit answer (not_found fault recovers rest) uncut = absurd (unfound_status fault uncut)
   resumed_streams limit answer (resumed s is opened report) uncut = told_of_session again limit _ s answer is opened report uncut
 
-  -- each command that makes records
+  -- each command that makes records, with the status of a run that was not cut off, wrote the
+  -- stream of each path
   due_streams : (asked : Command) (answer : Answer) → IsDueTo state second asked call.before call.after answer → MakesRecords (kind_of (Some asked))
       → IsUncut (answer_status answer) → HasStreams state call (answer_status answer)
   due_streams (command.Verify left right settings) answer due makes uncut = absurd makes
@@ -264,7 +269,8 @@ module _ {D E : Type 0} (state : D → DiskState) (second : E → DiskState) (ca
   due_streams (command.Edit edits) answer due makes uncut = absurd makes
   due_streams (command.Branch meetings) answer due makes uncut = absurd makes
 
-  -- each call that makes records and is answered with such a status wrote the streams
+  -- each call that makes records, and whose answer has the status of a run that was not cut off,
+  -- wrote the streams
   call_streams : (answer : Answer) → IsDue state second call answer → MakesRecords (kind_of (command_of call)) → IsUncut (answer_status answer)
       → HasStreams state call (answer_status answer)
   call_streams answer (done.usage none rests still same) makes uncut = absurd (no_low 2 (omega arith) (omega arith) uncut)
@@ -272,7 +278,8 @@ module _ {D E : Type 0} (state : D → DiskState) (second : E → DiskState) (ca
   call_streams answer (done.commanded {command = asked} is due left) makes uncut =
       due_streams asked answer due (subst (λ c. MakesRecords (kind_of c)) is makes) uncut
 
-  -- a call that makes records and ended with such a status wrote the streams
+  -- a call that makes records, and that ended with the status of a run that was not cut off, wrote
+  -- the streams
   pub streams_of : (status : ℕ) → IsDone state second call status → MakesRecords (kind_of (command_of call)) → IsUncut status → HasStreams state call status
   streams_of status (whole due written) makes uncut = call_streams _ due makes uncut
   streams_of status (cut due rose n written) makes uncut = absurd (no_mid 5 (omega arith) (omega arith) uncut)

@@ -1,5 +1,5 @@
--- What is due to `zones`: of a file that gives none, and that one answer is due to a text.
--- `show_zoned` (src/looking.rt) rests on it.
+-- What is due to `zones` if a file gives none, and that the text of zones depends only on its pair.
+-- DueOnce and the proof of `show_zoned` (src/looking.rt) use it.
 use Rattle.std.proofs.Common.{◌≡◌, ℕ, List}
 use Rattle.nc_outside.specs.Files.{ShelfState}
 use Rattle.nc_verify.specs.declared.verified.Verified.{Verified}
@@ -17,12 +17,12 @@ use Rattle.lathe_top.specs.Kept.{RestsWhole}
 use Rattle.lathe_top.specs.Lathe.{LatheState}
 use Rattle.lathe_top.specs.Zoned.{IsZoned, bad_zones, unread_zones}
 
--- a text that gives no zones is answered as `zones` answers it
+-- what is told of a text that gives no zones is due to `zones`
 unzoned_text : (old new : LatheState) (text : List ℕ) (answer : Answer) → IsUnzoned text answer → RestsWhole old new → IsZoned old new text answer
 unzoned_text old new text answer (looked.bad_zones is) rests = bad_zones is rests
 unzoned_text old new text answer looked.unread_zones rests = unread_zones rests
 
--- a file that gives no zones is answered as `zones` answers it
+-- what is told of a file that gives no zones is due to `zones`
 pub unzoned_due : (name : List ℕ) (shelf shelf' : ShelfState) (old new : LatheState) (answer : Answer)
     → IsOfFiles alone (zones_named name) (Unit {0}) IsUnzoned shelf shelf' answer → RestsWhole old new
     → IsOfFiles alone (zones_named name) (RestsWhole old new) (IsZoned old new) shelf shelf' answer
@@ -30,7 +30,7 @@ unzoned_due name shelf shelf' old new answer (not_had missing none) rests = not_
 unzoned_due name shelf shelf' old new answer (unread some none) rests = unread some rests
 unzoned_due name shelf shelf' old new answer (answers text had is) rests = answers text had (unzoned_text old new text answer is rests)
 
--- the text of zones hangs on the machine of its pair
+-- pairs of the same texts have one text of zones
 pub zones_hang : (zones : ZonesView) (pair other : Verified) → IsSamePair pair other → (entries : List Entry)
     → zones_text zones pair entries ≡ zones_text zones other entries
 zones_hang zones pair other same entries = λ i. list_text (zones_of_history (same.tapes i) (same.opening i) zones entries)

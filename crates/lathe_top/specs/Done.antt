@@ -1,6 +1,7 @@
 -- What a call of the program does: one relation over its words, and over what it works on before
--- and after it.
--- `top` of src/control.rt promises it.
+-- and after it. A new command needs its line in `IsDueTo`.
+-- The contract of `top` (src/control.rt) is this; the laws of this crate rest on it, and no other
+-- crate takes it.
 use Rattle.std.specs.Prelude.{◌≡◌, ℕ, ◌<◌, Some, None, Option, List, [], ◌∷◌, take, codes}
 use Rattle.nc_number.specs.Both.{of_path}
 use Rattle.nc_number.specs.declared.path.Path.{Path}
@@ -60,7 +61,7 @@ call_of words before after = record { words = words; before = before; after = af
 abbrev pub command_of : {E : Type 0} → Call E → Option Command
 command_of call = listed_command call.words
 
--- the shelf is as it was
+-- the shelf was not called
 abbrev pub AsksNothing : {E : Type 0} → TopState E → TopState E → Type 0
 AsksNothing old new = new.shelf ≡ old.shelf
 
@@ -69,7 +70,7 @@ abbrev pub SparesSecond : {E : Type 0} → TopState E → TopState E → Type 0
 SparesSecond old new = new.second ≡ old.second
 
 -- What a command of a kind does to the second disk: nothing, unless it branches. What a branch does
--- to it is in Branched.antt.
+-- to it is in Branched.
 abbrev pub LeavesSecond : {E : Type 0} → Kind → E → E → Type 0
 LeavesSecond rests old new = new ≡ old
 LeavesSecond looks old new = new ≡ old
@@ -78,8 +79,8 @@ LeavesSecond edits old new = new ≡ old
 LeavesSecond (begins limit) old new = new ≡ old
 LeavesSecond (goes_on limit) old new = new ≡ old
 
--- What there is to tell of a command, and what it did to the disks and to the turrets. Who names no
--- file asks the shelf for none.
+-- What there is to tell of a command, and what it did to the disks and to the turrets. A command
+-- that names no file does not call the shelf.
 abbrev pub IsDueTo : {D E : Type 0} → (D → DiskState) → (E → DiskState) → Command → TopState E → TopState E → Answer → Type 0
 IsDueTo state second (command.Verify left right settings) old new answer =
     IsOfFilesAlone listed (files_of left right settings) IsJudged old.lathe new.lathe old.shelf new.shelf answer
@@ -116,10 +117,13 @@ Performs state second command old new status =
 -- What there is to tell of a call, and what it did: its words are no command; or there was no
 -- memory to read them; or it is what its command does. Only who branches calls the second disk.
 pub data IsDue {D E : Type 0} (state : D → DiskState) (second : E → DiskState) (call : Call E) : Answer → Type 0 where
+  -- the words are no command
   usage : command_of call ≡ None → RestsWhole call.before.lathe call.after.lathe → AsksNothing call.before call.after
       → SparesSecond call.before call.after → IsDue state second call (tells exit.usage (codes "usage\n"))
+  -- there was no memory to read the words
   unread : RestsWhole call.before.lathe call.after.lathe → AsksNothing call.before call.after → SparesSecond call.before call.after
       → IsDue state second call nothing
+  -- the words are this command, and its answer is due
   commanded : {command : Command} {answer : Answer} → command_of call ≡ Some command
       → IsDueTo state second command call.before call.after answer
       → LeavesSecond (kind_of (Some command)) call.before.second call.after.second → IsDue state second call answer
@@ -130,32 +134,41 @@ pub data IsDue {D E : Type 0} (state : D → DiskState) (second : E → DiskStat
 abbrev pub IsDone : {D E : Type 0} → (D → DiskState) → (E → DiskState) → Call E → ℕ → Type 0
 IsDone state second call status = Ends (IsDue state second call) call.before.sink call.after.sink status
 
--- the status, or a fault of the sink if it rose, or out of memory
+-- the call ended with this status; or with a fault of the sink, if one rose; or with out of memory
 pub data IsOr (old new : SinkState) (status : ℕ) : ℕ → Type 0 where
+  -- the status itself
   itself : IsOr old new status status
+  -- the sink failed
   sink_failed : Rose old.faults new.faults → IsOr old new status exit.sink_fault
+  -- memory ran out
   memory_wanting : IsOr old new status exit.no_memory
 
--- the text stands whole after what was there, with its status; or the sink failed after a part of
--- it; or memory ran out after a part
+-- the text stands whole after what was there, and the status is its own; or the sink failed after a
+-- part of it; or memory ran out after a part
 pub data IsTold (old new : SinkState) (status : ℕ) (text : List ℕ) : ℕ → Type 0 where
+  -- the text was written whole
   in_full : Writes old new text → IsTold old new status text status
+  -- the sink failed after the first n bytes
   cut_off : Rose old.faults new.faults → (n : ℕ) → Writes old new (take n text) → IsTold old new status text exit.sink_fault
+  -- memory ran out after the first n bytes
   left_off : (n : ℕ) → Writes old new (take n text) → IsTold old new status text exit.no_memory
 
--- if files are named the shelf tells what it holds, and did not fail
+-- if files are named, the shelf makes known what it holds, and did not fail
 abbrev pub ServesFiles : {E : Type 0} → List Named → Call E → Type 0
 ServesFiles [] call = Unit {0}
 ServesFiles (file ∷ files) call = ((told : Files) × (call.before.shelf.files ≡ Some told))
     × (Rose call.before.shelf.faults call.after.shelf.faults → ⊥)
 
--- the disk tells its bytes, and did not fail
+-- the disk makes its bytes known, and did not fail
 pub record ServesDisk (old new : DiskState) : Type 0 where
+  -- the bytes of the disk before the call
   pub bytes : List ℕ
+  -- a read of the disk gives these bytes
   pub tells : Reads old bytes
+  -- no call of the disk failed
   pub calm : DiskRose old.faults new.faults → ⊥
 
--- so does that of the journal
+-- the disk of the journal makes its bytes known, and did not fail
 abbrev pub ServesJournal : {E : Type 0} → Call E → Type 0
 ServesJournal call = ServesDisk call.before.lathe.disk call.after.lathe.disk
 
@@ -164,7 +177,7 @@ abbrev pub ServesTurrets : {E : Type 0} → Call E → Type 0
 ServesTurrets call = (path : Path) → Rose (of_path call.before.lathe.turrets path).faults
     (of_path call.after.lathe.turrets path).faults → ⊥
 
--- what a command of a kind uses besides files tells what it holds, and did not fail
+-- what a command of a kind uses besides files makes known what it holds, and did not fail
 abbrev pub ServesKind : {E : Type 0} → (E → DiskState) → Kind → Call E → Type 0
 ServesKind second rests call = Unit {0}
 ServesKind second looks call = ServesJournal call
@@ -173,22 +186,29 @@ ServesKind second edits call = ServesJournal call
 ServesKind second (begins limit) call = ServesJournal call × ServesTurrets call
 ServesKind second (goes_on limit) call = ServesJournal call × ServesTurrets call
 
--- what the command of a call uses, and nothing else
+-- all that the command of a call uses makes known what it holds, and did not fail
 pub record Serves {E : Type 0} (second : E → DiskState) (call : Call E) : Type 0 where
+  -- the shelf, for the files that the command names
   pub files : ServesFiles (named_by (command_of call)) call
+  -- the disks and the turrets that the command's kind uses
   pub others : ServesKind second (kind_of (command_of call)) call
 
--- The causes of a call have one order, whatever the outside tells. If the count of faults of either
--- disk rose, the status is 6. Else, if that of a turret rose, it is 7. And if what the command
--- uses tells what it holds and did not fail, what is due is told, with its text and its status.
--- Instead of each the sink may have failed, or memory run out.
+-- The causes of a call have one order, whatever the outside makes known. If the count of faults of
+-- either disk rose, the status is 6. Else, if that of a turret rose, it is 7. If what the command
+-- uses makes known what it holds and did not fail, what is due is told, with its text and its
+-- status. Instead of each the sink may have failed, or memory run out.
 pub record GetsItsStatus {D E : Type 0} (state : D → DiskState) (second : E → DiskState) (call : Call E) (result : ℕ) : Type 0 where
+  -- words that are no command are told so, with status 2
   pub usage : command_of call ≡ None → IsTold call.before.sink call.after.sink exit.usage (codes "usage\n") result
+  -- if a call of the journal's disk failed, the status is 6
   pub disk : call.before.lathe.disk.faults < call.after.lathe.disk.faults → IsOr call.before.sink call.after.sink exit.disk_fault result
+  -- if a call of the second disk failed, the status is 6
   pub second_disk : (second call.before.second).faults < (second call.after.second).faults
       → IsOr call.before.sink call.after.sink exit.disk_fault result
+  -- if no call of the journal's disk but one of a turret failed, the status is 7
   pub turret : (DiskRose call.before.lathe.disk.faults call.after.lathe.disk.faults → ⊥) → (path : Path)
       → (of_path call.before.lathe.turrets path).faults < (of_path call.after.lathe.turrets path).faults
       → IsOr call.before.sink call.after.sink exit.turret_fault result
+  -- if all that the command uses serves, what is due is told with its status
   pub served : Serves second call → (status : ℕ) (text : List ℕ) → IsDue state second call (tells status text)
       → IsTold call.before.sink call.after.sink status text result

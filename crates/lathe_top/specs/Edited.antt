@@ -23,7 +23,7 @@ use Rattle.lathe_looks.specs.Shown.{unfound}
 use Rattle.lathe_top.specs.Kept.{Editing, IsWriting, RestsWhole, history_with}
 use Rattle.lathe_top.specs.Lathe.{LatheState, AreAtRest}
 
--- the line of so many edits that were made
+-- the line of output for so many edits that were made
 abbrev pub edited_text : ℕ → List ℕ
 edited_text count = codes "edited " ++ (decimal count ++ codes "\n")
 
@@ -39,8 +39,11 @@ told_of_writing count (Err error) = told_of_failure error
 
 -- The run of the editing was found on the disk, and nothing was written.
 pub record IsOnlyFound (e : Editing) (old new : DiskState) : Type 0 where
+  -- the header's texts are accepted, as this pair
   pub accepted : IsPairOf (texts_of e.header) e.pair
+  -- the records that were found are a history of the pair
   pub found_is : IsHistory e.pair e.found
+  -- the recovery found this header and these records, and wrote nothing
   pub recovers : Recovers old new (Ok (record { header = e.header; entries = e.found }))
 
 -- no alarm stands after the records that were found
@@ -50,34 +53,50 @@ IsWithoutAlarm e = (machine_behind e.pair e.found).alarm ≡ None
 -- The edits were written, and the disk stands for the records that were found and those of the
 -- edits after them; no call of it failed.
 pub record AreMade (e : Editing) (old new : DiskState) : Type 0 where
+  -- the edits are a writing of this editing
   pub writing : IsWriting e old new
+  -- a crash now leaves the records that were found and those of all edits
   pub whole : (bytes : List ℕ) → Reads old bytes → (c : List ℕ) → new.image c → Stands e.header (history_with e) c
+  -- no call of the disk failed
   pub calm : new.faults ≡ old.faults
 
--- What is answered to the edits of a run that was found. If it has an alarm that is its report;
--- else, if the settings don't allow so many records, it is full; nothing if memory runs out: in
--- each case nothing was written. Else the edits are made, all at once, or the disk failed.
+-- What is answered to the edits of a run that was found. If an alarm has stopped the run, its
+-- report is told; else, if the settings don't allow so many records, that it is full; nothing if
+-- memory runs out. In these cases nothing was written. Else the edits are made, all at once, or the
+-- disk failed.
 pub data IsEditOf (e : Editing) (old new : DiskState) : Answer → Type 0 where
+  -- an alarm has stopped the run
   alarmed : {alarm : Alarm} → (machine_behind e.pair e.found).alarm ≡ Some alarm → IsOnlyFound e old new
       → IsEditOf e old new (tells exit.alarm (report_of e.pair e.found (Reason.Alarm alarm)))
+  -- there is no room for so many records
   full : IsWithoutAlarm e → e.pair.settings.records < length e.found + length e.edits → IsOnlyFound e old new
       → IsEditOf e old new (tells exit.full (codes "full\n"))
+  -- memory ran out before anything was written
   unready : IsOnlyFound e old new → IsEditOf e old new nothing
+  -- no edit was asked for
   none_asked : IsWithoutAlarm e → e.edits ≡ [] → IsOnlyFound e old new → IsEditOf e old new (tells exit.done (edited_text 0))
+  -- all edits are made
   made : IsWithoutAlarm e → 1 ≤ length e.edits → AreMade e old new → IsEditOf e old new (tells exit.done (edited_text (length e.edits)))
+  -- the disk failed while the edits were written
   failed : IsWithoutAlarm e → 1 ≤ length e.edits → IsWriting e old new → Rose old.faults new.faults
       → IsEditOf e old new (tells exit.disk_fault (codes "disk fault\n"))
 
--- What is answered to edits: why no run is found on the disk, or what is answered to them in the
--- run that is.
+-- What is answered to edits of the run on a disk: why none is found, or what is answered to them in
+-- the run that is found.
 pub data IsEditedRun (edits : List PathEdit) (old new : DiskState) : Answer → Type 0 where
+  -- no run is found on the disk
   not_found : (fault : RestartFault) → Recovers old new (Err fault) → IsEditedRun edits old new (unfound fault)
+  -- what is answered to these edits in the run that is found
   in_run : {answer : Answer} (e : Editing) → e.edits ≡ edits → IsEditOf e old new answer → IsEditedRun edits old new answer
 
--- 1 and the first line that is not allowed, or nothing if memory runs out, and the disk was not
--- called; or what is answered to the edits of the text. No turret is called.
+-- What `edit` answers over the text of its file. Either status 1 and the first line that is not
+-- allowed, or nothing if memory runs out, and then the disk was not called. Or what is answered to
+-- the edits of the text. No turret is called.
 pub data IsEdited (old new : LatheState) (text : List ℕ) : Answer → Type 0 where
+  -- a line of the text is no edit
   bad_edits : {line : ℕ} → edits_of text ≡ Err line → RestsWhole old new → IsEdited old new text (tells exit.refused (bad_edit_text line))
+  -- memory ran out while the text was read
   unread_edits : RestsWhole old new → IsEdited old new text nothing
+  -- what is answered to the edits of the text
   edited : {edits : List PathEdit} {answer : Answer} → edits_of text ≡ Ok edits → IsEditedRun edits old.disk new.disk answer
       → AreAtRest old new → IsEdited old new text answer

@@ -1,5 +1,5 @@
 -- How a run goes on from what its journal has.
--- For this crate alone.
+-- For this crate alone: the contracts of src/going.rt and src/resuming.rt.
 use Rattle.std.specs.Prelude.{ℕ, ◌-◌, ◌*◌, ◌≤◌, Result, Ok, Err, List, length}
 use Rattle.disk_model.specs.Device.{DiskState, Reads}
 use Rattle.disk_model.specs.Moments.{LeavesOnly, Uses}
@@ -35,19 +35,25 @@ session_to run history = record { header = run.header; pair = run.pair; found = 
 
 -- What going on does to the disk: as a session does, but for the opening.
 pub record KeepsGoing (s : Session) (least : ℕ) (old new : DiskState) : Type 0 where
+  -- a crash now leaves a prefix of the history, of `least` records at least
   pub left : (bytes : List ℕ) → Reads old bytes → (c : List ℕ) → new.image c → StandsForPrefix s.header least s.history c
+  -- at any moment a crash leaves a prefix that has all that was found
   pub moments : (bytes : List ℕ) → Reads old bytes
       → LeavesOnly (StandsForPrefix s.header (length s.found) s.history) old new
+  -- four calls at most for each record made, and how far they reach
   pub uses : Uses (4 * (length s.history - length s.found)) (end_of s) old new
+  -- the count of faults doesn't sink
   pub later : old.faults ≤ new.faults
 
--- What is told of a run that went on, by at most so many records: its text; nothing, if there
--- was no memory for a first record.
+-- What is told of a run that went on, by at most so many records: its text, by the reason for which
+-- it ended; nothing, if there was no memory for a first record or a thread was refused.
 pub data IsReport (limit : ℕ) (text_of : TextOf) (run : Standing) (old new : LatheState) : Answer → Type 0 where
+  -- the run ended for this reason
   report : (history : List Entry) {reason : Reason} (least : ℕ) → GoesOn run.pair run.found history
       → IsEnding limit reason (session_to run history) least old new
       → KeepsGoing (session_to run history) least old.disk new.disk
       → IsReport limit text_of run old new (tells (reason_status reason) (text_of run.pair history reason))
+  -- the run did not begin
   stayed : (history : List Entry) (least : ℕ) → GoesOn run.pair run.found history
       → IsUnprepared (session_to run history) least old new
       → KeepsGoing (session_to run history) least old.disk new.disk

@@ -1,5 +1,5 @@
--- The kinds of commands: what each may do to the disk and to the turrets.
--- A new command needs its line here.
+-- The kinds of commands: what each may do to the disk and to the turrets, and which files it names.
+-- A new command needs its line in `kind_of`, and in `named_by` if it names files.
 -- What `top` promises is said in it; no other crate takes it.
 use Rattle.std.specs.Prelude.{ℕ, Option, Some, None, List, []}
 use Rattle.command_words.specs.declared.command.Command.{Command}
@@ -24,7 +24,7 @@ pub data Kind : Type 0 where
   -- it looks for a run and goes on with it, for so many records more
   goes_on : (limit : ℕ) → Kind
 
--- the kind of a command; words that are none do nothing
+-- the kind of a command; words that are no command do nothing
 abbrev pub kind_of : Option Command → Kind
 kind_of None = rests
 kind_of (Some (command.Verify left right settings)) = rests
@@ -53,7 +53,7 @@ named_by (Some (command.Zones zones)) = zones_named zones
 named_by (Some (command.Edit name)) = edits_named name
 named_by other = []
 
--- what a kind of command does with the journal of a run
+-- what a command of a kind does with the journal of a run, for who locks it
 abbrev pub journal_for : Kind → Journal
 journal_for rests = journal.None
 journal_for looks = journal.Look

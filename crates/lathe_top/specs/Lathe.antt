@@ -14,15 +14,15 @@ pub record LatheState : Type 1 where
   pub turrets : Both TurretState
   pub missed : Both ℕ
 
--- before a call no move is missed
+-- this disk and these turrets before a call, which has missed no move
 abbrev pub lathe_with : DiskState → Both TurretState → LatheState
 lathe_with disk turrets = record { disk = disk; turrets = turrets; missed = none_missed }
 
--- before a call, from the turrets of path 1 and path 2
+-- this disk and the turrets of path 1 and path 2 before a call, which has missed no move
 abbrev pub lathe_at : DiskState → TurretState → TurretState → LatheState
 lathe_at disk left right = lathe_with disk (record { one = left; two = right })
 
--- what a call leaves, with the moves that it counts as missed
+-- the states that a call leaves, with the moves that it counts as missed
 abbrev pub lathe_after : {D E T : Type 0} → (D → DiskState) → (T → TurretState) → Outcome D E T → LatheState
 lathe_after disk turret outcome = record {
   disk = disk outcome.disk;

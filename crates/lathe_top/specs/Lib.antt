@@ -1,4 +1,4 @@
--- What callers read.
+-- What the contract of `top` and the laws are said in. No other crate takes any of it.
 pub mod Kinds
 pub mod Done
 pub mod Lathe
@@ -14,7 +14,7 @@ pub mod Made
 pub mod Outside
 pub mod Stops
 pub mod Streams
--- Words of the inside.
+-- What the code keeps and how a run goes on, for clauses of src alone.
 pub mod Held
 pub mod Texts
 pub mod Going

@@ -20,8 +20,7 @@ abbrev pub is_done : Reason → Bool
 is_done Reason.Done = true
 is_done other = false
 
--- what is told of a made pair's history: if both paths have ended its summary, and else its
--- report
+-- what is told of a made pair's history: its summary if both paths have ended, and else its report
 abbrev pub made_text : ℕ → Verified → List Entry → Reason → List ℕ
 made_text number pair entries reason =
     if is_done reason then summary_text number pair.left pair.right pair.settings entries else report_of pair entries reason

@@ -1,4 +1,4 @@
--- What a command of files answers, and what it does to the disk and to the turrets.
+-- What a command that names files answers, and what it does to the disk and to the turrets.
 -- What `top` promises is said in it; no other crate takes it.
 use Rattle.std.specs.Prelude.{ℕ, List}
 use Rattle.nc_outside.specs.Files.{ShelfState}
@@ -8,14 +8,14 @@ use Rattle.lathe_looks.specs.Named.{Named}
 use Rattle.lathe_top.specs.Kept.{RestsWhole}
 use Rattle.lathe_top.specs.Lathe.{LatheState}
 
--- it answers over the texts of its files, and calls neither the disk nor a turret
+-- the command answers over the texts of its files, and calls neither the disk nor a turret
 abbrev pub IsOfFilesAlone : {A : Type 0} → (A → List (List ℕ)) → List Named → (A → Answer → Type 0) → LatheState → LatheState
     → ShelfState → ShelfState → Answer → Type 0
 IsOfFilesAlone listed files IsAnswer old new before after =
     λ answer. IsOfFiles listed files (Unit {0}) IsAnswer before after answer × RestsWhole old new
 
--- it answers over the texts of its files, and does this; unless it has them, it calls neither the
--- disk nor a turret
+-- the command answers over the texts of its files, and does this to the disk and the turrets; if a
+-- file can't be read, it calls neither
 abbrev pub IsOverFiles : {A : Type 0} → (A → List (List ℕ)) → List Named → (LatheState → LatheState → A → Answer → Type 0)
     → LatheState → LatheState → ShelfState → ShelfState → Answer → Type 0
 IsOverFiles listed files Does old new before after = IsOfFiles listed files (RestsWhole old new) (Does old new) before after

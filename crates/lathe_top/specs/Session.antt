@@ -24,29 +24,35 @@ pub record Session : Type 0 where
   pub found : List Entry
   pub history : List Entry
 
--- the machine at the opening
+-- the machine at the opening of a session
 abbrev pub machine_found : Session → MachineView
 machine_found s = machine_behind s.pair s.found
 
--- the machine at the end
+-- the machine at the end of a session
 abbrev pub machine_of : Session → MachineView
 machine_of s = machine_behind s.pair s.history
 
--- The records at the end are a history of the pair, and begin with those that were found. After a
--- run that is over none are made.
+-- The records at the end are a history of the pair, and begin with those that were found. If the
+-- run was over at the opening, no record was made.
 pub record GoesOn (pair : Verified) (found history : List Entry) : Type 0 where
+  -- the records at the end are a history of the pair
   pub history_is : IsHistory pair history
+  -- they begin with those that were found
   pub extends : take (length found) history ≡ found
+  -- a run that was over gets no record
   pub rests : is_over (machine_behind pair found) ≡ true → history ≡ found
 
 -- The header's texts are accepted, and the records went on. The paths are not stuck, and none comes
 -- to a wait while the other waits at a different code.
 pub record IsSession (s : Session) : Type 0 where
+  -- the header's texts are accepted, as this pair
   pub accepted : IsPairOf (texts_of s.header) s.pair
+  -- the records went on from those that were found
   pub goes_on : GoesOn s.pair s.found s.history
+  -- the paths are not stuck, and none comes to another wait than the other
   pub free : IsFree (tapes_in s.pair) (machine_of s)
 
--- no call of the disk failed, and none of a turret
+-- no call of the disk failed, and no call of a turret
 pub record NoneFailed (old new : LatheState) : Type 0 where
   pub disk : new.disk.faults ≡ old.disk.faults
   pub turrets : (path : Path) → (of_path new.turrets path).faults ≡ (of_path old.turrets path).faults
@@ -55,19 +61,28 @@ pub record NoneFailed (old new : LatheState) : Type 0 where
 -- journal has as many records as it may have; or the session made as many as it was allowed. Else
 -- the disk failed; or the disk did not, and the turret of this path did.
 pub data EndsBy (limit : ℕ) (s : Session) (old new : LatheState) : Reason → Type 0 where
+  -- an alarm has come, or both paths have ended
   over : is_over (machine_of s) ≡ true → NoneFailed old new → EndsBy limit s old new (reason_of (machine_of s))
+  -- the journal has as many records as it may have
   full : is_over (machine_of s) ≡ false → length s.history ≡ s.pair.settings.records → NoneFailed old new
       → EndsBy limit s old new Reason.Full
+  -- the session made as many records as it was allowed
   stopped : is_over (machine_of s) ≡ false → length s.history ≡ length s.found + limit
       → (length s.history ≡ s.pair.settings.records → ⊥) → NoneFailed old new → EndsBy limit s old new Reason.Stopped
+  -- a call of the disk failed
   disk_failed : Rose old.disk.faults new.disk.faults → EndsBy limit s old new Reason.DiskFault
+  -- the turret of this path failed, and no call of the disk
   turret_failed : (path : Path) → TurretRose (of_path old.turrets path).faults (of_path new.turrets path).faults
       → new.disk.faults ≡ old.disk.faults → EndsBy limit s old new (Reason.TurretFault path)
 
--- the disk holds so many records at least: all that were found, and all but 64 at most
+-- the disk holds `least` records at least: all that were found, and all of the history but 64 at
+-- most
 pub record AreMost (s : Session) (least : ℕ) : Type 0 where
+  -- all records that were found
   pub found : length s.found ≤ least
+  -- all of the history but 64 records at most
   pub most : length s.history ≤ least + 64
+  -- no more than there are
   pub within : least ≤ length s.history
 
 -- how many records of a session the disk holds at least: all, unless it or a turret failed

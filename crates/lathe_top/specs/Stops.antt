@@ -34,11 +34,17 @@ IsNoneOrRun image = IsNoRun image ⊎ IsSomeRun image
 -- A call of the program: its command, if its words are one, the disk and the turrets before and
 -- after it, and how many moves each turret missed.
 pub record CallOver (D : Type 0) : Type 0 where
+  -- the command, if the words are one
   pub asked : Option Command
+  -- the disk before the call
   pub disk : D
+  -- the disk after the call
   pub after : D
+  -- the turrets before the call
   pub turrets : Both TurretState
+  -- the turrets after the call
   pub moved : Both TurretState
+  -- how many moves each turret missed
   pub missed : Both ℕ
 
 -- the disk and the turrets before the call
@@ -51,46 +57,55 @@ lathe_behind state call = record { disk = state call.after; turrets = call.moved
 
 -- The words of a call, and the shelf, the second disk and the sink before and after it.
 pub record Around (E : Type 0) : Type 0 where
+  -- the words of the call
   pub words : List (List ℕ)
+  -- the shelf before the call
   pub shelf : ShelfState
+  -- the shelf after the call
   pub shelf_after : ShelfState
+  -- the second disk before the call
   pub second : E
+  -- the second disk after the call
   pub second_after : E
+  -- the sink before the call
   pub sink : SinkState
+  -- the sink after the call
   pub sink_after : SinkState
 
--- all of the call
+-- all that is known of the call
 abbrev pub call_in : {D E : Type 0} → (D → DiskState) → Around E → CallOver D → Call E
 call_in state around call = call_of around.words (at around.shelf (lathe_before state call) around.second around.sink)
     (at around.shelf_after (lathe_behind state call) around.second_after around.sink_after)
 
--- the disk tells that it reads as these bytes, and the call leaves it and the turrets as its kind
--- of command does
+-- the disk makes known that it reads as these bytes, and the call leaves it and the turrets as its
+-- kind of command does
 pub record IsCall {D : Type 0} (state : D → DiskState) (bytes : List ℕ) (call : CallOver D) : Type 0 where
   pub reads : Reads (state call.disk) bytes
   pub leaves : Leaves state (kind_of call.asked) (lathe_before state call) (lathe_behind state call)
 
--- a stop at some moment of the call leaves this, also one inside a call of the disk
+-- a stop at some moment of the call leaves this image, also a stop inside a call of the disk
 abbrev pub MayLeave : {D : Type 0} → (D → DiskState) → CallOver D → List ℕ → Type 0
 MayLeave state call image = (state call.after).image_since (state call.disk).clock image
 
 -- a call, and what the power cut at some moment of it left
 pub record StoppedCall (D : Type 0) : Type 0 where
+  -- the call
   pub call : CallOver D
+  -- what the cut left on the disk
   pub image : List ℕ
 
--- the call began on a disk that has these bytes and nothing else, and the cut left its image
+-- the call began on a disk that had these bytes and nothing unsettled, and the cut left its image
 pub record IsStopped {D : Type 0} (state : D → DiskState) (bytes : List ℕ) (stop : StoppedCall D) : Type 0 where
   pub is : IsCall state bytes stop.call
   pub settled : IsSettled (state stop.call.disk)
   pub left : MayLeave state stop.call stop.image
 
--- each call begins on what the cut before it left
+-- each call begins on the image that the cut before it left
 abbrev pub AreStopped : {D : Type 0} → (D → DiskState) → List ℕ → List (StoppedCall D) → Type 0
 AreStopped state bytes [] = Unit {0}
 AreStopped state bytes (stop ∷ stops) = IsStopped state bytes stop × AreStopped state stop.image stops
 
--- what each cut left, in order
+-- the images that the cuts left, in order
 abbrev pub images_of : {D : Type 0} → List (StoppedCall D) → List (List ℕ)
 images_of stops = map (λ stop. stop.image) stops
 

@@ -26,7 +26,7 @@ use Rattle.lathe_top.specs.Lathe.{AreAtRest}
 use Rattle.lathe_calls.specs.Statuses.{reason_status}
 use Rattle.lathe_top.specs.Session.{IsSession, Session, machine_found}
 
--- the command makes records of blocks
+-- commands of this kind make records of blocks
 abbrev pub MakesRecords : Kind → Type 0
 MakesRecords rests = ⊥
 MakesRecords looks = ⊥
@@ -36,7 +36,7 @@ MakesRecords (begins limit) = Unit {0}
 MakesRecords (goes_on limit) = Unit {0}
 
 -- The statuses of a command that made its records and was not cut off by a fault: both paths ended
--- (0), an alarm (3), as many blocks as were allowed (10), and a journal that is full (14).
+-- (0), an alarm (3), as many records as were allowed (10), and a journal that is full (14).
 abbrev pub IsUncut : ℕ → Type 0
 IsUncut status = (status ≡ exit.done) ⊎ ((status ≡ exit.alarm) ⊎ ((status ≡ exit.stopped) ⊎ (status ≡ exit.full)))
 
@@ -52,32 +52,49 @@ place_line s path = placed_text (position_of path (machine_found s))
 -- path's records of this session: its lines at the end are those for the records that were found,
 -- and then these.
 pub record IsStream (s : Session) (path : Path) (bytes : List ℕ) : Type 0 where
+  -- the lines after that of the place
   pub lines : List ℕ
+  -- the stream is the line of the place, and these lines
   pub stream : bytes ≡ place_line s path ++ lines
+  -- the report's lines at the end are those for the records that were found, and these lines
   pub report : report_lines s.pair path s.history ≡ report_lines s.pair path s.found ++ lines
 
 -- A turret got what is written as the stream of the path, and did not fail. If it was a new one
 -- that writes lines, its sink has the stream, and nothing else.
 pub record GetsStream (s : Session) (path : Path) (old new : TurretState) : Type 0 where
+  -- what the turret got
   pub got : List Got
+  -- what it got is written as the stream of the path
   pub is : IsStream s path (stream_of got)
+  -- a turret that makes known what it got has got just this besides
   pub told : (was : Received) → old.received ≡ Some was
       → (now : Received) × (new.received ≡ Some now) × (now.got ≡ was.got ++ got)
+  -- no call of the turret failed
   pub calm : new.faults ≡ old.faults
+  -- the sink of a new turret that writes lines has the stream
   pub written : (written : Option (List ℕ)) (has : List Got) (calls settles faults : ℕ) → old ≡ told_state [] 0 0 0
       → new ≡ told_state has calls settles faults → HasStream written has faults
       → ForSome written (λ bytes. IsStream s path bytes)
 
--- What a call did that made its records: of one session, which the disk then holds whole, each
--- turret got the stream of its path; none was called if the run was over when it was found.
+-- What a call did that made its records. They are of one session, which the disk then holds whole.
+-- Each turret got the stream of its path; none was called if the run was over when it was found.
 pub record HasStreams {D E : Type 0} (state : D → DiskState) (call : Call E) (status : ℕ) : Type 0 where
+  -- the session that the call made
   pub session : Session
+  -- it is a session of an accepted pair
   pub is : IsSession session
+  -- how the session opened
   pub opening : Opening
+  -- what the opening found on the disk
   pub opened : IsOpened opening session call.before.lathe.disk
+  -- what the session did to the disk, which holds all its records
   pub keeps : KeepsSession state opening session (length session.history) call.before.lathe.disk call.after.lathe.disk
+  -- why the session ended
   pub reason : Reason
+  -- the reason has this status
   pub answered : reason_status reason ≡ status
+  -- if the run was over when it was found, no turret was called
   pub over : is_over (machine_found session) ≡ true → AreAtRest call.before.lathe call.after.lathe
+  -- else each turret got the stream of its path
   pub streams : is_over (machine_found session) ≡ false → (path : Path)
       → GetsStream session path (of_path call.before.lathe.turrets path) (of_path call.after.lathe.turrets path)

@@ -22,17 +22,20 @@ use Rattle.lathe_top.specs.Session.{Session, EndsBy, IsLeast, machine_found}
 abbrev pub due_to : Session → ℕ → Path → List Got
 due_to s upto path = told (position_of path (machine_found s)) (moves_made s.pair path (length s.found) upto s.history)
 
--- The turret of a path failed at its place: no record was made and no turret got a move; that of
--- path 2 was not called, or that of path 1 had got its place.
+-- The turret of a path failed at its place. No record was made and no turret got a move. Beside
+-- path 1 that of path 2 was not called; beside path 2 that of path 1 had got its place.
 pub record AreUnplaced (path : Path) (s : Session) (old new : Both TurretState) : Type 0 where
+  -- no record was made
   pub none : s.history ≡ s.found
+  -- the turret of this path failed at its place
   pub failed : FailsAmong (told (position_of path (machine_found s)) []) (of_path old path) (of_path new path)
+  -- what the other turret got
   pub other : StandsBeside path (told (position_of (other_of path) (machine_found s)) []) (of_path old (other_of path))
       (of_path new (other_of path))
 
 -- What the turrets got of a session that might make records, by records that are on the disk: all
--- that is due to them; or, if the disk failed, a first part of it; or, if a turret failed, it
--- got a first part and the other one all, unless it failed too.
+-- that is due to them. If the disk failed, it is a prefix of that. If a turret failed, it got a
+-- prefix and the other one all, unless that failed too.
 abbrev pub AreServed : Reason → Session → ℕ → Both TurretState → Both TurretState → Type 0
 AreServed Reason.DiskFault s least old new =
     (path : Path) → GetsSome (due_to s least path) (of_path old path) (of_path new path)
@@ -44,8 +47,8 @@ AreServed other s least old new =
     (path : Path) → GetsAll (due_to s least path) (of_path old path) (of_path new path)
 
 -- How many moves each turret missed of a session, by records that are on the disk: of what is due
--- to it all that it did not get, and none unless it failed. If no record was made, and so if a
--- turret failed at its place, there was none to miss.
+-- to it all that it did not get, and none unless it failed. If no record was made, as when a turret
+-- failed at its place, there was none to miss.
 abbrev pub AreMissed : Session → ℕ → LatheState → LatheState → Type 0
 AreMissed s least old new =
     ((path : Path) → Misses (due_to s least path) (of_path new.missed path) (of_path old.turrets path) (of_path new.turrets path))
@@ -54,25 +57,38 @@ AreMissed s least old new =
 -- what the turrets got of a session, and how much they missed: nothing, if the run was over at
 -- its opening
 pub record GetTheirs (reason : Reason) (s : Session) (least : ℕ) (old new : LatheState) : Type 0 where
+  -- if the run was over, no turret was called
   pub over : is_over (machine_found s) ≡ true → AreAtRest old new
+  -- else the turrets got what the reason says
   pub goes_on : is_over (machine_found s) ≡ false → AreServed reason s least old.turrets new.turrets
+  -- else so much of it was missed
   pub missed : is_over (machine_found s) ≡ false → AreMissed s least old new
 
 -- How a session of at most so many records ended for this reason: what its cause is, how many
 -- records the disk holds at least, and what the turrets got.
 pub record IsEnding (limit : ℕ) (reason : Reason) (s : Session) (least : ℕ) (old new : LatheState) : Type 0 where
+  -- no more records were made than were allowed
   pub few : length s.history ≤ length s.found + limit
+  -- the cause that the reason names
   pub cause : EndsBy limit s old new reason
+  -- how many records the disk holds at least
   pub enough : IsLeast reason s least
+  -- what the turrets got and missed
   pub turrets : GetTheirs reason s least old new
 
--- there was no memory for a first record, and each turret got its place at most
+-- there was no memory for a first record or a thread was refused, and each turret got its place at
+-- most
 pub record IsUnprepared (s : Session) (least : ℕ) (old new : LatheState) : Type 0 where
+  -- the run was not over when it was found
   pub unended : is_over (machine_found s) ≡ false
+  -- no record was made
   pub none : s.history ≡ s.found
+  -- the disk holds all records
   pub all : least ≡ length s.history
+  -- each turret got its place at most
   pub places : (path : Path) → GetsPart (told (position_of path (machine_found s)) []) (of_path old.turrets path)
       (of_path new.turrets path)
+  -- no move was missed
   pub missed : new.missed ≡ none_missed
 
 -- how a session ended, with or without a report

@@ -10,10 +10,14 @@ use Rattle.lathe_looks.specs.Zoned.{bad_zone_text, zones_text}
 use Rattle.lathe_top.specs.Kept.{RestsWhole}
 use Rattle.lathe_top.specs.Lathe.{LatheState, AreAtRest}
 
--- 1 and the first line that is not allowed, or nothing if memory runs out, and the disk was not
--- called; or what is shown of the run on the disk by these zones
+-- What `zones` answers over the text of its file. Either status 1 and the first line that is not
+-- allowed, or nothing if memory runs out, and then the disk was not called. Or what is shown of the
+-- run on the disk by these zones. No turret is called.
 pub data IsZoned (old new : LatheState) (text : List ℕ) : Answer → Type 0 where
+  -- a line of the text is no entry of zones
   bad_zones : {line : ℕ} → zones_of text ≡ Err line → RestsWhole old new → IsZoned old new text (tells exit.refused (bad_zone_text line))
+  -- memory ran out while the text was read
   unread_zones : RestsWhole old new → IsZoned old new text nothing
+  -- what is shown of the run on the disk by the zones of the text
   zoned : {zones : ZonesView} {answer : Answer} → zones_of text ≡ Ok zones → IsShown (zones_text zones) old.disk new.disk answer
       → AreAtRest old new → IsZoned old new text answer

@@ -1,5 +1,5 @@
-//! The command `run`: a pair, run anew.
-//! What it answers is in specs/Ran.antt (`IsRunAnew`). How the run goes on is in going.rt.
+//! The command `run`: a pair that is run from its beginning, with a new journal. What it answers is
+//! in specs/Ran.antt (`IsRunAnew`). How the run goes on is in going.rt.
 //! For control.rt and making.rt of this crate.
 ghost use Rattle.std.specs.Prelude.{◌≡◌, ◌≤◌, length};
 ghost use Rattle.lathe_calls.specs.Answers.{Ends};
@@ -32,8 +32,8 @@ use std::alloc::Global;
 use std::sync::Wait;
 use std::thread::Threads;
 
-/// Runs two tapes under the settings of the cell, for at most `limit` records, with a new journal
-/// on the disk. Writes the report, or why there is none.
+/// Runs the two tapes of these files under the settings of the cell, for at most `limit` records,
+/// with a new journal on the disk. Writes the report, or why there is none.
 pub(crate) fn run<R, H, D, T, K>(
     rt: &R,
     alloc: Global,
@@ -66,8 +66,8 @@ where
     }
 }
 
-/// Runs the tapes of these texts, if the pair is accepted. Else it writes the refusal, and the disk
-/// and the turrets rest.
+/// Runs the tapes of these texts, if the pair is accepted. Else it writes the refusal, and neither
+/// the disk nor a turret is called.
 pub(crate) fn run_texts<R, D, T, K>(
     rt: &R,
     alloc: Global,
@@ -120,7 +120,7 @@ fn header_of(texts: Texts) -> Header
 }
 
 /// Begins a journal with this header and runs the pair with both turrets. Gives the status, the
-/// disk and the turrets. If no journal is begun, the turrets rest.
+/// disk and the turrets. If no journal is begun, no turret is called.
 fn run_pair<R, D, T, K>(
     rt: &R,
     alloc: Global,

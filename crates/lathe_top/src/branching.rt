@@ -1,6 +1,6 @@
-//! The command `branch`: the run up to a meeting, as a journal of its own on the second disk. The
-//! turrets rest.
-//! What it answers is in specs/Branched.antt; where a branch ends, in crate `run_branch`.
+//! The command `branch`: the run up to a meeting, as a journal of its own on the second disk. No
+//! turret is called. What it answers is in specs/Branched.antt; where a branch ends, in crate
+//! `run_branch`.
 //! For control.rt of this crate.
 ghost use Rattle.std.specs.Prelude.{◌≡◌, Ok};
 ghost use Rattle.run_records.specs.Headers.{IsShort};
@@ -22,7 +22,7 @@ use std::alloc::Global;
 use text_pieces::Piece;
 
 /// Writes the run whose journal the disk has, up to its meeting of this number, as a journal onto
-/// the second disk. The turrets rest, and nothing is written to the disk of the run.
+/// the second disk. No turret is called, and nothing is written to the disk of the run.
 pub(crate) fn branch_off<D: Disk, E: Disk, T: Turret, K: Sink>(
     alloc: Global,
     meetings: u32,
@@ -47,6 +47,7 @@ pub(crate) fn branch_off<D: Disk, E: Disk, T: Turret, K: Sink>(
 /// How a branch ended: its status, and both disks.
 #[derive(Drop)]
 struct Branched<D: Disk, E: Disk> {
+    /// The exit status.
     status: u8,
     /// The disk of the run, which was only read.
     disk: D,
@@ -106,7 +107,7 @@ fn branch_found<D: Disk, E: Disk, K: Sink>(
     }
 }
 
-/// Writes how many records a branch has, and gives the status of that.
+/// Writes that the branch was made and how many records it has, and gives status 0.
 fn tell_branched<K: Sink>(meetings: u32, records: u32, out: &mut K) -> u8
     ensures { Ends (IsJust (tells exit.done (branched_text meetings records)))
         (K.state out.old) (K.state out.new) result }
@@ -118,7 +119,7 @@ fn tell_branched<K: Sink>(meetings: u32, records: u32, out: &mut K) -> u8
     )
 }
 
-/// Writes why a branch was not made, and gives the status of that.
+/// Writes why a branch was not made, and gives the status of the cause.
 fn tell_unbranched<K: Sink>(fault: BranchFault, out: &mut K) -> u8
     ensures { Ends (IsJust (unbranched fault)) (K.state out.old) (K.state out.new) result }
 {
@@ -132,7 +133,7 @@ fn tell_unbranched<K: Sink>(fault: BranchFault, out: &mut K) -> u8
     }
 }
 
-/// The line of a branch at this meeting, of so many records. It takes no memory.
+/// The line of output for a branch at this meeting, with so many records. It takes no memory.
 #[tactic(auto, unfolding(crate::specs::Branched::branched_text))]
 fn branched_line(meetings: u32, records: u32) -> Piece
     ensures { result ≡ branched_text meetings records }

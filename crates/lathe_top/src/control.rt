@@ -1,6 +1,6 @@
-//! The call that the program makes: words in, text and status out.
-//! Each command has its own module beside this one; `perform` says which.
-//! own_turret and twin_lathe use it.
+//! The call that the program makes: words in, text and status out. Each command has its own module
+//! beside this one; `perform` says which, and a new command needs its arm there.
+//! own_turret and twin_lathe call `top`.
 ghost use Rattle.std.specs.Prelude.{◌≡◌, map};
 ghost use Rattle.std.specs.String.{string_bytes};
 ghost use Rattle.lathe_looks.specs.Named.{files_of};
@@ -40,16 +40,17 @@ use wait_verify::{accepted_pairs_are_not_refused, pairs_have_one_refusal};
 /// the turrets.
 ///
 /// 0: the tapes are accepted, both paths ran to their ends, the edits or the branch were made, or
-/// the text was written. 1: the tapes, the settings or the edits are refused, or there is no such
-/// meeting. 2: the words are no command. 3: a path raised an alarm. 4: the shelf failed. 5: the
-/// sink failed. 6: a disk failed. 7: the turret of a path failed. 8: there is a run on the disk, or
-/// for all commands but `run` and `make` there is none; or one on the second disk. 9: the journal
-/// on the disk is bad. 10: as many blocks were recorded as the call allows. 12: out of memory. 13:
-/// a file is missing or too long. 14: the journal has as many records as it may have. Of 6, 7, 3,
-/// 0, 14 and 10 the first is answered that holds of a run.
+/// the text was written. 1: the tapes, the settings, the edits or the zones are refused, or there
+/// is no such meeting. 2: the words are no command. 3: a path raised an alarm. 4: the shelf failed.
+/// 5: the sink failed. 6: a disk failed. 7: the turret of a path failed. 8: there is a run on the
+/// disk, or for all commands but `run` and `make` there is none; or one on the second disk. 9: the
+/// journal on the disk is bad. 10: as many records were made as the call allows. 12: out of memory,
+/// or a thread was refused. 13: a file is missing or too long. 14: the journal has as many records
+/// as it may have. Of 6, 7, 3, 0, 14 and 10 the first is answered that holds of a run.
 ///
 /// `branch` alone calls the second disk. `run`, `make` and `resume` run both paths at once, in four
-/// threads: it waits for them, and if none can be made it may not return.
+/// threads, and wait for them. If a thread is refused after they were tried, the call may not
+/// return.
 pub fn top<R, H, D, E, T, K>(
     rt: &R,
     alloc: Global,
@@ -112,7 +113,7 @@ where
     }
 }
 
-/// Does what the words say, and gives the status, both disks and the turrets.
+/// Does what the words say, and gives how it ended and the second disk.
 fn respond<R, H, D, E, T, K>(
     rt: &R,
     alloc: Global,
@@ -140,7 +141,7 @@ where
     }
 }
 
-/// Does what a command says. Who does not branch hands the second disk back.
+/// Does what a command says. The second disk is given back untouched unless the command branches.
 fn perform<R, H, D, E, T, K>(
     rt: &R,
     alloc: Global,
@@ -206,7 +207,7 @@ where
     }
 }
 
-/// The programs outside, as the verdict on waits takes them.
+/// The programs that `--outside` names, as the verdict on waits takes them.
 fn outside_in(range: Option<ProgramRange>) -> Option<Outside>
     ensures { result ≡ outside_in range }
 {
@@ -219,7 +220,7 @@ fn outside_in(range: Option<ProgramRange>) -> Option<Outside>
     }
 }
 
-/// The names of the files of a pair.
+/// The names of the files of a pair, as lathe_looks takes them.
 fn names_of<'a>(left: &'a Name, right: &'a Name, settings: &'a Name) -> FileNames<'a>
     ensures { files_in result ≡ files_of left.now right.now settings.now }
 {

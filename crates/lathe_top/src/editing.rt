@@ -1,6 +1,6 @@
-//! The command `edit`: an operator's edits, made in the run whose journal the disk has. The turrets
-//! rest.
-//! What it answers is in specs/Edited.antt; how the records are written, in crate `run_edits`.
+//! The command `edit`: an operator's edits, made in the run whose journal the disk has. No turret
+//! is called. What it answers is in specs/Edited.antt; how the records are written, in crate
+//! `run_edits`.
 //! For control.rt of this crate.
 ghost use Rattle.std.specs.Prelude.{◌≡◌, Ok, codes};
 ghost use Rattle.nc_restart.specs.History.{IsHistory};
@@ -30,8 +30,8 @@ use run_edits::{Made, has_room, make_edits};
 use std::alloc::Global;
 use text_pieces::Piece;
 
-/// Makes the edits of a file in the run whose journal the disk has. The turrets rest, and so does
-/// the disk unless the file is read.
+/// Makes the edits of a file in the run whose journal the disk has. No turret is called, and the
+/// disk only if the file was read.
 pub(crate) fn edit<H: Shelf, D: Disk, T: Turret, K: Sink>(
     alloc: Global,
     name: &str,
@@ -49,7 +49,7 @@ pub(crate) fn edit<H: Shelf, D: Disk, T: Turret, K: Sink>(
     }
 }
 
-/// Makes edits in the run on the disk. The turrets rest.
+/// Makes edits in the run on the disk. No turret is called.
 fn edit_by<D: Disk, T: Turret, K: Sink>(
     alloc: Global,
     edits: &EditList,
@@ -80,7 +80,8 @@ fn edit_run<D: Disk, K: Sink>(alloc: Global, edits: &EditList, disk: D, out: &mu
     }
 }
 
-/// Makes edits in a run that was found.
+/// Makes edits in a run that was found, unless an alarm has stopped it or its journal has no room
+/// for them.
 fn edit_found<D: Disk, K: Sink>(
     alloc: Global,
     found: Recovered<D>,
@@ -106,7 +107,7 @@ fn edit_found<D: Disk, K: Sink>(
     }
 }
 
-/// Writes the report of a run that an alarm has stopped.
+/// Writes the report of a run that an alarm has stopped, and gives the status of the alarm.
 fn tell_alarm<D: Disk, K: Sink>(alloc: Global, found: Recovered<D>, out: &mut K) -> Shown<D>
     requires legal { IsHistory found.verified found.entries.items }
     ensures told { Ends (IsJust (tells (reason_status (reason_of found.machine.machine))
@@ -140,7 +141,7 @@ fn tell_full<D: Disk, K: Sink>(found: Recovered<D>, out: &mut K) -> Shown<D>
     }
 }
 
-/// Writes what came of so many edits, and gives the status of that.
+/// Writes what came of so many edits, and gives the status.
 fn tell_made<K: Sink>(count: usize, made: Result<(), Failing<DiskFault>>, out: &mut K) -> u8
     ensures { Ends (IsJust (told_of_writing count made)) (K.state out.old) (K.state out.new) result }
 {
@@ -154,7 +155,7 @@ fn tell_made<K: Sink>(count: usize, made: Result<(), Failing<DiskFault>>, out: &
     }
 }
 
-/// Writes why edits were not made, and gives the status of that.
+/// Writes why edits were not made, and gives the status.
 fn tell_unmade<K: Sink>(error: Failing<DiskFault>, out: &mut K) -> u8
     ensures { Ends (IsJust (told_of_failure error)) (K.state out.old) (K.state out.new) result }
 {
@@ -164,7 +165,7 @@ fn tell_unmade<K: Sink>(error: Failing<DiskFault>, out: &mut K) -> u8
     }
 }
 
-/// The line of so many edits that were made. It takes no memory.
+/// The line of output for so many edits that were made. It takes no memory.
 #[tactic(auto, unfolding(crate::specs::Edited::edited_text))]
 fn edited_line(count: u64) -> Piece
     ensures { result ≡ edited_text count }

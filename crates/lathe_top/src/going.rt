@@ -1,5 +1,5 @@
-//! How a run goes on, with the turrets of both paths, and ends with its report.
-//! `run`, `make` and `resume` end here.
+//! How a run goes on, with the turrets of both paths, and ends with its report or summary. `run`,
+//! `make` and `resume` end here.
 //! For beginning.rt and resuming.rt of this crate.
 ghost use Rattle.std.specs.Prelude.{◌≡◌, ◌≤◌, false, length};
 ghost use Rattle.run_table.specs.Running.{MayRun};
@@ -28,7 +28,7 @@ use std::sync::Wait;
 use std::thread::Threads;
 use turret_run::{TurretRun, run_with_turrets};
 
-/// Goes on with the run of a table, with both turrets, and tells what is asked of it.
+/// Goes on with the run of a table, with both turrets, and writes what was asked for of it.
 pub(crate) fn go_on<R, D, T, K>(
     rt: &R,
     alloc: Global,
@@ -75,7 +75,8 @@ where
     }
 }
 
-/// Writes what is told of a history whose run ended so, and gives the status of that.
+/// Writes what is told of a history whose run ended so, and gives the status; if memory ran out
+/// before the first step, nothing is written.
 fn tell_run<K: Sink>(
     alloc: Global,
     telling: Telling,

@@ -1,4 +1,6 @@
-//! What a command of this crate works on that knows of one journal, and how it ended.
+//! What a command works on besides files and text, and how it ended.
+//! For this crate alone: each command takes a `Lathe` and gives an `Ended`, which control.rt makes
+//! an `Outcome`.
 ghost use Rattle.std.specs.Prelude.{◌≡◌};
 ghost use Rattle.turret_run.specs.Runs.{none_missed};
 

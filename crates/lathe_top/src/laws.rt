@@ -1,5 +1,7 @@
-//! What holds over any calls and stops, for those who call: who calls the function has the law.
-//! The words that these laws use are in specs/Stops.antt and specs/Turrets.antt.
+//! What holds over any calls and stops. Each law is the contract of a function that does nothing.
+//! The words are in specs/Stops.antt and specs/Turrets.antt.
+//! No crate calls these laws: they say to a reader, and to a builder, what the contract of `top`
+//! comes to.
 ghost use Rattle.std.specs.Prelude.{◌≡◌, ℕ, ◌+◌, ◌*◌, ◌≤◌, List, length};
 ghost use Rattle.command_words.specs.Listed.{listed_command};
 ghost use Rattle.nc_number.specs.declared.path.Path.{Path};
@@ -20,7 +22,7 @@ use disk_model::Disk;
 use nc_restart::{an_image_of_a_run_is_never_bad, an_image_stands_for_one_run};
 use run_table::a_record_makes_seven_moves_at_most;
 
-/// What a call does it may do by its kind of command: what `top` promises is what the laws over
+/// What a call does, it may do by its kind of command. So what `top` promises is what the laws over
 /// calls and stops ask for.
 pub fn a_call_leaves_as_its_kind_may<D: Disk, E: Disk>()
     ensures { (call : CallOver D) (around : Around E) (status : ℕ) → call.asked ≡ listed_command around.words
@@ -31,11 +33,11 @@ pub fn a_call_leaves_as_its_kind_may<D: Disk, E: Disk>()
 /// A stop at any moment of a call of `top`, inside a call of the disk too, leaves one history,
 /// whatever the command is.
 ///
-/// The disk tells its bytes. If each image that a crash before the call may leave is no run, or
-/// a history of some run, each that a stop leaves is so too: none is ever bad. If each of them
-/// is a history of one run that begins with certain records, so is each that a stop leaves: nothing
-/// of them is lost. That holds of `run` over the journal of a run, too, which it leaves alone, and
-/// whatever fails.
+/// The disk tells its bytes. If each image that a crash before the call may leave is no run, or a
+/// history of some run, then each image that a stop leaves is so too: none is ever bad. If each of
+/// them is a history of one run that begins with certain records, then so is each image that a stop
+/// leaves: none of these records is lost. That also holds of `run` over the journal of a run, which
+/// it leaves alone, and whatever fails.
 pub fn a_stop_leaves_one_history<D: Disk>()
     ensures never_bad { (bytes : List ℕ) (call : CallOver D) → IsCall D.state bytes call
         → ((c : List ℕ) → (D.state call.disk).image c → IsNoneOrRun c)

@@ -1,14 +1,16 @@
 //! The command of the program, over a shelf of files, a disk for the journal and a second one, a
 //! turret for each path, and a sink for its text.
 //!
-//! [`top`] reads the words, does what they say, writes the answer and gives the status. `verify` is
-//! the verdict of crate `nc_verify`. `run` begins a journal on the disk and runs both paths at
-//! once, each with its turret, and `resume` goes on with the run that the journal holds; both end
-//! with the report of all its records. `make` runs a made pair, and ends with a summary. `edit`
-//! makes an operator's edits in the run that the journal holds. `branch` writes that run up to a
-//! meeting onto the second disk, which no other command calls. `moves` and `state` show what the
-//! journal holds, and write nothing to it. Each turret gets its place and then the moves of its
-//! path's records that the call made.
+//! [`top`] reads the words, does what they say, writes the answer and gives the status. `verify`,
+//! `waits`, `races`, `trace` and `expand` answer over files alone. `run` begins a journal on the
+//! disk and runs both paths at once, each with its turret, and `resume` goes on with the run that
+//! the journal holds; both end with the report of all its records. `make` runs a made pair, and
+//! ends with a summary. `edit` makes an operator's edits in the run that the journal holds.
+//! `branch` writes that run up to a meeting onto the second disk, which no other command calls.
+//! `moves`, `state` and `zones` show what the journal holds, and write nothing to it. Each turret
+//! gets its place and then the moves of its path's records that the call made.
+//!
+//! twin_lathe is this command over the real files; own_turret shows it with a turret of one's own.
 #![tactic(auto)]
 
 mod beginning;

@@ -1,5 +1,5 @@
-//! The commands that only look: the turrets rest.
-//! What they show is written by crate `lathe_looks`; the disk is only read.
+//! The commands that only look: no turret is called, and a disk is only read. What they show is
+//! written by crate `lathe_looks`.
 //! For control.rt of this crate.
 ghost use Rattle.lathe_calls.specs.Answers.{Ends};
 ghost use Rattle.lathe_calls.specs.Due.{IsDueTo};
@@ -21,7 +21,7 @@ use nc_outside::{Shelf, Sink, Turret};
 use std::alloc::Global;
 use zone_cell::Zones;
 
-/// Answers a question of the files of a pair. The disk and the turrets rest.
+/// Answers a question of the files of a pair. Neither the disk nor a turret is called.
 pub(crate) fn answer_pair<H: Shelf, D: Disk, T: Turret, K: Sink>(
     alloc: Global,
     names: &FileNames<'_>,
@@ -37,7 +37,7 @@ pub(crate) fn answer_pair<H: Shelf, D: Disk, T: Turret, K: Sink>(
     Ended::at_rest(ask(alloc, names, question, shelf, out), lathe)
 }
 
-/// Writes a tape with its roughing cycles as plain blocks. The disk and the turrets rest.
+/// Writes a tape with its roughing cycles as plain blocks. Neither the disk nor a turret is called.
 pub(crate) fn write_out<H: Shelf, D: Disk, T: Turret, K: Sink>(
     alloc: Global,
     tape: &str,
@@ -52,7 +52,7 @@ pub(crate) fn write_out<H: Shelf, D: Disk, T: Turret, K: Sink>(
     Ended::at_rest(expand(alloc, tape, shelf, out), lathe)
 }
 
-/// Writes what the journal on the disk holds. The turrets rest.
+/// Writes what the journal on the disk holds. No turret is called.
 pub(crate) fn look<D: Disk, T: Turret, K: Sink>(
     alloc: Global,
     showing: Showing,
@@ -68,8 +68,8 @@ pub(crate) fn look<D: Disk, T: Turret, K: Sink>(
     Ended::at_rest(status, Lathe { disk, turrets })
 }
 
-/// Writes the zones of the run on the disk, by a file of frames and a gap. The turrets rest, and so
-/// does the disk unless the file is read.
+/// Writes the zones of the run on the disk, by a file of frames and a gap. No turret is called, and
+/// the disk only if the file was read.
 pub(crate) fn show_zoned<H: Shelf, D: Disk, T: Turret, K: Sink>(
     alloc: Global,
     name: &str,
@@ -87,7 +87,7 @@ pub(crate) fn show_zoned<H: Shelf, D: Disk, T: Turret, K: Sink>(
     }
 }
 
-/// Writes the zones of the run on the disk. The turrets rest.
+/// Writes the zones of the run on the disk. No turret is called.
 fn look_by<D: Disk, T: Turret, K: Sink>(
     alloc: Global,
     zones: &Zones,

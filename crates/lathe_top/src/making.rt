@@ -1,5 +1,5 @@
-//! The command `make`: the made pair of a number, run anew.
-//! The tapes of a number come from crate `tape_maker`; the settings are empty.
+//! The command `make`: the made pair of a number, run with a new journal. The tapes of a number
+//! come from crate `tape_maker`; the settings are empty.
 //! For control.rt of this crate.
 ghost use Rattle.lathe_calls.specs.Answers.{Ends};
 ghost use Rattle.lathe_top.specs.Held.{lathe_of, lathe_left};

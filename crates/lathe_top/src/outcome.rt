@@ -1,5 +1,5 @@
-//! How a call ended.
-//! `twin_lathe` and `own_turret` read it.
+//! How a call of `top` ended, for the program that made it.
+//! twin_lathe and own_turret read it.
 ghost use Rattle.std.specs.Prelude.{◌≡◌};
 ghost use Rattle.nc_number.specs.Both.{of_path};
 

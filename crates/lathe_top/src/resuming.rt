@@ -1,5 +1,5 @@
-//! The command `resume`: a run that was stopped goes on.
-//! What it answers is in specs/Ran.antt (`IsResumed`). How the run goes on is in going.rt.
+//! The command `resume`: a run that was stopped goes on. What it answers is in specs/Ran.antt
+//! (`IsResumed`). How the run goes on is in going.rt.
 //! For control.rt of this crate.
 ghost use Rattle.lathe_calls.specs.Answers.{Ends};
 ghost use Rattle.lathe_calls.specs.Reported.{report_of};
@@ -50,7 +50,7 @@ where
 }
 
 /// Goes on with a run that was found, for at most `limit` records more. A run that is over is only
-/// reported, and the turrets rest.
+/// reported, and no turret is called.
 fn resume_found<R, D, T, K>(
     rt: &R,
     alloc: Global,

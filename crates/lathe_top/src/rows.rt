@@ -1,5 +1,7 @@
-//! What the table of commands says of the journal, and what the commands do: who calls the function
-//! has the law.
+//! That what the table of commands says of the journal is what the commands do. The law is the
+//! contract of a function that does nothing.
+//! No crate calls it. It says that who locks the journal by `journal_of` (command_words), as
+//! twin_lathe does, locks it rightly.
 ghost use Rattle.std.specs.Prelude.{◌≡◌, ℕ, List, Some};
 ghost use Rattle.command_words.specs.declared.command.Command.{Command};
 ghost use Rattle.command_words.specs.Listed.{listed_command};

@@ -1,5 +1,6 @@
-//! A law of what the turrets of a call write, against its report: whoever calls the function has its
-//! statement.
+//! What the turrets of a call write, against its report. The law is the contract of a function that
+//! does nothing.
+//! No crate calls it: it says to a reader how a turret's file and the report agree.
 ghost use Rattle.std.specs.Prelude.{ℕ};
 ghost use Rattle.command_words.specs.Listed.{listed_command};
 ghost use Rattle.lathe_top.specs.Done.{IsDone};
@@ -13,10 +14,10 @@ use disk_model::Disk;
 /// its records of this call.
 ///
 /// That holds of `run`, `make` and `resume` under the statuses 0 (both paths ended), 3 (an alarm),
-/// 10 (as many blocks as were allowed) and 14 (a full journal). Then the call made one session,
-/// which is what one call adds to a run, and the disk has all its records. Each turret got its place
-/// and these moves, in order, and nothing else; a `LineTurret` that was new has just these bytes in
-/// its sink. If the run was over when it was found, no turret was called.
+/// 10 (as many records as were allowed) and 14 (a full journal). Then the call made one session,
+/// which is what one call adds to a run, and the disk has all its records. Each turret got its
+/// place and these moves, in order, and nothing else; a `LineTurret` that was new has just these
+/// bytes in its sink. If the run was over when it was found, no turret was called.
 pub fn a_stream_has_the_reports_lines<D: Disk, E: Disk>()
     ensures { (call : CallOver D) (around : Around E) (status : ℕ)
         → IsDone D.state E.state (call_in D.state around call) status

@@ -1,6 +1,6 @@
-//! What is asked of a run, and what is told of it.
-//! The texts themselves are written by crate `move_list`.
-//! For beginning.rt, editing.rt, going.rt and making.rt and others of this crate.
+//! What is asked of a run, and what is told of it at its end. The texts themselves are written by
+//! crate `move_list`.
+//! For beginning.rt, editing.rt, going.rt, making.rt and resuming.rt of this crate.
 ghost use Rattle.std.specs.Prelude.{◌≡◌, ◌≤◌, length};
 ghost use Rattle.nc_verify.specs.Printed.{IsPut};
 ghost use Rattle.two_path.specs.Histories.{IsLegal};
@@ -36,7 +36,7 @@ pub(crate) struct Request {
     pub telling: Telling,
 }
 
-/// Writes what is told of a history, and gives the status of its reason.
+/// Writes what is told of a history, and gives the status of the reason for which its run ended.
 pub(crate) fn tell_end<K: Sink>(
     alloc: Global,
     telling: Telling,
@@ -57,7 +57,7 @@ pub(crate) fn tell_end<K: Sink>(
     )
 }
 
-/// Puts what is told of a history.
+/// Puts the text that is asked for of a history.
 fn put_end<K: Sink>(
     alloc: Global,
     telling: Telling,
@@ -77,7 +77,8 @@ fn put_end<K: Sink>(
     }
 }
 
-/// Puts what is told of a history of the made pair of this number.
+/// Puts the summary of a history of the made pair of this number if both paths have ended, and else
+/// its report.
 fn put_made<K: Sink>(
     alloc: Global,
     number: u32,
@@ -98,7 +99,7 @@ fn put_made<K: Sink>(
     }
 }
 
-/// Whether both paths have ended.
+/// Whether a run ended for this reason because both paths have ended.
 fn is_done(reason: &Reason) -> bool
     ensures { result ≡ is_done reason.now }
 {

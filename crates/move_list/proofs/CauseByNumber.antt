@@ -1,4 +1,5 @@
--- A look-up of a cause by its number finds what a look through the table finds (src/end_line.rt).
+-- A look-up of a cause by its number finds what a look through the table of causes finds.
+-- The proof of `cause_of` (src/end_line.rt) uses it.
 use Rattle.std.proofs.Common.{◌≡◌, ◌==◌, ℕ, Bool, true, false, cond, List, [], ◌∷◌, Option, Some, None, IfSome, All, refl, arith, zero, suc}
 use Rattle.std.specs.Prelude.{find}
 use Rattle.std.proofs.lemmas.List.Elements.{All-contains}
@@ -12,7 +13,7 @@ use Rattle.code_tables.proofs.FoundPasses.{found_passes}
 unequal_where : (a b : ℕ) → (a == b) ≡ false → a ≡ b → ⊥
 unequal_where a b test same = grind arith
 
--- where nothing is found, nothing passes
+-- if a search finds nothing, no element passes its test
 none_passes : {X : Type 0} (p : X → Bool) (xs : List X) → find p xs ≡ None → All (λ x. p x ≡ false) xs
 none_passes p [] e k d l = absurd (omega arith)
 none_passes p (y ∷ ys) e k d l = go (p y) refl e (none_passes p ys) k d l
@@ -23,7 +24,8 @@ none_passes p (y ∷ ys) e k d l = go (p y) refl e (none_passes p ys) k d l
     go false is none rest zero d l = is
     go false is none rest (suc k) d l = rest none k d (omega arith)
 
--- what has the number, and is found wherever a cause has it, is the cause of the number
+-- a found cause that has the number, and that is found for each cause with it, is the cause of the
+-- number
 pub cause_by_number : (number : ℕ) (found : Option Cause) → IfSome found (λ cause. cause_number cause ≡ number)
     → ((cause : Cause) → cause_number cause ≡ number → found ≡ Some cause) → found ≡ cause_of number
 cause_by_number number found is all = go (cause_of number) refl

@@ -1,8 +1,9 @@
--- Texts of one number after the other, in parts: the loop of `put_listing` (src/state.rt).
+-- Texts of consecutive numbers, in parts.
+-- The loop of `put_listing` (src/state.rt) rests on it.
 use Rattle.std.proofs.Common.{◌≡◌, ℕ, zero, suc, ◌+◌, ◌-◌, ◌<◌, List, ◌++◌, sym, ◌∙◌, ap, append_assoc, append-nil, arith}
 use Rattle.move_list.specs.Pieces.{each_from}
 
--- of so many numbers, and of so many more
+-- the texts of a + b consecutive numbers are those of the first a and then those of the other b
 each_append : (f : ℕ → List ℕ) (n a b : ℕ) → each_from f n (a + b) ≡ each_from f n a ++ each_from f (n + a) b
 unfolding each_from
 each_append f n zero b =
@@ -16,7 +17,7 @@ each_append f n (suc a) b =
     ∙ sym (append_assoc (f n) (each_from f (n + 1) a) (each_from f (n + 1 + a) b))
     ∙ ap (λ k. (f n ++ each_from f (n + 1) a) ++ each_from f k b) first
 
--- of one number more
+-- the texts of one consecutive number more end with its text
 pub each_from_more : (f : ℕ → List ℕ) (n k : ℕ) → each_from f n (k + 1) ≡ each_from f n k ++ f (n + k)
 unfolding each_from
 each_from_more f n k = each_append f n k 1 ∙ ap (λ t. each_from f n k ++ t) (append-nil (f (n + k)))

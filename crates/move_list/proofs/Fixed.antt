@@ -1,5 +1,6 @@
--- What is fixed for the paths stays over a history, so that the state's text may ask the settings
--- which variables are shared.
+-- What is fixed for the paths, as which variables they share, stays over a history. So the text of
+-- a state may ask the settings which variables are shared.
+-- The proof of `machines_share_as_the_settings_say` (src/state.rt) uses it.
 use Rattle.std.proofs.Common.{◌≡◌, ◌==◌, ℕ, Bool, true, false, List, [], ◌∷◌, Option, Some, None, refl, ap, sym, ◌∙◌}
 use Rattle.nc_number.specs.declared.path.Path.{Path}
 use Rattle.nc_number.specs.declared.path.Path.TheVariants.{One, Two}
@@ -24,11 +25,11 @@ use Rattle.move_list.specs.State.{IsMachineOf, SharesAs}
 abbrev pub KeepFixed : Blocks → Type 0
 KeepFixed blocks = (path : PathView) (reads : List Var) → KeepsFixed path (blocks.effect path reads)
 
--- of both paths the same is fixed
+-- the same is fixed for both paths of two machines
 record AreFixedAs (a b : MachineView) : Type 0 where
-  -- of path 1
+  -- for path 1
   first : a.paths.one.path.fixed ≡ b.paths.one.path.fixed
-  -- of path 2
+  -- for path 2
   second : a.paths.two.path.fixed ≡ b.paths.two.path.fixed
 
 -- a turn at a wait keeps what is fixed
@@ -79,7 +80,7 @@ path_keeps tapes Two stamps m one two =
     let k = step_keeps tapes.two Two stamps (own_first Two m) two in
     record { first = k.second; second = k.first }
 
--- a record, which is an edit or has these stamps
+-- a record that is done again, an edit or a turn with these stamps, keeps what is fixed
 entry_keeps : (tapes : Tapes) (path : Path) (edit : Option Edit) (stamps : List ℕ) (m : MachineView) → KeepFixed tapes.one → KeepFixed tapes.two
     → AreFixedAs (own_first path (behind_own (of_path tapes path) path edit stamps (own_first path m))) m
 entry_keeps tapes path None stamps m one two = path_keeps tapes path stamps m one two

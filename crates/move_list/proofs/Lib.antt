@@ -1,4 +1,5 @@
--- The files of proofs, each after those that it uses.
+-- The lemmas of this crate, each file after those that it uses. lathe_top takes Streams; the others
+-- are for the proofs of this crate.
 pub mod CauseByNumber
 pub mod EachFrom
 pub mod Fixed

@@ -1,4 +1,5 @@
 -- A report by the moves of both paths: what the code puts is the report of the history.
+-- The proof of `put_report` (src/report.rt) uses it.
 use Rattle.std.proofs.Common.{◌≡◌, List, ◌++◌, length, Result, subst}
 use Rattle.nc_number.specs.declared.path.Path.TheVariants.{One, Two}
 use Rattle.nc_outside.specs.declared.sink.PutFault.{PutFault}
@@ -13,7 +14,7 @@ use Rattle.move_list.specs.EndText.{end_text}
 use Rattle.two_path.specs.Made.{moves_of}
 use Rattle.move_list.specs.Report.{path_text, report_text}
 
--- a text that is put of both paths' moves and the end is the report of the history
+-- if the text of these moves of both paths and of the end is put, the report of the history is put
 pub report_put : (tapes : Tapes) (start : MachineView) (entries : List Entry) (reason : Reason) (one two : List LinedMove) (a b : SinkState)
     (result : Result (Unit {0}) PutFault) → one ≡ moves_of tapes start One entries → two ≡ moves_of tapes start Two entries
     → IsPut a b (path_text One one ++ (path_text Two two ++ end_text (length entries) reason)) result

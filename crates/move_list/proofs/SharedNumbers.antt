@@ -1,4 +1,5 @@
--- Which variables both paths share, as a test and as a fact (src/listing.rt).
+-- Which variables both paths share, as a test and as a fact.
+-- The proof of `shared_line` (src/listing.rt) uses it.
 use Rattle.std.proofs.Common.{◌≡◌, ℕ, ◌+◌, ◌&&◌, ◌||◌, nat_le, nat_lt, true, arith}
 use Rattle.std.proofs.lemmas.Grind.{common_steps}
 use Rattle.common_vars.specs.Writes.{IsShared}

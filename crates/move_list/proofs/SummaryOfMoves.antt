@@ -1,5 +1,6 @@
 -- A summary by the moves of both paths, and by the machine after them: what the code puts is the
 -- summary of the history.
+-- The proof of `put_summary` (src/summary.rt) uses it.
 use Rattle.std.proofs.Common.{◌≡◌, ℕ, List, ◌++◌, length, Result, subst, ◌∙◌}
 use Rattle.std.specs.Prelude.{codes}
 use Rattle.nc_number.specs.declared.path.Path.TheVariants.{One, Two}
@@ -17,7 +18,7 @@ use Rattle.two_path.specs.Made.{moves_of}
 use Rattle.two_path.specs.Start.{machine_at_start}
 use Rattle.move_list.specs.Summary.{history_text, moves_text, numbers_line, outcome_text, pair_text, places_text, summary_text}
 
--- a text that is put of the moves and the machine after them is the summary of the history
+-- if this text of the moves and of the machine after them is put, the summary of the history is put
 pub summary_put : (number : ℕ) (left right : Flow) (settings : Settings) (entries : List Entry) (one two : List LinedMove) (m : MachineView)
     (text : List ℕ) (a b : SinkState) (result : Result (Unit {0}) PutFault)
     → one ≡ moves_of (tapes_of left right) (machine_at_start left right settings) One entries

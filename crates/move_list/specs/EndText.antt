@@ -1,5 +1,6 @@
--- The last lines of a report: how many records there are, and how the run ended. trace_list cites
--- them too.
+-- The last lines of a report: how many records there are, and how the run ended.
+-- A report and a trace (trace_list) end with both lines; Summary and State take the line of the
+-- records.
 use Rattle.std.specs.Prelude.{ℕ, ◌==◌, if◌then◌else◌, List, [], ◌++◌, codes, decimal}
 use Rattle.nc_number.specs.declared.cause.Cause.TheVariants.{MacroAlarm}
 use Rattle.nc_number.specs.declared.path.Path.{Path}

@@ -1,7 +1,8 @@
--- Texts of one number after the other. For this crate alone.
+-- One text for each of consecutive numbers, joined.
+-- For this crate alone: State says with it the lines of a listing.
 use Rattle.std.specs.Prelude.{ℕ, zero, suc, ◌+◌, List, [], ◌++◌}
 
--- the texts of so many numbers, from this one on
+-- the texts of so many consecutive numbers, from n on, joined
 unfoldable pub each_from : (ℕ → List ℕ) → ℕ → ℕ → List ℕ
 each_from text n zero = []
 each_from text n (suc more) = text n ++ each_from text (n + 1) more

@@ -1,4 +1,5 @@
--- The text of a machine: of each path where it stands and what it holds, then what both share.
+-- The text of a machine, the answer to `state`: of each path where it stands and what it holds,
+-- then what both share.
 -- lathe_calls, lathe_looks and lathe_top cite it.
 use Rattle.std.specs.Prelude.{◌≡◌, ℕ, ◌+◌, ◌-◌, ◌≤◌, ◌<◌, ◌==◌, Bool, ◌&&◌, if◌then◌else◌, List, [], ◌∷◌, ◌++◌, length, Option, Some, None, unsigned_abs, codes, decimal}
 use Rattle.std.specs.List.{flat_map}
@@ -36,12 +37,12 @@ use Rattle.move_list.specs.EndText.{records_text}
 pub record IsMachineOf (tapes : Tapes) (start m : MachineView) : Type 0 where
   -- the records of that history
   pub entries : List Entry
-  -- they are those of turns and edits from the start on
+  -- the records are those of turns and edits from the start on
   pub legal : IsLegal tapes start entries
   -- doing them again gives the machine
   pub folds : fold tapes start entries ≡ without_reads m
 
--- a path shares just as many variables as the settings say
+-- a path shares as many variables as the settings say
 pub record SharesAs (settings : Settings) (fixed : Fixed) : Type 0 where
   -- as many from #100 on
   pub hundreds : fixed.shared100 ≡ settings.shared100
@@ -60,7 +61,7 @@ condition_of path (Some alarm) part =
     else if part.finished then Condition.Finished else Condition.Stopped
 condition_of path None part = if part.finished then Condition.Finished else condition_at_wait part.waiting
 
--- the word for that, and of a wait its code
+-- the word for how a path stands, and for a wait its code
 unfoldable pub condition_text : Condition → List ℕ
 condition_text Condition.Ready = codes "ready"
 condition_text (Condition.Waiting code) = codes "waiting " ++ code_text code
@@ -73,7 +74,7 @@ unfoldable pub var_text : Var → List ℕ
 var_text Vacant = codes "vacant"
 var_text (Is value) = value_text value
 
--- a code in force; a group that the system lacks has none
+-- a code in force; nothing for a group that the system lacks
 unfoldable pub in_force_text : Option ℕ → List ℕ
 in_force_text None = []
 in_force_text (Some code) = codes " G" ++ code_text code
@@ -99,22 +100,22 @@ words_text modal =
     codes "feed " ++ var_text modal.feed ++ codes " speed " ++ var_text modal.speed
     ++ codes " tool T" ++ last_digits 4 modal.tool ++ codes "\n"
 
--- where a path stands, and how
+-- the line of where a path stands on its tape, and how it stands
 unfoldable pub place_text : Path → ℕ → Condition → List ℕ
 place_text path line condition =
     path_name path ++ codes " line " ++ decimal line
     ++ codes " " ++ condition_text condition ++ codes "\n"
 
--- where its turret stands, in machine coordinates
+-- the line of where the path's turret stands, in machine coordinates
 unfoldable pub position_text : Point → List ℕ
 position_text at = codes "at" ++ point_text at ++ codes "\n"
 
--- how many calls are open
+-- the line of how many calls are open
 unfoldable pub depth_text : ℕ → List ℕ
 depth_text depth = codes "depth " ++ decimal depth ++ codes "\n"
 
--- the lines that each path has: where it stands, where its turret stands, what is in force, and how
--- many calls are open
+-- the lines that each path always has: where it stands, where its turret stands, what is in force,
+-- and how many calls are open
 unfoldable pub standing_text : Path → ℕ → Condition → PathView → List ℕ
 standing_text path line condition p =
     place_text path line condition ++ position_text p.position ++ modal_text p.modal ++ words_text p.modal
@@ -124,25 +125,25 @@ standing_text path line condition p =
 abbrev pub is_zero : Point → Bool
 is_zero at = (unsigned_abs at.x == 0) && (unsigned_abs at.z == 0)
 
--- the line of an offset, where it is not 0
+-- the line of an offset, or nothing if it is 0 in both axes
 unfoldable pub offset_line : List ℕ → ℕ → Point → List ℕ
 offset_line name n at = if is_zero at then [] else name ++ decimal n ++ point_text at ++ codes "\n"
 
--- the line of a variable, where it is not vacant
+-- the line of a variable, or nothing if it is vacant
 unfoldable pub variable_line : List ℕ → ℕ → Var → List ℕ
 variable_line name v Vacant = []
 variable_line name v (Is value) = name ++ decimal v ++ codes " " ++ value_text value ++ codes "\n"
 
--- the line of a common variable of the path's own, where it isn't vacant
+-- the line of a common variable of the path's own, or nothing if it is vacant or shared
 abbrev pub own_line : PathView → ℕ → List ℕ
 own_line p v = if is_shared p.fixed v then [] else variable_line (codes "own #") v (value_of v p.own)
 
--- the line of a common variable that both share, where it isn't vacant
+-- the line of a variable that both paths share, or nothing if it is vacant or not shared
 abbrev pub shared_line : MachineView → ℕ → List ℕ
 shared_line m v =
     if is_shared m.paths.one.path.fixed v then variable_line (codes "shared #") v (value_after m.count v m.writes) else []
 
--- the line of a number of a listing: of a path, or of what both share
+-- the line of a number of a listing, of a path or of what both share; nothing if it is not set
 abbrev pub line_of : MachineView → PathView → Listing → ℕ → List ℕ
 line_of m p Work n = offset_line (codes "work ") n (offset_at p.offsets.work n)
 line_of m p Geometry n = offset_line (codes "geometry ") n (offset_at p.offsets.geometry n)
@@ -164,7 +165,8 @@ first_of OwnUpper = 500
 first_of SharedHundreds = 100
 first_of SharedUpper = 500
 
--- how many numbers it has: the external work offset and G54 to G59, 64 tool offsets, #1 to #33 ..
+-- how many numbers a listing has: the external work offset and G54 to G59, 64 tool offsets, #1 to
+-- #33, or variables from #100 or from #500 on
 abbrev pub count_of : Listing → ℕ
 count_of Work = 7
 count_of Geometry = 64
@@ -201,11 +203,11 @@ standing_of blocks path m =
     let part = of_path m.paths path in
     standing_text path (blocks.line part.path.place) (condition_of path m.alarm part) part.path
 
--- a path: its standing, and what its listings have
+-- the lines of a path: its standing, and what its listings have
 unfoldable pub path_lines : Blocks → Path → MachineView → List ℕ
 path_lines blocks path m = standing_of blocks path m ++ listings_text m (of_path m.paths path).path path_listings
 
--- what both paths share, and how many records there are
+-- the lines of what both paths share, and of how many records there are
 unfoldable pub shared_lines : MachineView → List ℕ
 shared_lines m = listings_text m m.paths.one.path shared_listings ++ records_text m.count
 

@@ -30,7 +30,7 @@ meetings_in entries = filter (λ (e : Entry). is_meeting e.kind) entries
 unfoldable pub number_line : List ℕ → ℕ → List ℕ
 number_line name number = name ++ decimal number ++ codes "\n"
 
--- a line of a name and a number for each path
+-- a line of a name and a number for each path, path 1 first
 unfoldable pub numbers_line : List ℕ → ℕ → ℕ → List ℕ
 numbers_line name one two = name ++ decimal one ++ codes " " ++ decimal two ++ codes "\n"
 
@@ -57,7 +57,8 @@ place_text path at = codes "end " ++ decimal (number_of path) ++ point_text at +
 unfoldable pub places_text : MachineView → List ℕ
 places_text m = place_text One m.paths.one.path.position ++ place_text Two m.paths.two.path.position
 
--- what a history from a machine on comes to
+-- the lines of what a history from a machine on comes to: its meetings, records and moves, and
+-- where both turrets end
 unfoldable pub outcome_text : Tapes → MachineView → List Entry → List ℕ
 outcome_text tapes m entries =
     history_text entries ++ (moves_text tapes m entries ++ places_text (fold tapes m entries))

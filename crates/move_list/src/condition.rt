@@ -1,4 +1,5 @@
 //! How a path of the machine stands, and the word for it in the text of a state.
+//! For this crate alone: standing.rt uses it.
 ghost use Rattle.std.specs.Prelude.{◌≡◌, ◌+◌, ◌≤◌, ◌++◌, length, Option};
 ghost use Rattle.nc_number.specs.Both.{of_path};
 ghost use Rattle.nc_moves.specs.declared.alarm.Alarm.{Alarm};
@@ -53,7 +54,7 @@ pub(crate) fn condition_of(machine: &Machine, path: Path) -> Condition
     }
 }
 
-/// Adds how a path stands, in a word, and of a wait its code.
+/// Adds the word for how a path stands, and for a wait its code.
 #[tactic(auto, unfolding(crate::specs::State::condition_text))]
 pub(crate) fn add_condition(piece: &mut Piece, condition: Condition)
     requires { length piece.old + 29 ≤ 512 }

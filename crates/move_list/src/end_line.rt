@@ -1,5 +1,6 @@
-//! How many records there are, and how the run ended: the last lines of a report. trace_list ends
-//! with them too.
+//! The last lines of a report: how many records there are, and how the run ended. Their text is
+//! defined in specs/EndText.antt.
+//! report.rt, summary.rt and state.rt use them, and trace_list ends a trace with them.
 ghost use Rattle.std.specs.Prelude.{◌≡◌, ◌+◌, ◌≤◌, ◌++◌, length};
 ghost use Rattle.nc_number.specs.Causes.{cause_of};
 ghost use Rattle.move_list.specs.EndText.{alarm_text, cause_text, end_text, given_text, reason_text, records_text, turret_text};
@@ -9,14 +10,14 @@ use nc_number::{Cause, Path};
 use nc_outside::Reason;
 use text_pieces::Piece;
 
-/// The cause of the number of an alarm, if there is one.
+/// The cause of an alarm by its number, if the table of causes has one.
 fn cause_of(number: u8) -> Option<Cause>
     ensures { result ≡ cause_of number }
 {
     Cause::of_number(number)
 }
 
-/// Adds what a macro alarm was given; of other alarms nothing.
+/// Adds what the program gave a macro alarm (#3000=); for other alarms nothing.
 #[tactic(auto, unfolding(crate::specs::EndText::given_text))]
 fn add_given(piece: &mut Piece, alarm: &Alarm)
     requires { length piece.old + 25 ≤ 512 }

@@ -1,9 +1,11 @@
-//! The texts of a run: the report of a history, and the state of a machine.
+//! The texts of a run: the report of a history, the summary of a made pair, and the state of a
+//! machine.
 //!
 //! [`write_report`] does the records of a legal history again, once, and puts for each path its
 //! records' moves, the number of records and how the run ended. [`write_state`] puts what a machine
-//! holds. The layer above leans on this: on Ok the sink holds what it held, followed by exactly
-//! that text; on an error it holds a part of it, from its start.
+//! holds. lathe_calls, lathe_looks and lathe_top lean on this: on Ok the sink holds what it held,
+//! followed by exactly that text; on an error it holds a prefix of it. trace_list takes the last
+//! lines.
 #![tactic(auto)]
 
 mod condition;

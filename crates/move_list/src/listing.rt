@@ -1,5 +1,6 @@
 //! What is listed of a machine beside the standing of its paths: the offsets that are not 0, and
-//! the variables that are not vacant.
+//! the variables that are not vacant. The lines are defined in specs/State.antt.
+//! For this crate alone: state.rt uses it.
 ghost use Rattle.std.specs.Prelude.{◌≡◌, ◌+◌, ◌≤◌, ◌<◌, length};
 ghost use Rattle.nc_number.specs.Both.{of_path};
 ghost use Rattle.common_vars.specs.Common.{IsCommon};
@@ -35,7 +36,7 @@ pub(crate) enum Listing {
 }
 
 impl Listing {
-    /// Its first number.
+    /// The first number of the listing.
     pub(crate) fn first(self) -> u16
         ensures number { result ≡ first_of self }
         ensures small { result ≤ 500 }
@@ -52,7 +53,7 @@ impl Listing {
         }
     }
 
-    /// How many numbers it has.
+    /// How many numbers the listing has.
     pub(crate) fn count(self) -> u16
         ensures count { result ≡ count_of self }
         ensures small { result ≤ 500 }
@@ -77,7 +78,7 @@ fn is_zero(at: &Point) -> bool
     at.x.unsigned_abs() == 0 && at.z.unsigned_abs() == 0
 }
 
-/// The line of an offset, where it is not 0.
+/// The line of an offset, or nothing if it is 0 in both axes.
 #[tactic(auto, unfolding(crate::specs::State::offset_line))]
 fn offset_line(name: &[u8], n: u16, at: Point) -> Piece
     requires { length name.now ≤ 20 }
@@ -94,7 +95,7 @@ fn offset_line(name: &[u8], n: u16, at: Point) -> Piece
     piece
 }
 
-/// The line of a variable, where it is not vacant.
+/// The line of a variable, or nothing if it is vacant.
 #[tactic(auto, unfolding(crate::specs::State::variable_line))]
 fn variable_line(name: &[u8], v: u16, holds: &Var) -> Piece
     requires { length name.now ≤ 20 }
@@ -111,7 +112,7 @@ fn variable_line(name: &[u8], v: u16, holds: &Var) -> Piece
     piece
 }
 
-/// Whether both paths share the variable.
+/// Whether both paths share the variable of this number, by the settings.
 fn is_shared(settings: &Settings, v: u16) -> bool
     ensures { (fixed : Fixed) → SharesAs settings.now fixed → result ≡ is_shared fixed v }
 {
@@ -119,7 +120,7 @@ fn is_shared(settings: &Settings, v: u16) -> bool
     (100 <= v && v < 100 + settings.shared100) || (500 <= v && v < 500 + settings.shared500)
 }
 
-/// The line of a common variable of the path's own, where it is not vacant.
+/// The line of a common variable of the path's own, or nothing if it is vacant or shared.
 fn own_line(state: &PathState, settings: &Settings, v: u16) -> Piece
     requires common { IsCommon v }
     requires shares { SharesAs settings.now state.now.fixed }
@@ -132,7 +133,7 @@ fn own_line(state: &PathState, settings: &Settings, v: u16) -> Piece
     }
 }
 
-/// The line of a variable that both paths share, where it is not vacant.
+/// The line of a variable that both paths share, or nothing if it is vacant or not shared.
 fn shared_line(machine: &Machine, settings: &Settings, v: u16) -> Piece
     requires shares { SharesAs settings.now machine.now.machine.paths.one.path.fixed }
     ensures { result ≡ shared_line machine.now.machine v }
@@ -144,7 +145,7 @@ fn shared_line(machine: &Machine, settings: &Settings, v: u16) -> Piece
     }
 }
 
-/// The line of a number of a listing, where it is set.
+/// The line of a number of a listing, or nothing if it is not set.
 pub(crate) fn line_of(
     machine: &Machine,
     settings: &Settings,

@@ -1,4 +1,6 @@
-//! The report of a history: its text is in specs/Report.antt, the line of a move in move_text.
+//! The report of a history, the answer to `moves` and the end of `run`. Its text is defined in
+//! specs/Report.antt, the line of a move in move_text.
+//! lathe_calls, lathe_looks and lathe_top write it.
 ghost use Rattle.std.specs.Prelude.{◌≡◌, ◌≤◌, ◌++◌, length};
 ghost use Rattle.std.specs.List.{flat_map};
 ghost use Rattle.nc_number.specs.declared.limits.TheConstants.{MOST_RECORDS};
@@ -49,7 +51,7 @@ fn put_line<K: Sink>(sink: &mut K, made: &LinedMove) -> Result<(), PutFault>
     put_piece(sink, &move_line(made.line, &made.what))
 }
 
-/// Puts the last lines.
+/// Puts the last lines: how many records there are, and how the run ended.
 fn put_end<K: Sink>(sink: &mut K, count: u64, reason: &Reason) -> Result<(), PutFault>
     ensures { IsPut (K.state sink.old) (K.state sink.new) (end_text count reason.now) result }
 {
@@ -66,7 +68,7 @@ fn put_lines<K: Sink>(sink: &mut K, moves: &[LinedMove]) -> Result<(), PutFault>
     Ok(())
 }
 
-/// Puts the lines of a path.
+/// Puts the lines of a path: how many moves it has, and a line for each.
 fn put_path<K: Sink>(sink: &mut K, path: Path, moves: &[LinedMove]) -> Result<(), PutFault>
     ensures { IsPut (K.state sink.old) (K.state sink.new) (path_text path moves.now) result }
 {

@@ -1,5 +1,6 @@
-//! The lines that each path has: where it stands, where its turret stands, what is in force, and
-//! how many calls are open.
+//! The lines that each path always has in the text of a state: where it stands, where its turret
+//! stands, what is in force, and how many calls are open. They are defined in specs/State.antt.
+//! For this crate alone: state.rt uses it.
 ghost use Rattle.std.specs.Prelude.{◌≡◌, ◌+◌, ◌-◌, ◌≤◌, ◌++◌, length};
 ghost use Rattle.two_path.specs.Turns.{blocks_of};
 ghost use Rattle.move_list.specs.State.{depth_text, group_text, groups_text, in_force_text, modal_text, place_text, position_text, standing_of, var_text, words_text};
@@ -54,7 +55,7 @@ fn add_position(piece: &mut Piece, at: Point)
     piece.add(b"\n");
 }
 
-/// Adds a code in force; for a group that the system lacks nothing.
+/// Adds a code in force; nothing for a group that the system lacks.
 #[tactic(auto, unfolding(crate::specs::State::in_force_text))]
 fn add_in_force(piece: &mut Piece, code: Option<u16>)
     requires { length piece.old + 23 ≤ 512 }

@@ -1,4 +1,6 @@
-//! The summary of a history of a made pair: the answer to `make N`.
+//! The summary of a history of a made pair: the answer to `make N`. Its text is defined in
+//! specs/Summary.antt.
+//! lathe_top writes it.
 ghost use Rattle.std.specs.Prelude.{◌≡◌, ◌+◌, ◌≤◌, ◌++◌, length, codes};
 ghost use Rattle.nc_number.specs.declared.limits.TheConstants.{MOST_RECORDS};
 ghost use Rattle.nc_verify.specs.Printed.{IsPut};
@@ -30,7 +32,7 @@ fn block_count(programs: &[FlowProgram]) -> u128
     count
 }
 
-/// How often the paths met.
+/// How often the paths met, by the records of meetings.
 fn meeting_count(entries: &EntryList) -> usize
     ensures { result ≡ length (meetings_in entries.now.items) }
 {

@@ -1,5 +1,5 @@
-//! The moves of a history, whose records are done again one by one. The report and the summary
-//! start here.
+//! The moves of a history, whose records are done again one by one.
+//! For this crate alone: report.rt and summary.rt begin with it.
 ghost use Rattle.std.specs.Prelude.{◌≡◌, ◌≤◌, [], ◌++◌, length, IfOk, OnOk};
 ghost use Rattle.nc_number.specs.declared.limits.TheConstants.{MOST_RECORDS};
 ghost use Rattle.nc_number.specs.declared.path.Path.TheVariants.{One, Two};
@@ -18,7 +18,7 @@ use std::alloc::Global;
 use tape_flow::Flow;
 use two_path::{Machine, Turn, done_again, histories_are_runs};
 
-/// Adds the moves of a block.
+/// Adds the moves of a block, each with its line.
 fn add_moves(list: &mut Vec<LinedMove>, moves: &Moves) -> Result<(), NoMemory>
     ensures { OnOk result (list.new.items ≡ list.old.items ++ lined moves.now) }
 {
@@ -71,7 +71,7 @@ fn add_turn_of(made: &mut Both<Vec<LinedMove>>, path: Path, turn: &Turn) -> Resu
 pub(crate) struct DoneAgain {
     /// The moves of each path in order, each with the line of the tape whose block made it.
     pub(crate) made: Both<Vec<LinedMove>>,
-    /// The machine after them.
+    /// The machine after all records.
     pub(crate) machine: Machine,
 }
 

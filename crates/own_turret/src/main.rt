@@ -1,5 +1,5 @@
-//! A program with a turret of its own: it runs the pair of tapes that lies beside it, and says what
-//! each turret got.
+//! An example for a builder: a program with a turret of its own. It runs the pair of tapes that
+//! lies beside it (`data`), and says what each turret got (`stdout`). No crate uses it.
 //!
 //! A real turret drives its axes in `hand`. It may queue moves and look ahead: `settle` waits until
 //! it stands still, and is called before the path comes to a wait, and at the end. A call that
@@ -14,7 +14,9 @@ use real_outside::{Access, FileDisk, FileShelf, StdSink, SystemFolder};
 /// A turret that counts its moves, and keeps the line of the last one.
 #[derive(Drop)]
 struct OwnTurret {
+    /// How many moves it got.
     moves: u64,
+    /// The line of the tape of its last move.
     line: u32,
 }
 

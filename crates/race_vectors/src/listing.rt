@@ -1,14 +1,15 @@
-//! What is listed of the races of a pair, as text.
+//! The list of the races of a pair, as text.
+//! rows.rt and made.rt use it.
 use nc_outside::VecSink;
 use nc_verify::verdict;
 use race_report::{RaceList, races, write_races};
 use std::alloc::Global;
 use std::test::Fail;
 
-/// The most bytes of the settings.
+/// The most bytes that settings may have.
 const LONGEST_SETTINGS: usize = 65_536;
 
-/// The text with its line ends.
+/// The bytes of a text, with each `~` as the end of a line.
 pub(crate) fn lines_of(alloc: Global, text: &str) -> Result<Vec<u8>, Fail> {
     let mut out = Vec::new(alloc);
     for byte in text.as_bytes() {
@@ -17,7 +18,7 @@ pub(crate) fn lines_of(alloc: Global, text: &str) -> Result<Vec<u8>, Fail> {
     Ok(out)
 }
 
-/// The races of a pair, if it is accepted.
+/// The races of a pair, or none if it is not accepted.
 fn list_of(alloc: Global, left: &[u8], right: &[u8], settings: &[u8]) -> Option<RaceList> {
     if settings.len() > LONGEST_SETTINGS {
         return None;
@@ -28,7 +29,7 @@ fn list_of(alloc: Global, left: &[u8], right: &[u8], settings: &[u8]) -> Option<
     }
 }
 
-/// The list of races of a pair, as text.
+/// The list of the races of a pair as text, or `refused`.
 pub(crate) fn listed(
     alloc: Global,
     left: &[u8],

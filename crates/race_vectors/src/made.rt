@@ -1,12 +1,13 @@
-//! Made pairs: each round of a path has 98 cuts, a statement on a variable and a wait. Path 1
-//! counts in #501 in rounds 1, 3, 5 and so on; path 2 copies it to #502 in rounds 2, 4, 6 and so
-//! on. The other rounds use variables of the path's own.
+//! Tests of the races of made pairs: a made pair has none, and a made tape beside itself has one.
+//! Each round of a path has 98 cuts, a statement on a variable and a wait. Path 1 counts in #501 in
+//! rounds 1, 3, 5 and so on; path 2 copies it to #502 in rounds 2, 4, 6 and so on. The other rounds
+//! use variables of the path's own.
 use crate::listing::{lines_of, listed};
 use std::alloc::Global;
 use std::test::Fail;
 use tape_maker::make_tapes;
 
-/// Whether the races of a pair are those of the text.
+/// Whether the list of races of a pair is this text, in which `~` ends a line.
 fn has_races(alloc: Global, left: &[u8], right: &[u8], text: &str) -> Result<bool, Fail> {
     let wanted = lines_of(alloc, text)?;
     let got = listed(alloc, left, right, b"")?;

@@ -1,9 +1,9 @@
-//! Rows of pairs and their races.
+//! Tests of the races of small pairs: a row for each way in which two paths may use one variable.
 use crate::listing::{lines_of, listed};
 use std::alloc::Global;
 use std::test::Fail;
 
-/// `WHAT IT IS|TAPE OF PATH 1|TAPE OF PATH 2|SETTINGS|LIST`, in which `~` ends a line.
+/// A row: `WHAT IT IS|TAPE OF PATH 1|TAPE OF PATH 2|SETTINGS|LIST`, in which `~` ends a line.
 const ROWS: &str = "\
 the races of two reads and writes|%~O1~#500=#500+1~M30~%~|%~O1~#500=#500+1~M30~%~||races 1~#500 after 0 path 1 line 3 path 2 line 3~
 a wait between|%~O1~#500=1~M101~M30~%~|%~O1~M101~#1=#500~M30~%~||races 0~

@@ -1,2 +1,2 @@
--- What proves the clauses of this crate. No other crate takes it.
+-- The lemmas of this crate. Its own proofs use them, and no other crate does.
 mod Untold

@@ -1,5 +1,5 @@
--- The calls of a disk of which nothing is told.
--- The functions of src/file_disk.rt rest on it.
+-- The calls of a disk of which nothing is told keep the contract of a disk.
+-- The proofs of src/file_disk.rt use it.
 use Rattle.std.proofs.Common.{inl, ℕ, ◌+◌, ◌-◌, ◌^◌, ◌≤◌, ◌<◌, List, length, arith, refl, Ok, Err}
 use Rattle.std.proofs.lemmas.Option.{none-some}
 use Rattle.disk_model.specs.Device.{Looks, Tears, Torn, HasCause}
@@ -7,9 +7,9 @@ use Rattle.nc_number.specs.Faults.{Rose}
 use Rattle.disk_model.specs.Calls.{Measures, Fetches, Writes, Syncs}
 use Rattle.real_outside.specs.Untold.{untold}
 
--- A call of a disk that tells nothing, which had so many faults before and has so many now.
+-- a call of a disk that tells nothing, which had `before` faults before and has `now` faults now
 module _ (before now : ℕ) where
-  -- it may have only looked
+  -- such a call may have only looked
   looks : Looks (untold before) (untold now)
   looks = record {
     time = record {
@@ -33,7 +33,7 @@ module _ (before now : ℕ) where
     outside = λ i within outside. refl;
   }
 
-  -- what a crash leaves is any bytes, also those of a write cut off
+  -- such a call may leave any bytes at a crash, also those of a write cut off
   tears : (at n : ℕ) → Tears at n (untold before) (untold now)
   tears at n = record {
     time = record {
@@ -50,28 +50,28 @@ module _ (before now : ℕ) where
     allows = λ calls end never. never;
   }
 
--- a call that failed counts it
+-- a call that failed and was counted
 module _ {E : Type 0} (before now : ℕ) (fault : E) (counts : (before ≤ now) × Rose before now) where
   -- an error has its cause: the count went up, or nothing is told
   cause : {T : Type 0} → HasCause {T = T} (untold before) (untold now) (Err fault)
   cause = record { later = counts.0; failed = λ failed. counts.1; calm = λ ok. absurd cc }
 
-  -- a length that was not told
+  -- a length that the system did not give is a fault that is counted
   pub failed_measure : Measures (untold before) (untold now) (Err fault)
   failed_measure = record { size = tt; small = tt; looks = looks before now; cause = cause }
 
-  -- a read that failed
+  -- a read that failed is a fault that is counted
   pub failed_fetch : (at : ℕ) (old new : List ℕ) → Fetches at old new (untold before) (untold now) (Err fault)
   failed_fetch at old new =
       record { within = tt; count = tt; got = tt; looks = looks before now; cause = cause }
 
-  -- a write that failed
+  -- a write that failed is a fault that is counted
   pub failed_write : {T : Type 0} (at : ℕ) (bytes : List ℕ)
       → Writes {T = T} at bytes (untold before) (untold now) (Err fault)
   failed_write at bytes =
       record { written = tt; small = tt; tears = tears before now at (length bytes); cause = cause }
 
-  -- a sync that failed
+  -- a sync that failed is a fault that is counted
   pub failed_sync : {T : Type 0} → Syncs {T = T} (untold before) (untold now) (Err fault)
   failed_sync = record { settled = tt; looks = looks before now; cause = cause }
 

@@ -1,5 +1,5 @@
--- A disk and a turret of which nothing is told, as the real ones of this crate. For this crate
--- alone.
+-- A disk and a turret of which nothing is told, as the real ones of this crate are.
+-- For this crate alone: src/file_disk.rt and src/log_turret.rt.
 use Rattle.std.specs.Prelude.{ℕ, ◌-◌, ◌^◌, None, ⊤}
 use Rattle.disk_model.specs.Device.{DiskState, IsCoherent}
 use Rattle.nc_outside.specs.Received.{TurretState}
@@ -18,7 +18,7 @@ untold faults = record {
   allows = λ calls end. ⊥;
 }
 
--- what is told of such a disk, nothing, agrees with itself
+-- the facts that are told of such a disk, none, agree with one another
 pub untold_agrees : (faults : ℕ) → IsCoherent (untold faults)
 untold_agrees faults = record {
   counts_now = λ t c le now. tt;

@@ -1,5 +1,5 @@
 //! How far the bytes of a journal count: up to its first shut gate. The format is that of gate_file
-//! (specs/Chain.antt).
+//! (specs/Chain.antt), and changes with it.
 //! For journal_file.rt and shown_file.rt of this crate.
 ghost use Rattle.std.specs.Prelude.{◌≡◌, ◌<◌, ◌^◌, ℕ, IfOk};
 
@@ -7,7 +7,7 @@ use crate::folder::RawFile;
 use crate::pieces::read_up_to;
 use std::io;
 
-/// A file ends before this.
+/// A file must end before this byte.
 pub(crate) const END: u64 = 1 << 62;
 
 /// How many bytes stand beside a body: its length before it, and the gate after it.

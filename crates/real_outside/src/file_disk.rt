@@ -54,7 +54,7 @@ impl<'a, D: Folder + Drop> FileDisk<'a, D> {
         self.file.trouble()
     }
 
-    /// Counts an error.
+    /// Counts a call that failed, and gives the error for it.
     fn fault(&mut self) -> Failed
         ensures { (self.old.faults ≤ self.new.faults) × Rose self.old.faults self.new.faults }
     {

@@ -9,7 +9,8 @@ use std::io;
 use std::io::{ErrorKind, Read};
 use std::rt::Files;
 
-/// The file system, by the names that the operating system knows. It tells nothing of the files.
+/// The files of the file system, by the names that the operating system knows. It tells nothing of
+/// them.
 #[derive(Drop)]
 pub struct FileShelf<'a, R: Files> {
     /// The system.
@@ -19,7 +20,7 @@ pub struct FileShelf<'a, R: Files> {
 }
 
 impl<'a, R: Files> FileShelf<'a, R> {
-    /// It has not failed yet.
+    /// The shelf over this system, which has not failed yet.
     pub fn new(rt: &'a R) -> Self
         ensures { result.faults ≡ 0 }
     {

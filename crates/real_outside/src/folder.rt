@@ -1,9 +1,10 @@
 //! What a journal on a disk needs of the system, as traits: a folder and its files.
-//! system_folder.rt is the real one; tests take one that fails.
+//! system_folder.rt is the real one; tests (disk_vectors) take one that fails.
+//! file_disk.rt, journal_file.rt and the files below them are written over these traits.
 use std::io;
 use std::os::unix::fs::FileExt;
 
-/// Which file it is, whatever its name.
+/// Which file it is, whatever its name is.
 #[derive(Clone, Copy, Debug, PartialEq, Eq)]
 pub struct Identity {
     /// The device that it is on.

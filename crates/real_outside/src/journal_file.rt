@@ -1,6 +1,7 @@
 //! The file of the journal, as a command may use it: who may write, and what is believed after a
 //! fault. How it looks to a run is in file_disk.rt.
-//! own_turret and twin_lathe use it.
+//! file_disk.rt uses `JournalFile`; own_turret and twin_lathe name `Access`, and twin_lathe says
+//! `Trouble` to a person.
 ghost use Rattle.std.specs.Prelude.{◌+◌, ◌≤◌, ◌<◌, ◌^◌, IfOk, OnOk, length};
 
 use crate::chain::{END, last_gate};
@@ -171,7 +172,8 @@ impl<'a, D: Folder + Drop> JournalFile<'a, D> {
         }
     }
 
-    /// A file that there is, and that can't be opened.
+    /// The answer if there is a file that can't be opened: the trouble that it may not be written,
+    /// or the error.
     fn unopened(&mut self, error: io::Error) -> io::Result<Found<D::File>> {
         if self.access == Access::Write && may_not(error.kind()) {
             self.trouble = Some(Trouble::Unwritable);
@@ -180,8 +182,8 @@ impl<'a, D: Folder + Drop> JournalFile<'a, D> {
         Err(error)
     }
 
-    /// The open file, which nobody else may write up to the command's end. Nothing was read of it
-    /// before, so that all that others wrote is seen.
+    /// Takes the lock of the open file, so that nobody else may write it up to the command's end.
+    /// Nothing was read of it before, so all that others wrote is seen.
     fn hold(&mut self, file: D::File) -> io::Result<Found<D::File>> {
         if !file.hold()? {
             self.trouble = Some(Trouble::Held);
@@ -269,7 +271,7 @@ impl<'a, D: Folder + Drop> JournalFile<'a, D> {
     }
 }
 
-/// The answer of a file that may not be written, or of which nothing is believed any more.
+/// The error for a file that may not be written, or of which nothing is believed any more.
 fn refused() -> io::Error {
     io::Error::from(ErrorKind::Other)
 }
@@ -282,7 +284,8 @@ fn may_not(kind: ErrorKind) -> bool {
     )
 }
 
-/// Writes over itself all that counts of a journal that was found.
+/// Writes over itself all that counts of a journal that was found, so that a sync puts it on the
+/// medium.
 fn renew<F: RawFile>(file: &F) -> io::Result<()> {
     let last = last_gate(file)?;
     write_again(file, last.at + 1)

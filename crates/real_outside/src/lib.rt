@@ -3,10 +3,12 @@
 //! that does nothing. A program of one's own takes what it needs of these, and puts its own forms
 //! of the traits beside them.
 //!
-//! None of them tells what it holds or got, since no proof can see the system: what a call of the
+//! None of them tells what it holds or got, since no proof can see the system. What a call of the
 //! lathe promises of forms that tell nothing holds of these, with their counts of faults. What a
 //! real disk needs besides is kept by [`FileDisk`], over the calls of the system that [`Folder`]
-//! and [`RawFile`] name, so that it can be tried over a folder that fails.
+//! and [`RawFile`] name, so that it can be tried over a folder that fails (disk_vectors).
+//!
+//! twin_lathe and own_turret are made of them.
 #![tactic(auto)]
 
 mod chain;

@@ -1,5 +1,5 @@
-//! A file or a named pipe that gets lines.
-//! twin_lathe uses it.
+//! A file or a named pipe that gets the lines of a turret.
+//! twin_lathe uses it, as the sink of a `LineTurret` (turret_lines).
 ghost use Rattle.std.specs.Prelude.{◌≡◌, None};
 
 use nc_outside::{PutFault, Sink};

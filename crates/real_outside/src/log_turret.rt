@@ -3,7 +3,7 @@
 use nc_number::Point;
 use nc_outside::{Failed, LinedMove, Turret};
 
-/// A turret that takes every move and does nothing with it: what a run moves is told by its report.
+/// A turret that takes every move and does nothing with it; what a run moves is told by its report.
 /// It never fails, and tells nothing of what it got.
 #[derive(Drop)]
 pub struct LogTurret;

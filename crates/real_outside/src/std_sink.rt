@@ -16,7 +16,7 @@ pub struct StdSink<'a, R: Print> {
 }
 
 impl<'a, R: Print> StdSink<'a, R> {
-    /// It has not failed yet.
+    /// The sink over this system's standard output, which has not failed yet.
     pub fn new(rt: &'a R) -> Self
         ensures { result.faults ≡ 0 }
     {

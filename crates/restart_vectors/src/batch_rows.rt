@@ -1,5 +1,5 @@
-//! A journal in batches of one record and of three, with an edit, stopped behind each call of its
-//! disk: what is recovered.
+//! Tests of a crash in a run: a journal in batches of one record and of three, with an edit, is
+//! stopped after a number of calls of its disk, and is then recovered.
 ghost use Rattle.std.specs.Prelude.{◌≡◌, None};
 ghost use Rattle.run_records.specs.Entries.{edit_of};
 ghost use Rattle.run_records.specs.Headers.{IsShort};
@@ -14,10 +14,10 @@ use run_records::{Edit, Entry, EntryKind, Header, StampList, Version};
 use std::alloc::Global;
 use std::test::Fail;
 
-/// The version of the journal, behind how many calls the disk stops, and what is recovered behind a
-/// crash that keeps what was written, one that loses it, and one that fills it. The beginning makes
-/// 8 calls, and each flush 4: a write, a sync, a write of the gate, and a sync. So does the mark
-/// that raises version 1, which changes no history.
+/// A row: the version of the journal, after how many calls the disk stops, and what is recovered
+/// after a crash that keeps what was written, one that loses it, and one that fills it. The
+/// beginning makes 8 calls, and each flush 4: a write, a sync, a write of the gate, and a sync. The
+/// mark that raises version 1 makes 4 too, and changes no history.
 const ROWS: &str = "\
 2 0|no run|no run|no run
 2 7||no run|
@@ -38,7 +38,7 @@ const ROWS: &str = "\
 1 23|1 did 0, 1 edits #500 7000000, 2 did 2, 1 ended, 2 ended|1 did 0, 1 edits #500 7000000|1 did 0, 1 edits #500 7000000, 2 did 2, 1 ended, 2 ended
 1 24|1 did 0, 1 edits #500 7000000, 2 did 2, 1 ended, 2 ended|1 did 0, 1 edits #500 7000000, 2 did 2, 1 ended, 2 ended|1 did 0, 1 edits #500 7000000, 2 did 2, 1 ended, 2 ended";
 
-/// One step more is to be written.
+/// Adds a record of a step of this kind to those that pend, with this stamp if there is one.
 fn add<D: Disk>(journal: &mut Journal<D>, path: Path, kind: EntryKind, stamp: Option<u32>)
     requires { edit_of kind ≡ None }
 {
@@ -51,7 +51,7 @@ fn add<D: Disk>(journal: &mut Journal<D>, path: Path, kind: EntryKind, stamp: Op
     }
 }
 
-/// One edit more is to be written: #500 of path 1 gets 7.
+/// Adds an edit to the records that pend: #500 of path 1 gets 7.
 fn add_edit<D: Disk>(journal: &mut Journal<D>) {
     if journal.is_live() && journal.pending() < MOST_PENDING && journal.version() == Version::Two {
         let edit = Edit::Common {
@@ -69,14 +69,14 @@ fn raise<D: Disk>(journal: &mut Journal<D>) {
     }
 }
 
-/// Writes what is to be written, as far as the disk lets it.
+/// Writes the records that pend, as far as the disk lets it.
 fn flush<D: Disk>(journal: &mut Journal<D>) {
     if journal.is_live() {
         let _failed = journal.flush();
     }
 }
 
-/// Writes the run of both tapes, which is edited behind its first record, as far as the disk lets
+/// Writes the run of both tapes, which is edited after its first record, as far as the disk lets
 /// it.
 fn put_run<D: Disk>(journal: &mut Journal<D>) {
     add(journal, Path::One, EntryKind::Did, Some(0));
@@ -90,7 +90,7 @@ fn put_run<D: Disk>(journal: &mut Journal<D>) {
     flush(journal);
 }
 
-/// The disk behind a run that is written on it.
+/// The disk after a run was written on it.
 fn disk_of_run(alloc: Global, disk: FuseDisk, header: &Header) -> FuseDisk
     requires { IsShort header.now }
 {
@@ -104,7 +104,7 @@ fn disk_of_run(alloc: Global, disk: FuseDisk, header: &Header) -> FuseDisk
     }
 }
 
-/// What is recovered where the disk stops behind so many calls, and then comes a crash.
+/// What is recovered if the disk stops after so many calls, and then comes a crash.
 fn history_left(alloc: Global, header: &Header, passes: u64, pick: Crash) -> Result<String, Fail>
     requires { IsShort header.now }
 {
@@ -113,7 +113,7 @@ fn history_left(alloc: Global, header: &Header, passes: u64, pick: Crash) -> Res
     recovered(alloc, stopped.into_inner().crash(pick).bytes())
 }
 
-/// What is recovered behind each of the crashes.
+/// What is recovered after each of the three crashes, as a row has it.
 fn row_found(alloc: Global, header: &Header, start: &str) -> Result<String, Fail>
     requires { IsShort header.now }
 {
@@ -125,7 +125,7 @@ fn row_found(alloc: Global, header: &Header, start: &str) -> Result<String, Fail
     Ok(format!(in alloc; "{start}|{kept}|{lost}|{filled}")?)
 }
 
-/// What is recovered of a row's journals, behind what the row begins with.
+/// The row as it is found: what is recovered of its journals, after what the row begins with.
 fn found(alloc: Global, row: &str) -> Result<String, Fail> {
     let version = if row.starts_with('1') {
         Version::One

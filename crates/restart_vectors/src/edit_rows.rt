@@ -1,5 +1,5 @@
-//! A history with an edit, cut at each record, in both versions of a journal: what is found, and
-//! what a restart comes to.
+//! Tests of a restart after an operator's edit: a history with an edit is cut after its records, in
+//! both versions of a journal. It is seen what is found, and what a restart comes to.
 use crate::journal_rows::{Headers, headers_of, journal_of};
 use crate::run::{recovered, restarted};
 use crate::step_rows::header_of_blocks;
@@ -7,13 +7,14 @@ use run_records::Version;
 use std::alloc::Global;
 use std::test::Fail;
 
-/// Path 1 sets #500 to 1, and path 2 passes over a block if it is 7.
+/// The blocks of path 1: it sets #500 to 1.
 const LEFT: &str = "#500=1~M30";
 
+/// The blocks of path 2: it leaves out a block if #500 is 7.
 const RIGHT: &str = "IF [#500 EQ 7] GOTO 2~#1=1~N2 #1=2~M30";
 
-/// Bodies as in the rows of journals, the records that they hold, and those of the whole run behind
-/// a restart. Behind the edit path 2 reads 7, whatever it has read before.
+/// A row: bodies as in journal_rows.rt, the records that they hold, and those of the whole run
+/// after a restart. After the edit path 2 reads 7, whatever it has read before.
 const ROWS: &str = "\
 H||1 did, 2 did 1, 1 ended, 2 did, 2 did, 2 ended
 H,01 010100|1 did|1 did, 2 did 1, 1 ended, 2 did, 2 did, 2 ended
@@ -28,7 +29,7 @@ h,01 010100,ff0002,01 SEVEN,01 02010100000002|1 did, 1 edits #500 7000000, 2 did
 h,01 010100,ff0002,03 SEVEN 02010100000002 020100|1 did, 1 edits #500 7000000, 2 did 2, 2 did|1 did, 1 edits #500 7000000, 2 did 2, 2 did, 1 ended, 2 ended
 h,ff0002,02 010100 SEVEN,03 02010100000002 020100 010400|1 did, 1 edits #500 7000000, 2 did 2, 2 did, 1 ended|1 did, 1 edits #500 7000000, 2 did 2, 2 did, 1 ended, 2 ended";
 
-/// The history that a restart over these bytes comes to.
+/// The history to which a restart over these bytes comes.
 fn comes_to(alloc: Global, bytes: &[u8]) -> Result<String, Fail> {
     match header_of_blocks(alloc, Version::Two, "", LEFT, RIGHT) {
         Ok(header) => restarted(alloc, &header, bytes),
@@ -36,7 +37,7 @@ fn comes_to(alloc: Global, bytes: &[u8]) -> Result<String, Fail> {
     }
 }
 
-/// A row as it is found.
+/// The row as it is found.
 fn found(alloc: Global, headers: &Headers, row: &str) -> Result<String, Fail> {
     let (text, _) = row.split_once('|').unwrap_or((row, ""));
     let journal = journal_of(alloc, headers, text)?;

@@ -1,6 +1,7 @@
-//! Journals byte for byte, and what a restart finds in them: the records of a run, or the one cause
-//! for which there is none. Each cause stands at a first, a middle and a last record, wherever it
-//! can stand there.
+//! Tests of what a restart finds in a journal, byte for byte: the records of a run, or the one
+//! cause for which there is none. Each cause stands at a first, a middle and a last record,
+//! wherever it can stand there.
+//! The journals of edit_rows.rt are made here too.
 
 ghost use Rattle.run_records.specs.Headers.{IsShort};
 
@@ -10,14 +11,14 @@ use run_records::{Header, Version, put_header};
 use std::alloc::Global;
 use std::test::Fail;
 
-/// `pair SETTINGS|LEFT|RIGHT` gives the settings and the blocks of both tapes. Each line behind it
+/// `pair SETTINGS|LEFT|RIGHT` gives the settings and the blocks of both tapes. Each line after it
 /// is a journal of them and what is found: its bodies, parted by commas, of hexadecimal digits,
 /// where `H` is the header of version 2 and `h` that of version 1, `3x01` is 01 three times,
 /// `SEVEN` edits #500 of path 1, and `G54` a work offset of path 2. Of the first pair the header
 /// has 64 bytes, so the first batch stands at 74; there path 1 does 01010100000000, path 2 does
 /// 02010100000001, and they end with 010400 and 020400. A text that begins with a `%` is a whole
-/// tape. Of a journal that is `cut 63` so many bytes are left, and behind `raw` stand the bytes of
-/// a file.
+/// tape. Of a journal that is `cut 63` so many bytes are left, and after `raw` come the bytes of a
+/// file.
 const ROWS: &str = "\
 pair |#500=#500+1~M30|#500=#500+1~M30
 H|
@@ -137,9 +138,10 @@ H,02 010500 020400|bad record at 62: not legal
 H,02 010500 SEVEN|bad record at 62: not legal
 H,02 SEVEN 010500|1 edits #500 7000000, 1 alarmed";
 
-/// Two edits: #500 of path 1 gets 7, and the work offset 1 of path 2, that of G54, gets X-1. Z5.
+/// The record of an edit: #500 of path 1 gets 7.
 const SEVEN: &str = "01060401f4000000000000000100000000006acfc0";
 
+/// The record of an edit: the work offset 1 of path 2, that of G54, gets X-1. Z5.
 const G54: &str = "0206010001fffffffffffffc180000000000001388";
 
 /// The headers of a pair, in both versions.
@@ -170,7 +172,7 @@ fn put_digits(out: &mut Vec<u8>, digits: &str) -> Result<(), Fail> {
     Ok(())
 }
 
-/// Digits, as often as the number before the `x` says.
+/// Puts the bytes of digits as many times as the number before the `x` says.
 fn put_times(out: &mut Vec<u8>, part: &str) -> Result<(), Fail> {
     let (times, digits) = part.split_once('x').unwrap_or(("1", part));
     for _time in 0..times.parse::<u32>()? {
@@ -179,7 +181,7 @@ fn put_times(out: &mut Vec<u8>, part: &str) -> Result<(), Fail> {
     Ok(())
 }
 
-/// A part of a body: the bytes of a header, an edit, or digits.
+/// Puts a part of a body: the bytes of a header, an edit, or digits.
 fn put_part(out: &mut Vec<u8>, headers: &Headers, part: &str) -> Result<(), Fail> {
     match part {
         "H" => Ok(out.extend_from_slice(headers.two.as_slice())?),
@@ -190,7 +192,7 @@ fn put_part(out: &mut Vec<u8>, headers: &Headers, part: &str) -> Result<(), Fail
     }
 }
 
-/// A body behind an open gate and its length.
+/// Puts a body after an open gate and its length.
 fn put_body(out: &mut Vec<u8>, body: &[u8]) -> Result<(), Fail> {
     if body.len() >= 1_000 {
         return Err(Fail::new("a body of fewer than a thousand bytes"));
@@ -201,7 +203,7 @@ fn put_body(out: &mut Vec<u8>, body: &[u8]) -> Result<(), Fail> {
     Ok(())
 }
 
-/// The bytes of a whole journal of these headers.
+/// Puts the bytes of a whole journal of these headers: its bodies, and a closed gate.
 fn put_bodies(out: &mut Vec<u8>, alloc: Global, headers: &Headers, text: &str) -> Result<(), Fail> {
     for entry in text.split(',') {
         let mut body = Vec::new(alloc);
@@ -214,7 +216,8 @@ fn put_bodies(out: &mut Vec<u8>, alloc: Global, headers: &Headers, text: &str) -
     Ok(())
 }
 
-/// The bytes of a journal of these headers: whole, or cut, or those that stand there.
+/// The bytes of a journal of these headers: whole, or cut, or, if they are `raw`, as they are
+/// written.
 pub(crate) fn journal_of(alloc: Global, headers: &Headers, text: &str) -> Result<Vec<u8>, Fail> {
     let (whole, size) = text.split_once(" cut ").unwrap_or((text, ""));
     let mut out = Vec::new(alloc);
@@ -250,7 +253,8 @@ pub(crate) fn headers_of(alloc: Global, pair: &str) -> Result<Headers, Fail> {
     Ok(Headers { one, two })
 }
 
-/// What is found in a journal where it is not what is wanted.
+/// What a failed row prints: the row and what is found in its journal. Empty if that is what the
+/// row says.
 fn failure_of(alloc: Global, headers: &Headers, row: &str) -> Result<String, Fail> {
     let (text, wanted) = row.split_once('|').ok_or("a journal and what is found")?;
     let journal = journal_of(alloc, headers, text)?;

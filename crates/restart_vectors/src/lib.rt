@@ -1,9 +1,9 @@
-//! Tables of tests of restarts: what is found in a journal, byte for byte, and what a restart comes
-//! to. A journal in batches is stopped behind each call of its disk, and a history that an operator
-//! edits is cut at each record, in both versions of a journal.
+//! Tests of restarts, as tables with a row for each: what is found in a journal, byte for byte, and
+//! what a restart comes to. A journal in batches is stopped after chosen calls of its disk. A
+//! history that an operator edits is cut after its records, in both versions of a journal.
 //!
-//! The histories that are expected stem from the rules of turns, and never from what a run
-//! recorded.
+//! The histories that are expected are worked out from the rules of turns, and never from what a
+//! run recorded. No crate uses it.
 #![tactic(auto)]
 
 #[cfg(test)]

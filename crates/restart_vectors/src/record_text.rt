@@ -1,9 +1,11 @@
-//! Records as text, so that a table of tests has a history written out by hand.
+//! Records as text, so that a row of tests can have a history that is written by hand.
+//! run.rt and turns.rt use it.
 use nc_number::{Path, Point, Var};
 use offset_store::Slot;
 use run_records::{Edit, Entry, EntryKind, EntryList};
 use std::alloc::{AllocError, Global};
 
+/// Writes the name and the number of an offset.
 fn put_slot(out: &mut String, slot: &Slot) -> Result<(), AllocError> {
     match slot {
         Slot::Work(n) => write!(out, "work {}", n.get()),
@@ -12,6 +14,7 @@ fn put_slot(out: &mut String, slot: &Slot) -> Result<(), AllocError> {
     }
 }
 
+/// Writes a value in 0.000001, or `vacant`.
 fn put_value(out: &mut String, to: &Var) -> Result<(), AllocError> {
     match to {
         Var::Vacant => out.push_str("vacant"),
@@ -19,7 +22,7 @@ fn put_value(out: &mut String, to: &Var) -> Result<(), AllocError> {
     }
 }
 
-/// What is set, and what it gets: X and Z in 0.001 mm, or a value in millionths.
+/// Writes what is edited and what it gets: X and Z in 0.001 mm, or a value in 0.000001.
 fn put_edit(out: &mut String, edit: &Edit) -> Result<(), AllocError> {
     match edit {
         Edit::Offset { slot, to } => {
@@ -34,6 +37,7 @@ fn put_edit(out: &mut String, edit: &Edit) -> Result<(), AllocError> {
     }
 }
 
+/// Writes what a record says that a path did, or what was edited.
 fn put_kind(out: &mut String, kind: &EntryKind) -> Result<(), AllocError> {
     match kind {
         EntryKind::Did => out.push_str("did"),
@@ -48,7 +52,7 @@ fn put_kind(out: &mut String, kind: &EntryKind) -> Result<(), AllocError> {
     }
 }
 
-/// The number of the path, what it did or what was edited of it, and its stamps.
+/// Writes the number of the path, what it did or what was edited of it, and its stamps.
 fn put_record(out: &mut String, entry: &Entry) -> Result<(), AllocError> {
     let number = entry.path.number();
     write!(out, "{number} ")?;
@@ -59,7 +63,7 @@ fn put_record(out: &mut String, entry: &Entry) -> Result<(), AllocError> {
     Ok(())
 }
 
-/// The records of a history, one behind the other.
+/// The records of a history as text, with commas between them.
 pub(crate) fn history_text(alloc: Global, entries: &EntryList) -> Result<String, AllocError> {
     let mut out = String::new(alloc);
     for index in 0..entries.len() {

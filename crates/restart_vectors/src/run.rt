@@ -1,4 +1,5 @@
-//! A run of a pair, and its restart.
+//! A run of a header's pair on a disk in memory, to its end or after its recovery.
+//! The rows of this crate use it.
 ghost use Rattle.run_records.specs.Headers.{IsShort};
 ghost use Rattle.nc_restart.specs.Recovered.{IsRecovered};
 ghost use Rattle.run_table.specs.Kept.{IsVerdictOf};
@@ -14,13 +15,13 @@ use run_table::{Parts, Table};
 use std::alloc::{AllocError, Global};
 use std::test::Fail;
 
-/// A disk of these bytes, which passes so many calls.
+/// A disk of these bytes, which lets so many calls pass.
 fn disk_of(alloc: Global, bytes: &[u8], passes: u64) -> Result<FuseDisk, Fail> {
     let disk = MemoryDisk::of_bytes(alloc, bytes.to_vec(alloc)?, 10_000, &[])?;
     Ok(FuseDisk::new(disk, passes))
 }
 
-/// A table of a run of the pair that begins on the disk, or the disk where it fails.
+/// A table of a run of the pair that begins on the disk, or the disk if it fails.
 fn begun<D: Disk>(alloc: Global, pair: Verified, header: &Header, disk: D) -> Result<Table<D>, D>
     requires short { IsShort header.now }
     requires verdict { IsVerdictOf header.now pair }
@@ -31,7 +32,7 @@ fn begun<D: Disk>(alloc: Global, pair: Verified, header: &Header, disk: D) -> Re
     }
 }
 
-/// A table of a run of the header's pair that begins on the disk, or the disk where it fails.
+/// A table of a run of the header's pair that begins on the disk, or the disk if it fails.
 pub(crate) fn begun_on<D: Disk + Drop>(
     alloc: Global,
     header: &Header,
@@ -45,13 +46,13 @@ pub(crate) fn begun_on<D: Disk + Drop>(
     }
 }
 
-/// The table runs until it stops, or both paths have ended.
+/// Runs the table until it stops, or both paths have ended.
 fn run_on<D: Disk>(table: &mut Table<D>, from: Count) -> Result<Count, Fail> {
     table.prepare(1_000)?;
     Ok(step_on(table, from))
 }
 
-/// The disk of a table.
+/// The disk that is left of a table.
 pub(crate) fn disk_left<D: Disk>(table: Table<D>) -> D {
     let Parts {
         verified: _,
@@ -63,12 +64,12 @@ pub(crate) fn disk_left<D: Disk>(table: Table<D>) -> D {
     disk
 }
 
-/// The history of a table.
+/// The history that is left of a table.
 fn history_left<D: Disk + Drop>(alloc: Global, table: Table<D>) -> Result<String, AllocError> {
     history_text(alloc, &table.into_parts().entries)
 }
 
-/// The history of a table whose run goes to its end.
+/// The history of a table after its run has gone to its end.
 fn finished<D: Disk + Drop>(alloc: Global, table: Table<D>, from: Count) -> Result<String, Fail> {
     let mut table = table;
     let ran = run_on(&mut table, from);
@@ -101,7 +102,7 @@ fn table_of<D: Disk>(run: Recovered<D>) -> Table<D>
     Table::from_recovered(verified, machine, entries, journal)
 }
 
-/// The run goes on behind its recovery, and to its end.
+/// The history of a run that goes on after its recovery, to its end.
 fn went_on<D: Disk + Drop>(alloc: Global, run: Recovered<D>) -> Result<String, Fail>
     requires { IsRecovered D.state run.header run.verified run.machine.machine run.entries.items run.journal }
 {
@@ -109,7 +110,7 @@ fn went_on<D: Disk + Drop>(alloc: Global, run: Recovered<D>) -> Result<String, F
     finished(alloc, table_of(run), from)
 }
 
-/// The history that a restart over these bytes comes to. Where they hold no run, it begins anew.
+/// The history to which a restart over these bytes comes. If they hold no run, a new one begins.
 pub(crate) fn restarted(alloc: Global, header: &Header, bytes: &[u8]) -> Result<String, Fail>
     requires { IsShort header.now }
 {
@@ -120,7 +121,7 @@ pub(crate) fn restarted(alloc: Global, header: &Header, bytes: &[u8]) -> Result<
     }
 }
 
-/// The history that these bytes hold, or why none.
+/// The history that these bytes hold, or the cause for which there is none.
 pub(crate) fn recovered(alloc: Global, bytes: &[u8]) -> Result<String, Fail> {
     match recover(alloc, disk_of(alloc, bytes, 1_000_000)?) {
         Ok(run) => Ok(history_found(alloc, run)?),

@@ -1,4 +1,5 @@
-//! Steps of a table, what they answer, and what they leave on the disk.
+//! Tests of the steps of a table (run_table): what they answer, and what they leave on the disk.
+//! The other rows make their headers here (`header_of_blocks`).
 ghost use Rattle.std.specs.Prelude.{IfOk};
 ghost use Rattle.run_records.specs.Headers.{IsShort};
 
@@ -12,10 +13,10 @@ use run_table::Table;
 use std::alloc::{AllocError, Global};
 use std::test::Fail;
 
-/// The settings, the blocks of both tapes, for how many records there is a budget, the number of
-/// the disk's call that fails, or 0; steps of a path, as many times as the number before the `x`
-/// says; what the last of those times answered; and how many bytes then stand behind the header,
-/// with the first twenty of them. The beginning makes eight calls.
+/// A row: the settings; the blocks of both tapes; for how many records there is a budget; the
+/// number of the disk's call that fails, or 0; steps of a path, as many times as the number before
+/// the `x` says; what the last of those times answered; and how many bytes then stand behind the
+/// header, with the first twenty of them. The beginning makes eight calls.
 const ROWS: &str = "\
 |M30|M30|9|0|1,2,1,2|ends, ends, has ended, has ended; 19 bytes 01000000040101040001000000040102040000
 |#500=7~M30|#1=#500~G00 X#1~M30|9|0|1,2,2|did 0 moves, reads #500 at 1, did 0 moves; 1 bytes 00
@@ -35,7 +36,7 @@ records 1~|#3000=1~M30|M30|1|0|1,1,2|alarm 33, stopped by alarm 33, stopped by a
 |M30|M30|9|11|1,1,2|disk fault, stopped by its disk, stopped by its disk; 10 bytes 00000000040101040000
 |M30|M30|9|12|1,1,2|disk fault, stopped by its disk, stopped by its disk; 10 bytes 01000000040101040000";
 
-/// The tape whose main program has these blocks, or the text itself where it begins as a tape does.
+/// The tape whose main program has these blocks, or the text itself if it begins as a tape does.
 fn tape_text(alloc: Global, blocks: &str) -> Result<String, AllocError> {
     if blocks.starts_with('%') {
         String::from_str(alloc, blocks)
@@ -59,7 +60,7 @@ pub(crate) fn header_of_blocks(
     header_of(alloc, version, left.as_str(), right.as_str(), settings)
 }
 
-/// The last of so many steps of a path.
+/// Makes so many steps of a path, and writes what the last one answered.
 fn put_steps<D: Disk>(
     out: &mut String,
     table: &mut Table<D>,
@@ -74,7 +75,8 @@ fn put_steps<D: Disk>(
     put_answer(out, &table.step(path))
 }
 
-/// A path's number, behind the number of its steps and an `x` where it has several.
+/// Makes the steps of a word: a path's number, after the number of its steps and an `x` if there
+/// are several.
 fn put_word<D: Disk>(out: &mut String, table: &mut Table<D>, word: &str) -> Result<(), Fail> {
     let (times, path) = word.split_once('x').unwrap_or(("1", word));
     let path = if path == "1" { Path::One } else { Path::Two };
@@ -82,7 +84,7 @@ fn put_word<D: Disk>(out: &mut String, table: &mut Table<D>, word: &str) -> Resu
     Ok(())
 }
 
-/// The answers of the table to the words of a row.
+/// Writes the answers of the table to the words of a row.
 fn put_words<D: Disk>(out: &mut String, table: &mut Table<D>, words: &str) -> Result<(), Fail> {
     for word in words.split(',') {
         if !out.is_empty() {
@@ -93,7 +95,7 @@ fn put_words<D: Disk>(out: &mut String, table: &mut Table<D>, words: &str) -> Re
     Ok(())
 }
 
-/// The bytes behind so many.
+/// The bytes behind the first `count`.
 fn behind(bytes: &[u8], count: usize) -> &[u8] {
     bytes.split_at(count.min(bytes.len())).1
 }
@@ -106,7 +108,7 @@ fn behind_header<'a>(bytes: &'a [u8], header: &Header) -> &'a [u8] {
     behind(rest, header.right.as_slice().len())
 }
 
-/// How many bytes stand behind the header, and the first twenty of them.
+/// Writes how many bytes stand behind the header, and the first twenty of them.
 fn put_bytes(out: &mut String, disk: &MemoryDisk, header: &Header) -> Result<(), AllocError> {
     let rest = behind_header(disk.bytes(), header);
     write!(out, "; {} bytes ", rest.len())?;
@@ -116,7 +118,7 @@ fn put_bytes(out: &mut String, disk: &MemoryDisk, header: &Header) -> Result<(),
     Ok(())
 }
 
-/// A table of the header on an empty disk, one call of which fails, or none.
+/// A table of the header on an empty disk that fails at one call, or at none.
 fn table_on(alloc: Global, header: &Header, failing: u64) -> Result<Table<MemoryDisk>, Fail>
     requires { IsShort header.now }
 {
@@ -127,7 +129,7 @@ fn table_on(alloc: Global, header: &Header, failing: u64) -> Result<Table<Memory
     }
 }
 
-/// What the steps of a table answer.
+/// Writes what the steps of a table with this budget answer.
 fn put_answers<D: Disk>(
     out: &mut String,
     table: &mut Table<D>,
@@ -138,7 +140,7 @@ fn put_answers<D: Disk>(
     put_words(out, table, words)
 }
 
-/// What the steps of this table answer, and what they leave on the disk.
+/// Writes what the steps of this table answer, and what they leave on the disk.
 fn put_told(
     out: &mut String,
     table: Table<MemoryDisk>,
@@ -153,7 +155,7 @@ fn put_told(
     Ok(put_bytes(out, &disk, header)?)
 }
 
-/// What the steps of a table answer, and what they leave on the disk.
+/// What the steps of a new table answer, and what they leave on the disk.
 fn told(
     alloc: Global,
     header: &Header,
@@ -171,7 +173,7 @@ fn told(
     Ok(out)
 }
 
-/// What is answered to a row where it is not what is wanted.
+/// What a failed row prints: the row and what is answered. Empty if that is what the row says.
 fn failure_of(alloc: Global, row: &str) -> Result<String, Fail> {
     let (settings, rest) = row.split_once('|').ok_or("settings")?;
     let (left, rest) = rest.split_once('|').ok_or("a left tape")?;

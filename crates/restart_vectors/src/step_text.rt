@@ -1,10 +1,11 @@
 //! What a step of a table answers, as text.
+//! step_rows.rt uses it.
 use nc_outside::Halt;
 use run_table::TableStep;
 use std::alloc::AllocError;
 use two_path::Turn;
 
-/// What a turn was, its moves by their count alone.
+/// Writes what a turn was, with its moves by their count alone.
 fn put_turn(out: &mut String, turn: &Turn) -> Result<(), AllocError> {
     match turn {
         Turn::Read { variable, stamp } => write!(out, "reads #{variable} at {stamp}"),
@@ -20,7 +21,7 @@ fn put_turn(out: &mut String, turn: &Turn) -> Result<(), AllocError> {
     }
 }
 
-/// Why a table has no turn.
+/// Writes why a table makes no turn.
 fn put_halt(out: &mut String, halt: &Halt) -> Result<(), AllocError> {
     match halt {
         Halt::Alarm(alarm) => write!(out, "stopped by alarm {}", alarm.cause),
@@ -31,7 +32,7 @@ fn put_halt(out: &mut String, halt: &Halt) -> Result<(), AllocError> {
     }
 }
 
-/// What a step came to.
+/// Writes what a step came to.
 pub(crate) fn put_answer(out: &mut String, answer: &TableStep) -> Result<(), AllocError> {
     match answer {
         TableStep::Turned(turn) => put_turn(out, turn),

@@ -1,4 +1,5 @@
-//! The texts of a run, and the pair that they are.
+//! The three texts of a run as a header, and the accepted pair that they are.
+//! run.rt and step_rows.rt use it.
 ghost use Rattle.std.specs.Prelude.{IfOk};
 ghost use Rattle.run_records.specs.Headers.{IsShort};
 ghost use Rattle.run_table.specs.Kept.{IsVerdictOf};
@@ -32,7 +33,8 @@ fn header_of_any(
     })
 }
 
-/// Such a header, whose texts have fewer than ten thousand bytes.
+/// A header of texts in which `~` stands for the end of a line; each has fewer than ten thousand
+/// bytes.
 pub(crate) fn header_of(
     alloc: Global,
     version: Version,

@@ -1,6 +1,7 @@
-//! Turns of a table, which hang on the history alone: the path with fewer records has the next one,
-//! and where it waits or has ended, the other. So a run and the rest of it behind a restart give
-//! the same turns.
+//! The order in which the tests give turns of a table. It depends on the history alone: the path
+//! with fewer records has the next turn, and if it waits or has ended, the other one. So a run and
+//! the rest of it after a restart give the same turns.
+//! run.rt uses it.
 use crate::record_text::records_of;
 use disk_model::Disk;
 use nc_number::Path;
@@ -15,7 +16,7 @@ pub(crate) struct Count {
     two: usize,
 }
 
-/// What a step came to.
+/// What a step came to, as far as the order of turns needs it.
 #[derive(Drop)]
 enum Said {
     /// A read of a block.
@@ -28,7 +29,7 @@ enum Said {
     Stopped,
 }
 
-/// How much an answer says.
+/// What this answer of a table was.
 fn said_of(answer: &TableStep) -> Said {
     match answer {
         TableStep::Drain | TableStep::DiskFault | TableStep::Halted(_) => Said::Stopped,
@@ -36,6 +37,7 @@ fn said_of(answer: &TableStep) -> Said {
     }
 }
 
+/// What this turn was.
 fn said_of_turn(turn: &Turn) -> Said {
     match turn {
         Turn::Read { .. } => Said::Read,
@@ -65,7 +67,7 @@ impl Count {
         }
     }
 
-    /// A record more of the path.
+    /// Counts one record more of the path.
     fn add(&mut self, path: Path) {
         match path {
             Path::One => self.one = self.one.saturating_add(1),
@@ -73,7 +75,7 @@ impl Count {
         }
     }
 
-    /// Whether the path of this step goes on.
+    /// Whether the run goes on after such a step of the path, whose record is counted.
     fn goes_on(&mut self, path: Path, said: &Said) -> bool {
         match said {
             Said::Read => true,
@@ -86,13 +88,13 @@ impl Count {
     }
 }
 
-/// A step of a path that is drained: there is no turret behind it.
+/// Makes a step of a path that is told to be drained first: there is no turret.
 fn step_of<D: Disk>(table: &mut Table<D>, path: Path) -> Said {
     table.drained(path);
     said_of(&table.step(path))
 }
 
-/// One step of the table. Whether the run goes on.
+/// Makes one step of the table. It answers whether the run goes on.
 fn step<D: Disk>(table: &mut Table<D>, count: &mut Count) -> bool {
     let path = count.next();
     let said = step_of(table, path);
@@ -103,7 +105,7 @@ fn step<D: Disk>(table: &mut Table<D>, count: &mut Count) -> bool {
     count.goes_on(path, &said)
 }
 
-/// Steps of the table until it stops, or both paths have ended.
+/// Makes steps of the table until it stops, or both paths have ended.
 pub(crate) fn step_on<D: Disk>(table: &mut Table<D>, from: Count) -> Count {
     let mut count = from;
     for _ in 0..1_000u32 {

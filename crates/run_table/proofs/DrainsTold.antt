@@ -1,5 +1,6 @@
--- A step of a table asks for a drain exactly where the path is to be drained, and it is to be
--- drained still behind that.
+-- A step of a table asks for a drain just if the path is to be drained, and after it the path is
+-- still to be drained.
+-- For the proofs of `drained` and `turn_step` of a held table (src/held.rt).
 use Rattle.std.proofs.Common.{◌≡◌, ◌≢◌, arith, ◌==◌, ◌&&◌, Bool, true, false, length, refl, sym, ◌∙◌, ap, subst, append-nil, Option, Some, None, is_none}
 use Rattle.std.specs.Prelude.{nat_lt, if◌then◌else◌}
 use Rattle.disk_model.specs.Device.{DiskState}
@@ -24,7 +25,7 @@ use Rattle.run_table.specs.Stepping.{is_due, bound_by, bound_of, drains, step_by
 use Rattle.run_table.specs.Stepping.Answers.{at_once, flushed, failed}
 use Rattle.run_table.specs.Holding.{held_of, drains_at, next_of_turn, next_of}
 
--- a path that was set aside owes nothing
+-- a path that is set to owe nothing owes nothing
 owes_none : (path : Path) (owed : Both Bool) → of_path (with_owed path false owed) path ≡ false
 owes_none One owed = refl
 owes_none Two owed = refl
@@ -35,12 +36,12 @@ drained_already t path shown =
     let stopped = is_none t.halt && is_none (bound_of t) in
     ap (λ (b : Bool). stopped && (b && is_wait (turn_of (tapes_in t.verified) path t.machine).turn)) (owes_none path t.owed) ∙ and_false stopped false refl
 
--- none of these asks for a drain: moves handed on,
+-- moves of a block that are handed on do not ask for a drain
 handed_asks : (b : Bool) (moves : Moves) → Some (if b then next.Silent else next.Moves moves) ≢ Some next.Drain
 handed_asks true moves e = let clash : Some next.Silent ≡ Some next.Drain = e in cc
 handed_asks false moves e = let clash : Some (next.Moves moves) ≡ Some next.Drain = e in cc
 
--- a turn,
+-- a turn does not ask for a drain
 turn_asks : (t : Turn) → next_of_turn t ≢ Some next.Drain
 turn_asks (turn.Read variable stamp) e = cc
 turn_asks (turn.Did moves) e = handed_asks (length moves.list == 0) moves e
@@ -53,25 +54,27 @@ turn_asks (turn.Alarm alarm) e = cc
 turn_asks (turn.Halted alarm) e = cc
 turn_asks turn.Edited e = cc
 
--- a fault of the disk,
+-- a fault of the disk does not ask for a drain
 disk_asks : next_of DiskFault ≢ Some next.Drain
 disk_asks e = cc
 
--- a table that stopped
+-- a table that has stopped does not ask for a drain
 halt_asks : (why : Halt) → next_of (Halted why) ≢ Some next.Drain
 halt_asks why e = cc
 
+-- a step of a path from the table t to t'
 module _ {D : Type 0} (state : D → DiskState) (path : Path) (t t' : TableView D) (result : TableStep) (shown shown' : Bool)
     (step : IsStep state (step_of t path) t t' result) (owed : t'.owed ≡ owed_behind path result t.owed) where
-  -- the path is to be drained before the step,
+  -- whether the path is to be drained before the step
   abbrev asked : Bool
   asked = drains_at (held_of t shown) path
 
-  -- or behind it
+  -- whether the path is to be drained after the step
   abbrev behind : Bool
   behind = drains_at (held_of t' shown') path
 
-  -- the answer is `Drain` just if the path is to be drained, and it is so still behind that
+  -- this answer is `Drain` just if the path is to be drained before the step, and then it still is
+  -- after it
   abbrev Told : TableStep → Type 0
   Told answer = AsksDrain asked (next_of answer) behind
 
@@ -79,17 +82,18 @@ module _ {D : Type 0} (state : D → DiskState) (path : Path) (t t' : TableView 
   asked_is : (why bound : Option Halt) (drain : Bool) → t.halt ≡ why → bound_of t ≡ bound → drains t path ≡ drain → asked ≡ ((is_none why && is_none bound) && drain)
   asked_is why bound drain halts bounds drained = λ i. (is_none (halts i) && is_none (bounds i)) && drained i
 
-  -- if no drain is due, an answer that asks for none says so
+  -- if the path is not to be drained, an answer that asks for no drain tells the truth
   other : (answer : TableStep) → asked ≡ false → next_of answer ≢ Some next.Drain → Told answer
   other answer none not_drain = subst (λ (b : Bool). AsksDrain b (next_of answer) behind) (sym none) not_drain
 
-  -- each other answer says so too
+  -- if the path is not to be drained, the result of the step tells the truth, also if the disk
+  -- failed in it
   other_told : (answer : TableStep) (due : Bool) → asked ≡ false → next_of answer ≢ Some next.Drain → Answers state due answer t.recording t'.recording result → Told result
   other_told answer due none not_drain (at_once now same file even) = subst Told (sym same) (other answer none not_drain)
   other_told answer due none not_drain (flushed was same live all) = subst Told (sym same) (other answer none not_drain)
   other_told answer due none not_drain (failed was same dead stay rose) = subst Told (sym same) (other DiskFault none disk_asks)
 
-  -- if nothing was done, who is to be drained is as before
+  -- if the step only asked for a drain, whether the path is to be drained stays as it was
   stays : IsStep state (step_by t path None None true) t t' result → t.halt ≡ None → result ≡ Drain → behind ≡ asked
   stays s halts is =
       let halt : t'.halt ≡ t.halt = s.halt ∙ ap (λ (why : Option Halt). reason_behind why result) halts ∙ ap (reason_behind None) is ∙ sym halts in
@@ -100,14 +104,14 @@ module _ {D : Type 0} (state : D → DiskState) (path : Path) (t t' : TableView 
       λ i. (is_none (halt i) && is_none (bound_by (count i) (s.verified i).settings.records (budget i)))
       && (of_path (owes_on i) path && is_wait (turn_of (tapes_in (s.verified i)) path (s.machine i)).turn)
 
-  -- and a drain says it
+  -- a step that asks for a drain tells the truth
   drain_told : IsStep state (step_by t path None None true) t t' result → t.halt ≡ None → asked ≡ true → Answers state false Drain t.recording t'.recording result → Told result
   drain_told s halts due (at_once now same file even) =
       subst Told (sym same) (subst (λ (b : Bool). AsksDrain b (Some next.Drain) behind) (sym due) (refl, stays s halts same ∙ due))
   drain_told s halts due (flushed was same live all) = absurd (let clash : false ≡ true = was in cc)
   drain_told s halts due (failed was same dead stay rose) = absurd (let clash : false ≡ true = was in cc)
 
-  -- each step of a table says whether the path is to be drained
+  -- each step of a table tells whether the path is to be drained
   pub drains_told : Told result
   drains_told = go t.halt (bound_of t) (drains t path) refl refl refl step
     where

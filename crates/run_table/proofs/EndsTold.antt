@@ -1,4 +1,6 @@
--- How the run of a held table ended is so of the table, and of the one that is taken out.
+-- The end that is told of a held table is its end, and that of the table that is taken out of it.
+-- For the proofs of `a_taken_table_ended_so` (src/laws.rt), `Held::end` (src/held.rt) and
+-- `Table::ended` (src/table.rt).
 use Rattle.std.proofs.Common.{◌≡◌, ◌≢◌, ⊎_elim, ℕ, ◌==◌, ◌&&◌, Bool, true, false, [], length, refl, sym, ◌∙◌, ap, subst, arith, append-nil, Option, Some, None, ◌≤◌, ◌<◌, List}
 use Rattle.std.specs.Prelude.{IsTrue, nat_lt, IfSome, IfNone, if◌then◌else◌}
 use Rattle.disk_model.specs.Device.{DiskState}
@@ -40,7 +42,8 @@ open_live m r (Some (halt.Turret path)) reason free = reason.live
 open_live m r (Some halt.Full) reason free = absurd reason
 open_live m r (Some halt.Budget) reason free = absurd reason
 
--- a table that the disk has not stopped is stopped by nothing or by an alarm
+-- a table that the disk has not stopped is, but for a turret's fault, stopped by nothing or by an
+-- alarm
 open_halt : {D : Type 0} (m : MachineView) (r : RecordingView D) (why : Option Halt) → HasReason m r why → why ≢ Some halt.Disk → IsNoneOrAlarm (without_turret why)
 open_halt m r None reason free = tt
 open_halt m r (Some (halt.Alarm alarm)) reason free = tt
@@ -49,7 +52,8 @@ open_halt m r (Some (halt.Turret path)) reason free = tt
 open_halt m r (Some halt.Full) reason free = absurd reason
 open_halt m r (Some halt.Budget) reason free = absurd reason
 
--- the reason that a table keeps is one still behind a flush
+-- a reason that a table keeps, and that is no fault of the disk, still holds after a flush of all
+-- records
 pub reason_flushed : {D : Type 0} (m : MachineView) (r r' : RecordingView D) (why : Option Halt) → HasReason m r why → why ≢ Some halt.Disk → IsTrue r'.log.file.live
     → r'.flushed ≡ length r'.history → HasReason m r' why
 reason_flushed m r r' None reason free live all = record { calm = reason.calm; live = live; few = omega (arith, all) }
@@ -59,7 +63,7 @@ reason_flushed m r r' (Some (halt.Turret path)) reason free live all = record { 
 reason_flushed m r r' (Some halt.Full) reason free live all = reason
 reason_flushed m r r' (Some halt.Budget) reason free live all = reason
 
--- a flush fails only where records pend
+-- a flush fails only if records pend
 pub some_pend : {D : Type 0} (old new : RecordingView D) → old.flushed ≤ length old.history → (old.flushed ≡ length old.history → new.log.file ≡ old.log.file)
     → IsTrue old.log.file.live → new.log.file.live ≡ false → old.flushed < length old.history
 some_pend old new within settled live dead = go (nat_lt old.flushed (length old.history)) refl
@@ -71,7 +75,7 @@ some_pend old new within settled live dead = go (nat_lt old.flushed (length old.
         let still : IsTrue new.log.file.live = subst (λ (f : Gate _). IsTrue f.live) (sym (settled none)) live in
         absurd (let clash : IsTrue false = subst IsTrue dead still in cc)
 
--- a table whose records are flushed, or whose disk failed in that
+-- a table stays one over a flush, whether all is flushed or the disk failed
 pub flushed_table : {D : Type 0} (state : D → DiskState) (v : Verified) (m : RoomyMachine) (r r' : RecordingView D) (why why' : Option Halt) (budget : ℕ) (owed : Both Bool)
     → IsTable state (table_of v m r why budget owed) → Records state [] r r' → HasReason m.machine r' why' → IsTable state (table_of v m r' why' budget owed)
 flushed_table state v m r r' why why' budget owed table records reason =
@@ -94,12 +98,14 @@ disk_dead m r why reason is = subst (HasReason m r) is reason
 numbers_differ : (a b : ℕ) → (a == b) ≡ false → a ≢ b
 numbers_differ a b is same = absurd (grind arith)
 
+-- a held table that is all flushed, with a journal that may be written
 module _ {D : Type 0} (h : HeldView D) (live : IsTrue h.file.live) (all : h.flushed ≡ length h.history) (halts : IsNoneOrAlarm (without_turret h.halt)) where
-  -- a held table that is all flushed ended as its machine did
+  -- a held table that is all flushed has the end of its machine
   at_end : (e : Option Reason) → end_of h.machine ≡ e → IsAtEnd h e
   at_end e is = record { live = live; all = all; halt = halts; machine = is }
 
-  -- it ended by the first of these causes: its machine, a full journal, a spent budget
+  -- a held table that is all flushed ended by the first of these causes: its machine, a full
+  -- journal, a spent budget
   by_parts : (alarm : Option Alarm) (both full spent : Bool) (end : Reason) → end_of h.machine ≡ end_by alarm both
       → (length h.history == h.verified.settings.records) ≡ full → (h.budget == 0) ≡ spent
       → end_or_bound (end_by alarm both) (if full then Some halt.Full else if spent then Some halt.Budget else None) ≡ Some end → HasEnded h end
@@ -109,16 +115,16 @@ module _ {D : Type 0} (h : HeldView D) (live : IsTrue h.file.live) (all : h.flus
   by_parts None false false true end is f s same = subst (HasEnded h) (some_is same) (at_end None is, numbers_differ (length h.history) h.verified.settings.records f, equal h.budget 0 s)
   by_parts None false false false end is f s same = absurd cc
 
-  -- so it ended by the cause that the code finds
+  -- a held table that is all flushed ended by the cause that the code finds
   pub has_ended : (end : Reason)
       → end_or_bound (end_of h.machine) (if length h.history == h.verified.settings.records then Some halt.Full else if h.budget == 0 then Some halt.Budget else None) ≡ Some end
       → HasEnded h end
   has_ended end same =
       by_parts h.machine.alarm (h.machine.paths.one.finished && h.machine.paths.two.finished) (length h.history == h.verified.settings.records) (h.budget == 0) end refl refl refl same
 
--- no cause by its parts
+-- a held table whose journal may be written, and that keeps no fault of the disk
 module _ {D : Type 0} (h : HeldView D) (live : IsTrue h.file.live) (halts : h.halt ≢ Some halt.Disk) where
-  -- if no cause is found none of them stands,
+  -- if no cause of an end is found, none of them holds
   none_by_parts : (e : Option Reason) (full spent : Bool) → end_of h.machine ≡ e
       → (length h.history == h.verified.settings.records) ≡ full → (h.budget == 0) ≡ spent
       → end_or_bound e (if full then Some halt.Full else if spent then Some halt.Budget else None) ≡ None → HasNotEnded h
@@ -128,7 +134,7 @@ module _ {D : Type 0} (h : HeldView D) (live : IsTrue h.file.live) (halts : h.ha
   none_by_parts None false false is f s none =
       record { live = live; halt = halts; machine = is; room = numbers_differ (length h.history) h.verified.settings.records f; leave = numbers_differ h.budget 0 s }
 
-  -- so the run goes on
+  -- if no cause of an end is found, the run has not ended
   pub has_not_ended : end_or_bound (end_of h.machine) (if length h.history == h.verified.settings.records then Some halt.Full else if h.budget == 0 then Some halt.Budget else None) ≡ None
       → HasNotEnded h
   has_not_ended none = none_by_parts (end_of h.machine) (length h.history == h.verified.settings.records) (h.budget == 0) refl refl refl none
@@ -147,9 +153,9 @@ no_fault_ahead : {D : Type 0} (t : TableView D) → end_ahead t ≡ Some cause.D
 no_fault_ahead t is =
     no_fault_by t.machine.alarm (t.machine.paths.one.finished && t.machine.paths.two.finished) (length t.recording.history == t.verified.settings.records) (t.budget == 0) is
 
--- what asking for the end comes to
+-- the steps of `Table::ended`, with the table before it and after it
 module _ {D : Type 0} (state : D → DiskState) (old new : TableView D) (result : Option Reason) (table : IsTable state old) (asks : Asks old new result) where
-  -- the cause that the call tells is the one that stands,
+  -- the cause that the call tells holds
   pub ends : (shown : Bool) → IfSome result (λ end. HasEnded (held_of new shown) end)
   ends shown = go asks
     where
@@ -167,7 +173,7 @@ module _ {D : Type 0} (state : D → DiskState) (old new : TableView D) (result 
       go (failed free pends same rest history dead still) =
           subst (λ (o : Option Reason). IfSome o (λ end. HasEnded (held_of new shown) end)) (sym same) (ap (λ (t : TableView D). t.halt) rest, dead)
 
-  -- if it tells none, none stands,
+  -- if the call tells none, the run has not ended
   pub goes_on : (shown : Bool) → IfNone result (HasNotEnded (held_of new shown))
   goes_on shown = go asks
     where
@@ -183,7 +189,7 @@ module _ {D : Type 0} (state : D → DiskState) (old new : TableView D) (result 
       go (written free end is same rest history live all settled) = none end same
       go (failed free pends same rest history dead still) = none cause.DiskFault same
 
-  -- and the rest of the held table is as it was
+  -- all of the held table but its file, its flushed count and its reason stays
   pub rest_kept : (shown : Bool) → KeepsRest (held_of old shown) (held_of new shown) result
   rest_kept shown = go asks
     where
@@ -253,7 +259,7 @@ module _ {D : Type 0} (state : D → DiskState) (old new : TableView D) (result 
             settled = λ every. absurd (omega (arith, pends, every));
           }
 
-  -- no record is made by it
+  -- the call makes no record
   history_kept : new.recording.history ≡ old.recording.history
   history_kept = go asks
     where
@@ -263,12 +269,13 @@ module _ {D : Type 0} (state : D → DiskState) (old new : TableView D) (result 
       go (written free end is same rest history live all settled) = history
       go (failed free pends same rest history dead still) = history
 
-  -- so the moves that were answered stay
+  -- the moves that were answered stay the same
   pub records_kept : (opened : Option (TableView D)) (shown : Bool) (p : Path) → records_since opened (held_of new shown) p ≡ records_since opened (held_of old shown) p
   records_kept None shown p = refl
   records_kept (Some start) shown p =
       ap (λ (l : _). records_since (Some start) (record (held_of old shown) { history = l }) p) history_kept
 
+  -- the call on a held table
   module _ (opened : Option (TableView D)) (shown : Bool) (since : Since state old new) (held : IsHeld state opened old shown) where
     -- what was shown stays on the disk
     shows : (o : Option (TableView D)) → IsOf state o old → ShowsFlushed o (held_of old shown) old → ShowsFlushed o (held_of new shown) new
@@ -292,14 +299,14 @@ module _ {D : Type 0} (state : D → DiskState) (old new : TableView D) (result 
     lost (written free end why same rest history live all settled) unseen = absurd (free (held.lost unseen))
     lost (failed free pends same rest history dead still) unseen = ap (λ (t : TableView D). t.halt) rest
 
-    -- and the held table is one still
+    -- the held table is still a held table after the call
     pub held_asked : IsHeld state opened new shown
     held_asked = record { of = of_more state opened old new held.of since; lost = lost asks; shows = shows opened held.of held.shows }
 
--- the table that is taken out
+-- the table that is taken out of a held one, as one that began at `start`
 module _ {D : Type 0} (state : D → DiskState) (start taken : TableView D) (held : HeldView D) (since : Since state start taken) (calm : start.halt ≢ Some halt.Disk)
     (is : IsTaken held taken) where
-  -- the same end holds of the table that is taken out,
+  -- the end of the held table is that of the table that is taken out
   taken_end : (e : Option Reason) → IsAtEnd held e → IsEnd taken e
   taken_end e at = record {
     live = subst (λ (f : Gate D). IsTrue f.live) (sym is.file) at.live;
@@ -310,7 +317,7 @@ module _ {D : Type 0} (state : D → DiskState) (start taken : TableView D) (hel
     machine = ap end_of is.machine ∙ at.machine;
   }
 
-  -- by each cause
+  -- each end of the held table is that of the table that is taken out
   pub taken_ended : (end : Reason) → HasEnded held end → EndsBy state start taken end
   taken_ended (cause.Alarm alarm) at = taken_end (Some (cause.Alarm alarm)) at
   taken_ended cause.Done at = taken_end (Some cause.Done) at

@@ -1,4 +1,6 @@
--- What a held table has answered is on the disk: an invariant of each step.
+-- The moves that a held table has answered are those of records on the disk: an invariant of each
+-- step.
+-- HeldKept, EndsTold and the proof of `a_table_opens_itself` (src/laws.rt) use it.
 use Rattle.std.proofs.Common.{◌≡◌, ◌≢◌, inl, inr, ℕ, ◌≤◌, ◌==◌, Bool, true, false, List, [], ◌∷◌, ◌++◌, length, take, drop, refl, sym, ◌∙◌, ap, subst, arith, append-nil, append_assoc, length-append, Option, Some, None}
 use Rattle.std.specs.Prelude.{MatchOption, not, ◌&&◌}
 use Rattle.std.proofs.Math.Seq.{take-length, take-append_seam, drop-length, drop-append_seam}
@@ -31,24 +33,24 @@ use Rattle.run_table.specs.Holding.{HeldView, held_of, ShowsFlushed, MayHold, ha
 use Rattle.run_table.proofs.HeldSteps.{comes}
 use Rattle.run_table.proofs.Then.{since_none, since_more}
 
--- the moves of one record more stand behind those before
+-- the moves of a list of records with one more are those before and then its own
 moves_more : (records : List (List LinedMove)) (moves : List LinedMove) → moves_in (records ++ moves ∷ []) ≡ moves_in records ++ moves
 moves_more [] moves = append-nil moves
 moves_more (first ∷ records) moves = ap (λ (l : List LinedMove). first ++ l) (moves_more records moves) ∙ sym (append_assoc first (moves_in records) moves)
 
--- a record that may stand without moves adds none
+-- if the lists of records may differ only by one without moves, their moves are the same
 may_same : (before after : List (List LinedMove)) → MayRecord before after → moves_in after ≡ moves_in before
 may_same before after (inl is) = ap moves_in is
 may_same before after (inr is) = ap moves_in is ∙ moves_more before [] ∙ append-nil (moves_in before)
 
 -- an answer that shows nothing adds no moves
 module _ {H : Type 0} (old new : H) (before after : List (List LinedMove)) (same : new ≡ old → after ≡ before) where
-  -- moves that show nothing are none,
+  -- the moves of a block that show nothing add none to the list
   quiet_handed : (moves : Moves) (b : Bool) → (length moves.list == 0) ≡ b → not b ≡ false → Adds before (handed moves) after → moves_in after ≡ moves_in before
   quiet_handed moves true none quiet adds = may_same before after (rw none at adds)
   quiet_handed moves false some quiet adds = absurd cc
 
-  -- and so are those of a turn that shows nothing
+  -- a turn that shows nothing leaves the moves of the lists as they are
   pub quiet_turn : (t : Turn) → is_shown t ≡ false → MatchOption (next_of_turn t) (new ≡ old) (λ next. Adds before next after) → moves_in after ≡ moves_in before
   quiet_turn (turn.Read variable stamp) quiet adds = may_same before after adds
   quiet_turn (turn.Did moves) quiet adds = quiet_handed moves (length moves.list == 0) refl quiet adds
@@ -61,7 +63,8 @@ module _ {H : Type 0} (old new : H) (before after : List (List LinedMove)) (same
   quiet_turn (turn.Halted alarm) quiet adds = may_same before after adds
   quiet_turn turn.Edited quiet adds = may_same before after adds
 
--- each path is the one that stepped, or the other
+-- if the moves of the path that stepped stay, and the other's list stays, the moves of each path
+-- stay
 by_path : (path p : Path) {before after : Path → List (List LinedMove)} → moves_in (after path) ≡ moves_in (before path) → ((q : Path) → q ≢ path → after q ≡ before q)
     → moves_in (after p) ≡ moves_in (before p)
 by_path One One own others = own
@@ -76,7 +79,7 @@ made_same pair path from upto history made first last =
     λ i. moves_in (shown_from (tapes_in pair) (fold (tapes_in pair) (opening_of pair) (take-append-le from history made first i)) path
     (drop from (take-append-le upto history made last i)))
 
--- the moves of all records behind a history
+-- the moves of all records that were added to a history
 made_behind : (pair : Verified) (path : Path) (history made : List Entry)
     → moves_made pair path (length history) (length (history ++ made)) (history ++ made)
     ≡ moves_in (shown_from (tapes_in pair) (fold (tapes_in pair) (opening_of pair) history) path made)
@@ -123,33 +126,33 @@ shows_none t = λ path.
 pub opens_itself : {D : Type 0} (state : D → DiskState) (t : TableView D) → ((disk : D) → IsCoherent (state disk)) → MayHold state (Some t) t
 opens_itself state t coherent = record { of = since_none state t coherent; shows = shows_none t }
 
--- which tables have not stopped for a fault of the disk, by whether the moves of the last record
--- were answered
+-- if moves of the last record are unanswered only after a fault of the disk, a table without that
+-- fault has answered them
 pub shown_unless : {D : Type 0} (t : TableView D) (shown : Bool) → (shown ≡ false → t.halt ≡ Some halt.Disk) → t.halt ≢ Some halt.Disk → shown ≡ true
 shown_unless t true lost free = refl
 shown_unless t false lost free = absurd (free (lost refl))
 
--- a step
+-- the setting of a step of a held table, from the table t to t'
 module _ {D : Type 0} (state : D → DiskState) (path : Path) (start t t' : TableView D) (result : TableStep) (shown shown' : Bool)
     (table : IsTable state t) (since : Since state start t) (lost : shown ≡ false → t.halt ≡ Some halt.Disk)
     (within : t.recording.flushed ≤ length t.recording.history) (shows : ShowsFlushed (Some start) (held_of t shown) t)
     (step : IsStep state (step_of t path) t t' result) (then : Since state t t') (owed : t'.owed ≡ owed_behind path result t.owed)
     (shown_is : shown' ≡ (shown && not (is_lost result (length t.recording.history) (length t'.recording.history)))) where
-  -- the records with their moves, before the step,
+  -- the records of a path since the opening with their answered moves, before the step
   abbrev before : Path → List (List LinedMove)
   before p = records_since (Some start) (held_of t shown) p
 
-  -- and behind it
+  -- the records of a path since the opening with their answered moves, after the step
   abbrev after : Path → List (List LinedMove)
   after p = records_since (Some start) (held_of t' shown') p
 
-  -- what this answer adds to the moves
+  -- this result adds its moves to the list of its path, and leaves the other's
   abbrev Comes : TableStep → Type 0
   Comes answer =
       MatchOption (next_of answer) (◌≡◌ {A = HeldView D} (held_of t' shown') (held_of t shown)) (λ next. Adds (before path) next (after path))
       × ((p : Path) → p ≢ path → after p ≡ before p)
 
-  -- the answer of the step adds just that
+  -- the result of the step adds just its moves
   came : Comes result
   came = comes state path start t t' result shown shown' table since lost step owed shown_is
 
@@ -166,25 +169,25 @@ module _ {D : Type 0} (state : D → DiskState) (path : Path) (start t t' : Tabl
   quiet same answer is none =
       still same (none (subst (λ (r : TableStep). MatchOption (next_of r) (◌≡◌ {A = HeldView D} (held_of t' shown') (held_of t shown)) (λ next. Adds (before path) next (after path))) is came.0))
 
-  -- the same of the answer of a turn that shows nothing,
+  -- a turn that shows nothing leaves what was shown on the disk
   quiet_one : (t'.recording.flushed ≡ t.recording.flushed) → (u : Turn) → result ≡ Turned u → is_shown u ≡ false → ShowsFlushed (Some start) (held_of t' shown') t'
   quiet_one same u is none =
       quiet same (Turned u) is
       (λ adds. quiet_turn {H = HeldView D} (held_of t shown) (held_of t' shown') (before path) (after path) (λ even. ap (λ (h : HeldView D). records_since (Some start) h path) even) u none adds)
 
-  -- of an answer that the table has stopped,
+  -- an answer that the table has stopped leaves what was shown on the disk
   halted : (t'.recording.flushed ≡ t.recording.flushed) → (why : Halt) → result ≡ Halted why → ShowsFlushed (Some start) (held_of t' shown') t'
   halted same why is = quiet same (Halted why) is (λ adds. may_same (before path) (after path) adds)
 
-  -- of a fault of the disk,
+  -- a fault of the disk leaves what was shown on the disk
   fault : (t'.recording.flushed ≡ t.recording.flushed) → result ≡ DiskFault → ShowsFlushed (Some start) (held_of t' shown') t'
   fault same is = quiet same DiskFault is (λ adds. may_same (before path) (after path) adds)
 
-  -- and of a drain
+  -- a drain leaves what was shown on the disk
   drain : (t'.recording.flushed ≡ t.recording.flushed) → result ≡ Drain → ShowsFlushed (Some start) (held_of t' shown') t'
   drain same is = quiet same Drain is (λ adds. ap moves_in adds)
 
-  -- if all records are on the disk behind the step, all that was shown is
+  -- if all records are on the disk after the step, all that was shown is
   all : t.halt ≡ None → result ≢ DiskFault → t'.recording.flushed ≡ length t'.recording.history → ShowsFlushed (Some start) (held_of t' shown') t'
   all calm fine flushed_all =
       let free : t.halt ≢ Some halt.Disk = λ is. let clash : None ≡ Some halt.Disk = sym calm ∙ is in cc in
@@ -198,7 +201,7 @@ module _ {D : Type 0} (state : D → DiskState) (path : Path) (start t t' : Tabl
       not_lost DiskFault fine = absurd (fine refl)
       not_lost (Halted why) fine = refl
 
-  -- by each answer: nothing was due, all was flushed, or the disk failed
+  -- whatever was due before the answer, all that was shown after the step is on the disk
   by_answer : (due : Bool) (answer : TableStep) → answer ≢ DiskFault → (due ≡ true → t.halt ≡ None) → Answers state due answer t.recording t'.recording result
       → (t'.recording.flushed ≡ t.recording.flushed → result ≡ answer → due ≡ false → ShowsFlushed (Some start) (held_of t' shown') t')
       → ShowsFlushed (Some start) (held_of t' shown') t'

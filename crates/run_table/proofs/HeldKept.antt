@@ -1,4 +1,6 @@
--- A held table stays one: over each call that changes it, and taken out.
+-- A held table stays one over each call that changes it, and a table that is taken out may be held
+-- again.
+-- EndsTold and the proofs of src/held.rt use it.
 use Rattle.std.proofs.Common.{◌≡◌, ◌≢◌, ℕ, ◌≤◌, ◌&&◌, Bool, true, false, length, refl, sym, ◌∙◌, ap, subst, Option, Some, None}
 use Rattle.std.specs.Prelude.{not, MatchOption}
 use Rattle.disk_model.specs.Device.{DiskState}
@@ -23,16 +25,17 @@ use Rattle.run_table.proofs.Then.{since_more}
 pub lost_by : (shown : Bool) (result : TableStep) {a a' b b' : ℕ} → a ≡ a' → b ≡ b' → (shown && not (is_lost result a b)) ≡ (shown && not (is_lost result a' b'))
 lost_by shown result first second = λ i. shown && not (is_lost result (first i) (second i))
 
--- what has come of a table since has come of any opening of it
+-- if a table came of an opening, what has come of the table since came of that opening too
 pub of_more : {D : Type 0} (state : D → DiskState) (opened : Option (TableView D)) (t t' : TableView D) → IsOf state opened t → Since state t t' → IsOf state opened t'
 of_more state None t t' of since = absurd of
 of_more state (Some start) t t' of since = since_more state start t t' of since
 
+-- a step of a path of a held table, from the table t to t'
 module _ {D : Type 0} (state : D → DiskState) (opened : Option (TableView D)) (path : Path) (t t' : TableView D) (result : TableStep) (shown shown' : Bool)
     (table : IsTable state t) (within : t.recording.flushed ≤ length t.recording.history) (held : IsHeld state opened t shown) (step : IsStep state (step_of t path) t t' result) (since : Since state t t')
     (owed : t'.owed ≡ owed_behind path result t.owed)
     (shown_is : shown' ≡ (shown && not (is_lost result (length t.recording.history) (length t'.recording.history)))) where
-  -- a step of a held table keeps it one,
+  -- a step of a held table leaves a held table
   pub held_on : IsHeld state opened t' shown'
   held_on = record { of = of_more state opened t t' held.of since; lost = go opened held.of; shows = shows opened held.of held.shows }
     where
@@ -44,7 +47,7 @@ module _ {D : Type 0} (state : D → DiskState) (opened : Option (TableView D)) 
       go None of = absurd of
       go (Some start) of = still_lost state path start t t' result shown shown' table of held.lost step owed shown_is
 
-  -- adds the moves that it answers to those of its path,
+  -- a step of a held table adds the moves that it answers to those of its path
   pub held_answers : MatchOption (next_of result) (◌≡◌ {A = HeldView D} (held_of t' shown') (held_of t shown))
       (λ next. Adds (records_since opened (held_of t shown) path) next (records_since opened (held_of t' shown') path))
   held_answers = go opened held.of
@@ -54,7 +57,7 @@ module _ {D : Type 0} (state : D → DiskState) (opened : Option (TableView D)) 
       go None of = absurd of
       go (Some start) of = (comes state path start t t' result shown shown' table of held.lost step owed shown_is).0
 
-  -- and none to those of the other path
+  -- a step of a held table adds no moves to those of the other path
   pub held_others : (p : Path) → p ≢ path → records_since opened (held_of t' shown') p ≡ records_since opened (held_of t shown) p
   held_others = go opened held.of
     where
@@ -85,7 +88,7 @@ of_halt state None t why disk of = absurd of
 of_halt state (Some start) t why disk of =
     record { verified = of.verified; made = of.made; recording = of.recording; budget = of.budget; cause = λ is. of.cause (disk is) }
 
--- if a fault of the disk is left without the turret, it stood there
+-- a reason without a turret's fault is a fault of the disk only if the reason itself is
 pub no_turret_disk : (why : Option Halt) → without_turret why ≡ Some halt.Disk → why ≡ Some halt.Disk
 no_turret_disk None is = absurd (let clash : None ≡ Some halt.Disk = is in cc)
 no_turret_disk (Some (halt.Alarm alarm)) is = is
@@ -94,7 +97,7 @@ no_turret_disk (Some (halt.Turret path)) is = absurd (let clash : None ≡ Some 
 no_turret_disk (Some halt.Full) is = is
 no_turret_disk (Some halt.Budget) is = is
 
--- no turret's reason makes a fault of the disk,
+-- if a turret's fault is noted and the reason is then a fault of the disk, it was one before
 pub first_disk : (kept : Option Halt) (why : Halt) → IsOfTurret why → first_reason kept why ≡ Some halt.Disk → kept ≡ Some halt.Disk
 first_disk None (halt.Alarm alarm) turret is = absurd turret
 first_disk None halt.Disk turret is = absurd turret
@@ -103,17 +106,17 @@ first_disk None halt.Full turret is = absurd turret
 first_disk None halt.Budget turret is = absurd turret
 first_disk (Some first) why turret is = is
 
--- and none replaces one
+-- a turret's fault does not replace a fault of the disk as the reason
 pub disk_first : (kept : Option Halt) (why : Halt) → kept ≡ Some halt.Disk → first_reason kept why ≡ Some halt.Disk
 disk_first kept why is = ap (λ (k : Option Halt). first_reason k why) is
 
--- what it showed does not hang on the reason, nor on who has to be drained
+-- what a table showed is still on the disk if only who has to be drained is set
 pub shows_owed : {D : Type 0} (opened : Option (TableView D)) (t : TableView D) (shown : Bool) (owed : Both Bool) → ShowsFlushed opened (held_of t shown) t
     → ShowsFlushed opened (held_of (record t { owed = owed }) shown) (record t { owed = owed })
 shows_owed None t shown owed is = is
 shows_owed (Some start) t shown owed is = is
 
--- nor does the reason change what was shown
+-- what a table showed is still on the disk if only its reason is set
 pub shows_halt : {D : Type 0} (opened : Option (TableView D)) (t : TableView D) (shown : Bool) (why : Option Halt) → ShowsFlushed opened (held_of t shown) t
     → ShowsFlushed opened (held_of (record t { halt = why }) shown) (record t { halt = why })
 shows_halt None t shown why is = is
@@ -135,12 +138,13 @@ records_halt : {D : Type 0} (opened : Option (TableView D)) (t : TableView D) (s
 records_halt None t shown why p = refl
 records_halt (Some start) t shown why p = refl
 
+-- a held table that is taken out
 module _ {D : Type 0} (state : D → DiskState) (opened : Option (TableView D)) (t : TableView D) (shown : Bool) (held : IsHeld state opened t shown) where
-  -- what a held table has shown is on the disk in the table that is taken out,
+  -- what a held table has shown is on the disk of the table that is taken out
   pub taken_shows : ShowsFlushed opened (held_of t shown) (record t { halt = without_turret t.halt })
   taken_shows = taken_shown opened t shown (without_turret t.halt) held.shows
 
-  -- which may be held again with the same moves
+  -- the table that is taken out may be held again, with the same answered moves
   pub taken_again : without_turret t.halt ≢ Some halt.Disk → MayHoldAgain state opened (held_of t shown) (record t { halt = without_turret t.halt })
   taken_again free =
       let free' : t.halt ≢ Some halt.Disk = λ is. free (ap without_turret is) in

@@ -1,4 +1,5 @@
--- A step of a table that is held: what the lists of the records come to.
+-- A step of a held table: what it adds to the lists of answered moves of both paths.
+-- HeldKept, WaitsTold and FlushedShown use it.
 use Rattle.std.proofs.Common.{◌≡◌, ◌≢◌, inl, inr, ℕ, ◌+◌, ◌<◌, ◌==◌, ◌&&◌, Bool, true, false, List, [], ◌∷◌, ◌++◌, length, drop, refl, sym, ◌∙◌, ap, subst, arith, append-nil, append_assoc, length-append, Option, Some, None}
 use Rattle.std.specs.Prelude.{nat_lt, not, MatchOption}
 use Rattle.std.proofs.Math.Seq.{drop-append_seam}
@@ -36,7 +37,7 @@ use Rattle.run_table.proofs.OtherGoesOn.{waits_still}
 use Rattle.run_table.proofs.ListsGrow.{GrowsBy, shown_grows, lost_grows, turn_adds, turn_stays}
 use Rattle.run_table.proofs.Redone.{redone}
 
--- no record is lost where none was made
+-- no record is lost if none was made
 none_lost : (result : TableStep) (n n' : ℕ) → n' ≡ n → is_lost result n n' ≡ false
 none_lost (Turned t) n n' same = refl
 none_lost Drain n n' same = refl
@@ -51,11 +52,12 @@ one_lost n n' more = let is : (n == n') ≡ false = grind arith in ap not is
 pub not_full : (written n m : ℕ) → m ≡ n → n < written + MOST_PENDING → (written + MOST_PENDING == m) ≡ false
 not_full written n m same few = grind arith
 
--- what is true beside a test is that test
+-- a test and `true` together are that test
 still : (b : Bool) → (b && true) ≡ b
 still true = refl
 still false = refl
 
+-- a step of a path of a held table that was opened as `start`, from the table t to t'
 module _ {D : Type 0} (state : D → DiskState) (path : Path) (start t t' : TableView D) (result : TableStep) (shown shown' : Bool)
     (table : IsTable state t) (since : Since state start t) (lost : shown ≡ false → t.halt ≡ Some halt.Disk)
     (step : IsStep state (step_of t path) t t' result) (owed : t'.owed ≡ owed_behind path result t.owed)
@@ -68,36 +70,37 @@ module _ {D : Type 0} (state : D → DiskState) (path : Path) (start t t' : Tabl
   abbrev first : MachineView
   first = fold (tapes_in start.verified) (opening_of start.verified) start.recording.history
 
-  -- the records with their moves, before the step,
+  -- the records of a path since the opening with their answered moves, before the step
   abbrev before : Path → List (List LinedMove)
   before p = records_since (Some start) (held_of t shown) p
 
-  -- and behind it
+  -- the records of a path since the opening with their answered moves, after the step
   abbrev after : Path → List (List LinedMove)
   after p = records_since (Some start) (held_of t' shown') p
 
-  -- this answer is what the step adds to the list of each path
+  -- this answer is what the step adds to the list of its path, and the other's list stays
   abbrev Comes : TableStep → Type 0
   Comes answer =
       MatchOption (next_of answer) (◌≡◌ {A = HeldView D} (held_of t' shown') (held_of t shown)) (λ next. Adds (before path) next (after path))
       × ((p : Path) → p ≢ path → after p ≡ before p)
 
-  -- the records since the opening, before the step,
+  -- before the step the records since the opening are those that were made since
   behind : drop (length start.recording.history) t.recording.history ≡ since.made
   behind = ap (drop (length start.recording.history)) since.recording.history ∙ drop-append_seam start.recording.history since.made
 
+  -- a step that makes these records
   module _ (made : List Entry) (grown : t'.recording.history ≡ t.recording.history ++ made) where
-    -- and behind it
+    -- after the step the records since the opening are those made before it and those that it made
     behind' : drop (length start.recording.history) t'.recording.history ≡ since.made ++ made
     behind' =
         ap (drop (length start.recording.history)) (grown ∙ ap (λ (l : List Entry). l ++ made) since.recording.history ∙ append_assoc start.recording.history since.made made)
         ∙ drop-append_seam start.recording.history (since.made ++ made)
 
-    -- a step adds as many records as it makes
+    -- a step makes the history longer by the records that it makes
     pub count' : length t'.recording.history ≡ length t.recording.history + length made
     count' = ap length grown ∙ length-append t.recording.history made
 
-  -- no record
+  -- a step that makes no record
   module _ (grown : t'.recording.history ≡ t.recording.history ++ []) where
     -- whether the last moves were answered stays as it was
     shown_same : shown' ≡ shown
@@ -109,7 +112,7 @@ module _ {D : Type 0} (state : D → DiskState) (path : Path) (start t t' : Tabl
         ap (λ (b : Bool). answered_from tapes first p b (drop (length start.recording.history) t'.recording.history)) shown_same
         ∙ ap (λ (l : List Entry). answered_from tapes first p shown (drop (length start.recording.history) l)) (grown ∙ append-nil t.recording.history)
 
-  -- a table that nothing has stopped
+  -- a step of a table that nothing has stopped
   module _ (why : t.halt ≡ None) where
     -- if a record is made, the last one's moves were answered
     shown_before : shown ≡ true
@@ -127,7 +130,7 @@ module _ {D : Type 0} (state : D → DiskState) (path : Path) (start t t' : Tabl
     abbrev the_turn : Turn
     the_turn = (turn_of (tapes_in t.verified) path t.machine).turn
 
-    -- its record, of this kind
+    -- the record of the turn, of this kind
     abbrev entry : EntryKind → Entry
     entry k = record { path = path; kind = k; stamps = (of_path t.machine.paths path).stamps }
 
@@ -139,7 +142,7 @@ module _ {D : Type 0} (state : D → DiskState) (path : Path) (start t t' : Tabl
     kept : IsKept tapes (opening_of start.verified) t.recording.history t.machine
     kept = subst (λ (v : Verified). IsKept (tapes_in v) (opening_of v) t.recording.history t.machine) since.verified table.kept
 
-    -- the moves of its record done again are those of the turn
+    -- the moves of the turn's record, done again, are those of the turn
     same_moves : (k : EntryKind) → edit_of k ≡ None → made_in (turn_of_entry tapes (entry k) (fold tapes first since.made)) ≡ made_in the_turn
     same_moves k plain =
         let there : fold tapes first since.made ≡ without_reads t.machine =
@@ -148,7 +151,7 @@ module _ {D : Type 0} (state : D → DiskState) (path : Path) (start t t' : Tabl
         ∙ ap made_in (redone tapes path t.machine k plain kept.lawful)
         ∙ ap (λ (v : Verified). made_in (turn_of (tapes_in v) path t.machine).turn) (sym since.verified)
 
-    -- a record, and its answer
+    -- a step that makes one record, and its answer
     module _ (k : EntryKind) (grown : t'.recording.history ≡ t.recording.history ++ entry k ∷ []) where
       -- a record whose moves are answered adds them to the list of its path
       pub shown_grown : edit_of k ≡ None → (is_lost result (length t.recording.history) (length t'.recording.history) ≡ false) → GrowsBy path (made_in the_turn) before after
@@ -162,7 +165,7 @@ module _ {D : Type 0} (state : D → DiskState) (path : Path) (start t t' : Tabl
           (subst (λ (l : List Entry). GrowsBy path (made_in the_turn) (λ p. answered_from tapes first p true since.made) (λ p. answered_from tapes first p true l)) (sym (behind' (entry k ∷ []) grown))
           (shown_grows tapes first path since.made (entry k) refl (made_in the_turn) (same_moves k plain)))))
 
-      -- one whose moves were lost adds an entry without moves
+      -- a record whose moves were lost adds an entry without moves
       pub lost_grown : (is_lost result (length t.recording.history) (length t'.recording.history) ≡ true) → GrowsBy path [] before after
       lost_grown lost_it =
           let now : shown' ≡ false = shown_is ∙ ap (λ (b : Bool). shown && not b) lost_it ∙ and_false shown false refl in
@@ -174,30 +177,30 @@ module _ {D : Type 0} (state : D → DiskState) (path : Path) (start t t' : Tabl
           (subst (λ (l : List Entry). GrowsBy path [] (λ p. answered_from tapes first p true since.made) (λ p. answered_from tapes first p false l)) (sym (behind' (entry k ∷ []) grown))
           (lost_grows tapes first path since.made (entry k) refl))))
 
-    -- a path that waits: nothing changes
+    -- a turn that says that the path waits
     module _ (turned : IsStep state (step_by t path None None false) t t' result) (code : ℕ) (waits : the_turn ≡ turn.Waiting code) where
-      -- a path that waits makes no record,
+      -- a path that waits makes no record
       none_made : list_of (entry_of (tapes_in t.verified) path t.machine) ≡ []
       none_made = made_is None (ap kind_of waits)
 
-      -- so the history stays,
+      -- after the turn of a path that waits the history is the same
       same_history : t'.recording.history ≡ t.recording.history ++ []
       same_history = turned.records.follows.history ∙ ap (λ (l : List Entry). t.recording.history ++ l) none_made
 
-      -- and no flush is due,
+      -- no flush is due for a path that waits
       not_due : is_due t.recording (list_of (entry_of (tapes_in t.verified) path t.machine)) the_turn ≡ false
       not_due =
           ap (λ (l : List Entry). is_due t.recording l the_turn) none_made ∙ ap (is_due t.recording []) waits
           ∙ not_full t.recording.flushed (length t.recording.history) (length (t.recording.history ++ [])) (ap length (append-nil t.recording.history)) may.few
 
-      -- so the disk isn't touched,
+      -- the disk isn't touched for a path that waits
       rests : Answers state (is_due t.recording (list_of (entry_of (tapes_in t.verified) path t.machine)) the_turn) (Turned the_turn) t.recording t'.recording result
           → (result ≡ Turned the_turn) × (t'.recording.log.file ≡ t.recording.log.file) × (t'.recording.flushed ≡ t.recording.flushed)
       rests (at_once now same file even) = (same, file, even)
       rests (flushed due same live all) = absurd (let clash : true ≡ false = sym due ∙ not_due in cc)
       rests (failed due same dead stay rose) = absurd (let clash : true ≡ false = sym due ∙ not_due in cc)
 
-      -- and the held table is as it was
+      -- the held table is as it was after the turn of a path that waits
       pub unchanged : ◌≡◌ {A = HeldView D} (held_of t' shown') (held_of t shown)
       unchanged =
           let at = rests turned.answer in
@@ -219,13 +222,13 @@ module _ {D : Type 0} (state : D → DiskState) (path : Path) (start t t' : Tabl
             shown = shown_same same_history i;
           }
 
-    -- a turn comes
+    -- a step that is the path's turn
     module _ (turned : IsStep state (step_by t path None None false) t t' result) where
       -- the history grows by the record of the turn, if it makes one
       history_by : (k : Option EntryKind) → kind_of the_turn ≡ k → t'.recording.history ≡ t.recording.history ++ list_of (entry_with path (of_path t.machine.paths path).stamps k)
       history_by k is = turned.records.follows.history ∙ ap (λ (l : List Entry). t.recording.history ++ l) (made_is k is)
 
-      -- a turn that is answered adds its moves
+      -- a turn that is answered adds its moves to the list of its path
       shown_result : (k : Option EntryKind) → kind_of the_turn ≡ k → result ≡ Turned the_turn → Comes (Turned the_turn)
       shown_result None is same = (
         turn_stays (held_of t shown) (held_of t' shown') (before path) (after path) the_turn is (stays (history_by None is) path) (λ code waits. unchanged turned code waits),
@@ -235,7 +238,7 @@ module _ {D : Type 0} (state : D → DiskState) (path : Path) (start t t' : Tabl
           let grows = shown_grown k (history_by (Some k) is) (no_edit the_turn k is) (ap (λ (r : TableStep). is_lost r (length t.recording.history) (length t'.recording.history)) same) in
           (turn_adds (held_of t shown) (held_of t' shown') (before path) (after path) the_turn k is grows.own, grows.others)
 
-      -- one whose flush failed adds none
+      -- a turn whose flush failed adds no moves
       failed_result : (k : Option EntryKind) → kind_of the_turn ≡ k → result ≡ DiskFault → Comes DiskFault
       failed_result None is same = (inl (stays (history_by None is) path), λ p differ. stays (history_by None is) p)
       failed_result (Some k) is same =
@@ -244,7 +247,7 @@ module _ {D : Type 0} (state : D → DiskState) (path : Path) (start t t' : Tabl
           (ap (λ (r : TableStep). is_lost r (length t.recording.history) (length t'.recording.history)) same ∙ one_lost (length t.recording.history) (length t'.recording.history) more) in
           (inr grows.own, grows.others)
 
-      -- so the answer of a turn is what the step adds
+      -- the result of a turn is what the step adds, whether the flush before it failed or not
       pub turn_comes : Answers state (is_due t.recording (list_of (entry_of (tapes_in t.verified) path t.machine)) the_turn) (Turned the_turn) t.recording t'.recording result → Comes result
       turn_comes (at_once now same file even) = subst Comes (sym same) (shown_result (kind_of the_turn) refl same)
       turn_comes (flushed due same live all) = subst Comes (sym same) (shown_result (kind_of the_turn) refl same)
@@ -284,7 +287,7 @@ module _ {D : Type 0} (state : D → DiskState) (path : Path) (start t t' : Tabl
       answered (flushed was same live all) = absurd (let clash : false ≡ true = was in cc)
       answered (failed was same dead stay rose) = absurd (let clash : false ≡ true = was in cc)
 
-  -- a record is lost only as the disk fails
+  -- a record is lost only if the disk fails
   pub still_lost : shown' ≡ false → t'.halt ≡ Some halt.Disk
   still_lost is = before_it shown refl
     where

@@ -1,4 +1,5 @@
--- The journal holds a beginning of the history, over a record more and over a flush.
+-- The journal holds a prefix of the history, after one record more and after a flush.
+-- For the proofs of `note` and `flush` (src/recording.rt).
 use Rattle.std.proofs.Common.{◌≡◌, inl, inr, ℕ, ◌+◌, ◌≤◌, true, false, List, [], ◌∷◌, ◌++◌, length, take, drop, refl, sym, ◌∙◌, ap, subst, arith, length-append, take-append-drop, append-nil}
 use Rattle.std.specs.Prelude.{IsTrue}
 use Rattle.std.proofs.lemmas.List.{take_all, take-append-le, drop-append-le, length-drop, drop_all}
@@ -19,12 +20,13 @@ use Rattle.run_table.proofs.RecordingsFollow.{sends_flushed, sends_failed}
 pub counts : (version : Version) (pending : List Entry) (batch : List ℕ) → Pends version pending batch → pending_in batch ≡ length pending
 counts version pending batch pends = ap pending_in pends.bytes
 
+-- a history with one record more
 module _ (before after : List Entry) (flushed : ℕ) (e : Entry) (within : flushed ≤ length before) (is : after ≡ before ++ e ∷ []) where
-  -- the records that pend are one more,
+  -- with one record more, the records that pend are one more
   pub drop_after : drop flushed after ≡ drop flushed before ++ e ∷ []
   drop_after = ap (drop flushed) is ∙ drop-append-le flushed before (e ∷ []) within
 
-  -- and so are all,
+  -- with one record more, the history is longer by one
   pub longer : length after ≡ length before + 1
   longer = ap length is ∙ length-append before (e ∷ [])
 
@@ -32,22 +34,23 @@ module _ (before after : List Entry) (flushed : ℕ) (e : Entry) (within : flush
   take_after : (n : ℕ) → n ≤ length before → take n after ≡ take n before
   take_after n le = ap (take n) is ∙ take-append-le n before (e ∷ []) le
 
-  -- an image that stood for a prefix of the history does still,
+  -- an image that stood for a prefix of the history stands for one of the longer history
   pub prefix_after : (header : Header) (c : List ℕ) → StandsForPrefix header flushed before c → StandsForPrefix header flushed after c
   prefix_after header c stands =
       (stands.0, stands.1, omega (arith, longer, stands.2), subst (λ (l : List Entry). Stands header l c) (sym (take_after stands.0 stands.2)) stands.3)
 
-  -- and a disk that held the flushed part does still
+  -- a disk that held the flushed part of the history holds that of the longer history
   pub holds_after : (header : Header) (version : Version) (disk : DiskState) (end : ℕ) → Holds header version (take flushed before) disk end → Holds header version (take flushed after) disk end
   holds_after header version disk end holds = subst (λ (l : List Entry). Holds header version l disk end) (sym (take_after flushed within)) holds
 
--- of the same file, in a journal of the same version
+-- what a disk holds and what a crash may leave of it, for a journal of this file, version and
+-- flushed count
 abbrev AreHeld : {D : Type 0} → (D → DiskState) → Header → Version → ℕ → List Entry → Gate D → Type 0
 AreHeld state header version flushed history file =
     ((bytes : List ℕ) → Reads (state file.disk) bytes → IsTrue file.live → Holds header version (take flushed history) (state file.disk) file.end)
     × ((bytes : List ℕ) → Reads (state file.disk) bytes → (c : List ℕ) → (state file.disk).image c → StandsForPrefix header flushed history c)
 
--- so the journal holds a prefix of a history with one record more
+-- if one record more pends, the journal still holds a prefix of the history
 pub noted : {D : Type 0} (state : D → DiskState) (header : Header) (before after : List Entry) (flushed room room' : ℕ) (e : Entry) (log log' : Log D)
     → flushed ≤ length before → after ≡ before ++ e ∷ [] → log'.file ≡ log.file → log'.version ≡ log.version
     → IsJournaled state header (record { history = before; room = room; flushed = flushed; log = log })
@@ -61,7 +64,7 @@ noted state header before after flushed room room' e log log' within is same ver
     subst (λ (v : Version). AreHeld state header v flushed after log'.file) (sym version) (subst (AreHeld state header log.version flushed after) (sym same) at) in
     record { held = there.0; left = there.1 }
 
--- a flush of all that pends
+-- the steps of a flush of all that pends
 module _ {D : Type 0} (state : D → DiskState) (header : Header) (history : List Entry) (room flushed : ℕ) (log log' : Log D)
     (within : flushed ≤ length history) (pends : Pends log.version (drop flushed history) log.batch) (live : IsTrue log.file.live)
     (j : IsJournaled state header (record { history = history; room = room; flushed = flushed; log = log }))
@@ -78,13 +81,13 @@ module _ {D : Type 0} (state : D → DiskState) (header : Header) (history : Lis
   either c (inr stands) =
       (length history, within, omega arith, subst (λ (l : List Entry). Stands header l c) (all_flushed ∙ sym (take_all (length history) history (omega arith))) stands)
 
-  -- so it does at each moment of the flush
+  -- at each moment of the flush a crash leaves an image that stands for a prefix
   moments : (bytes : List ℕ) → Reads (state log.file.disk) bytes → LeavesOnly (StandsForPrefix header flushed history) (state log.file.disk) (state log'.file.disk)
   moments bytes reads =
       widened (StandsEither header (take flushed history) (drop flushed history)) (StandsForPrefix header flushed history) (state log.file.disk) (state log'.file.disk)
       (any_moment header (take flushed history) (drop flushed history) pends (j.held bytes reads live)) either
 
-  -- a flush that is done leaves all on the disk,
+  -- a flush that is done leaves all records on the disk
   pub flush_done : (room' now : ℕ) → now ≡ length history
       → ((disk : D) (header : Header) (version : Version) (entries : List Entry) (end : ℕ) → Holds header version entries (state disk) end → (c : List ℕ) → (state disk).image c → Stands header entries c)
       → ((header : Header) (entries pending : List Entry) → Pends log.version pending log.batch → Holds header log.version entries (state log.file.disk) log.file.end
@@ -105,7 +108,7 @@ module _ {D : Type 0} (state : D → DiskState) (header : Header) (history : Lis
         any_moment = moments;
       }
 
-  -- and one that failed leaves a prefix with all that was flushed before
+  -- a flush that failed leaves a prefix with all that was flushed before
   pub flush_failed : (room' : ℕ) → log'.file.live ≡ false → IsCoherent (state log'.file.disk)
       → KeepsJournal state header (record { history = history; room = room; flushed = flushed; log = log }) (record { history = history; room = room'; flushed = flushed; log = log' })
   flush_failed room' dead coherent = record {
@@ -127,21 +130,21 @@ module _ {D : Type 0} (state : D → DiskState) (history : List Entry) (room flu
     (later : (state log.file.disk).faults ≤ (state log'.file.disk).faults)
     (version : log'.version ≡ log.version)
     (idle : pending_in log.batch ≡ 0 → log' ≡ log) where
-  -- it makes four calls of the disk at most, within its own batch
+  -- a flush makes four calls of the disk at most, within the bytes of its own batch
   reaches : Uses 4 (log.file.end + length (batch_bytes (drop flushed history)) + 6) (state log.file.disk) (state log'.file.disk)
   reaches = subst (λ (l : List ℕ). Uses 4 (log.file.end + length l + 6) (state log.file.disk) (state log'.file.disk)) pends.bytes uses
 
-  -- if nothing pends, the disk isn't touched,
+  -- if nothing pends, a flush doesn't touch the disk
   none_pends : flushed ≡ length history → log'.file ≡ log.file
   none_pends all =
       let none : pending_in log.batch ≡ 0 = counts log.version (drop flushed history) log.batch pends ∙ ap length (drop_all flushed history (omega (arith, all))) in
       ap (λ (l : Log D). l.file) (idle none)
 
-  -- nor is it once it has failed
+  -- once the disk has failed, a flush doesn't touch it
   lasts : log.file.live ≡ false → log'.file ≡ log.file
   lasts dead = let clash : IsTrue false = subst IsTrue dead live in absurd cc
 
-  -- all that a flush promises, if it is done,
+  -- a flush that is done keeps all that a call promises of a recording
   pub done : (now : ℕ) → now ≡ length history → log'.file.live ≡ true
       → (state log'.file.disk).faults ≡ (state log.file.disk).faults
       → (1 ≤ pending_in log.batch → log'.file.end ≡ log.file.end + 5 + length log.batch)
@@ -166,7 +169,7 @@ module _ {D : Type 0} (state : D → DiskState) (history : List Entry) (room flu
     uses = reaches;
   }
 
-  -- and if it failed
+  -- a flush that failed keeps all that a call promises of a recording
   pub not_done : log'.file.live ≡ false → IsCoherent (state log'.file.disk)
       → Records state [] (record { history = history; room = room; flushed = flushed; log = log }) (record { history = history; room = room; flushed = flushed; log = log' })
   not_done dead coherent = record {

@@ -1,4 +1,5 @@
--- The lemmas of this crate, each file by its subject. No other crate uses them.
+-- The lemmas of this crate, each file by its subject. The proofs of this crate use them, and no
+-- other crate does.
 mod AlarmsKept
 mod DrainsTold
 mod EndsTold

@@ -1,4 +1,5 @@
--- The lists of a table that is held grow by what each step answers.
+-- The lists of answered moves of a held table grow by what each step answers.
+-- HeldSteps uses it.
 use Rattle.std.proofs.Common.{◌≡◌, ◌≢◌, inl, inr, ℕ, ◌==◌, Bool, true, false, List, [], ◌∷◌, ◌++◌, length, map, refl, sym, ◌∙◌, ap, arith, append-nil, append_assoc, Some, None}
 use Rattle.std.specs.Prelude.{if◌then◌else◌, MatchOption}
 use Rattle.std.proofs.lemmas.List.{nil_from_length}
@@ -23,7 +24,7 @@ use Rattle.two_path.specs.Made.{made_in}
 use Rattle.run_table.specs.Made.{if_of, shown_from}
 use Rattle.run_table.specs.Holding.{lost_from, answered_from, handed, next_of_turn}
 
--- one record more adds the moves of its turn to the list of its path
+-- with one record more, the list of its path has the moves of its turn more
 shown_more : (tapes : Tapes) (m : MachineView) (path : Path) (entries : List Entry) (e : Entry)
     → shown_from tapes m path (entries ++ e ∷ []) ≡ shown_from tapes m path entries ++ if_of path e (made_in (turn_of_entry tapes e (fold tapes m entries)))
 shown_more tapes m path [] e = append-nil (if_of path e (made_in (turn_of_entry tapes e m)))
@@ -32,7 +33,8 @@ shown_more tapes m path (f ∷ entries) e =
     ∙ sym (append_assoc (if_of path f (made_in (turn_of_entry tapes f m))) (shown_from tapes (behind_entry tapes f m) path entries)
     (if_of path e (made_in (turn_of_entry tapes e (fold tapes m (f ∷ entries))))))
 
--- the same of a last record whose moves were not answered
+-- with one record more whose moves were not answered, the list of its path has an entry without
+-- moves more
 lost_more : (tapes : Tapes) (m : MachineView) (path : Path) (entries : List Entry) (e : Entry)
     → lost_from tapes m path (entries ++ e ∷ []) ≡ shown_from tapes m path entries ++ if_of path e []
 lost_more tapes m path [] e = refl
@@ -42,7 +44,7 @@ lost_more tapes m path (f ∷ g ∷ entries) e =
     ap (λ (l : List (List LinedMove)). if_of path f (made_in (turn_of_entry tapes f m)) ++ l) (lost_more tapes (behind_entry tapes f m) path (g ∷ entries) e)
     ∙ sym (append_assoc (if_of path f (made_in (turn_of_entry tapes f m))) (shown_from tapes (behind_entry tapes f m) path (g ∷ entries)) (if_of path e []))
 
--- the machine behind a history in two parts
+-- the moves of a record, as one entry of the list of the record's path
 mine : (path : Path) (e : Entry) (moves : List LinedMove) → e.path ≡ path → if_of path e moves ≡ moves ∷ []
 mine path e moves is = ap (λ (p : Path). if is_same path p then moves ∷ [] else []) is ∙ own path
   where
@@ -60,11 +62,15 @@ other path p e moves is differ = ap (λ (q : Path). if is_same p q then moves �
     go Two One differ = refl
     go Two Two differ = absurd (differ refl)
 
--- with a record more of a path, its list has its moves more, and the other's stays
+-- one record more of a path adds an entry with its moves to the path's list, and the other's list
+-- stays
 pub record GrowsBy (path : Path) (moves : List LinedMove) (before after : Path → List (List LinedMove)) : Type 0 where
+  -- the path's own list has one entry more
   pub own : after path ≡ before path ++ moves ∷ []
+  -- the other path's list is the same
   pub others : (p : Path) → p ≢ path → after p ≡ before p
 
+-- records with one more, which is of this path
 module _ (tapes : Tapes) (m : MachineView) (path : Path) (entries : List Entry) (e : Entry) (is : e.path ≡ path) where
   -- the lists grow by one record with these moves
   by_moves : (moves : List LinedMove) (after : Path → List (List LinedMove))
@@ -74,18 +80,18 @@ module _ (tapes : Tapes) (m : MachineView) (path : Path) (entries : List Entry) 
     others = λ p differ. more p ∙ ap (λ (l : List (List LinedMove)). shown_from tapes m p entries ++ l) (other path p e moves is differ) ∙ append-nil (shown_from tapes m p entries);
   }
 
-  -- so they grow by a record whose moves were answered,
+  -- a record whose moves were answered makes the lists grow by them
   pub shown_grows : (moves : List LinedMove) → made_in (turn_of_entry tapes e (fold tapes m entries)) ≡ moves
       → GrowsBy path moves (λ p. answered_from tapes m p true entries) (λ p. answered_from tapes m p true (entries ++ e ∷ []))
   shown_grows moves same =
       by_moves moves (λ p. shown_from tapes m p (entries ++ e ∷ []))
       (λ p. shown_more tapes m p entries e ∙ ap (λ (l : List LinedMove). shown_from tapes m p entries ++ if_of p e l) same)
 
-  -- or by one without moves, if its answer was lost
+  -- a last record whose answer was lost makes the lists grow by an entry without moves
   pub lost_grows : GrowsBy path [] (λ p. answered_from tapes m p true entries) (λ p. answered_from tapes m p false (entries ++ e ∷ []))
   lost_grows = by_moves [] (λ p. lost_from tapes m p (entries ++ e ∷ [])) (λ p. lost_more tapes m p entries e)
 
--- a block that answers its moves, or that it has none, adds them as one entry
+-- a block's moves as they are handed on, or that it has none, are one entry more
 no_moves : (moves : Moves) (before after : List (List LinedMove)) → after ≡ before ++ lined moves ∷ [] → Adds before (handed moves) after
 no_moves moves before after is = go (length moves.list == 0) refl
   where
@@ -95,8 +101,9 @@ no_moves moves before after is = go (length moves.list == 0) refl
         inr (is ∙ ap (λ (l : List LinedMove). before ++ l ∷ []) (ap (map (lined_move moves.line)) empty))
     go false some = is
 
+-- the list of a path before and after a turn of it
 module _ {H : Type 0} (old new : H) (before after : List (List LinedMove)) where
-  -- a turn with a record adds its moves
+  -- a turn with a record adds its moves to the list of its path
   pub turn_adds : (t : Turn) (k : EntryKind) → kind_of t ≡ Some k → after ≡ before ++ made_in t ∷ []
       → MatchOption (next_of_turn t) (new ≡ old) (λ next. Adds before next after)
   turn_adds (turn.Read variable stamp) k is more = absurd (let clash : None ≡ Some k = is in cc)
@@ -110,7 +117,7 @@ module _ {H : Type 0} (old new : H) (before after : List (List LinedMove)) where
   turn_adds (turn.Halted alarm) k is more = absurd (let clash : None ≡ Some k = is in cc)
   turn_adds turn.Edited k is more = absurd (let clash : None ≡ Some k = is in cc)
 
-  -- and one without a record adds none
+  -- a turn without a record adds no moves
   pub turn_stays : (t : Turn) → kind_of t ≡ None → after ≡ before → ((code : ℕ) → t ≡ turn.Waiting code → new ≡ old)
       → MatchOption (next_of_turn t) (new ≡ old) (λ next. Adds before next after)
   turn_stays (turn.Read variable stamp) is same waits = inl same

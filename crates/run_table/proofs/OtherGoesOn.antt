@@ -1,4 +1,6 @@
--- Where a path waits, and the paths are not stuck, the other one has a turn of a block.
+-- While a path waits, and the paths are not stuck, the other one's turn is that of a block.
+-- HeldSteps, WaitsTold and the proofs of `who_is_waited_for_goes_on` (src/laws.rt) and
+-- `Table::step_into` (src/table.rt) use it.
 use Rattle.std.proofs.Common.{◌≡◌, inl, inr, ℕ, ◌==◌, ◌||◌, Bool, true, false, refl, ap, Option, Some, None, is_some}
 use Rattle.nc_number.specs.declared.path.Path.{Path}
 use Rattle.nc_number.specs.declared.path.Path.TheVariants.{One, Two}
@@ -20,7 +22,7 @@ pub record IsOfBlock (t : Turn) : Type 0 where
   pub waits : (code : ℕ) → t ≡ turn.Waiting code → ⊥
   pub ended : t ≡ turn.Finished → ⊥
 
--- a turn at a wait is one of a block,
+-- the turn of a block that comes to a wait is that of a block
 wait_goes : (path : Path) (line : ℕ) (m : MachineView) (code : ℕ) (o : Option ℕ) → IsOfBlock (result_at_wait path line m code o).turn
 wait_goes path line m code None = record { waits = λ c e. absurd cc; ended = λ e. absurd cc }
 wait_goes path line m code (Some there) = go (code == there) refl
@@ -29,7 +31,7 @@ wait_goes path line m code (Some there) = go (code == there) refl
     go true e = rw e (record { waits = λ c is. absurd cc; ended = λ is. absurd cc })
     go false e = rw e (record { waits = λ c is. absurd cc; ended = λ is. absurd cc })
 
--- and so is each turn by what the block comes to,
+-- the turn by what a block comes to is that of a block
 by_goes : (path : Path) (line : ℕ) (m : MachineView) (e : Effect) → IsOfBlock (result_by path line m e).turn
 by_goes path line m (Need variable) = record { waits = λ c is. absurd cc; ended = λ is. absurd cc }
 by_goes path line m (Done after write moves) = record { waits = λ c is. absurd cc; ended = λ is. absurd cc }
@@ -37,17 +39,18 @@ by_goes path line m (AtWait code) = wait_goes path line m code m.paths.two.waiti
 by_goes path line m (AtEnd after moves) = record { waits = λ c is. absurd cc; ended = λ is. absurd cc }
 by_goes path line m (effect.Alarm number value) = record { waits = λ c is. absurd cc; ended = λ is. absurd cc }
 
--- that is, each turn in which the block runs
+-- each turn in which the block runs is that of a block
 pub block_goes : (blocks : Blocks) (path : Path) (m : MachineView) → IsOfBlock (block_turn blocks path m).turn
 block_goes blocks path m = by_goes path (blocks.line m.paths.one.path.place) m (blocks.effect m.paths.one.path m.paths.one.values)
 
--- a path of which a turn says that it waits: no alarm, no end, and a wait
+-- the first path waits: there is no alarm, it has not ended, and it is idle
 record Waits (m : MachineView) : Type 0 where
   calm : m.alarm ≡ None
   unfinished : m.paths.one.finished ≡ false
   idle : is_idle m.paths.one ≡ true
 
--- a turn that says that the path waits is that of such a path,
+-- if a turn that may do nothing says that the path waits, there is no alarm, the path has not
+-- ended, and it waits
 idle_waits : (m : MachineView) (a : Option Alarm) (f : Bool) (w : Option ℕ) (rest : TurnResult) (code : ℕ) → IsOfBlock rest.turn
     → (unless_idle m a f w rest).turn ≡ turn.Waiting code → (a ≡ None) × (f ≡ false) × ((f || is_some w) ≡ true)
 idle_waits m (Some alarm) f w rest code goes is = absurd cc
@@ -55,13 +58,13 @@ idle_waits m None true w rest code goes is = absurd cc
 idle_waits m None false (Some there) rest code goes is = (refl, refl, refl)
 idle_waits m None false None rest code goes is = absurd (goes.waits code is)
 
--- also of a whole turn
+-- if a whole turn says that the path waits, it is such a path
 own_waits : (blocks : Blocks) (path : Path) (m : MachineView) (code : ℕ) → (own_turn blocks path m).turn ≡ turn.Waiting code → Waits m
 own_waits blocks path m code is =
     let all = idle_waits m m.alarm m.paths.one.finished m.paths.one.waiting (block_turn blocks path m) code (block_goes blocks path m) is in
     record { calm = all.0; unfinished = all.1; idle = all.2 }
 
--- a path that is not idle makes the turn of its block,
+-- a path that is not idle makes the turn of its block
 awake_goes : (m : MachineView) (a : Option Alarm) (f : Bool) (w : Option ℕ) (rest : TurnResult) → a ≡ None → (f || is_some w) ≡ false → IsOfBlock rest.turn
     → IsOfBlock (unless_idle m a f w rest).turn
 awake_goes m (Some alarm) f w rest calm awake goes = absurd cc
@@ -69,12 +72,13 @@ awake_goes m None true w rest calm awake goes = absurd cc
 awake_goes m None false (Some there) rest calm awake goes = absurd cc
 awake_goes m None false None rest calm awake goes = goes
 
--- also as a whole turn
+-- the whole turn of a path that is not idle is that of its block
 own_goes : (blocks : Blocks) (path : Path) (m : MachineView) → m.alarm ≡ None → is_idle m.paths.one ≡ false → IsOfBlock (own_turn blocks path m).turn
 own_goes blocks path m calm awake =
     awake_goes m m.alarm m.paths.one.finished m.paths.one.waiting (block_turn blocks path m) calm awake (block_goes blocks path m)
 
--- not idle, since both would be
+-- if one path waits, the other one is not idle, since else both would be stuck: its turn is that of
+-- a block
 pub other_goes_on : (tapes : Tapes) (m : MachineView) → (IsStuck (without_reads m) → ⊥) → (path : Path) (code : ℕ)
     → (turn_of tapes path m).turn ≡ turn.Waiting code → GoesOn tapes (other_of path) m
 other_goes_on tapes m free One code is =
@@ -88,7 +92,7 @@ other_goes_on tapes m free Two code is =
     let goes = own_goes tapes.one One m w.calm not_idle in
     record { waits = goes.waits; ended = goes.ended }
 
--- nothing happens in the turn of a path that waits
+-- a turn that may do nothing, and that says that the path waits, leaves the machine as it is
 idle_still : (m : MachineView) (a : Option Alarm) (f : Bool) (w : Option ℕ) (rest : TurnResult) (code : ℕ) → IsOfBlock rest.turn
     → (unless_idle m a f w rest).turn ≡ turn.Waiting code → (unless_idle m a f w rest).machine ≡ m
 idle_still m (Some alarm) f w rest code goes is = refl
@@ -96,11 +100,11 @@ idle_still m None true w rest code goes is = refl
 idle_still m None false (Some there) rest code goes is = refl
 idle_still m None false None rest code goes is = absurd (goes.waits code is)
 
--- so nothing happens in a whole turn,
+-- a whole turn that says that the path waits leaves the machine as it is
 own_still : (blocks : Blocks) (path : Path) (m : MachineView) (code : ℕ) → (own_turn blocks path m).turn ≡ turn.Waiting code → (own_turn blocks path m).machine ≡ m
 own_still blocks path m code is = idle_still m m.alarm m.paths.one.finished m.paths.one.waiting (block_turn blocks path m) code (block_goes blocks path m) is
 
--- of either path
+-- a turn of either path that says that the path waits leaves the machine as it is
 pub waits_still : (tapes : Tapes) (path : Path) (m : MachineView) (code : ℕ) → (turn_of tapes path m).turn ≡ turn.Waiting code → (turn_of tapes path m).machine ≡ m
 waits_still tapes One m code is = own_still tapes.one One m code is
 waits_still tapes Two m code is = ap (own_first Two) (own_still tapes.two Two (own_first Two m) code is)

@@ -1,4 +1,5 @@
--- What comes of a recording: nothing, a record more, a flush; and one after another.
+-- What may come of a recording, by no call, a record more or a flush, and by one after another.
+-- JournalsOn, StepsTaken and Then use it.
 use Rattle.std.proofs.Common.{◌≡◌, ℕ, ◌+◌, ◌-◌, ◌*◌, ◌≤◌, ◌<◌, max, Bool, true, false, List, [], ◌++◌, length, take, drop, refl, sym, ◌∙◌, ap, subst, arith, length-append, append_assoc, append-nil}
 use Rattle.std.specs.Prelude.{IsTrue, nat_lt, if◌then◌else◌}
 use Rattle.std.proofs.lemmas.List.{take-append-le, drop-append-le, length-drop, drop_all}
@@ -15,27 +16,27 @@ use Rattle.run_journal.specs.Kept.{Log}
 use Rattle.run_journal.specs.Stands.{Stands}
 use Rattle.run_table.specs.Recording.{RecordingView, StandsForPrefix, sent, most_bytes, Sends, Follows}
 
--- the bytes of two lists of records are those of both together
+-- the most bytes of two lists of records, one after the other, are those of each added
 most_append : (xs ys : List Entry) → most_bytes (xs ++ ys) ≡ most_bytes xs + most_bytes ys
 most_append xs ys =
     let bytes : length (records_bytes (xs ++ ys)) ≡ length (records_bytes xs ++ records_bytes ys) = ap length (flat_map-append entry_bytes xs ys) in
     omega (arith, bytes, length-append (records_bytes xs) (records_bytes ys), length-append xs ys)
 
--- behind so many records, with more at the end
+-- the most bytes of the records after the first n grow by those of the records that were added
 most_behind : (n : ℕ) (before made after : List Entry) → n ≤ length before → after ≡ before ++ made
     → most_bytes (drop n after) ≡ most_bytes (drop n before) + most_bytes made
 most_behind n before made after within is =
     ap (λ (l : List Entry). most_bytes (drop n l)) is ∙ ap most_bytes (drop-append-le n before made within) ∙ most_append (drop n before) made
 
--- while the journal may be written, the records that were sent are those flushed,
+-- while the journal may be written, the records that were sent are those flushed
 pub sent_live : {D : Type 0} (r : RecordingView D) → r.log.file.live ≡ true → sent r ≡ r.flushed
 sent_live r is = ap (λ (b : Bool). if b then r.flushed else length r.history) is
 
--- and once it may not, all of them
+-- once the journal may not be written any more, all records count as sent
 pub sent_dead : {D : Type 0} (r : RecordingView D) → r.log.file.live ≡ false → sent r ≡ length r.history
 sent_dead r is = ap (λ (b : Bool). if b then r.flushed else length r.history) is
 
--- no call of the disk
+-- a recording whose history grew without a call of the disk
 module _ {D : Type 0} (state : D → DiskState) (made : List Entry) (old new : RecordingView D)
     (history : new.history ≡ old.history ++ made) (file : new.log.file ≡ old.log.file) (flushed : new.flushed ≡ old.flushed) where
   -- the history is longer by the records made
@@ -66,14 +67,14 @@ module _ {D : Type 0} (state : D → DiskState) (made : List Entry) (old new : R
         omega (arith, ends, behind);
   }
 
--- one after another
+-- two steps of a recording, one after the other
 module _ {D : Type 0} (state : D → DiskState) (first second : List Entry) (a b c : RecordingView D)
     (before : b.history ≡ a.history ++ first) (after : c.history ≡ b.history ++ second) where
   -- the first step makes the history longer
   longer : length b.history ≡ length a.history + length first
   longer = ap length before ∙ length-append a.history first
 
-  -- while the disk has not failed, two steps send what both send
+  -- if the disk did not fail in the first step, both steps together send within the bounds of one
   joined_sends : a.flushed ≤ length a.history → b.log.file.live ≡ true → Sends state a b → Sends state b c → Sends state a c
   joined_sends within live s t =
       let lives : IsTrue b.log.file.live = live in
@@ -92,7 +93,7 @@ module _ {D : Type 0} (state : D → DiskState) (first second : List Entry) (a b
         end = λ still. omega (arith, ends, of_a, of_b, t.end still);
       }
 
-  -- once it has, the second step sends nothing more
+  -- if the disk failed in the first step, both steps together send what the first did
   last_sends : a.flushed ≤ length a.history → b.log.file.live ≡ false → c.log.file ≡ b.log.file → Sends state a b → Sends state b c → Sends state a c
   last_sends within dead same s t =
       let of_a = most_behind a.flushed b.history second c.history (omega (arith, within, longer)) after in
@@ -108,7 +109,7 @@ module _ {D : Type 0} (state : D → DiskState) (first second : List Entry) (a b
             absurd cc;
       }
 
-  -- what two steps send they send one after the other
+  -- both steps together send within the bounds of one
   pub sends_more : a.flushed ≤ length a.history → (b.log.file.live ≡ false → c.log.file ≡ b.log.file) → Sends state a b → Sends state b c → Sends state a c
   sends_more within rests s t = go b.log.file.live refl
     where
@@ -116,7 +117,7 @@ module _ {D : Type 0} (state : D → DiskState) (first second : List Entry) (a b
       go true is = joined_sends within is s t
       go false is = last_sends within is (rests is) s t
 
-  -- an image that stands for a prefix of the shorter history does so for the longer,
+  -- an image that stands for a prefix of the shorter history stands for one of the longer
   from_first : (header : Header) (x : List ℕ) → StandsForPrefix header a.flushed b.history x → StandsForPrefix header a.flushed c.history x
   from_first header x stands = (
     stands.0,
@@ -125,11 +126,11 @@ module _ {D : Type 0} (state : D → DiskState) (first second : List Entry) (a b
     subst (λ (l : List Entry). Stands header l x) (sym (ap (take stands.0) after ∙ take-append-le stands.0 b.history second stands.2)) stands.3,
   )
 
-  -- and one with more records flushed has those flushed before
+  -- an image with more flushed records has those that were flushed before
   from_second : (header : Header) → a.flushed ≤ b.flushed → (x : List ℕ) → StandsForPrefix header b.flushed c.history x → StandsForPrefix header a.flushed c.history x
   from_second header less x stands = (stands.0, omega (arith, less, stands.1), stands.2, stands.3)
 
-  -- at each moment of both the disk leaves such a prefix
+  -- at each moment of both steps the disk leaves an image that stands for such a prefix
   moments_more : (header : Header) → a.flushed ≤ b.flushed
       → LeavesOnly (StandsForPrefix header a.flushed b.history) (state a.log.file.disk) (state b.log.file.disk)
       → LeavesOnly (StandsForPrefix header b.flushed c.history) (state b.log.file.disk) (state c.log.file.disk)
@@ -152,7 +153,7 @@ calm_more state a b c first second rests still = go b.log.file.live refl
         let clash : IsTrue false = subst IsTrue (ap (λ (f : Gate _). f.live) (rests is) ∙ is) still in
         absurd cc
 
--- two steps after another are one with both lists of records
+-- two steps, one after the other, are one step with both lists of records
 pub follows_more : {D : Type 0} (state : D → DiskState) (first second : List Entry) (a b c : RecordingView D)
     → Follows state first a b → Follows state second b c → Follows state (first ++ second) a c
 follows_more state first second a b c f s = record {
@@ -177,16 +178,16 @@ follows_more state first second a b c f s = record {
   calm = calm_more state a b c f.calm s.calm s.rests;
 }
 
--- a flush: of what pends, if some does
+-- the steps of a flush of the records that pend
 module _ {D : Type 0} (state : D → DiskState) (history : List Entry) (room flushed now : ℕ) (log log' : Log D)
     (within : flushed ≤ length history) (batch : log.batch ≡ batch_bytes (drop flushed history)) (live : IsTrue log.file.live)
     (idle : flushed ≡ length history → log'.file ≡ log.file)
     (uses : Uses 4 (log.file.end + length log.batch + 6) (state log.file.disk) (state log'.file.disk)) where
-  -- the recording before the flush,
+  -- the recording before the flush
   abbrev old : RecordingView D
   old = record { history = history; room = room; flushed = flushed; log = log }
 
-  -- and behind it
+  -- the recording after the flush
   abbrev new : RecordingView D
   new = record { history = history; room = room; flushed = now; log = log' }
 
@@ -204,7 +205,7 @@ module _ {D : Type 0} (state : D → DiskState) (history : List Entry) (room flu
       uses_widened 4 (4 * (sent new - sent old)) (log.file.end + length log.batch + 6) (log.file.end + 1 + most_bytes (drop flushed history))
       (state log.file.disk) (state log'.file.disk) uses (omega (arith, some, all, sent_live old live)) (omega (arith, some, bytes, pending))
 
-  -- so does a flush that is done,
+  -- a flush that is done sends each record that pends, within the bytes of all of them
   pub sends_flushed : now ≡ length history → log'.file.live ≡ true → (flushed < length history → log'.file.end ≡ log.file.end + 5 + length log.batch)
       → Sends state (record { history = history; room = room; flushed = flushed; log = log }) (record { history = history; room = room; flushed = now; log = log' })
   sends_flushed all still moved = go (nat_lt flushed (length history)) refl
@@ -224,7 +225,7 @@ module _ {D : Type 0} (state : D → DiskState) (history : List Entry) (room flu
           let none : flushed ≡ length history = grind arith in
           sends_nothing state [] old new (sym (append-nil history)) (idle none) (all ∙ sym none) within
 
-  -- and one that failed
+  -- a flush that failed sends each record that pends, within the bytes of all of them
   pub sends_failed : now ≡ flushed → log'.file.live ≡ false
       → Sends state (record { history = history; room = room; flushed = flushed; log = log }) (record { history = history; room = room; flushed = now; log = log' })
   sends_failed stays dead = go (nat_lt flushed (length history)) refl

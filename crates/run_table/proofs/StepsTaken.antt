@@ -1,4 +1,6 @@
--- Records that are added, and a flush behind them, as one call.
+-- The parts of a step as one call: records that are added, a flush after them, and the answer.
+-- Then and the proofs of `take` and `flush_before` (src/stepping.rt) and `Table::step_into`
+-- (src/table.rt) use it.
 use Rattle.std.proofs.Common.{rules, ◌≡◌, ℕ, ◌+◌, ◌≤◌, ◌<◌, Bool, true, false, List, [], ◌++◌, length, drop, refl, sym, ◌∙◌, ap, subst, arith, length-append, append-nil, ◌==◌, Option, Some, None}
 use Rattle.std.specs.Prelude.{IsTrue, nat_lt}
 use Rattle.disk_model.specs.Device.{DiskState, IsCoherent, Reads, Rose}
@@ -56,7 +58,7 @@ pub nothing : {D : Type 0} (state : D → DiskState) (r : RecordingView D) → (
 nothing state r coherent =
     noted_only state [] r r coherent (record { within = λ (some : 1 ≤ 0). absurd (omega (arith, some)); history = sym (append-nil r.history); file = refl; flushed = refl; version = refl; room = refl; journal = λ header j. j })
 
--- the disk took so few calls, within so many bytes
+-- the disk took four calls at most, within the bytes of the old file and of one batch of what pends
 abbrev IsUsed : {D : Type 0} → (D → DiskState) → RecordingView D → Gate D → ℕ → Type 0
 IsUsed state new file count =
     Uses 4 (file.end + length (batch_bytes (drop count new.history)) + 6) (state file.disk) (state new.log.file.disk)
@@ -71,7 +73,7 @@ noted_then state made old mid new coherent noted then = record {
   uses = subst (λ (n : ℕ). IsUsed state new old.log.file n) noted.flushed (subst (λ (f : Gate _). IsUsed state new f mid.flushed) noted.file then.uses);
 }
 
--- a flush before an answer that is done,
+-- an answer after a flush that is done
 pub answer_flushed : {D : Type 0} (state : D → DiskState) (answer : TableStep) (old new : RecordingView D) → old.flushed ≤ length old.history
     → new.history ≡ old.history ++ [] → new.flushed ≡ length old.history → new.log.file.live ≡ true → (old.flushed ≡ length old.history → new.log.file ≡ old.log.file)
     → Answers state (nat_lt old.flushed (length old.history)) answer old new answer
@@ -83,7 +85,7 @@ answer_flushed state answer old new within history all live idle = go (nat_lt ol
         let none : old.flushed ≡ length old.history = grind arith in
         at_once refl refl (idle none) (all ∙ sym none)
 
--- or that failed
+-- an answer after a flush that failed is a fault of the disk
 pub answer_failed : {D : Type 0} (state : D → DiskState) (answer : TableStep) (old new : RecordingView D) → old.flushed ≤ length old.history
     → new.flushed ≡ old.flushed → IsTrue old.log.file.live → new.log.file.live ≡ false → (old.flushed ≡ length old.history → new.log.file ≡ old.log.file)
     → Rose (state old.log.file.disk).faults (state new.log.file.disk).faults
@@ -97,7 +99,7 @@ answer_failed state answer old new within stays live dead idle rose = go (nat_lt
         let still : IsTrue new.log.file.live = subst (λ (f : Gate _). IsTrue f.live) (sym (idle none)) live in
         absurd (let clash : IsTrue false = subst IsTrue dead still in cc)
 
--- a record that is noted, and then a flush before its answer, are one call
+-- a record that is noted, and then a flush before its answer, are one call with that answer
 pub noted_answer : {D : Type 0} (state : D → DiskState) (made : List Entry) (due : Bool) (answer result : TableStep) (old mid new : RecordingView D) → IsNoted state made old mid
     → due ≡ true → nat_lt mid.flushed (length mid.history) ≡ true → Answers state (nat_lt mid.flushed (length mid.history)) answer mid new result
     → Answers state due answer old new result
@@ -107,7 +109,7 @@ noted_answer state made due answer result old mid new noted is some (failed yes_
     failed is same dead (stays ∙ noted.flushed)
     (subst (λ (f : Gate _). Rose (state f.disk).faults (state new.log.file.disk).faults) noted.file rose)
 
--- a record of a turn that shows something pends behind it
+-- after a turn that shows something its record pends
 pub some_pends : {D : Type 0} (state : D → DiskState) (made : List Entry) (old mid : RecordingView D) → IsNoted state made old mid → length made ≡ 1
     → nat_lt mid.flushed (length mid.history) ≡ true
 some_pends state made old mid noted one =
@@ -122,11 +124,11 @@ many_pend mid pending sum full =
     let less : mid.flushed < length mid.history = omega (arith, sum, full) in
     grind arith
 
--- why a flush is due: the turn shows something,
+-- a flush is due if the turn shows something
 pub due_shown : {D : Type 0} (made : List Entry) (t : Turn) (old : RecordingView D) → is_shown t ≡ true → is_due old made t ≡ true
 due_shown made t old shown = rw shown refl
 
--- or 64 records pend
+-- a flush is due if 64 records pend
 pub due_is : {D : Type 0} (state : D → DiskState) (made : List Entry) (t : Turn) (old mid : RecordingView D) (pending : ℕ) → IsNoted state made old mid
     → pending ≡ MOST_PENDING → mid.flushed + pending ≡ length mid.history → is_due old made t ≡ true
 due_is state made t old mid pending noted full sum =

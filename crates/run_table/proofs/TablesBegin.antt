@@ -1,4 +1,5 @@
--- A table that begins, anew or behind a recovery, is a table.
+-- A table that begins, new or after a recovery, is a table, and its journal is that of its history.
+-- For the proofs of `Table::begin` and `Table::from_recovered` (src/table.rt).
 use Rattle.std.proofs.Common.{◌≡◌, ℕ, ◌+◌, ◌≤◌, ◌<◌, List, [], ◌∷◌, ◌++◌, length, take, refl, sym, subst, arith, append_assoc, append-nil, Option, Some, None, Ok, Err, inl, Bool}
 use Rattle.std.specs.Prelude.{IsTrue}
 use Rattle.std.proofs.lemmas.List.{take_all}
@@ -31,7 +32,7 @@ use Rattle.nc_outside.specs.declared.halt.Halt.{Halt}
 use Rattle.run_table.specs.Begun.{reason_in, recovered_table}
 use Rattle.run_table.specs.Recovered.{IsRecovered, HoldsAll}
 
--- a legal history keeps its fold
+-- a legal history that goes on after another is kept, and its fold is the machine
 legal_kept : (tapes : Tapes) (start : MachineView) → Keeps tapes start → (after before : List Entry) (now : MachineView)
     → IsKept tapes start before now → without_reads now ≡ now → IsLegal tapes now after → IsKept tapes start (before ++ after) (fold tapes now after)
 legal_kept tapes start keeps [] before now k bare legal = subst (λ (l : List Entry). IsKept tapes start l now) (sym (append-nil before)) k
@@ -51,7 +52,7 @@ pub recovered_parts : {D : Type 0} (verified : Verified) (m : RoomyMachine) (ent
 recovered_parts verified m entries log r h o recorded reason owed =
     λ i. record { verified = verified; machine = m.machine; turns = m.room; recording = recorded i; halt = reason i; budget = 0; owed = owed i }
 
--- where the disk holds all records, the journal is that of the history
+-- if the disk holds all records, the journal is that of the history
 pub all_held : {D : Type 0} (state : D → DiskState) (header : Header) (entries : List Entry) (room : ℕ) (log : Log D)
     → ((disk : D) (header : Header) (version : Version) (entries : List Entry) (end : ℕ) → Holds header version entries (state disk) end → (c : List ℕ) → (state disk).image c → Stands header entries c)
     → HoldsAll state header entries log → IsJournaled state header (record { history = entries; room = room; flushed = length entries; log = log })
@@ -67,7 +68,7 @@ all_held state header entries room log law holds =
       );
     }
 
--- the reason of a table behind a recovery is the alarm of its machine, or none
+-- after a recovery the reason of a table is the alarm of its machine, or none
 alarm_reason : {D : Type 0} (m : MachineView) (r : RecordingView D) (alarm : Option Alarm) → m.alarm ≡ alarm → IsTrue r.log.file.live
     → length r.history < r.flushed + MOST_PENDING → HasReason m r (reason_in alarm)
 alarm_reason m r None is live few = record { calm = is; live = live; few = few }
@@ -99,7 +100,6 @@ recovered_is state v m entries log keeps law found =
     begun_table state v m entries log kept found.waits found.few found.fresh
     (found.stands.0, found.stands.1, all_held state found.stands.0 entries.items entries.room log law found.stands.2)
 
--- no path of a machine that has not begun waits
 -- a new journal is what a recovery of no record finds
 pub nothing_found : {D : Type 0} (state : D → DiskState) (v : Verified) (machine : MachineView) (entries : List Entry) (log : Log D) (header : Header)
     → machine ≡ opening_of v → entries ≡ [] → IsFresh 0 log → IsVerdictOf header v → HoldsAll state header [] log
@@ -115,14 +115,14 @@ nothing_found state v machine entries log header machine_is empty fresh verdict 
     } in
     subst (λ (l : List Entry). IsRecovered state v machine l log) (sym empty) none
 
--- where the journal is begun, so is the table
+-- what `begin` promises of a journal does not depend on what the answer carries
 module _ {A B : Type 0} (header : Header) (old new : DiskState) where
-  -- a journal that is begun is so whatever the answer lends,
+  -- a journal that is begun is so whatever the answer carries
   pub begun : (a : A) (b : B) → BeginsRun header old new (Ok a) → BeginsRun header old new (Ok b)
   begun a b call =
       record { held = call.held; vacant = call.vacant; spares = call.spares; refused = tt; later = call.later; calm = call.calm; any_moment = call.any_moment; uses = call.uses }
 
-  -- and one that isn't too
+  -- a journal that is not begun is so whatever the answer carries
   pub not_begun : (fault : GateFault) → BeginsRun {A = A} header old new (Err fault) → BeginsRun {A = B} header old new (Err fault)
   not_begun fault call =
       record { held = tt; vacant = tt; spares = call.spares; refused = call.refused; later = call.later; calm = call.calm; any_moment = call.any_moment; uses = call.uses }

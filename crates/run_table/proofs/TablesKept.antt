@@ -1,4 +1,5 @@
--- A table stays one over each part of a step, and the part is the step.
+-- A table is still a table after each part of a step, and the parts together are the step.
+-- EndsTold and the proofs of `ended`, `prepare` and `step_into` (src/table.rt) use it.
 use Rattle.std.proofs.Common.{◌≡◌, ℕ, ◌+◌, ◌≤◌, ◌<◌, ◌==◌, Bool, true, false, List, ◌++◌, length, refl, sym, ◌∙◌, ap, subst, arith, length-append, Option, Some, None}
 use Rattle.std.specs.Prelude.{IsTrue, nat_lt, if◌then◌else◌}
 use Rattle.disk_model.specs.Device.{DiskState}
@@ -31,7 +32,7 @@ few_made : (entry : Option Entry) → length (list_of entry) ≤ 1
 few_made None = omega arith
 few_made (Some entry) = omega arith
 
--- without an alarm before, the reason behind a turn is the alarm that it raised
+-- without an alarm before it, a turn leaves as reason the alarm that it raised, or none
 turned_reason : {D : Type 0} (m : MachineView) (r : RecordingView D) (t : Turn) → m.alarm ≡ alarm_behind None t → IsTrue r.log.file.live
     → length r.history < r.flushed + MOST_PENDING → HasReason m r (reason_of (Turned t))
 turned_reason m r (turn.Read variable stamp) is live few = record { calm = is; live = live; few = few }
@@ -45,7 +46,7 @@ turned_reason m r (turn.Alarm alarm) is live few = (is, live)
 turned_reason m r (turn.Halted alarm) is live few = record { calm = is; live = live; few = few }
 turned_reason m r turn.Edited is live few = record { calm = is; live = live; few = few }
 
--- the reason that a table keeps is one still behind the answer to a turn
+-- without an alarm before it, the answer to a turn gives a reason that holds of the new table
 reason_kept : {D : Type 0} (state : D → DiskState) (m : MachineView) (r r' : RecordingView D) (made : List Entry) (t : Turn) (answer : TableStep)
     → m.alarm ≡ alarm_behind None t → IsTrue r.log.file.live → length r.history < r.flushed + MOST_PENDING → r'.history ≡ r.history ++ made → length made ≤ 1
     → Answers state (is_due r made t) (Turned t) r r' answer → HasReason m r' (reason_of answer)
@@ -61,18 +62,18 @@ reason_kept state m r r' made t answer is live few history one (flushed was_due 
 reason_kept state m r r' made t answer is live few history one (failed was_due same dead stays rose) =
     subst (λ (a : TableStep). HasReason m r' (reason_of a)) (sym same) dead
 
--- an answer that says that the path waits is the turn's
+-- a turn that is answered as a wait of the path is that wait
 turned_is : (t : Turn) (code : ℕ) → Turned t ≡ Turned (turn.Waiting code) → t ≡ turn.Waiting code
 turned_is t code is = cc
 
--- an answer that a path waits is that of its turn
+-- an answer that the path waits is that of its turn
 pub answer_waits : {D : Type 0} (state : D → DiskState) (due : Bool) (t : Turn) (r r' : RecordingView D) (answer : TableStep) (code : ℕ)
     → Answers state due (Turned t) r r' answer → answer ≡ Turned (turn.Waiting code) → t ≡ turn.Waiting code
 answer_waits state due t r r' answer code (at_once not_due same file stays) is = turned_is t code (sym same ∙ is)
 answer_waits state due t r r' answer code (flushed yes_due same live all) is = turned_is t code (sym same ∙ is)
 answer_waits state due t r r' answer code (failed yes_due same dead stays rose) is = absurd (let clash : DiskFault ≡ Turned (turn.Waiting code) = sym same ∙ is in cc)
 
--- if nothing bounds the table, its journal is not full and its budget not spent
+-- if nothing bounds the table, its journal is not full and its budget is not spent
 pub turn_comes : {D : Type 0} (t : TableView D) → bound_of t ≡ None → (length t.recording.history ≡ t.verified.settings.records → ⊥) × (1 ≤ t.budget)
 turn_comes t = go (length t.recording.history == t.verified.settings.records) (t.budget == 0) refl refl
   where
@@ -87,20 +88,21 @@ turn_comes t = go (length t.recording.history == t.verified.settings.records) (t
 abbrev pub table_of : {D : Type 0} → Verified → RoomyMachine → RecordingView D → Option Halt → ℕ → Both Bool → TableView D
 table_of v m r why budget owed = record { verified = v; machine = m.machine; turns = m.room; recording = r; halt = why; budget = budget; owed = owed }
 
+-- a table before and after a turn, by its parts
 module _ {D : Type 0} (state : D → DiskState) (v : Verified) (m m' : RoomyMachine) (r r' : RecordingView D) (budget budget' : ℕ) (owed owed' : Both Bool) (path : Path)
     (before : Option Halt) (none : before ≡ None) (table : IsTable state (table_of v m r before budget owed)) where
-  -- a table that nothing stopped may go on
+  -- a table that nothing has stopped may go on
   may : MayGoOn m.machine r
   may = subst (HasReason m.machine r) none table.reason
 
-  -- a turn comes
+  -- the step is the path's turn
   module _ (t : Turn) (entry : Option Entry) (answer : TableStep)
       (machine : m'.machine ≡ (turn_of (tapes_in v) path m.machine).machine) (turn_is : t ≡ (turn_of (tapes_in v) path m.machine).turn)
       (entry_is : entry ≡ entry_of (tapes_in v) path m.machine) (bound : bound_of (table_of v m r before budget owed) ≡ None)
       (undrained : drains (table_of v m r before budget owed) path ≡ false)
       (answers : Answers state (is_due r (list_of entry) t) (Turned t) r r' answer) (records : Records state (list_of entry) r r')
       (spent : budget' + length (list_of entry) ≡ budget) where
-    -- the parts of a turn are the turn of the table,
+    -- the parts of a turn are the turn of the table
     turn_by : IsStep state (drained_by (table_of v m r before budget owed) path None None) (table_of v m r None budget owed) (table_of v m' r' (reason_of answer) budget' owed') answer
     turn_by = record {
       answer = subst (λ (e : Option Entry). Answers state (is_due r (list_of e) (turn_of (tapes_in v) path m.machine).turn) (Turned (turn_of (tapes_in v) path m.machine).turn) r r' answer) entry_is
@@ -112,13 +114,14 @@ module _ {D : Type 0} (state : D → DiskState) (v : Verified) (m m' : RoomyMach
       verified = refl;
     }
 
-    -- and so they are a step of it
+    -- the parts of a turn are a step of the table
     pub turn_step_is : IsStep state (step_of (table_of v m r before budget owed) path) (table_of v m r before budget owed) (table_of v m' r' (reason_of answer) budget' owed') answer
     turn_step_is =
         subst (λ (d : Bool). IsStep state (step_by (table_of v m r before budget owed) path before (bound_of (table_of v m r before budget owed)) d) (table_of v m r before budget owed) (table_of v m' r' (reason_of answer) budget' owed') answer) (sym undrained)
         (subst (λ (h : Option Halt). IsStep state (step_by (table_of v m r before budget owed) path h (bound_of (table_of v m r before budget owed)) false) (table_of v m r h budget owed) (table_of v m' r' (reason_of answer) budget' owed') answer) (sym none)
         (subst (λ (b : Option Halt). IsStep state (step_by (table_of v m r before budget owed) path None b false) (table_of v m r None budget owed) (table_of v m' r' (reason_of answer) budget' owed') answer) (sym bound) turn_by))
 
+    -- the table before the turn is a table, and machines keep and count their histories
     module _ (keeps : Keeps (tapes_in v) (opening_of v))
         (counted : (entries : List Entry) → IsLegal (tapes_in v) (opening_of v) entries → Counts (tapes_in v) (opening_of v) entries)
         (waits : AreAtTheirWaits v.left.order v.right.order m'.machine)
@@ -128,7 +131,7 @@ module _ {D : Type 0} (state : D → DiskState) (v : Verified) (m m' : RoomyMach
       count_of : (entries : List Entry) (now : MachineView) → IsKept (tapes_in v) (opening_of v) entries now → now.count ≡ length entries
       count_of entries now k = ap (λ (x : MachineView). x.count) (sym k.folds) ∙ (counted entries k.legal).count
 
-      -- behind the turn the machine is the fold of the history with its record
+      -- after the turn the machine is the fold of the history with its record
       kept' : IsKept (tapes_in v) (opening_of v) r'.history m'.machine
       kept' =
           let event = keeps.event r.history m.machine (TurnOf path) table.kept in
@@ -141,13 +144,13 @@ module _ {D : Type 0} (state : D → DiskState) (v : Verified) (m m' : RoomyMach
       grown : length r'.history ≡ length r.history + length (list_of entry)
       grown = ap length records.follows.history ∙ length-append r.history (list_of entry)
 
-      -- the alarm behind the turn is the one that it raised, if it did
+      -- the alarm after the turn is the one that it raised, or none
       alarm' : m'.machine.alarm ≡ alarm_behind None t
       alarm' =
           ap (λ (x : MachineView). x.alarm) machine ∙ turn_alarm (tapes_in v) path m.machine
           ∙ ap (λ o. alarm_behind o (turn_of (tapes_in v) path m.machine).turn) may.calm ∙ ap (alarm_behind None) (sym turn_is)
 
-      -- so the table behind a turn is a table
+      -- the table after a turn is a table
       pub turn_table : IsTable state (table_of v m' r' (reason_of answer) budget' owed')
       turn_table = record {
         kept = kept';
@@ -159,7 +162,7 @@ module _ {D : Type 0} (state : D → DiskState) (v : Verified) (m m' : RoomyMach
         journaled = (table.journaled.0, table.journaled.1, (records.follows.journal table.journaled.0 table.journaled.2).journaled);
       }
 
--- the reason that a table keeps doesn't hang on the room
+-- the reason that a table keeps does not depend on the room for records
 reason_room : {D : Type 0} (m : MachineView) (r : RecordingView D) (room : ℕ) (why : Option Halt) → HasReason m r why
     → HasReason m (record { history = r.history; room = room; flushed = r.flushed; log = r.log }) why
 reason_room m r room None may = record { calm = may.calm; live = may.live; few = may.few }
@@ -169,7 +172,7 @@ reason_room m r room (Some (halt.Turret path)) may = record { calm = may.calm; l
 reason_room m r room (Some halt.Full) is = is
 reason_room m r room (Some halt.Budget) is = is
 
--- nor does the journal
+-- that the journal is that of the history does not depend on the room for records
 journaled_room : {D : Type 0} (state : D → DiskState) (header : Header) (r : RecordingView D) (room : ℕ) → IsJournaled state header r
     → IsJournaled state header (record { history = r.history; room = room; flushed = r.flushed; log = r.log })
 journaled_room state header r room j = record { held = j.held; left = j.left }
@@ -197,7 +200,7 @@ room_made state v m m' r r' why budget budget' owed table machine history count 
       );
     }
 
--- what is at most a number and isn't it is less
+-- what is at most a number and isn't that number is less
 less_by : (a b : ℕ) → a ≤ b → (a ≡ b → ⊥) → a < b
 less_by a b le differ = go (nat_lt a b) refl
   where

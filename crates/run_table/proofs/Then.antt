@@ -1,4 +1,5 @@
--- What has come of a table composes, from nothing and from a step on.
+-- What has come of a table composes: nothing, a step, and one time after another.
+-- HeldKept, EndsTold, FlushedShown and the proofs of `ended` and `step_into` (src/table.rt) use it.
 use Rattle.std.proofs.Common.{Bool, true, false, ◌≡◌, inl, inr, ⊎_elim, ◌⊎◌, ℕ, ◌≤◌, [], ◌++◌, refl, sym, ◌∙◌, arith, length-append, Option, Some, None}
 use Rattle.disk_model.specs.Device.{DiskState, IsCoherent, Rose}
 use Rattle.nc_number.specs.declared.path.Path.{Path}
@@ -25,11 +26,11 @@ since_none state t coherent = record {
   cause = λ is. inl is;
 }
 
--- a fault within a longer time is one of it
+-- a fault within a part of a time is one within the whole
 pub rose_later : (a b c d : ℕ) → a ≤ b → c ≤ d → Rose b c → Rose a d
 rose_later a b c d first last rose = omega (arith, first, last, rose)
 
--- what has come of a table that has come of another has come of that
+-- if b came of the table a, and c of b, then c came of a
 pub since_more : {D : Type 0} (state : D → DiskState) (a b c : TableView D) → Since state a b → Since state b c → Since state a c
 since_more state a b c f s = record {
   verified = s.verified ∙ f.verified;
@@ -44,14 +45,14 @@ since_more state a b c f s = record {
       (state c.recording.log.file.disk).faults f.recording.later (omega arith) rose)) (s.cause is);
 }
 
--- no step comes to a fault where the disk does not fail
+-- the answer that a step is to give is never a fault of the disk
 pub no_fault : {D : Type 0} (t : TableView D) (path : Path) (why bound : Option Halt) (drain : Bool) → (step_by t path why bound drain).answer ≡ DiskFault → ⊥
 no_fault t path (Some why) bound drain is = absurd cc
 no_fault t path None (Some why) drain is = absurd cc
 no_fault t path None None true is = absurd cc
 no_fault t path None None false is = absurd cc
 
--- what keeps that the disk failed has answered so
+-- only a fault of the disk makes a table keep that the disk failed
 kept_fault : (answer : TableStep) → reason_of answer ≡ Some halt.Disk → answer ≡ DiskFault
 kept_fault (Turned (turn.Read variable stamp)) is = absurd cc
 kept_fault (Turned (turn.Did moves)) is = absurd cc
@@ -82,7 +83,7 @@ step_cause state old new due answer result (Some why) before after never answers
 step_cause state old new due answer result None before after never answers is =
     inr (fault_rose state due answer old.recording new.recording result never answers (kept_fault result (sym after ∙ is)))
 
--- what a step leads to has come of the table
+-- what a step leads to has come of the table before it
 pub since_step : {D : Type 0} (state : D → DiskState) (path : Path) (old new : TableView D) (result : TableStep)
     → IsStep state (step_of old path) old new result → Since state old new
 since_step state path old new result step = record {

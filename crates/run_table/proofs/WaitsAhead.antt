@@ -1,5 +1,6 @@
--- A path's turn brings it to a wait exactly where it stands on one, and the other path does not
--- wait at another.
+-- A path's turn brings it to a wait just if its block stands on one, and the other path does not
+-- wait at another code.
+-- For the proof of `Table::drains` (src/table.rt).
 use Rattle.std.proofs.Common.{◌≡◌, ℕ, ◌==◌, Bool, true, false, refl, sym, ◌∙◌, ap, subst, Option, Some, None}
 use Rattle.std.specs.Prelude.{slice_get}
 use Rattle.nc_number.specs.declared.path.Path.{Path}
@@ -23,7 +24,7 @@ use Rattle.nc_verify.specs.declared.verified.Verified.{Verified}
 use Rattle.run_table.specs.Kept.{tapes_in}
 use Rattle.run_table.specs.Draining.{is_wait, flow_for, may_come, comes_to, comes_by}
 
--- a label that is no wait
+-- the label of a block that is no wait is none to which the path comes
 no_label : (caller : Option Frame) (s : Option Control) (there : Option ℕ) → ((code : ℕ) → s ≡ Some (Wait code) → ⊥) → comes_to (label_of caller s) there ≡ false
 no_label caller None there never = refl
 no_label caller (Some (Wait code)) there never = absurd (never code refl)
@@ -38,7 +39,7 @@ no_label None (Some Back) there never = refl
 no_label (Some f) (Some Back) there never = refl
 no_label caller (Some (BackTo n)) there never = refl
 
--- a turn at a wait is a wait unless the other waits at another code
+-- a turn at a wait brings the path to it just if the other path does not wait at another code
 at_wait : (path : Path) (line : ℕ) (m : MachineView) (code : ℕ) (there : Option ℕ) → is_wait (result_at_wait path line m code there).turn ≡ may_come code there
 at_wait path line m code None = refl
 at_wait path line m code (Some there) = go (code == there) refl
@@ -47,6 +48,7 @@ at_wait path line m code (Some there) = go (code == there) refl
     go true e = rw e refl
     go false e = rw e refl
 
+-- the path whose part stands first, on a flow whose blocks go as ordered
 module _ (flow : Flow) (control : IsControlled flow)
     (waits : (path : PathView) (code : ℕ) (reads : _) → standing flow.order path.place ≡ Some (Wait code) → effect_of flow path reads ≡ AtWait code)
     (path : Path) (m : MachineView) where
@@ -57,7 +59,7 @@ module _ (flow : Flow) (control : IsControlled flow)
       no_label (slice_get m.paths.one.path.place 1) (standing flow.order m.paths.one.path.place) m.paths.two.waiting
       (λ code on. never code (sym is ∙ waits m.paths.one.path code m.paths.one.values on))
 
-  -- a turn is a wait just if the path stands on one to which it may come,
+  -- the turn of a block brings the path to a wait just if its label is a wait to which it may come
   here : (e : Effect) → effect_of flow m.paths.one.path m.paths.one.values ≡ e → (line : ℕ)
       → is_wait (result_by path line m e).turn ≡ comes_to (label_at flow.order m.paths.one.path.place) m.paths.two.waiting
   here (Need variable) is line = sym (elsewhere (Need variable) is (λ code clash. cc))
@@ -68,7 +70,8 @@ module _ (flow : Flow) (control : IsControlled flow)
   here (AtEnd after moves) is line = sym (elsewhere (AtEnd after moves) is (λ code clash. cc))
   here (effect.Alarm number value) is line = sym (elsewhere (effect.Alarm number value) is (λ code clash. cc))
 
-  -- also if it may be still,
+  -- a turn that may do nothing brings the path to a wait just if its label is one to which it may
+  -- come
   by_idle : (a : Option Alarm) (f : Bool) (w : Option ℕ)
       → is_wait (unless_idle m a f w (block_turn (blocks_of flow) path m)).turn ≡ comes_by a f w (label_at flow.order m.paths.one.path.place) m.paths.two.waiting
   by_idle (Some alarm) f w = refl
@@ -76,11 +79,12 @@ module _ (flow : Flow) (control : IsControlled flow)
   by_idle None false (Some code) = refl
   by_idle None false None = here (effect_of flow m.paths.one.path m.paths.one.values) refl ((blocks_of flow).line m.paths.one.path.place)
 
-  -- and so of a whole turn of the path whose part is first
+  -- a whole turn of the path whose part stands first brings it to a wait just if its label is one
+  -- to which it may come
   pub own_wait : is_wait (own_turn (blocks_of flow) path m).turn ≡ comes_by m.alarm m.paths.one.finished m.paths.one.waiting (label_at flow.order m.paths.one.path.place) m.paths.two.waiting
   own_wait = by_idle m.alarm m.paths.one.finished m.paths.one.waiting
 
--- a turn of either path is a wait just if the path comes to the label there
+-- a turn of either path brings it to a wait just if its label is one to which it may come
 pub wait_ahead : (verified : Verified) → ((flow : Flow) → IsControlled flow)
     → ((flow : Flow) (path : PathView) (code : ℕ) (reads : _) → standing flow.order path.place ≡ Some (Wait code) → effect_of flow path reads ≡ AtWait code)
     → (path : Path) (m : MachineView)

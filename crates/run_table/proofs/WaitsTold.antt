@@ -1,4 +1,6 @@
--- A step of a table answers nothing exactly where the path waits.
+-- A step of a table is handed on as nothing just if the path waits and nothing has stopped the
+-- table.
+-- For the proof of `turn_step` of a held table (src/held.rt).
 use Rattle.std.proofs.Common.{◌≡◌, ℕ, ◌&&◌, Bool, true, false, List, [], ◌++◌, length, refl, sym, ◌∙◌, ap, subst, append-nil, Option, Some, None, is_some, is_none}
 use Rattle.std.specs.Prelude.{nat_lt, not, MatchOption}
 use Rattle.disk_model.specs.Device.{DiskState}
@@ -25,11 +27,11 @@ use Rattle.run_table.specs.Holding.{held_of, waits_at, next_of_turn, next_of}
 use Rattle.run_table.proofs.HeldSteps.{not_full}
 use Rattle.run_table.proofs.OtherGoesOn.{IsOfBlock, block_goes}
 
--- none is answered where Q holds, and something where R does
+-- the turn is handed on as nothing only if Q holds, and as something only if R does
 abbrev Tells : Turn → Type 0 → Type 0 → Type 0
 Tells t Q R = MatchOption (next_of_turn t) Q (λ _. R)
 
--- the turn of a block answers something
+-- the turn of a block is handed on as something
 block_tells : (t : Turn) (Q R : Type 0) → IsOfBlock t → R → Tells t Q R
 block_tells (turn.Read variable stamp) Q R goes r = r
 block_tells (turn.Did moves) Q R goes r = r
@@ -46,7 +48,7 @@ block_tells turn.Edited Q R goes r = r
 abbrev waits_by : Option Alarm → Bool → Option ℕ → Bool
 waits_by alarm finished waiting = (is_none alarm && not finished) && is_some waiting
 
--- a turn that may be still answers nothing just if the path waits,
+-- a turn that may do nothing is handed on as nothing just if the path waits
 idle_tells : (m : MachineView) (a : Option Alarm) (f : Bool) (w : Option ℕ) (rest : TurnResult) → IsOfBlock rest.turn
     → Tells (unless_idle m a f w rest).turn (waits_by a f w ≡ true) (waits_by a f w ≡ false)
 idle_tells m (Some alarm) f w rest goes = refl
@@ -54,19 +56,19 @@ idle_tells m None true w rest goes = refl
 idle_tells m None false (Some code) rest goes = refl
 idle_tells m None false None rest goes = block_tells rest.turn (false ≡ true) (false ≡ false) goes refl
 
--- so does a whole turn,
+-- a whole turn is handed on as nothing just if the path waits
 own_tells : (blocks : Blocks) (path : Path) (m : MachineView)
     → Tells (own_turn blocks path m).turn (waits_by m.alarm m.paths.one.finished m.paths.one.waiting ≡ true)
     (waits_by m.alarm m.paths.one.finished m.paths.one.waiting ≡ false)
 own_tells blocks path m =
     idle_tells m m.alarm m.paths.one.finished m.paths.one.waiting (block_turn blocks path m) (block_goes blocks path m)
 
--- and the turn of either path
+-- a turn of either path is handed on as nothing just if the path waits
 turn_tells : (tapes : Tapes) (path : Path) (m : MachineView) → Tells (turn_of tapes path m).turn (is_waiting path m ≡ true) (is_waiting path m ≡ false)
 turn_tells tapes One m = own_tells tapes.one One m
 turn_tells tapes Two m = own_tells tapes.two Two (own_first Two m)
 
--- a turn that comes to a wait, or that is no wait, answers something
+-- a turn that brings the path to a wait is handed on as something
 come_tells : (t : Turn) (Q R : Type 0) → is_wait t ≡ true → Tells t Q R → R
 come_tells (turn.Read variable stamp) Q R is tells = tells
 come_tells (turn.Did moves) Q R is tells = tells
@@ -79,7 +81,7 @@ come_tells (turn.Alarm alarm) Q R is tells = tells
 come_tells (turn.Halted alarm) Q R is tells = tells
 come_tells turn.Edited Q R is tells = tells
 
--- a turn that is no wait tells the same of a wider condition
+-- a turn that does not say that the path waits tells what holds when something is handed on
 other_tells : (t : Turn) (Q R : Type 0) → ((code : ℕ) → t ≡ turn.Waiting code → R) → Tells t Q R → R
 other_tells (turn.Read variable stamp) Q R waits tells = tells
 other_tells (turn.Did moves) Q R waits tells = tells
@@ -92,13 +94,14 @@ other_tells (turn.Alarm alarm) Q R waits tells = tells
 other_tells (turn.Halted alarm) Q R waits tells = tells
 other_tells turn.Edited Q R waits tells = tells
 
+-- a step of a path from the table t to t'
 module _ {D : Type 0} (state : D → DiskState) (path : Path) (t t' : TableView D) (result : TableStep) (shown : Bool) (table : IsTable state t)
     (step : IsStep state (step_of t path) t t' result) where
   -- the path waits, and nothing has stopped the table
   abbrev waits : Bool
   waits = waits_at (held_of t shown) path
 
-  -- the answer is none just if the path waits
+  -- this answer is handed on as nothing just if the path waits
   abbrev Told : TableStep → Type 0
   Told answer = MatchOption (next_of answer) (waits ≡ true) (λ _. waits ≡ false)
 
@@ -106,33 +109,33 @@ module _ {D : Type 0} (state : D → DiskState) (path : Path) (t t' : TableView 
   abbrev the_turn : Turn
   the_turn = (turn_of (tapes_in t.verified) path t.machine).turn
 
-  -- whether it waits, by why the table stopped and what bounds it
+  -- whether the path waits, by why the table stopped and what bounds it
   waits_is : (why bound : Option Halt) → t.halt ≡ why → bound_of t ≡ bound → waits ≡ ((is_none why && is_none bound) && is_waiting path t.machine)
   waits_is why bound halts bounds = λ i. (is_none (halts i) && is_none (bounds i)) && is_waiting path t.machine
 
-  -- an answer that the table has stopped tells that no path waits
+  -- an answer that the table has stopped is handed on as something, and the path doesn't wait
   halted_tells : (why : Halt) (due : Bool) → waits ≡ false → Answers state due (Halted why) t.recording t'.recording result → Told result
   halted_tells why due none (at_once now same file even) = subst Told (sym same) none
   halted_tells why due none (flushed was same live all) = subst Told (sym same) none
   halted_tells why due none (failed was same dead stay rose) = subst Told (sym same) none
 
-  -- a drain answers something, and the path doesn't wait,
+  -- a drain is handed on as something, and the path doesn't wait
   drain_tells : waits ≡ false → Answers state false Drain t.recording t'.recording result → Told result
   drain_tells none (at_once now same file even) = subst Told (sym same) none
   drain_tells none (flushed was same live all) = absurd (let clash : false ≡ true = was in cc)
   drain_tells none (failed was same dead stay rose) = absurd (let clash : false ≡ true = was in cc)
 
-  -- nothing has stopped the table
+  -- a turn of a table that nothing has stopped
   module _ (why : t.halt ≡ None) (bound : bound_of t ≡ None) where
     -- a table that nothing stopped may go on
     may : MayGoOn t.machine t.recording
     may = subst (HasReason t.machine t.recording) why table.reason
 
-    -- a turn answers nothing just if it does,
+    -- the answer of a turn is handed on as nothing just if the turn says that the path waits
     tells : Tells the_turn (waits ≡ true) (waits ≡ false)
     tells = subst (λ (b : Bool). Tells the_turn (b ≡ true) (b ≡ false)) (sym (waits_is None None why bound)) (turn_tells (tapes_in t.verified) path t.machine)
 
-    -- where the path waits no records are to be written
+    -- if the path waits, no records are to be written
     not_due : (code : ℕ) → the_turn ≡ turn.Waiting code → is_due t.recording (list_of (entry_of (tapes_in t.verified) path t.machine)) the_turn ≡ false
     not_due code is =
         let none_made : list_of (entry_of (tapes_in t.verified) path t.machine) ≡ [] =
@@ -140,14 +143,14 @@ module _ {D : Type 0} (state : D → DiskState) (path : Path) (t t' : TableView 
         ap (λ (l : List Entry). is_due t.recording l the_turn) none_made ∙ ap (is_due t.recording []) is
         ∙ not_full t.recording.flushed (length t.recording.history) (length (t.recording.history ++ [])) (ap length (append-nil t.recording.history)) may.few
 
-    -- and so does the step of a turn,
+    -- the step of a turn tells whether the path waits
     turned_tells : Answers state (is_due t.recording (list_of (entry_of (tapes_in t.verified) path t.machine)) the_turn) (Turned the_turn) t.recording t'.recording result → Told result
     turned_tells (at_once now same file even) = subst Told (sym same) tells
     turned_tells (flushed was same live all) = subst Told (sym same) tells
     turned_tells (failed due same dead stay rose) = subst Told (sym same)
         (other_tells the_turn (waits ≡ true) (waits ≡ false) (λ code is. absurd (let clash : true ≡ false = sym due ∙ not_due code is in cc)) tells)
 
-  -- so each step of a table
+  -- each step of a table tells whether the path waits
   pub waits_told : Told result
   waits_told = go t.halt (bound_of t) (drains t path) refl refl refl step
     where

@@ -1,5 +1,6 @@
--- A step whose moves stand apart, in a list that is lent.
--- For this crate alone.
+-- A step that answers in two parts: an answer without moves, and the list of moves that the caller
+-- lends. This joins them to the step of which the other specs speak.
+-- For this crate alone: the contracts of `step_into` and its parts.
 use Rattle.std.specs.Prelude.{List, []}
 use Rattle.nc_moves.specs.declared.motion.Move.{Move}
 use Rattle.two_path.specs.Made.{moves_of_turn, turn_with}
@@ -8,14 +9,14 @@ use Rattle.run_table.specs.declared.answer.StepAnswer.TheVariants as apart
 use Rattle.run_table.specs.declared.answer.TableStep.{TableStep}
 use Rattle.run_table.specs.declared.answer.TableStep.TheVariants.{Turned, Drain, DiskFault, Halted}
 
--- the step with its moves in it
+-- the step of this answer and these moves
 abbrev pub step_with : StepAnswer → List Move → TableStep
 step_with (apart.Turned answer) moves = Turned (turn_with answer moves)
 step_with apart.Drain moves = Drain
 step_with apart.DiskFault moves = DiskFault
 step_with (apart.Halted why) moves = Halted why
 
--- the moves of a step: those of its turn, if it is one
+-- the moves of a step: those of its turn, or none if no turn was made
 abbrev pub moves_of_step : TableStep → List Move
 moves_of_step (Turned turn) = moves_of_turn turn
 moves_of_step Drain = []

@@ -1,5 +1,6 @@
--- How a table begins, anew or behind a recovery. What the disk must hold for that is in Recovered.
--- lathe_top uses these words.
+-- How a table begins, new or after a recovery, what room for records it gets, and what is left of
+-- it at the end. What the disk must hold after a recovery is in Recovered. lathe_top uses these
+-- words.
 use Rattle.std.specs.Prelude.{◌≡◌, ℕ, [], length, Option, Some, None, Result, Ok, Err, OnOk, OnErr}
 use Rattle.nc_moves.specs.declared.alarm.Alarm.{Alarm}
 use Rattle.nc_outside.specs.declared.halt.Halt.{Halt}
@@ -12,7 +13,7 @@ use Rattle.two_path.specs.Joined.{RoomyMachine}
 use Rattle.run_table.specs.Draining.{none_owed}
 use Rattle.run_table.specs.Kept.{TableView, opening_of}
 
--- a table without records, with no leave to make any
+-- a new table of the pair: without records, and with no leave to make any
 pub record IsBegun {D : Type 0} (verified : Verified) (t : TableView D) : Type 0 where
   pub pair : t.verified ≡ verified
   pub machine : t.machine ≡ opening_of verified
@@ -22,17 +23,18 @@ pub record IsBegun {D : Type 0} (verified : Verified) (t : TableView D) : Type 0
   pub budget : t.budget ≡ 0
   pub owed : t.owed ≡ none_owed
 
--- the disk in an answer that gives it back either way
+-- the disk in the answer of `begin`: that of the new table's journal, or that given back with a
+-- fault
 abbrev pub disk_in : {D : Type 0} → Result (TableView D) (D × GateFault) → D
 disk_in (Ok t) = t.recording.log.file.disk
 disk_in (Err fault) = fault.0
 
--- why a table has stopped whose machine has this alarm
+-- why a recovered table has stopped: for the alarm of its machine, or not at all
 abbrev pub reason_in : Option Alarm → Option Halt
 reason_in None = None
 reason_in (Some alarm) = Some (halt.Alarm alarm)
 
--- the table of what a recovery found
+-- the table of what a recovery found: all its records are on the disk, and it has no leave for more
 abbrev pub recovered_table : {D : Type 0} → Verified → RoomyMachine → Entries → Log D → TableView D
 recovered_table verified m entries log = record {
   verified = verified;
@@ -44,10 +46,12 @@ recovered_table verified m entries log = record {
   owed = none_owed;
 }
 
--- The room for so many records more, and leave to make them. Where there is no memory for it there
--- is no leave for more than before.
+-- What `prepare` does: it gives leave for n records, or, if memory runs out, leaves the budget as
+-- it was. Nothing else changes but room. That there is room for the budget is part of `IsTable`
+-- (Kept).
 pub record IsPrepared {D T E : Type 0} (n : ℕ) (old new : TableView D) (result : Result T E) : Type 0 where
   pub budget : OnOk result (new.budget ≡ n)
+  -- without memory the leave is what it was
   pub stays : OnErr result (new.budget ≡ old.budget)
   pub verified : new.verified ≡ old.verified
   pub machine : new.machine ≡ old.machine

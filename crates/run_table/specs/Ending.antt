@@ -1,5 +1,5 @@
--- How the run of a table that is held has ended, once its records are on the disk.
--- turret_run uses these words.
+-- Why the run of a held table has ended, with its records on the disk, and what asking for that
+-- does. turret_run uses these words. For a table that is no longer held it is in Running.
 use Rattle.std.specs.Prelude.{◌≡◌, ◌≢◌, ◌<◌, false, length, Option, Some, None, IsTrue}
 use Rattle.nc_outside.specs.declared.halt.Halt.TheVariants as halt
 use Rattle.nc_outside.specs.declared.reason.Reason.{Reason}
@@ -16,9 +16,8 @@ use Rattle.run_table.specs.Holding.{HeldView, without_turret}
 abbrev pub end_ahead : {D : Type 0} → TableView D → Option Reason
 end_ahead t = end_or_bound (end_of t.machine) (bound_of t)
 
--- What asking for the end of a run does. Nothing is done where the disk has failed, or the run has
--- not ended. Else the records that pend are written, or the disk fails in that, and this is the
--- end.
+-- What asking for the end of a run does. Nothing is done if the disk has failed, or the run has not
+-- ended. Else the records that pend are written; if the disk fails in that, this is the end.
 pub data Asks {D : Type 0} (old new : TableView D) (result : Option Reason) : Type 0 where
   -- the disk stopped the table before, and it stays as it is
   kept : old.halt ≡ Some halt.Disk → result ≡ Some reason.DiskFault → new ≡ old → Asks old new result
@@ -35,11 +34,16 @@ pub data Asks {D : Type 0} (old new : TableView D) (result : Option Reason) : Ty
       → new ≡ record old { recording = new.recording; halt = Some halt.Disk } → new.recording.history ≡ old.recording.history
       → new.recording.log.file.live ≡ false → new.recording.flushed ≡ old.recording.flushed → Asks old new result
 
--- the run of a held table ended so, with all its records on the disk, which has not failed
+-- the run of a held table is at an end, all its records are on the disk, which has not failed, and
+-- its machine ended it so, or not (None)
 pub record IsAtEnd {D : Type 0} (h : HeldView D) (machine_end : Option Reason) : Type 0 where
+  -- the journal may still be written
   pub live : IsTrue h.file.live
+  -- all records are on the disk
   pub all : h.flushed ≡ length h.history
+  -- but for a turret's fault, only an alarm may have stopped it
   pub halt : IsNoneOrAlarm (without_turret h.halt)
+  -- the machine ends so, or gives no end (None)
   pub machine : end_of h.machine ≡ machine_end
 
 -- Why the run of a held table has ended: the first of the causes that stand. No turret ends it.
@@ -53,21 +57,27 @@ HasEnded h reason.Stopped = IsAtEnd h None × (length h.history ≢ h.verified.s
 
 -- none of the causes stands for which the run of a held table ends
 pub record HasNotEnded {D : Type 0} (h : HeldView D) : Type 0 where
+  -- the journal may be written
   pub live : IsTrue h.file.live
+  -- no fault of the disk is kept
   pub halt : h.halt ≢ Some halt.Disk
+  -- the machine gives no end
   pub machine : end_of h.machine ≡ None
-  -- the journal is not full,
+  -- the journal is not full
   pub room : length h.history ≢ h.verified.settings.records
-  -- and the budget is not spent
+  -- the budget is not spent
   pub leave : h.budget ≢ 0
 
--- What is left as it was where the end of a run is asked for: all but what is on the disk. The disk
--- is used only where the run has ended and records pend, and a reason to stop comes only as it
--- fails.
+-- What stays as it was when the end of a run is asked for: all but what is on the disk. The disk is
+-- used only if the run has ended and records pend, and a reason to stop is set only if it fails.
 pub record KeepsRest {D : Type 0} (old new : HeldView D) (result : Option Reason) : Type 0 where
+  -- all but the flushed count, the file and the reason stays
   pub rest : new ≡ record old { flushed = new.flushed; file = new.file; halt = new.halt }
+  -- the reason stays unless the disk failed
   pub halt : result ≢ Some reason.DiskFault → new.halt ≡ old.halt
+  -- if the disk failed, no more records count as flushed
   pub flushed : result ≡ Some reason.DiskFault → new.flushed ≡ old.flushed
+  -- if the run has not ended, nothing is done
   pub idle : result ≡ None → new ≡ old
   -- if all is flushed already, nothing changes
   pub settled : old.flushed ≡ length old.history → new ≡ old

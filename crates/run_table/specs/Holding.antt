@@ -1,4 +1,5 @@
--- A table that keeps what it began with, and the moves that were answered since.
+-- A held table: one that keeps the table at which it was opened, so that the moves answered since
+-- are known. What a step is for the worker of its path stands here too.
 -- turret_run uses these words.
 use Rattle.std.specs.Prelude.{◌≡◌, ℕ, ◌==◌, ◌&&◌, not, is_none, Bool, true, false, List, [], ◌∷◌, ◌++◌, length, drop, Option, Some, None, if◌then◌else◌}
 use Rattle.disk_model.specs.Device.{DiskState}
@@ -32,8 +33,11 @@ use Rattle.run_table.specs.Stepping.{bound_by, is_waiting, step_of, IsStep}
 
 -- what callers see of a table that is held, and whether the moves of its last record were answered
 pub record HeldView (D : Type 0) : Type 0 where
+  -- the accepted pair
   pub verified : Verified
+  -- the machine after all records
   pub machine : MachineView
+  -- all records, also those that pend
   pub history : List Entry
   -- how many of the records are on the disk
   pub flushed : ℕ
@@ -48,7 +52,8 @@ pub record HeldView (D : Type 0) : Type 0 where
   -- whether the moves of its last record were answered
   pub shown : Bool
 
--- what callers see of this table, if it is held
+-- what callers see of this table once it is held, if the moves of its last record were answered or
+-- not
 abbrev pub held_of : {D : Type 0} → TableView D → Bool → HeldView D
 held_of t shown = record {
   verified = t.verified;
@@ -62,7 +67,7 @@ held_of t shown = record {
   shown = shown;
 }
 
--- why no turn comes though nothing stopped the table
+-- why no turn comes though nothing stopped the table: its journal is full, or its budget is spent
 abbrev pub bound_at : {D : Type 0} → HeldView D → Option Halt
 bound_at h = bound_by (length h.history) h.verified.settings.records h.budget
 
@@ -70,7 +75,8 @@ bound_at h = bound_by (length h.history) h.verified.settings.records h.budget
 abbrev pub waits_at : {D : Type 0} → HeldView D → Path → Bool
 waits_at h path = (is_none h.halt && is_none (bound_at h)) && is_waiting path h.machine
 
--- the path is to be drained, and nothing has stopped the table
+-- the path's next turn brings it to a wait, it has to be drained first, and nothing has stopped the
+-- table
 abbrev pub drains_at : {D : Type 0} → HeldView D → Path → Bool
 drains_at h path =
     (is_none h.halt && is_none (bound_at h)) && (of_path h.owed path && is_wait (turn_of (tapes_in h.verified) path h.machine).turn)
@@ -80,15 +86,16 @@ abbrev pub IsOf : {D : Type 0} → (D → DiskState) → Option (TableView D) �
 IsOf state None t = ⊥
 IsOf state (Some start) t = Since state start t
 
--- of each record of the path its moves, but none of the last record of all, whose moves were not
--- answered
+-- the moves of each record of the path; none for the last record of the history, whose moves were
+-- not answered
 abbrev pub lost_from : Tapes → MachineView → Path → List Entry → List (List LinedMove)
 lost_from tapes m path [] = []
 lost_from tapes m path (e ∷ []) = if_of path e []
 lost_from tapes m path (e ∷ f ∷ entries) =
     if_of path e (made_in (turn_of_entry tapes e m)) ++ lost_from tapes (behind_entry tapes e m) path (f ∷ entries)
 
--- of each record of the path the moves that were answered, the last one's only if they were
+-- the moves of each record of the path that were answered: of all records (true), or of all but the
+-- last one of the history (false)
 abbrev pub answered_from : Tapes → MachineView → Path → Bool → List Entry → List (List LinedMove)
 answered_from tapes m path true entries = shown_from tapes m path entries
 answered_from tapes m path false entries = lost_from tapes m path entries
@@ -110,21 +117,26 @@ ShowsFlushed (Some start) h t = (path : Path) → moves_in (records_since (Some 
 -- A table that may be held under the opening: it is of the opening, and what it showed since is on
 -- the disk.
 pub record MayHold {D : Type 0} (state : D → DiskState) (opened : Option (TableView D)) (t : TableView D) : Type 0 where
+  -- the table has come of the opening
   pub of : IsOf state opened t
+  -- the moves answered since are those of records on the disk
   pub shows : ShowsFlushed opened (held_of t true) t
 
--- What is true of a held table. Only a record that did not get to the disk stands without its
--- moves.
+-- What is true of a held table: it has come of its opening, what it showed since is on the disk,
+-- and the moves of its last record are unanswered only if the disk has failed.
 pub record IsHeld {D : Type 0} (state : D → DiskState) (opened : Option (TableView D)) (t : TableView D) (shown : Bool) : Type 0 where
+  -- the table has come of the opening
   pub of : IsOf state opened t
+  -- the last moves are unanswered only after a fault of the disk
   pub lost : shown ≡ false → t.halt ≡ Some halt.Disk
+  -- the moves answered since are those of records on the disk
   pub shows : ShowsFlushed opened (held_of t shown) t
 
--- moves are handed on, and a block without any is silent
+-- what a block with these moves is for the worker: its moves, or `Silent` if it has none
 abbrev pub handed : Moves → Next
 handed moves = if length moves.list == 0 then next.Silent else next.Moves moves
 
--- a turn as it is handed on; None if the path waits
+-- a turn as it is handed on to the worker of its path; None if the path waits
 abbrev pub next_of_turn : Turn → Option Next
 next_of_turn (turn.Read variable stamp) = Some next.Silent
 next_of_turn (turn.Did moves) = Some (handed moves)
@@ -137,26 +149,34 @@ next_of_turn (turn.Alarm alarm) = Some (next.Halted (halt.Alarm alarm))
 next_of_turn (turn.Halted alarm) = Some (next.Halted (halt.Alarm alarm))
 next_of_turn turn.Edited = Some next.Silent  -- an edit is no turn of a step
 
--- a step as it is handed on to the worker of its path; None where the path waits
+-- a step as it is handed on to the worker of its path; None if the path waits
 abbrev pub next_of : TableStep → Option Next
 next_of (step.Turned turn) = next_of_turn turn
 next_of step.Drain = Some next.Drain
 next_of step.DiskFault = Some (next.Halted halt.Disk)
 next_of (step.Halted why) = Some (next.Halted why)
 
--- a step in which the disk failed made a record: it did from one number of records to another
+-- the step lost a record: the disk failed in it, and the numbers of records before and after it
+-- differ
 abbrev pub is_lost : TableStep → ℕ → ℕ → Bool
 is_lost step.DiskFault before after = not (before == after)
 is_lost other before after = false
 
--- one step of the table that is held, and its answer handed on
+-- one step of the path by the table that is held, and its answer as it is handed on
 pub record HasStepped {D : Type 0} (state : D → DiskState) (path : Path) (old new : HeldView D) (result : Option Next) : Type 0 where
+  -- the table before the step
   pub before : TableView D
+  -- the table after the step
   pub after : TableView D
+  -- what the step answered
   pub step : TableStep
+  -- the held table before the step is that table
   pub old_is : old ≡ held_of before old.shown
+  -- the held table after the step is that table
   pub new_is : new ≡ held_of after new.shown
+  -- the step is one of the table
   pub is : IsStep state (step_of before path) before after step
+  -- the answer is that of the step, as it is handed on
   pub next : result ≡ next_of step
 
 -- why the table stopped, but for a turret's fault, which a table that is taken out doesn't keep
@@ -164,7 +184,8 @@ abbrev pub without_turret : Option Halt → Option Halt
 without_turret (Some (halt.Turret path)) = None
 without_turret why = why
 
--- what a table is that was held and is taken out
+-- A table that is taken out of a held one: the same pair, machine, records, file and budget, and
+-- the same reason to stop unless it is a turret's fault.
 pub record IsTaken {D : Type 0} (held : HeldView D) (t : TableView D) : Type 0 where
   pub verified : t.verified ≡ held.verified
   pub machine : t.machine ≡ held.machine
@@ -174,7 +195,9 @@ pub record IsTaken {D : Type 0} (held : HeldView D) (t : TableView D) : Type 0 w
   pub budget : t.budget ≡ held.budget
   pub halt : t.halt ≡ without_turret held.halt
 
--- A table that was held, may be held again, and has the same records since the opening then.
+-- A table that was held may be held again under its opening, with the same answered moves since.
 pub record MayHoldAgain {D : Type 0} (state : D → DiskState) (opened : Option (TableView D)) (held : HeldView D) (t : TableView D) : Type 0 where
+  -- the table may be held under the opening
   pub may : MayHold state opened t
+  -- the answered moves since the opening are those of before
   pub records : (path : Path) → records_since opened (held_of t true) path ≡ records_since opened held path

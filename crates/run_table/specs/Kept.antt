@@ -1,6 +1,6 @@
 -- What callers see of a table, and what is true of it. The history and the journal in it are in
 -- Recording.
--- lathe_top and turret_run use these words.
+-- lathe_top, turret_run and tests use these words.
 use Rattle.std.specs.Prelude.{◌≡◌, ℕ, ◌+◌, ◌≤◌, ◌<◌, false, length, map, Option, Some, None, IsTrue, Bool}
 use Rattle.disk_model.specs.Device.{DiskState}
 use Rattle.nc_outside.specs.declared.halt.Halt.{Halt}
@@ -21,10 +21,10 @@ use Rattle.run_table.specs.Recording.{RecordingView, IsJournaled}
 
 -- what callers see of a table
 pub record TableView (D : Type 0) : Type 0 where
-  pub verified : Verified
-  pub machine : MachineView
+  pub verified : Verified  -- the accepted pair
+  pub machine : MachineView  -- the machine after all records
   pub turns : ℕ  -- for how many turns the machine has room
-  pub recording : RecordingView D
+  pub recording : RecordingView D  -- the history and the journal
   pub halt : Option Halt  -- why the table has stopped
   pub budget : ℕ  -- how many records it may still make
   pub owed : Both Bool  -- which paths have to be drained before they come to a wait
@@ -37,7 +37,7 @@ tapes_in verified = tapes_of verified.left verified.right
 abbrev pub opening_of : Verified → MachineView
 opening_of verified = machine_at_start verified.left verified.right verified.settings
 
--- the verdict of the header's three texts is this pair
+-- the header's three texts are accepted, as this pair
 abbrev pub IsVerdictOf : Header → Verified → Type 0
 IsVerdictOf header verified =
     AreAccepted (record { left = header.left; right = header.right; settings = header.settings }) (view verified.settings)
@@ -53,8 +53,8 @@ pub record MayGoOn {D : Type 0} (machine : MachineView) (r : RecordingView D) : 
   -- fewer than 64 records pend
   pub few : length r.history < r.flushed + MOST_PENDING
 
--- Why a table has stopped: for an alarm of the machine, for a fault of the disk, or as a turret was
--- said to fail. A full journal and a spent budget are no reasons that a table keeps.
+-- What a table's kept reason means: an alarm of the machine, a fault of the disk, or a turret that
+-- was said to fail. A full journal and a spent budget are no reasons that a table keeps.
 abbrev pub HasReason : {D : Type 0} → MachineView → RecordingView D → Option Halt → Type 0
 HasReason machine r None = MayGoOn machine r
 HasReason machine r (Some (Alarm alarm)) = (machine.alarm ≡ Some alarm) × IsTrue r.log.file.live
@@ -67,13 +67,17 @@ HasReason machine r (Some Budget) = ⊥
 -- reads. There is room for what it may still record. The journal is that of some header whose texts
 -- are the pair's.
 pub record IsTable {D : Type 0} (state : D → DiskState) (t : TableView D) : Type 0 where
+  -- the machine is the fold of the legal history, but for what unfinished blocks have read
   pub kept : IsKept (tapes_in t.verified) (opening_of t.verified) t.recording.history t.machine
   -- each waiting path stands on a wait
   pub waits : AreAtTheirWaits t.verified.left.order t.verified.right.order t.machine
+  -- there are no more records than the settings allow
   pub few : length t.recording.history ≤ t.verified.settings.records
-  -- the machine has room for its turns,
+  -- the machine has room for the turns that the budget allows
   pub turns : t.budget ≤ t.turns
-  -- and the history for their records
+  -- the history has room for the records that the budget allows
   pub room : 1 ≤ t.budget → length t.recording.history + t.budget ≤ t.recording.room
+  -- the reason that is kept holds, or the table may go on
   pub reason : HasReason t.machine t.recording t.halt
+  -- the journal is that of some header whose texts are the pair's
   pub journaled : (header : Header) × IsVerdictOf header t.verified × IsJournaled state header t.recording

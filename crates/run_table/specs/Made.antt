@@ -1,5 +1,5 @@
--- The moves of the records of a history.
--- lathe_top and turret_run use these words.
+-- The moves that the records of a path in a history make.
+-- turret_run says by them what a turret gets, and lathe_top what a session hands to it.
 use Rattle.std.specs.Prelude.{ℕ, List, [], ◌∷◌, ◌++◌, take, drop, if◌then◌else◌}
 use Rattle.nc_number.specs.Path.{is_same}
 use Rattle.nc_number.specs.declared.path.Path.{Path}
@@ -14,18 +14,18 @@ use Rattle.two_path.specs.Again.{turn_of_entry}
 use Rattle.two_path.specs.Made.{made_in}
 use Rattle.run_table.specs.Kept.{tapes_in, opening_of}
 
--- the moves of a record, where it is one of the path
+-- these moves of the record as a list of one, if the record is one of the path; else an empty list
 abbrev pub if_of : Path → Entry → List LinedMove → List (List LinedMove)
 if_of path entry moves = if is_same path entry.path then moves ∷ [] else []
 
--- of each record of the path the moves of its turn, from this machine on
+-- the moves of each record of the path, made again by its turn, from this machine on
 abbrev pub shown_from : Tapes → MachineView → Path → List Entry → List (List LinedMove)
 shown_from tapes m path [] = []
 shown_from tapes m path (e ∷ entries) =
     if_of path e (made_in (turn_of_entry tapes e m)) ++ shown_from tapes (behind_entry tapes e m) path entries
 
--- the moves of the path's records of a history of the pair, from one number of records on up to
--- another
+-- the moves of the path's records in a history of the pair: of the records after the first `from`,
+-- up to number `upto`
 abbrev pub moves_made : Verified → Path → ℕ → ℕ → List Entry → List LinedMove
 moves_made pair path from upto history =
     moves_in (shown_from (tapes_in pair) (fold (tapes_in pair) (opening_of pair) (take from history)) path

@@ -1,4 +1,4 @@
--- How a run ends. Of a table that is no longer held; of a held one it is in Ending.
+-- Why the run of a table has ended that is no longer held. Of a held one it is in Ending.
 -- lathe_top and turret_run use these words.
 use Rattle.std.specs.Prelude.{◌≡◌, ◌≢◌, false, length, Option, Some, None, IsTrue}
 use Rattle.disk_model.specs.Device.{DiskState, Rose}
@@ -20,13 +20,19 @@ IsNoneOrAlarm (Some halt.Budget) = ⊥
 
 -- a table that may be run: no record pends, and nothing but an alarm has stopped it
 pub record MayRun {D : Type 0} (t : TableView D) : Type 0 where
+  -- all records are on the disk
   pub all : t.recording.flushed ≡ length t.recording.history
+  -- nothing has stopped it, or an alarm has
   pub halt : IsNoneOrAlarm t.halt
 
--- a run ended so, with all its records on the disk, which has not failed
+-- a run is at an end, all its records are on the disk, which has not failed, and its machine ended
+-- it so, or not (None)
 pub record IsEnd {D : Type 0} (t : TableView D) (machine_end : Option Reason) : Type 0 where
+  -- the journal may still be written
   pub live : IsTrue t.recording.log.file.live
+  -- the table may be run: no record pends, and only an alarm may have stopped it
   pub may : MayRun t
+  -- the machine ends so, or gives no end (None)
   pub machine : end_of t.machine ≡ machine_end
 
 -- Why a run ended: the disk failed, or else an alarm came, or else both paths ended, or else there

@@ -47,17 +47,19 @@ bound_of t = bound_by (length t.recording.history) t.verified.settings.records t
 abbrev pub is_waiting : Path → MachineView → Bool
 is_waiting path m = (is_none m.alarm && not (of_path m.paths path).finished) && is_some (of_path m.paths path).waiting
 
--- the path waits, and nothing has stopped the table
+-- the path waits, nothing has stopped the table, and neither a full journal nor a spent budget does
 abbrev pub waits_in : {D : Type 0} → TableView D → Path → Bool
 waits_in t path = (is_none t.halt && is_none (bound_of t)) && is_waiting path t.machine
 
--- what a step comes to where the disk does not fail: its answer, the machine and the records that
--- it makes, and whether all records are to be on the disk before the answer
+-- what a step comes to if the disk does not fail
 pub record StepResult : Type 0 where
+  -- what the step answers
   pub answer : TableStep
+  -- the machine after the step
   pub machine : MachineView
-  -- the record, or none
+  -- the record that the step makes, or none
   pub made : List Entry
+  -- whether all records are to be on the disk before the answer
   pub due : Bool
 
 -- all records are to be on the disk before an answer that shows something, and at 64 that pend
@@ -73,15 +75,15 @@ turn_step t result made = record {
   due = is_due t.recording made result.turn;
 }
 
--- the path comes to a wait, and has to be drained first
+-- the path's next turn brings it to a wait, and it has to be drained first
 abbrev pub drains : {D : Type 0} → TableView D → Path → Bool
 drains t path = of_path t.owed path && is_wait (turn_of (tapes_in t.verified) path t.machine).turn
 
--- nothing is done, as the table keeps a reason, or as the path has to be drained
+-- a step that does nothing but answer so: the table keeps a reason, or the path has to be drained
 abbrev pub idle_step : {D : Type 0} → TableView D → TableStep → StepResult
 idle_step t answer = record { answer = answer; machine = t.machine; made = []; due = false }
 
--- no turn comes, for a full journal or a spent budget
+-- a step without a turn, for a full journal or a spent budget; what pends is written before it
 abbrev pub bound_step : {D : Type 0} → TableView D → Halt → StepResult
 bound_step t why = record {
   answer = Halted why;
@@ -95,24 +97,25 @@ abbrev pub turn_by : {D : Type 0} → TableView D → Path → StepResult
 turn_by t path =
     turn_step t (turn_of (tapes_in t.verified) path t.machine) (list_of (entry_of (tapes_in t.verified) path t.machine))
 
--- a reason that is kept goes before a full journal, that before a spent budget, and each of them
--- before a turn
+-- The step if no drain is due: a reason that is kept goes before a full journal, that before a
+-- spent budget, and each of them before a turn.
 abbrev pub drained_by : {D : Type 0} → TableView D → Path → Option Halt → Option Halt → StepResult
 drained_by t path (Some why) bound = idle_step t (Halted why)
 drained_by t path None (Some why) = bound_step t why
 drained_by t path None None = turn_by t path
 
--- before its turn the path is drained, if it has to be
+-- the step by the table's reason, its bound, and whether the path has to be drained: only a path
+-- whose turn would come is drained
 abbrev pub step_by : {D : Type 0} → TableView D → Path → Option Halt → Option Halt → Bool → StepResult
 step_by t path None None true = idle_step t Drain
 step_by t path why bound drain = drained_by t path why bound
 
--- a step of the path: a drain, its turn, or nothing
+-- what a step of the path comes to: a drain, its turn, or nothing
 abbrev pub step_of : {D : Type 0} → TableView D → Path → StepResult
 step_of t path = step_by t path t.halt (bound_of t) (drains t path)
 
--- The answer that comes where the disk does not fail, with all records flushed before it where that
--- is due, or a fault of the disk, which failed in that.
+-- The result of a step: its answer, with all records flushed before it if that is due; or a fault
+-- of the disk, if it failed in that flush.
 pub data Answers {D : Type 0} (state : D → DiskState) (due : Bool) (answer : TableStep) (old new : RecordingView D) (result : TableStep) : Type 0 where
   -- nothing has to be flushed, and the answer is the step's
   at_once : due ≡ false → result ≡ answer → new.log.file ≡ old.log.file → new.flushed ≡ old.flushed
@@ -124,7 +127,8 @@ pub data Answers {D : Type 0} (state : D → DiskState) (due : Bool) (answer : T
   failed : due ≡ true → result ≡ DiskFault → new.log.file.live ≡ false → new.flushed ≡ old.flushed
       → Rose (state old.log.file.disk).faults (state new.log.file.disk).faults → Answers state due answer old new result
 
--- the reason that a table keeps of an answer, where it kept none before
+-- the reason to stop that an answer gives to a table that kept none: an alarm or a fault of the
+-- disk
 abbrev pub reason_of : TableStep → Option Halt
 reason_of (Turned (turn.Alarm alarm)) = Some (halt.Alarm alarm)
 reason_of (Turned _) = None
@@ -132,22 +136,26 @@ reason_of Drain = None
 reason_of DiskFault = Some halt.Disk
 reason_of (Halted why) = None
 
--- the reason that a table keeps behind this answer
+-- the reason that a table keeps after this answer: the one from before, or that of the answer
 abbrev pub reason_behind : Option Halt → TableStep → Option Halt
 reason_behind (Some why) answer = Some why
 reason_behind None answer = reason_of answer
 
--- What a step does to the table. Where the disk failed the records that it made are among those
--- that pend.
+-- What a step does to the table. If the disk failed in it, the record that it made pends.
 pub record IsStep {D : Type 0} (state : D → DiskState) (step : StepResult) (old new : TableView D) (result : TableStep) : Type 0 where
+  -- the result is the step's answer, or a fault of the disk
   pub answer : Answers state step.due step.answer old.recording new.recording result
+  -- the recording has the step's record, and may be flushed
   pub records : Records state step.made old.recording new.recording
   pub machine : new.machine ≡ step.machine
   pub budget : new.budget + length step.made ≡ old.budget
+  -- the table keeps its reason, or gets that of the result
   pub halt : new.halt ≡ reason_behind old.halt result
   pub verified : new.verified ≡ old.verified
 
 -- the path's turn is that of a block: it neither waits nor has ended
 pub record GoesOn (tapes : Tapes) (path : Path) (m : MachineView) : Type 0 where
+  -- the turn does not say that the path waits
   pub waits : (code : ℕ) → (turn_of tapes path m).turn ≡ turn.Waiting code → ⊥
+  -- the turn does not say that the path has ended
   pub ended : (turn_of tapes path m).turn ≡ turn.Finished → ⊥

@@ -1,4 +1,5 @@
-//! What a step of a table answers, and what is left of a table.
+//! What a step of a table answers, and what is left of a table that is taken apart.
+//! lathe_top takes `Parts`, tests take `TableStep`; `StepAnswer` is the form that table.rt fills.
 ghost use Rattle.std.specs.Prelude.{◌≡◌};
 ghost use Rattle.run_table.specs.Apart.{step_with};
 
@@ -23,7 +24,7 @@ pub enum TableStep {
     Halted(Halt),
 }
 
-/// What one step of a table came to, its moves apart: a list that is lent has them.
+/// What one step of a table came to. Its moves are not in it, but in a list that the caller lends.
 #[derive(Debug, Drop)]
 pub enum StepAnswer {
     /// A turn of the path. What it shows is on the disk.
@@ -37,7 +38,8 @@ pub enum StepAnswer {
 }
 
 impl TableStep {
-    /// The step with its moves in it. A step that has none leaves them.
+    /// The answer and the moves of a step in one value. The moves are dropped if the step is no
+    /// turn that has some.
     pub(crate) fn of(answer: StepAnswer, moves: MoveList) -> TableStep
         ensures { result ≡ step_with answer moves }
     {
@@ -50,13 +52,17 @@ impl TableStep {
     }
 }
 
-/// What a table is made of.
+/// What is left of a table that is taken apart (`Table::into_parts`).
 #[derive(Drop)]
 pub struct Parts<D: Disk> {
+    /// The accepted pair.
     pub verified: Verified,
+    /// The machine after all records.
     pub machine: Machine,
+    /// All records, also those that did not get to the disk.
     pub entries: EntryList,
-    /// Why it stopped, where it keeps a reason.
+    /// Why the table stopped, if it keeps a reason.
     pub halt: Option<Halt>,
+    /// The disk with the journal.
     pub disk: D,
 }

@@ -1,5 +1,5 @@
-//! When a path has to be drained before it goes on.
-//! For this crate alone: table.rt uses it.
+//! When a path has to be drained before it goes on: its turret is to have all its moves and to
+//! stand still before the path comes to a wait. For this crate alone: table.rt uses it.
 ghost use Rattle.std.specs.Prelude.{◌≡◌};
 ghost use Rattle.nc_number.specs.Path.{other_of};
 ghost use Rattle.nc_number.specs.Both.{of_path};
@@ -16,7 +16,7 @@ use nc_verify::Verified;
 use tape_flow::Flow;
 use two_path::{Machine, TurnAnswer};
 
-/// To neither path moves were answered that its turret may not have yet: none has to be drained.
+/// What a new table owes: neither path was answered moves that its turret may not have yet.
 pub(crate) fn none_owed() -> Both<bool>
     ensures { result ≡ none_owed }
 {
@@ -26,7 +26,7 @@ pub(crate) fn none_owed() -> Both<bool>
     }
 }
 
-/// The same, but for this path.
+/// Sets for this path whether moves were answered to it that its turret may not have yet.
 pub(crate) fn with_owed(owed: Both<bool>, path: Path, is: bool) -> Both<bool>
     ensures { result ≡ with_owed path is owed }
 {
@@ -36,7 +36,8 @@ pub(crate) fn with_owed(owed: Both<bool>, path: Path, is: bool) -> Both<bool>
     }
 }
 
-/// Behind a step of the path, whose moves are these.
+/// Which paths were answered moves that their turrets may not have yet, after this step of the path
+/// with these moves.
 pub(crate) fn owed_behind(
     owed: Both<bool>,
     path: Path,
@@ -51,7 +52,7 @@ pub(crate) fn owed_behind(
     owed
 }
 
-/// Whether the turn has moves.
+/// Whether a turn with this answer and these moves has any for the turret.
 fn has_moves(answer: &TurnAnswer, moves: &MoveList) -> bool
     ensures { result ≡ has_moves (turn_with answer.now moves.now) }
 {
@@ -61,7 +62,7 @@ fn has_moves(answer: &TurnAnswer, moves: &MoveList) -> bool
     }
 }
 
-/// Whether the step answered moves.
+/// Whether a step with this answer and these moves answered any to its path.
 fn answers_moves(step: &StepAnswer, moves: &MoveList) -> bool
     ensures { result ≡ answers_moves (step_with step.now moves.now) }
 {

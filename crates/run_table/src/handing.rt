@@ -11,7 +11,7 @@ use nc_moves::{MoveList, Moves};
 use nc_outside::{Halt, Next};
 use two_path::TurnAnswer;
 
-/// Moves of a block are handed on, and a block without any is silent.
+/// What a block with these moves is for the worker: its moves, or `Silent` if it has none.
 fn handed(line: u32, list: MoveList) -> Next
     ensures { result ≡ handed (record { line = line; list = list }) }
 {
@@ -21,7 +21,7 @@ fn handed(line: u32, list: MoveList) -> Next
     Next::Moves(Moves { line, list })
 }
 
-/// What a turn comes to for the worker of its path. None where the path waits.
+/// What a turn comes to for the worker of its path. None if the path waits.
 fn next_of_turn(answer: TurnAnswer, moves: MoveList) -> Option<Next>
     ensures { result ≡ next_of_turn (turn_with answer moves) }
 {
@@ -39,7 +39,7 @@ fn next_of_turn(answer: TurnAnswer, moves: MoveList) -> Option<Next>
     }
 }
 
-/// What a step comes to for the worker of its path. None where the path waits.
+/// What a step comes to for the worker of its path. None if the path waits.
 pub(crate) fn next_of(step: StepAnswer, moves: MoveList) -> Option<Next>
     ensures { result ≡ next_of (step_with step moves) }
 {
@@ -51,8 +51,8 @@ pub(crate) fn next_of(step: StepAnswer, moves: MoveList) -> Option<Next>
     }
 }
 
-/// Whether the step made a record that did not get to the disk, by the numbers of records before it
-/// and behind it.
+/// Whether the step made a record that did not get to the disk. It is told by the numbers of
+/// records before and after the step.
 fn is_lost(step: &StepAnswer, before: usize, after: usize) -> bool
     ensures { (moves : List Move) → result ≡ is_lost (step_with step.now moves) before after }
 {
@@ -62,7 +62,8 @@ fn is_lost(step: &StepAnswer, before: usize, after: usize) -> bool
     }
 }
 
-/// Whether behind the step the moves of the last record were answered.
+/// Whether after the step the moves of the last record were answered: they were before it, and the
+/// step lost no record.
 pub(crate) fn is_still_shown(shown: bool, step: &StepAnswer, before: usize, after: usize) -> bool
     ensures { (moves : List Move) → result ≡ (shown && not (is_lost (step_with step.now moves) before after)) }
 {

@@ -59,8 +59,8 @@ impl<D: Disk, O: Opening<D>> Model for Held<D, O> {
 }
 
 impl<D: Disk, O: Opening<D>> Held<D, O> {
-    /// The table, which is of this opening, and of which all moves that were answered since are on
-    /// the disk.
+    /// Holds the table under this opening. All moves that were answered since the opening must be
+    /// those of records that are on the disk.
     pub fn new(table: Table<D>) -> Held<D, O>
         requires { MayHold D.state O.opened table }
         ensures { result ≡ held_of table true }
@@ -72,11 +72,11 @@ impl<D: Disk, O: Opening<D>> Held<D, O> {
         }
     }
 
-    /// Why the run has ended, with all its records on the disk. None where a path can go on.
+    /// Why the run has ended, with all its records on the disk. None if a path can go on.
     ///
     /// Of several causes it is the first of: a fault of the disk, an alarm, the ends of both paths,
     /// a full journal, a spent budget. A turret that failed is none of them. The records that pend
-    /// are written before the answer, and where the disk fails in that, this is the end.
+    /// are written before the answer, and if the disk fails in that, this is the end.
     pub fn end(&mut self) -> Option<Reason>
         ensures ends { IfSome result (λ end. HasEnded self.new end) }
         ensures goes_on { IfNone result (HasNotEnded self.new) }
@@ -86,8 +86,8 @@ impl<D: Disk, O: Opening<D>> Held<D, O> {
         self.table.ended()
     }
 
-    /// The table, which is of this opening. That a turret failed it keeps no longer. Unless its
-    /// disk has failed it may be held again.
+    /// Gives back the table. It no longer keeps a turret's fault as the reason why it stopped.
+    /// Unless its disk has failed it may be held again under the same opening.
     pub fn into_table(self) -> Table<D>
         ensures of { IsOf D.state O.opened result }
         ensures taken { IsTaken self result }

@@ -1,5 +1,5 @@
-//! What holds of every table, for the crates above: who calls the function has the law.
-//! lathe_top and turret_run use them.
+//! What holds of every table. A function here does nothing; who calls it may use what it ensures.
+//! lathe_top and turret_run call these laws, and table.rt calls `who_is_waited_for_goes_on`.
 ghost use Rattle.std.specs.Prelude.{◌≡◌, ◌≢◌, ℕ, ◌-◌, ◌*◌, ◌≤◌, List, length, Some};
 ghost use Rattle.nc_number.specs.declared.path.Path.{Path};
 ghost use Rattle.nc_number.specs.Path.{other_of};
@@ -24,7 +24,8 @@ use disk_model::Disk;
 use path_state::control_goes_as_the_flow_orders;
 use two_path::no_legal_history_is_stuck;
 
-/// A machine that is the fold of a legal history can go on.
+/// A machine that is the fold of a legal history is not stuck: unless there is an alarm or both
+/// paths have ended, one of them neither waits nor has ended.
 fn kept_paths_are_not_stuck()
     ensures { (verified : Verified) (entries : List Entry) (machine : MachineView)
         → IsKept (tapes_in verified) (opening_of verified) entries machine → IsStuck (without_reads machine) → ⊥ }
@@ -33,7 +34,7 @@ fn kept_paths_are_not_stuck()
     no_legal_history_is_stuck();
 }
 
-/// Where a path waits, the other one has a turn of a block.
+/// While a path waits, the other one's turn is that of a block: it neither waits nor has ended.
 pub fn who_is_waited_for_goes_on()
     ensures { (verified : Verified) (entries : List Entry) (machine : MachineView) (path : Path) (code : ℕ)
         → IsKept (tapes_in verified) (opening_of verified) entries machine
@@ -43,19 +44,19 @@ pub fn who_is_waited_for_goes_on()
     kept_paths_are_not_stuck();
 }
 
-/// A record has seven moves at most.
+/// The records of a path make seven moves each at most.
 pub fn a_record_makes_seven_moves_at_most()
     ensures { (pair : Verified) (path : Path) (from upto : ℕ) (history : List Entry)
         → length (moves_made pair path from upto history) ≤ 7 * (upto - from) }
 {}
 
-/// A table may be held under the opening that it is.
+/// Each table may be held with itself as the opening.
 pub fn a_table_opens_itself<D: Disk>()
     ensures { (t : TableView D) → MayHold D.state (Some t) t }
 {}
 
-/// The end of the run of a held table is that of the table that was taken out, since the table at
-/// which it began.
+/// What ended the run of a held table also ended that of the table that is taken out, as a run that
+/// began at `start`.
 pub fn a_taken_table_ended_so<D: Disk>()
     ensures { (start taken : TableView D) (held : HeldView D) (end : Reason) → Since D.state start taken
         → start.halt ≢ Some halt.Disk → IsTaken held taken → HasEnded held end → EndsBy D.state start taken end }

@@ -1,4 +1,4 @@
-//! The history of a run, and the journal that holds a beginning of it.
+//! The history of a run, and the journal that holds a prefix of it.
 //! For this crate alone: stepping.rt and table.rt use it.
 ghost use Rattle.std.specs.Prelude.{◌≡◌, ◌+◌, ◌≤◌, [], ◌∷◌, length, None, IsTrue, IsErr, OnOk};
 ghost use Rattle.disk_model.specs.Device.{Rose};
@@ -47,7 +47,7 @@ impl<D: Disk> Model for Recording<D> {
 }
 
 impl<D: Disk> Recording<D> {
-    /// These records, all of which the journal has written.
+    /// A recording of these records, all of which the journal has written.
     pub(crate) fn over(history: EntryList, journal: Journal<D>) -> Recording<D>
         requires { IsFresh (length history.items) journal }
         ensures { result ≡ record {
@@ -102,8 +102,8 @@ impl<D: Disk> Recording<D> {
         self.history.push(entry);
     }
 
-    /// Writes all records that pend, as one batch; where none pends it makes no call of the disk.
-    /// It takes no memory.
+    /// Writes all records that pend, as one batch; if none pends it makes no call of the disk. It
+    /// takes no memory.
     pub(crate) fn flush(&mut self) -> Result<(), DiskFault>
         requires { IsTrue self.old.log.file.live }
         ensures flushed { IsFlush self.old self.new result }

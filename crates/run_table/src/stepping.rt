@@ -40,7 +40,8 @@ pub(crate) fn is_waiting(machine: &Machine, path: Path) -> bool
     machine.alarm().is_none() && !machine.finished(path) && machine.waiting(path).is_some()
 }
 
-/// The reason that a table keeps of an answer with these moves.
+/// The reason to stop that a table keeps after this answer: an alarm or a fault of the disk. Any
+/// other answer leaves none.
 pub(crate) fn reason_of(answer: &StepAnswer, moves: &MoveList) -> Option<Halt>
     ensures { result ≡ reason_of (step_with answer.now moves.now) }
 {
@@ -52,7 +53,7 @@ pub(crate) fn reason_of(answer: &StepAnswer, moves: &MoveList) -> Option<Halt>
     }
 }
 
-/// Notes the record of a turn, if it has one, and counts it.
+/// Notes the record of a turn, if it has one, and takes it off the budget.
 pub(crate) fn note<D: Disk>(recording: &mut Recording<D>, budget: &mut u32, entry: Option<Entry>)
     requires note { MayNote recording.old }
     requires step { IfSome entry (λ e. edit_of e.kind ≡ None) }
@@ -66,8 +67,8 @@ pub(crate) fn note<D: Disk>(recording: &mut Recording<D>, budget: &mut u32, entr
     }
 }
 
-/// Writes all records that pend, before an answer with these moves. Where the disk fails in that
-/// the list is cleared.
+/// Writes all records that pend, before this answer is given. If the disk fails in that, the answer
+/// is `DiskFault` instead, and the list of moves is cleared.
 pub(crate) fn flush_before<D: Disk>(
     recording: &mut Recording<D>,
     answer: StepAnswer,
@@ -90,8 +91,8 @@ pub(crate) fn flush_before<D: Disk>(
 }
 
 /// Takes a turn of the machine, whose moves are these: its record joins the history, and all
-/// records are written before an answer that shows something, and at 64 that pend. Where the disk
-/// fails in that the list is cleared.
+/// records are written before an answer that shows something, and at 64 that pend. If the disk
+/// fails in that, the answer is `DiskFault` and the list of moves is cleared.
 pub(crate) fn take<D: Disk>(
     recording: &mut Recording<D>,
     budget: &mut u32,

@@ -1,6 +1,6 @@
 //! The table of a run. The pair, the machine, the history with its journal, and why it stopped. A
 //! step's parts are in stepping.rt.
-//! lathe_top and turret_run use what it exports.
+//! held.rt holds it; lathe_top and turret_run use what it exports.
 ghost use Rattle.std.specs.Prelude.{◌≡◌, ℕ, ◌+◌, ◌≤◌, false, length, IfOk};
 ghost use Rattle.gate_file.specs.Creation.{without_disk};
 ghost use Rattle.nc_number.specs.declared.limits.TheConstants.{MOST_PENDING};
@@ -97,9 +97,9 @@ impl<D: Disk> Model for Table<D> {
 
 impl<D: Disk> Table<D> {
     /// Begins a run of the pair on the disk, by a new journal with this header, whose three texts
-    /// were accepted. `RunThere` comes exactly where the disk has a run already, which stays as it
-    /// is, also where the disk fails. An error gives the disk back, and unless it is `DiskFault`
-    /// nothing was written.
+    /// were accepted. `RunThere` comes exactly if the disk has a run already, which stays as it is,
+    /// even if the disk fails. An error gives the disk back, and unless it is `DiskFault` nothing
+    /// was written.
     pub fn begin(
         alloc: Global,
         verified: Verified,
@@ -131,8 +131,8 @@ impl<D: Disk> Table<D> {
         }
     }
 
-    /// The table of what one recovery found. Where the history ends with an alarm, that has stopped
-    /// it.
+    /// The table of what one recovery found. If the history ends with an alarm, the table has
+    /// stopped for it.
     pub fn from_recovered(
         verified: Verified,
         machine: Machine,
@@ -160,8 +160,8 @@ impl<D: Disk> Table<D> {
         }
     }
 
-    /// Makes room for `n` records more, which take no memory then. So many may be made before the
-    /// next call of this.
+    /// Makes room for `n` records more, which take no memory then, and gives leave for so many
+    /// until the next call. If memory runs out, the leave is what it was.
     pub fn prepare(&mut self, n: u32) -> Result<(), NoMemory>
         ensures { IsPrepared n self.old self.new result }
     {
@@ -172,7 +172,7 @@ impl<D: Disk> Table<D> {
     }
 
     /// Why no turn comes though nothing has stopped the table: its journal is full, or its budget
-    /// spent.
+    /// is spent.
     fn bound(&self) -> Option<Halt>
         ensures { result ≡ bound_of self.now }
     {
@@ -185,7 +185,7 @@ impl<D: Disk> Table<D> {
         None
     }
 
-    /// Whether the path comes to a wait, and has to be drained first.
+    /// Whether the path's next turn would bring it to a wait, and it has to be drained first.
     fn drains(&self, path: Path) -> bool
         ensures { result ≡ drains self.now path }
     {
@@ -202,17 +202,17 @@ impl<D: Disk> Table<D> {
         self.halt.is_none() && self.bound().is_none() && is_waiting(&self.machine, path)
     }
 
-    /// One turn of the path, unless the table has stopped, its journal is full, or its budget
-    /// spent. Its moves are put into the list, which is cleared first: behind an answer without any
+    /// One turn of the path, unless the table has stopped, its journal is full, or its budget is
+    /// spent. Its moves are put into the list, which is cleared first: after an answer without any
     /// it is empty. It takes no memory.
     ///
     /// Its record joins the history. A block without moves shows nothing, so its record may pend.
     /// All that pends is on the disk before an answer that shows more, before `Full` and `Budget`,
-    /// and at 64 that pend. Where the disk failed in that, the answer is `DiskFault`, and
+    /// and at 64 that pend. If the disk fails in that, the answer is `DiskFault`, and
     /// `Halted(Disk)` from then on.
     ///
-    /// The answer is `Drain`, and nothing is done, where the turn would bring the path to a wait,
-    /// and moves were answered to it since it was last drained.
+    /// The answer is `Drain`, and nothing is done, if the turn would bring the path to a wait, and
+    /// moves were answered to it since it was last drained.
     pub fn step_into(&mut self, path: Path, moves: &mut MoveList) -> StepAnswer
         ensures step { IsStep D.state (step_of self.old path) self.old self.new (step_with result moves.new) }
         ensures apart { moves_of_step (step_with result moves.new) ≡ moves.new }
@@ -261,7 +261,7 @@ impl<D: Disk> Table<D> {
         TableStep::of(answer, moves)
     }
 
-    /// The path's turret has all moves that were answered to the path.
+    /// Tells the table that the path's turret has all moves that were answered to the path.
     pub fn drained(&mut self, path: Path)
         ensures { self.new ≡ record self.old { owed = with_owed path false self.old.owed } }
     {
@@ -276,8 +276,8 @@ impl<D: Disk> Table<D> {
         Reason::of_end(self.machine.end(), self.bound())
     }
 
-    /// The end of a run, with all its records on the disk. Where the disk fails in that, it is the
-    /// reason that the table keeps.
+    /// Why the run has ended, with all its records on the disk, or none if it goes on. If the disk
+    /// fails in the flush, that is the end, and the table keeps it as its reason.
     pub(crate) fn ended(&mut self) -> Option<Reason>
         ensures since { Since D.state self.old self.new }
         ensures asks { Asks self.old self.new result }
@@ -313,7 +313,7 @@ impl<D: Disk> Table<D> {
         }
     }
 
-    /// Lets go of a turret that it keeps as the reason.
+    /// Forgets the reason to stop if it is a turret's fault.
     pub(crate) fn drop_turret(&mut self)
         ensures { self.new ≡ record self.old { halt = without_turret self.old.halt } }
     {
@@ -331,7 +331,7 @@ impl<D: Disk> Table<D> {
         self.recording.len()
     }
 
-    /// What the table is made of. Records that pend are not written any more.
+    /// Takes the table apart. Records that pend are not written any more.
     pub fn into_parts(self) -> Parts<D>
         ensures parts { IsLeft self result.verified result.machine result.entries result.halt result.disk }
         ensures kept { IsKept (tapes_in self.verified) (opening_of self.verified) self.recording.history self.machine }

@@ -1,6 +1,7 @@
--- The waits and the end of a path in a trace are the labels of its tape: by induction on the
--- history, with the labels ahead of the path's place of which the first is told already if the path
--- waits or has ended.
+-- The waits and the end of a path in a trace are the labels of its tape. It is proved by induction
+-- on the history, with the labels ahead of the path's place, of which the first is told already if
+-- the path waits or has ended.
+-- For the proof of `the_waits_of_a_trace_are_the_labels` (src/laws.rt).
 use Rattle.std.proofs.Common.{◌≡◌, ℕ, ◌==◌, ◌||◌, Bool, true, false, List, [], ◌∷◌, ◌++◌, refl, sym, subst, ap, ◌∙◌, Option, Some, None, is_some, append-nil}
 use Rattle.std.specs.Prelude.{if◌then◌else◌}
 use Rattle.std.proofs.lemmas.Grind.{flat_map-append}
@@ -43,38 +44,38 @@ use Rattle.trace_list.specs.Stops.{Follows, none, next, anew, stop_of, stops_of}
 use Rattle.trace_list.specs.Trace.{block_lines, is_same_point, is_same_way, lines_of, look_of, met_after, moved_lines, path_in, says_speed, shift_lines, spindle_lines, standing_of, traced, turn_lines}
 use Rattle.trace_list.specs.TraceText.{Shift, Spindle, Wait, Met, Ended}
 
--- the stops of a turn, of its own path
+-- the waits and the end that a turn tells of its own path
 abbrev own_stops : Turn → List Label
 own_stops (turn.Arrived code) = label.Wait code ∷ []
 own_stops (turn.Met code) = label.Wait code ∷ []
 own_stops (turn.Ended moves) = label.End ∷ []
 own_stops other = []
 
--- of one path its stops, and of the other none
+-- these labels for one path (true), and none for the other
 abbrev chosen : Bool → List Label → List Label
 chosen b stops = if b then stops else []
 
--- nothing chosen of nothing is nothing
+-- no labels are chosen of none
 chosen_none : (b : Bool) → chosen b [] ≡ []
 chosen_none true = refl
 chosen_none false = refl
 
--- the lines of moves have no stops,
+-- the lines of moves have no waits and no end
 no_moves : (path of : Path) (line : ℕ) (moves : List Move) → stops_of path (moved_lines of line moves) ≡ []
 no_moves path of line [] = refl
 no_moves path of line (x ∷ xs) = no_moves path of line xs
 
--- nor has the line of a shift,
+-- the line of a shift has no wait and no end
 no_shift : (path of : Path) (line : ℕ) (after : Point) (b : Bool) → stops_of path (if b then [] else Shift of line after ∷ []) ≡ []
 no_shift path of line after true = refl
 no_shift path of line after false = refl
 
--- nor that of the spindle,
+-- the line of the spindle's way has no wait and no end
 no_way : (path of : Path) (line : ℕ) (after b : Bool) → stops_of path (if b then [] else Spindle of line after ∷ []) ≡ []
 no_way path of line after true = refl
 no_way path of line after false = refl
 
--- so a block has none
+-- the lines of a block have no waits and no end
 block_stops : (path of : Path) (moves : Moves) (before after : Look) → stops_of path (block_lines of moves before after) ≡ []
 block_stops path of moves before after =
     let shift = shift_lines of moves.line before.shift after.shift in
@@ -86,7 +87,7 @@ block_stops path of moves before after =
     ∙ ap (λ (t : List Label). t ++ stops_of path rest) (no_way path of moves.line after.surface (is_same_way before.surface after.surface || says_speed moves.list))
     ∙ no_moves path of moves.line moves.list
 
--- the stops in the lines of a turn are the turn's own, if it is a turn of this path
+-- the waits and the end in the lines of a turn are the turn's own, if it is a turn of this path
 turn_stops : (path of : Path) (met : ℕ) (before : Standing) (after : Look) (t : Turn)
     → stops_of path (turn_lines of met before after t) ≡ chosen (is_same path of) (own_stops t)
 turn_stops path of met before after (turn.Read variable stamp) = sym (chosen_none (is_same path of))
@@ -103,7 +104,8 @@ turn_stops path of met before after (turn.Alarm alarm) = sym (chosen_none (is_sa
 turn_stops path of met before after (turn.Halted alarm) = sym (chosen_none (is_same path of))
 turn_stops path of met before after turn.Edited = sym (chosen_none (is_same path of))
 
--- the labels that are not told: the first of those ahead is, if the path waits or has ended
+-- the labels still to tell of those ahead: without the first one if the path waits or has ended
+-- (true)
 abbrev left_of : Bool → List Label → List Label
 left_of true [] = []
 left_of true (x ∷ xs) = xs
@@ -118,16 +120,16 @@ idle waiting finished = finished || is_some waiting
 abbrev due : List ControlProgram → Part → List Label
 due tape p = left_of (idle p.waiting p.finished) (ahead tape p.path.place)
 
--- a path's place; where it waits it stands on that wait, and has not ended
+-- a path at a place of its tape; if it waits, it stands on that wait and has not ended
 record IsSide (tape : List ControlProgram) (at : List Frame) (waiting : Option ℕ) (finished : Bool) : Type 0 where
   place : IsPlace tape at
   waits : (code : ℕ) → waiting ≡ Some code → (standing tape at ≡ Some (control.Wait code)) × (finished ≡ false)
 
--- the same of the path's part of the machine
+-- the path's part of a machine is at a place of its tape, and on its wait if it waits
 abbrev SideOf : List ControlProgram → Part → Type 0
 SideOf tape p = IsSide tape p.path.place p.waiting p.finished
 
--- where a step leads
+-- for a step that keeps the labels, what follows after it follows before it
 kept_labels : (tape : List ControlProgram) (f : Frame) (stack : List Frame) (c : Control) (to : List Frame) (rest : List Label) → Kept tape f stack c to
     → Follows (list tape) (ahead tape to) rest → Follows (list tape) (ahead tape (f ∷ stack)) rest
 kept_labels tape f stack control.Next to rest k follows = subst (λ xs. Follows (list tape) xs rest) k follows
@@ -143,7 +145,7 @@ kept_labels tape f (g ∷ stack) control.Back to rest k follows = subst (λ xs. 
 kept_labels tape f [] control.Back to rest k follows =
     subst (λ xs. Follows (list tape) xs rest) (sym k.0) (anew rest (subst (λ xs. Follows (list tape) xs rest) k.1 follows))
 
--- a step keeps what may follow: the labels ahead of where it leads follow those ahead of where it
+-- what follows from the labels ahead of where a step leads follows from those ahead of where it
 -- began
 step_labels : (tape : List ControlProgram) → KeepsLabels tape → (from to : List Frame) (rest : List Label) → IsPlace tape from → Step tape from to
     → Follows (list tape) (ahead tape to) rest → Follows (list tape) (ahead tape from) rest
@@ -156,35 +158,41 @@ step_place : (tape : List ControlProgram) → KeepsLabels tape → (from to : Li
 step_place tape law [] to place step = absurd place
 step_place tape law (f ∷ stack) to place (c, is, goes) = (law.step f stack place c is to goes).0
 
--- what a turn leaves of a path, and what is told of it in that turn
+-- a turn leaves the path at a place, and the stops that it tells are the next labels to tell
 record Passes (tape : List ControlProgram) (before after : Part) (stops : List Label) : Type 0 where
   side : SideOf tape after
   follows : (rest : List Label) → Follows (list tape) (due tape after) rest → Follows (list tape) (due tape before) (stops ++ rest)
 
--- a path that goes on
+-- the first path, which neither waits nor has ended, in its turn
 module _ (tape : List ControlProgram) (law : KeepsLabels tape) (path : Path) (line : ℕ) (m : MachineView) (side : SideOf tape m.paths.one)
     (none_waits : m.paths.one.waiting ≡ None) (unfinished : m.paths.one.finished ≡ false) where
+  -- what follows from the labels to tell at a place follows from those ahead of it, as the path
+  -- goes on
   awake : (place : List Frame) (rest : List Label) → Follows (list tape) (left_of (idle m.paths.one.waiting m.paths.one.finished) (ahead tape place)) rest
       → Follows (list tape) (ahead tape place) rest
   awake place rest f =
       subst (λ b. Follows (list tape) (left_of (b || false) (ahead tape place)) rest) unfinished
       (subst (λ (w : Option ℕ). Follows (list tape) (left_of (m.paths.one.finished || is_some w) (ahead tape place)) rest) none_waits f)
 
+  -- the labels to tell are all those ahead of the path's place
   due_is : due tape m.paths.one ≡ ahead tape m.paths.one.path.place
   due_is =
       ap (λ (w : Option ℕ). left_of (m.paths.one.finished || is_some w) (ahead tape m.paths.one.path.place)) none_waits
       ∙ ap (λ b. left_of (b || false) (ahead tape m.paths.one.path.place)) unfinished
 
+  -- what follows from the labels ahead of the path's place follows from those that it has to tell
   from_here : (stops rest : List Label) → Follows (list tape) (ahead tape m.paths.one.path.place) (stops ++ rest) → Follows (list tape) (due tape m.paths.one) (stops ++ rest)
   from_here stops rest f = subst (λ xs. Follows (list tape) xs (stops ++ rest)) (sym due_is) f
 
+  -- the path does not wait
   never_waits : {A : Type 0} (code : ℕ) → m.paths.one.waiting ≡ Some code → A
   never_waits code is = absurd (let clash : ◌≡◌ {A = Option ℕ} None (Some code) = sym none_waits ∙ is in cc)
 
-  -- nothing of the path changes
+  -- a turn that changes nothing of the path tells no label
   stays : Passes tape m.paths.one m.paths.one []
   stays = record { side = side; follows = λ rest f. f }
 
+  -- a turn at a wait tells that wait, unless an alarm comes as the other path waits at another code
   at_wait : (code : ℕ) → standing tape m.paths.one.path.place ≡ Some (control.Wait code) → (o : Option ℕ)
       → Passes tape m.paths.one (result_at_wait path line m code o).machine.paths.one (own_stops (result_at_wait path line m code o).turn)
   at_wait code is None = record {
@@ -211,6 +219,7 @@ module _ (tape : List ControlProgram) (law : KeepsLabels tape) (path : Path) (li
       })
       go false e = rw e (record { side = side; follows = λ rest f. f })
 
+  -- a turn by what its block comes to tells the next label, or none
   by_effect : (e : Effect) → GoesAsOrdered tape m.paths.one.path e → Passes tape m.paths.one (result_by path line m e).machine.paths.one (own_stops (result_by path line m e).turn)
   by_effect (Need variable) goes = record { side = side; follows = λ rest f. f }
   by_effect (Done to write moves) goes = record {
@@ -229,7 +238,7 @@ module _ (tape : List ControlProgram) (law : KeepsLabels tape) (path : Path) (li
   }
   by_effect (effect.Alarm number value) goes = record { side = side; follows = λ rest f. f }
 
--- the other path's turn
+-- the second path, in a turn of the first
 module _ (tape : List ControlProgram) (law : KeepsLabels tape) (path : Path) (line : ℕ) (m : MachineView) (side : SideOf tape m.paths.two) where
   met_there : (code : ℕ) (o : Option ℕ) → m.paths.two.waiting ≡ o → Passes tape m.paths.two (result_at_wait path line m code o).machine.paths.two []
   met_there code None is = record { side = side; follows = λ rest f. f }
@@ -260,7 +269,7 @@ module _ (tape : List ControlProgram) (law : KeepsLabels tape) (path : Path) (li
   by_other (AtEnd to moves) = record { side = side; follows = λ rest f. f }
   by_other (effect.Alarm number value) = record { side = side; follows = λ rest f. f }
 
--- a turn that makes a record is that of a block
+-- a path that neither waits nor has ended, and whose turn is that of its block
 record IsAwake (m : MachineView) (r rest : TurnResult) : Type 0 where
   none_waits : m.paths.one.waiting ≡ None
   unfinished : m.paths.one.finished ≡ false
@@ -278,7 +287,7 @@ awake_by m None false None rest kind ends is makes = record { none_waits = is; u
 abbrev AreLed : List ControlProgram → Blocks → Type 0
 AreLed tape blocks = (path : PathView) (values : List Var) → GoesAsOrdered tape path (blocks.effect path values)
 
--- a turn of path 1 tells the next of its labels, or none,
+-- a turn of the path whose part stands first tells the next of its labels, or none
 own_passes : (tape : List ControlProgram) (blocks : Blocks) (path : Path) (kind : EntryKind) (stamps : List ℕ) (m : MachineView) → KeepsLabels tape → AreLed tape blocks
     → SideOf tape m.paths.one → IsStep blocks path m kind stamps
     → Passes tape m.paths.one (own_turn blocks path (with_reads blocks stamps m)).machine.paths.one (own_stops (own_turn blocks path (with_reads blocks stamps m)).turn)
@@ -289,7 +298,7 @@ own_passes tape blocks path kind stamps m law led side step =
     (blocks.effect now.paths.one.path now.paths.one.values) (led now.paths.one.path now.paths.one.values) in
     subst (λ (r : TurnResult). Passes tape m.paths.one r.machine.paths.one (own_stops r.turn)) (sym is.same) (record { side = by.side; follows = by.follows })
 
--- and a turn of the other path tells none of them
+-- a turn of the path whose part stands first tells no label of the other path
 other_passes : (tape : List ControlProgram) (blocks : Blocks) (path : Path) (kind : EntryKind) (stamps : List ℕ) (m : MachineView) → KeepsLabels tape
     → SideOf tape m.paths.two → IsStep blocks path m kind stamps → Passes tape m.paths.two (own_turn blocks path (with_reads blocks stamps m)).machine.paths.two []
 other_passes tape blocks path kind stamps m law side step =
@@ -302,11 +311,11 @@ other_passes tape blocks path kind stamps m law side step =
 abbrev turn_after : Tapes → Path → List ℕ → MachineView → Turn
 turn_after tapes path stamps m = (own_turn (of_path tapes path) path (with_reads (of_path tapes path) stamps (own_first path m))).turn
 
--- and the machine behind it
+-- the machine after the turn of a record with these stamps, as its own path sees it
 abbrev machine_after : Tapes → Path → List ℕ → MachineView → MachineView
 machine_after tapes path stamps m = own_first path (behind_step (of_path tapes path) path stamps (own_first path m))
 
--- a step of either path, as one path sees it
+-- a step of either path tells the next label of this path if it is its own, and else none
 step_passes : (path of : Path) (tapes : Tapes) (tape : List ControlProgram) (kind : EntryKind) (stamps : List ℕ) (m : MachineView) → KeepsLabels tape
     → AreLed tape (of_path tapes path) → SideOf tape (of_path m.paths path) → IsStep (of_path tapes of) of (own_first of m) kind stamps
     → Passes tape (of_path m.paths path) (of_path (machine_after tapes of stamps m).paths path) (chosen (is_same path of) (own_stops (turn_after tapes of stamps m)))
@@ -319,7 +328,8 @@ step_passes Two One tapes tape kind stamps m law led side step =
 step_passes Two Two tapes tape kind stamps m law led side step =
     let p = own_passes tape tapes.two Two kind stamps (own_first Two m) law led side step in record { side = p.side; follows = p.follows }
 
--- and a record, which is an edit or has these stamps: an edit leaves each path where it is
+-- a record, an edit or a turn with these stamps, tells the next label of this path or none; an edit
+-- leaves each path where it is
 entry_passes : (path of : Path) (tapes : Tapes) (tape : List ControlProgram) (kind : EntryKind) (edit : Option Edit) (stamps : List ℕ) (m : MachineView)
     → KeepsLabels tape → AreLed tape (of_path tapes path) → SideOf tape (of_path m.paths path)
     → (edit ≡ None → IsStep (of_path tapes of) of (own_first of m) kind stamps)
@@ -335,7 +345,8 @@ entry_passes Two One tapes tape kind (Some edit) stamps m law led side step =
 entry_passes Two Two tapes tape kind (Some edit) stamps m law led side step =
     record { side = record { place = side.place; waits = side.waits }; follows = λ rest f. f }
 
--- from any machine on
+-- from any machine on, the stops of a path in the trace of a legal history follow the labels that
+-- it has still to tell
 follows_from : (path : Path) (tapes : Tapes) (tape : List ControlProgram) → KeepsLabels tape → AreLed tape (of_path tapes path) → (met : ℕ) (m : MachineView)
     (entries : List Entry) → SideOf tape (of_path m.paths path) → IsLegal tapes m entries
     → Follows (list tape) (due tape (of_path m.paths path)) (stops_of path (traced tapes met m entries))

@@ -1,5 +1,6 @@
--- Each meeting of a trace closes the open waits of both paths: by induction on the history, with
--- the waits that the machine has.
+-- Each meeting of a trace closes the open waits of both paths. It is proved by induction on the
+-- history, with the waits that the machine has.
+-- For the proof of `meetings_are_numbered_and_paired` (src/laws.rt).
 use Rattle.std.proofs.Common.{◌≡◌, ℕ, ◌+◌, ◌==◌, ◌||◌, Bool, true, false, List, [], ◌∷◌, ◌++◌, refl, sym, subst, ap, ◌∙◌, append_assoc, Option, Some, None, arith}
 use Rattle.std.specs.Prelude.{if◌then◌else◌, option_map}
 use Rattle.nc_number.specs.declared.path.Path.{Path}
@@ -28,37 +29,37 @@ use Rattle.trace_list.specs.Meetings.{ArePaired, OpenWait, open_wait}
 use Rattle.trace_list.specs.Trace.{block_lines, is_same_point, is_same_way, look_of, met_after, moved_lines, path_in, says_speed, shift_lines, spindle_lines, standing_of, traced, turn_lines}
 use Rattle.trace_list.specs.TraceText.{TraceLine, Shift, Spindle, Wait, Met, Raised, Ended}
 
--- the waits of a path and of the other one
+-- lines are in order, by the open wait of this path and that of the other one
 abbrev PairedFor : Path → Option OpenWait → Option OpenWait → ℕ → List TraceLine → Type 0
 PairedFor One mine other met lines = ArePaired mine other met lines
 PairedFor Two mine other met lines = ArePaired other mine met lines
 
--- lines of a path that does not wait, before others
+-- the line of a shift leaves the open waits as they are
 shift_on : (path : Path) (other : Option OpenWait) (met line : ℕ) (by : Point) (rest : List TraceLine) → PairedFor path None other met rest
     → PairedFor path None other met (Shift path line by ∷ rest)
 shift_on One other met line by rest p = (refl, p)
 shift_on Two other met line by rest p = (refl, p)
 
--- the line of the spindle's way,
+-- the line of the spindle's way leaves the open waits as they are
 way_on : (path : Path) (other : Option OpenWait) (met line : ℕ) (surface : Bool) (rest : List TraceLine) → PairedFor path None other met rest
     → PairedFor path None other met (Spindle path line surface ∷ rest)
 way_on One other met line surface rest p = (refl, p)
 way_on Two other met line surface rest p = (refl, p)
 
--- lines of moves,
+-- the lines of moves leave the open waits as they are
 moves_on : (path : Path) (other : Option OpenWait) (met line : ℕ) (moves : List Move) (rest : List TraceLine) → PairedFor path None other met rest
     → PairedFor path None other met (moved_lines path line moves ++ rest)
 moves_on path other met line [] rest p = p
 moves_on One other met line (x ∷ xs) rest p = (refl, moves_on One other met line xs rest p)
 moves_on Two other met line (x ∷ xs) rest p = (refl, moves_on Two other met line xs rest p)
 
--- the line of an end,
+-- the line of an end leaves the open waits as they are
 ended_on : (path : Path) (other : Option OpenWait) (met line : ℕ) (rest : List TraceLine) → PairedFor path None other met rest
     → PairedFor path None other met (Ended path line ∷ rest)
 ended_on One other met line rest p = (refl, p)
 ended_on Two other met line rest p = (refl, p)
 
--- and that of an alarm leave the open waits as they are
+-- the line of an alarm leaves the open waits as they are
 raised_on : (path : Path) (other : Option OpenWait) (met line cause : ℕ) (value : _) (rest : List TraceLine) → PairedFor path None other met rest
     → PairedFor path None other met (Raised (alarm_at path line cause value) ∷ rest)
 raised_on One other met line cause value rest p = (refl, p)
@@ -70,19 +71,19 @@ wait_on : (path : Path) (other : Option OpenWait) (met line code : ℕ) (rest : 
 wait_on One other met line code rest p = (refl, p)
 wait_on Two other met line code rest p = (refl, p)
 
--- the line of a shift, if there is one,
+-- the line of a shift, if there is one, leaves the open waits as they are
 if_shift : (path : Path) (other : Option OpenWait) (met line : ℕ) (by : Point) (b : Bool) (rest : List TraceLine) → PairedFor path None other met rest
     → PairedFor path None other met ((if b then [] else Shift path line by ∷ []) ++ rest)
 if_shift path other met line by true rest p = p
 if_shift path other met line by false rest p = shift_on path other met line by rest p
 
--- that of the spindle, if there is one,
+-- the line of the spindle's way, if there is one, leaves the open waits as they are
 if_way : (path : Path) (other : Option OpenWait) (met line : ℕ) (surface b : Bool) (rest : List TraceLine) → PairedFor path None other met rest
     → PairedFor path None other met ((if b then [] else Spindle path line surface ∷ []) ++ rest)
 if_way path other met line surface true rest p = p
 if_way path other met line surface false rest p = way_on path other met line surface rest p
 
--- and so all lines of a block leave the open waits as they are
+-- the lines of a block leave the open waits as they are
 block_on : (path : Path) (other : Option OpenWait) (met : ℕ) (moves : Moves) (before after : Look) (rest : List TraceLine) → PairedFor path None other met rest
     → PairedFor path None other met (block_lines path moves before after ++ rest)
 block_on path other met moves before after rest p =
@@ -95,7 +96,7 @@ block_on path other met moves before after rest p =
     (if_way path other met moves.line after.surface (is_same_way before.surface after.surface || says_speed moves.list) (made ++ rest)
     (moves_on path other met moves.line moves.list rest p)))
 
--- the open wait of a path, by its machine
+-- the open wait of a path, by its place and the code at which it waits
 abbrev waits : Blocks → PathView → Option ℕ → Option OpenWait
 waits blocks path code = option_map (λ c. open_wait (blocks.line path.place) c) code
 
@@ -104,7 +105,7 @@ abbrev other_line : Path → Standing → ℕ
 other_line One s = s.lines.two
 other_line Two s = s.lines.one
 
--- a wait at which the other path stands already, and the meeting of both, close both waits
+-- a wait at which the other path waits already, and the meeting of both, close both waits
 met_on : (path : Path) (met code there : ℕ) (before : Standing) (other_line_is : ℕ) (rest : List TraceLine) → code ≡ there → other_line path before ≡ other_line_is
     → PairedFor path None None (met + 1) rest
     → PairedFor path None (Some (open_wait other_line_is there)) met (Wait path (of_path before.lines path) code ∷ Met (met + 1) code before.lines.one before.lines.two ∷ rest)
@@ -113,18 +114,18 @@ met_on One met code there before line rest same is p =
 met_on Two met code there before line rest same is p =
     (refl, (ap (λ c. Some (open_wait line c)) (sym same) ∙ ap (λ n. Some (open_wait n code)) (sym is), refl, refl, p))
 
--- what is in order after a turn of the path whose part is the first
+-- the lines after a turn of the path whose part stands first are in order
 abbrev After : Blocks → Blocks → Path → ℕ → List TraceLine → TurnResult → Type 0
 After blocks other path met rest r =
     PairedFor path (waits blocks r.machine.paths.one.path r.machine.paths.one.waiting) (waits other r.machine.paths.two.path r.machine.paths.two.waiting)
     (met_after met r.turn) rest
 
--- A turn of the path whose part is the first, by what its block comes to: what is in order after it
--- makes its own lines be in order.
+-- A turn of the path whose part stands first, by what its block comes to: if the lines after it are
+-- in order, so are its own lines and those.
 module _ (blocks other : Blocks) (path : Path) (met : ℕ) (m : MachineView) (before : Standing) (after : Look) (rest : List TraceLine)
     (here : of_path before.lines path ≡ blocks.line m.paths.one.path.place) (there : other_line path before ≡ other.line m.paths.two.path.place)
     (none : m.paths.one.waiting ≡ None) where
-  -- the path does not wait after a block
+  -- after a block the path does not wait
   goes : (at : PathView) (theirs : Option OpenWait) (n : ℕ) → PairedFor path (waits blocks at m.paths.one.waiting) theirs n rest → PairedFor path None theirs n rest
   goes at theirs n p = subst (λ (w : Option ℕ). PairedFor path (waits blocks at w) theirs n rest) none p
 
@@ -168,7 +169,7 @@ module _ (blocks other : Blocks) (path : Path) (met : ℕ) (m : MachineView) (be
       raised_on path (waits other m.paths.two.path m.paths.two.waiting) met (blocks.line m.paths.one.path.place) number value rest
       (goes m.paths.one.path (waits other m.paths.two.path m.paths.two.waiting) met p)
 
--- a turn that makes a record is one of a path that goes
+-- a path that does not wait, and whose turn is that of its block
 record IsAwake (m : MachineView) (r rest : TurnResult) : Type 0 where
   none : m.paths.one.waiting ≡ None
   same : r ≡ rest
@@ -181,7 +182,8 @@ awake_by m None true w rest kind is makes = absurd (cc)
 awake_by m None false (Some code) rest kind is makes = absurd (cc)
 awake_by m None false None rest kind is makes = record { none = is; same = refl }
 
--- a record of the path whose part is the first
+-- if the lines after a record of the path whose part stands first are in order, so are its own
+-- lines and those
 step_on : (blocks other : Blocks) (path : Path) (kind : EntryKind) (stamps : List ℕ) (met : ℕ) (m : MachineView) (before : Standing) (after : Look) (rest : List TraceLine)
     → of_path before.lines path ≡ blocks.line m.paths.one.path.place → other_line path before ≡ other.line m.paths.two.path.place → IsStep blocks path m kind stamps
     → After blocks other path met rest (own_turn blocks path (with_reads blocks stamps m))
@@ -196,19 +198,20 @@ step_on blocks other path kind stamps met m before after rest here there step p 
     (turn_lines path met before after (own_turn blocks path (with_reads blocks stamps m)).turn ++ rest)) (sym awake.none)
     (subst (λ (r : TurnResult). PairedFor path None (waits other m.paths.two.path m.paths.two.waiting) met (turn_lines path met before after r.turn ++ rest)) (sym awake.same) done)
 
--- the open wait of a path of a machine
+-- the open wait of a path in a machine
 abbrev open_in : Tapes → Path → MachineView → Option OpenWait
 open_in tapes path m = waits (of_path tapes path) (path_in path m) (of_path m.paths path).waiting
 
--- behind a record, which is an edit or has these stamps
+-- the turn of a record, which is an edit or has these stamps
 abbrev turn_after : Tapes → Path → Option Edit → List ℕ → MachineView → Turn
 turn_after tapes path edit stamps m = turn_by (of_path tapes path) path edit stamps (own_first path m)
 
--- the machine behind a record, as the record's own path sees it
+-- the machine after a record, as the record's own path sees it
 abbrev machine_after : Tapes → Path → Option Edit → List ℕ → MachineView → MachineView
 machine_after tapes path edit stamps m = own_first path (behind_own (of_path tapes path) path edit stamps (own_first path m))
 
--- an edit has no line, and leaves each path where it is
+-- if the lines after a record are in order, so are its own lines and those; an edit has no line,
+-- and leaves each path where it is
 entry_on : (tapes : Tapes) (path : Path) (kind : EntryKind) (edit : Option Edit) (stamps : List ℕ) (met : ℕ) (m : MachineView) (after : Look) (rest : List TraceLine)
     → (edit ≡ None → IsStep (of_path tapes path) path (own_first path m) kind stamps)
     → ArePaired (open_in tapes One (machine_after tapes path edit stamps m)) (open_in tapes Two (machine_after tapes path edit stamps m))
@@ -221,7 +224,7 @@ entry_on tapes Two kind None stamps met m after rest step p =
 entry_on tapes One kind (Some edit) stamps met m after rest step p = p
 entry_on tapes Two kind (Some edit) stamps met m after rest step p = p
 
--- from any machine on
+-- from any machine on, the lines of a legal history are in order with the waits that are open there
 paired_from : (tapes : Tapes) (met : ℕ) (m : MachineView) (entries : List Entry) → IsLegal tapes m entries
     → ArePaired (open_in tapes One m) (open_in tapes Two m) met (traced tapes met m entries)
 unfolding traced

@@ -1,4 +1,5 @@
 -- The moves of a path in a trace are those of the report.
+-- For the proof of `a_trace_has_the_moves_of_the_report` (src/laws.rt).
 use Rattle.std.proofs.Common.{◌≡◌, ℕ, ◌+◌, ◌||◌, Bool, true, false, List, [], ◌∷◌, ◌++◌, refl, sym, ap, ◌∙◌, append-nil}
 use Rattle.std.specs.Prelude.{if◌then◌else◌, map}
 use Rattle.std.specs.List.{flat_map}
@@ -24,16 +25,16 @@ use Rattle.trace_list.specs.Laws.{move_of, moves_traced}
 use Rattle.trace_list.specs.Trace.{block_lines, is_same_point, is_same_way, lines_of, look_of, met_after, moved_lines, path_in, says_speed, shift_lines, spindle_lines, standing_of, traced, turn_lines}
 use Rattle.trace_list.specs.TraceText.{Shift, Spindle, Ended}
 
--- of one path its moves, and of the other none
+-- these moves for one path (true), and none for the other
 abbrev chosen : Bool → List LinedMove → List LinedMove
 chosen b moves = if b then moves else []
 
--- one more is chosen, or none is
+-- one move more is chosen, or none is
 chosen_more : (b : Bool) (x : LinedMove) (xs : List LinedMove) → (if b then x ∷ [] else []) ++ chosen b xs ≡ chosen b (x ∷ xs)
 chosen_more true x xs = refl
 chosen_more false x xs = refl
 
--- nothing chosen of nothing is nothing
+-- no moves are chosen of none
 chosen_none : (b : Bool) → chosen b [] ≡ []
 chosen_none true = refl
 chosen_none false = refl
@@ -45,17 +46,17 @@ moved_moves path of line (x ∷ xs) =
     ap (λ (t : List LinedMove). (if is_same path of then lined_move line x ∷ [] else []) ++ t) (moved_moves path of line xs)
     ∙ chosen_more (is_same path of) (lined_move line x) (map (lined_move line) xs)
 
--- the line of a shift has none,
+-- the line of a shift has no moves
 no_shift : (path of : Path) (line : ℕ) (after : Point) (b : Bool) → moves_traced path (if b then [] else Shift of line after ∷ []) ≡ []
 no_shift path of line after true = refl
 no_shift path of line after false = refl
 
--- nor has that of the spindle
+-- the line of the spindle's way has no moves
 no_way : (path of : Path) (line : ℕ) (after b : Bool) → moves_traced path (if b then [] else Spindle of line after ∷ []) ≡ []
 no_way path of line after true = refl
 no_way path of line after false = refl
 
--- the lines of a block have its moves,
+-- the lines of a block have its moves, if it is one of this path
 block_moves : (path of : Path) (moves : Moves) (before after : Look) → moves_traced path (block_lines of moves before after) ≡ chosen (is_same path of) (lined moves)
 block_moves path of moves before after =
     let shift = shift_lines of moves.line before.shift after.shift in
@@ -67,7 +68,7 @@ block_moves path of moves before after =
     ∙ ap (λ (t : List LinedMove). t ++ moves_traced path rest) (no_way path of moves.line after.surface (is_same_way before.surface after.surface || says_speed moves.list))
     ∙ moved_moves path of moves.line moves.list
 
--- those of a turn have what the turn made
+-- the lines of a turn have the moves that the turn made, if it is one of this path
 turn_moves : (path of : Path) (met : ℕ) (before : Standing) (after : Look) (t : Turn)
     → moves_traced path (turn_lines of met before after t) ≡ chosen (is_same path of) (made_in t)
 turn_moves path of met before after (turn.Read variable stamp) = sym (chosen_none (is_same path of))
@@ -83,7 +84,7 @@ turn_moves path of met before after (turn.Alarm alarm) = sym (chosen_none (is_sa
 turn_moves path of met before after (turn.Halted alarm) = sym (chosen_none (is_same path of))
 turn_moves path of met before after turn.Edited = sym (chosen_none (is_same path of))
 
--- so the trace of a history has the moves of its report
+-- the trace of a history has the moves of its report
 pub same_moves : (tapes : Tapes) (met : ℕ) (m : MachineView) (path : Path) (entries : List Entry)
     → moves_traced path (traced tapes met m entries) ≡ moves_of tapes m path entries
 unfolding traced moves_in turns_from

@@ -1,4 +1,5 @@
--- The text of a trace in its parts.
+-- The text of a trace in the parts in which it is put.
+-- The proof of `put_from` (src/tracing.rt) uses it.
 use Rattle.std.proofs.Common.{◌≡◌, ℕ, ◌+◌, ◌≤◌, List, ◌∷◌, ◌++◌, length, drop, sym, ap, ◌∙◌, append_assoc, arith}
 use Rattle.std.proofs.lemmas.List.{at_drop_all}
 use Rattle.std.proofs.lemmas.Grind.{flat_map-append}
@@ -20,7 +21,8 @@ use Rattle.two_path.specs.Start.{machine_at_start}
 use Rattle.trace_list.specs.Trace.{begin_lines, lines_of, met_after, start_lines, trace_text, traced}
 use Rattle.trace_list.specs.TraceText.{head_text, lines_text, trace_line_text}
 
--- the first line and how both paths begin, the events, and the last lines
+-- the text of a trace is its first line and how both paths begin, then the events, and the last
+-- lines
 pub trace_parts : (tapes : Tapes) (m : MachineView) (entries : List Entry) (reason : Reason)
     → trace_text tapes m entries reason
     ≡ (head_text ++ lines_text (start_lines m)) ++ (lines_text (traced tapes 0 m entries) ++ end_text (length entries) reason)
@@ -32,7 +34,8 @@ trace_parts tapes m entries reason =
     ∙ ap (λ t. head_text ++ t) (append_assoc (lines_text (start_lines m)) events last)
     ∙ sym (append_assoc head_text (lines_text (start_lines m)) (events ++ last))
 
--- the same, by a machine at its start and by the reference positions of its settings
+-- the text of a trace in these parts, for a machine at its start and the reference positions of the
+-- settings
 pub start_parts : (left right : Flow) (settings : Settings) (m : MachineView) (one two : Point) (entries : List Entry) (reason : Reason)
     → m ≡ machine_at_start left right settings → one ≡ point_of One settings.home → two ≡ point_of Two settings.home
     → trace_text (tapes_of left right) (machine_at_start left right settings) entries reason
@@ -49,7 +52,7 @@ start_parts left right settings m one two entries reason is is_one is_two =
     ∙ ap (λ (x : MachineView). (head_text ++ lines_text (begin_lines One one x.paths.one.path ++ begin_lines Two two x.paths.two.path))
     ++ (lines_text (traced (tapes_of left right) 0 x entries) ++ end_text (length entries) reason)) (sym is)
 
--- the events of a record, and of those after it
+-- the events of the records that are left are those of the first of them, and those of the others
 pub record_parts : (tapes : Tapes) (met met' : ℕ) (m m' : MachineView) (left rest : List Entry) (e : Entry) (last : List ℕ)
     → left ≡ e ∷ rest → met' ≡ met_after met (turn_of_entry tapes e m) → m' ≡ behind_entry tapes e m
     → lines_text (traced tapes met m left) ++ last ≡ lines_text (lines_of tapes met m e) ++ (lines_text (traced tapes met' m' rest) ++ last)

@@ -1,5 +1,5 @@
 -- The waits and meetings of a trace, as one who reads it line by line keeps them.
--- For this crate alone.
+-- For this crate alone: the law that meetings are numbered and paired (src/laws.rt).
 use Rattle.std.specs.Prelude.{◌≡◌, ℕ, ◌+◌, List, [], ◌∷◌, Option, Some, None}
 use Rattle.nc_number.specs.declared.path.Path.{Path}
 use Rattle.nc_number.specs.declared.path.Path.TheVariants.{One, Two}
@@ -7,7 +7,9 @@ use Rattle.trace_list.specs.TraceText.{TraceLine, At, Home, Shift, Spindle, Move
 
 -- a wait to which a path came: the line of its tape, and the code
 pub record OpenWait : Type 0 where
+  -- the line of the path's tape
   pub line : ℕ
+  -- the code of the wait
   pub code : ℕ
 
 -- the wait at this line with this code

@@ -1,5 +1,5 @@
 -- The waits and the end of a path in a trace, beside the labels of its tape.
--- For this crate alone.
+-- For this crate alone: the law that the waits of a trace are the labels (src/laws.rt).
 use Rattle.std.specs.Prelude.{if◌then◌else◌, List, [], ◌∷◌}
 use Rattle.std.specs.List.{flat_map}
 use Rattle.nc_number.specs.Path.{is_same}
@@ -21,6 +21,9 @@ stops_of path lines = flat_map (stop_of path) lines
 -- With these labels ahead a path comes to these stops: they are the next labels, in their order.
 -- Before an M99 of the main program the list of all its labels begins anew.
 pub data Follows (all : List Label) : List Label → List Label → Type 0 where
+  -- the path comes to no stop any more
   none : (ahead : List Label) → Follows all ahead []
+  -- the path comes to the next label
   next : (stop : Label) (ahead stops : List Label) → Follows all ahead stops → Follows all (stop ∷ ahead) (stop ∷ stops)
+  -- the path goes on from the beginning of its main program (M99)
   anew : (stops : List Label) → Follows all all stops → Follows all (label.Again ∷ []) stops

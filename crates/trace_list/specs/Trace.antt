@@ -1,5 +1,5 @@
 -- The trace of a history: its events in their order, and the text of all.
--- lathe_calls takes `line_of` and `trace_text` and lathe_top `trace_text`.
+-- lathe_calls cites `line_of` and `trace_text`, and a proof of lathe_top `trace_text`.
 use Rattle.std.specs.Prelude.{ℕ, ◌+◌, ◌&&◌, ◌||◌, Bool, true, false, if◌then◌else◌, List, [], ◌∷◌, ◌++◌, length, map}
 use Rattle.std.specs.List.{list_any}
 use Rattle.std.specs.Ordering.{int_eq}
@@ -38,7 +38,8 @@ line_of tapes path m = (of_path tapes path).line (path_in path m).place
 abbrev pub look_of : PathView → Look
 look_of path = record { shift = shift_now path; surface = path.modal.surface }
 
--- and before a record of this path
+-- what a trace looks at before a record of this path: where both paths stand, and what is in force
+-- for this one
 abbrev pub standing_of : Tapes → Path → MachineView → Standing
 standing_of tapes path m = record { lines = record { one = line_of tapes One m; two = line_of tapes Two m }; look = look_of (path_in path m) }
 
@@ -52,7 +53,7 @@ is_same_way true b = b
 is_same_way false true = false
 is_same_way false false = true
 
--- a block that says the speed of the spindle says its way with it
+-- the move says the speed of the spindle, and its way with it
 abbrev pub is_speed : Move → Bool
 is_speed (move.Speed surface s) = true
 is_speed other = false
@@ -61,27 +62,27 @@ is_speed other = false
 abbrev pub says_speed : List Move → Bool
 says_speed moves = list_any is_speed moves
 
--- the shift, if a block changed it; and the way of the spindle, if a block changed it without a
--- speed
+-- the line of the shift, if the block changed it
 abbrev pub shift_lines : Path → ℕ → Point → Point → List TraceLine
 shift_lines path line before after = if is_same_point before after then [] else Shift path line after ∷ []
 
--- the way of the spindle, if the block changed it without saying the speed
+-- the line of the spindle's way, if the block changed it without saying the speed
 abbrev pub spindle_lines : Path → Moves → Bool → Bool → List TraceLine
 spindle_lines path moves before after =
     if is_same_way before after || says_speed moves.list then [] else Spindle path moves.line after ∷ []
 
--- the moves of a block, each with its line
+-- the lines of the moves of a block
 abbrev pub moved_lines : Path → ℕ → List Move → List TraceLine
 moved_lines path line moves = map (λ (what : Move). Moved path (lined_move line what)) moves
 
--- a block: what it changed, and then its moves
+-- the lines of a block: what it changed without a move, and then its moves
 abbrev pub block_lines : Path → Moves → Look → Look → List TraceLine
 block_lines path moves before after =
     shift_lines path moves.line before.shift after.shift
     ++ (spindle_lines path moves before.surface after.surface ++ moved_lines path moves.line moves.list)
 
--- a turn of a path, after so many meetings, by what stood before it and what is in force after it
+-- the lines of a turn of a path, before which there were `met` meetings: by what stood before it
+-- and what is in force after it
 abbrev pub turn_lines : Path → ℕ → Standing → Look → Turn → List TraceLine
 turn_lines path met before after (turn.Read variable stamp) = []
 turn_lines path met before after (turn.Did moves) = block_lines path moves before.look after
@@ -100,7 +101,7 @@ abbrev pub met_after : ℕ → Turn → ℕ
 met_after met (turn.Met code) = met + 1
 met_after met other = met
 
--- what a record adds, after so many meetings
+-- the lines of a record, before which there were `met` meetings
 abbrev pub lines_of : Tapes → ℕ → MachineView → Entry → List TraceLine
 lines_of tapes met m e =
     turn_lines e.path met (standing_of tapes e.path m) (look_of (path_in e.path (behind_entry tapes e m))) (turn_of_entry tapes e m)
@@ -111,11 +112,11 @@ traced tapes met m [] = []
 traced tapes met m (e ∷ entries) =
     lines_of tapes met m e ++ traced tapes (met_after met (turn_of_entry tapes e m)) (behind_entry tapes e m) entries
 
--- how a path begins that has this reference position
+-- the lines of how a path begins that has this reference position
 abbrev pub begin_lines : Path → Point → PathView → List TraceLine
 begin_lines path home at = At path at.position ∷ Home path home ∷ Shift path 0 (shift_now at) ∷ []
 
--- how both paths begin
+-- the lines of how both paths begin
 abbrev pub start_lines : MachineView → List TraceLine
 start_lines m = begin_lines One m.paths.one.path.fixed.home m.paths.one.path ++ begin_lines Two m.paths.two.path.fixed.home m.paths.two.path
 

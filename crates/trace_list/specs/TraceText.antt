@@ -1,5 +1,5 @@
--- The lines of a trace, and how they are printed.
--- For this crate alone.
+-- The lines of a trace, and how each is printed.
+-- For this crate alone: Trace says which lines a history has.
 use Rattle.std.specs.Prelude.{ℕ, Bool, if◌then◌else◌, List, ◌++◌, codes, decimal}
 use Rattle.std.specs.List.{flat_map}
 use Rattle.nc_number.specs.declared.path.Path.{Path}
@@ -13,34 +13,39 @@ use Rattle.move_list.specs.Report.{lined_text}
 
 -- An event of a run. Lines are lines of the path's tape; line 0 is before its first block.
 pub data TraceLine : Type 0 where
-  -- where the turret of a path begins, in machine coordinates, and its reference position
+  -- where the turret of a path begins, in machine coordinates
   At : (path : Path) (at : Point) → TraceLine
+  -- the reference position of a path, in machine coordinates
   Home : (path : Path) (at : Point) → TraceLine
   -- machine minus work coordinates of a path, from this line on
   Shift : (path : Path) (line : ℕ) (by : Point) → TraceLine
   -- whether the spindle of a path keeps a surface speed, from this line on
   Spindle : (path : Path) (line : ℕ) (surface : Bool) → TraceLine
+  -- a move of a path
   Moved : (path : Path) (made : LinedMove) → TraceLine
-  -- a path comes to its wait; both paths meet at their waits, for the first, second .. time, and go
-  -- on
+  -- a path comes to its wait of this code
   Wait : (path : Path) (line : ℕ) (code : ℕ) → TraceLine
+  -- both paths meet for the first, second .. time, at waits of this code on these lines of path 1
+  -- and path 2
   Met : (number : ℕ) (code : ℕ) (one : ℕ) (two : ℕ) → TraceLine
+  -- a path raised this alarm
   Raised : (alarm : Alarm) → TraceLine
+  -- a path has ended
   Ended : (path : Path) (line : ℕ) → TraceLine
 
--- the path of a line, and with it the line of its tape
+-- how the line of a move begins: the number of the path and a blank
 unfoldable pub path_text : Path → List ℕ
 path_text path = decimal (number_of path) ++ codes " "
 
--- how the line of an event begins: the path, and the line of its tape
+-- how the line of an event begins: the number of the path, and a line of its tape
 unfoldable pub event_text : Path → ℕ → List ℕ
 event_text path line = decimal (number_of path) ++ codes " " ++ decimal line
 
--- a line of a point
+-- a line of an event with a word and a point
 unfoldable pub point_line : Path → ℕ → List ℕ → Point → List ℕ
 point_line path line word at = event_text path line ++ word ++ point_text at ++ codes "\n"
 
--- a meeting, and the lines of its waits
+-- how the line of a meeting begins: its number and its code
 unfoldable pub met_text : ℕ → ℕ → List ℕ
 met_text number code = codes "met " ++ decimal number ++ codes " M" ++ code_text code
 
@@ -65,6 +70,6 @@ trace_line_text (Ended path line) = event_text path line ++ codes " end\n"
 abbrev pub lines_text : List TraceLine → List ℕ
 lines_text lines = flat_map trace_line_text lines
 
--- the first line of a trace: the number of its form
+-- the first line of a trace, with the number of its form
 unfoldable pub head_text : List ℕ
 head_text = codes "trace 2\n"

@@ -1,6 +1,6 @@
-//! The lines of one record, put into a sink. How a line reads is in lines.rt, the whole text in
-//! tracing.rt.
-//! For this crate alone.
+//! The lines of a trace for one record, put into a sink. How a line reads is in lines.rt, the whole
+//! text in tracing.rt.
+//! For this crate alone: tracing.rt uses it.
 ghost use Rattle.std.specs.Prelude.{◌≡◌, ◌+◌, ◌≤◌, [], ◌∷◌, ◌++◌};
 ghost use Rattle.nc_number.specs.declared.limits.TheConstants.{MOST_RECORDS};
 ghost use Rattle.nc_number.specs.Both.{of_path};
@@ -22,21 +22,21 @@ use nc_verify::put_piece;
 use text_pieces::Piece;
 use two_path::Turn;
 
-/// Puts the path of a line.
+/// Puts the number of the path before a move.
 fn put_front<K: Sink>(sink: &mut K, path: Path) -> Result<(), PutFault>
     ensures { IsPut (K.state sink.old) (K.state sink.new) (path_text path) result }
 {
     put_piece(sink, &path_front(path))
 }
 
-/// Puts a move, as a report has it.
+/// Puts the line of a move, as a report has it.
 fn put_lined<K: Sink>(sink: &mut K, line: u32, what: &Move) -> Result<(), PutFault>
     ensures { IsPut (K.state sink.old) (K.state sink.new) (line_text line what.now) result }
 {
     put_piece(sink, &move_line(line, what))
 }
 
-/// Puts the line of a move.
+/// Puts the line of a move in a trace: the path, and the line as a report has it.
 fn put_move<K: Sink>(sink: &mut K, path: Path, line: u32, what: &Move) -> Result<(), PutFault>
     ensures { IsPut (K.state sink.old) (K.state sink.new)
         (trace_line_text (said.Moved path (record { line = line; what = what.now }))) result }
@@ -89,7 +89,7 @@ fn put_way<K: Sink>(
     put_piece(sink, &way_changed(path, moves, before, after))
 }
 
-/// The line of the shift, if the block changed it; else nothing.
+/// The line of the shift, or nothing if the block left it as it was.
 fn shift_changed(path: Path, line: u32, before: Point, after: Point) -> Piece
     ensures { result ≡ lines_text (shift_lines path line before after) }
 {
@@ -100,7 +100,7 @@ fn shift_changed(path: Path, line: u32, before: Point, after: Point) -> Piece
     }
 }
 
-/// Puts the shift, if the block changed it.
+/// Puts the line of the shift, if the block changed it.
 fn put_shift<K: Sink>(
     sink: &mut K,
     path: Path,
@@ -113,7 +113,7 @@ fn put_shift<K: Sink>(
     put_piece(sink, &shift_changed(path, line, before, after))
 }
 
-/// Puts the way of the spindle, and then the moves.
+/// Puts the line of the spindle's way, if the block changed it without a speed, and then the moves.
 fn put_way_and_moves<K: Sink>(
     sink: &mut K,
     path: Path,
@@ -130,7 +130,7 @@ fn put_way_and_moves<K: Sink>(
     }
 }
 
-/// Puts what a block changed, and then its moves.
+/// Puts what a block changed without a move, and then its moves.
 fn put_block<K: Sink>(
     sink: &mut K,
     path: Path,
@@ -154,7 +154,7 @@ fn put_ended<K: Sink>(sink: &mut K, path: Path, line: u32) -> Result<(), PutFaul
     put_piece(sink, &ended_line(path, line))
 }
 
-/// Puts a block, and that its path ends there.
+/// Puts the lines of a block, and that its path ends there.
 fn put_end<K: Sink>(
     sink: &mut K,
     path: Path,
@@ -212,7 +212,7 @@ fn put_meeting<K: Sink>(
     }
 }
 
-/// Puts the lines of a turn, after so many meetings.
+/// Puts the lines of a turn, before which there were `met` meetings.
 pub(crate) fn put_turn<K: Sink>(
     sink: &mut K,
     path: Path,

@@ -1,6 +1,7 @@
-//! What holds of every trace. Each law is the contract of a function that does nothing: a caller of
-//! it has the law.
-//! These laws are for readers: no other crate calls them.
+//! What holds of every trace. Each law is the contract of a function that does nothing; who calls
+//! it may use what it ensures.
+//! No crate calls them: they say to a reader that a trace agrees with the report, the waits and the
+//! labels.
 ghost use Rattle.std.specs.Prelude.{◌≡◌, ℕ, List, None};
 ghost use Rattle.block_order.specs.Labels.{list};
 ghost use Rattle.nc_number.specs.declared.path.Path.TheVariants.{One, Two};

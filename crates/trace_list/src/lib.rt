@@ -1,9 +1,9 @@
-//! The trace of a run: the text of a whole history, with each event in its place.
+//! The trace of a run (`trace`): the text of a whole history, with each event in its place.
 //!
 //! [`write_trace`] does the records of a legal history again, once, and puts a line for each event
 //! in the order of the history: where both turrets begin, each change of a shift, each move, each
-//! wait and meeting, an alarm, and the ends. The layer above leans on this: on Ok the sink holds
-//! what it held, followed by exactly that text; on an error it holds a part of it, from its start.
+//! wait and meeting, an alarm, and the ends. lathe_calls leans on this: on Ok the sink holds what
+//! it held, followed by exactly that text; on an error it holds a prefix of it.
 #![tactic(auto)]
 
 mod blocks;

@@ -1,5 +1,5 @@
-//! The lines of a trace, each as a piece.
-//! For this crate alone.
+//! The single lines of a trace, each as a piece of text. They are defined in specs/TraceText.antt.
+//! For this crate alone: blocks.rt and tracing.rt put them.
 ghost use Rattle.std.specs.Prelude.{◌≡◌, ◌+◌, ◌≤◌, ◌++◌, length};
 ghost use Rattle.trace_list.specs.TraceText.{event_text, head_text, met_text, path_text, point_line, trace_line_text, waits_text};
 ghost use Rattle.trace_list.specs.TraceText as said;
@@ -9,7 +9,7 @@ use nc_moves::Alarm;
 use nc_number::{Both, Path, Point};
 use text_pieces::Piece;
 
-/// The beginning of a path's line: the path and a line of its tape.
+/// How the line of an event begins: the path's number and a line of its tape.
 #[tactic(auto, unfolding(crate::specs::TraceText::event_text))]
 fn event(path: Path, line: u32) -> Piece
     ensures text { result ≡ event_text path line }
@@ -22,7 +22,7 @@ fn event(path: Path, line: u32) -> Piece
     piece
 }
 
-/// A line of a point.
+/// A line of an event with a word and a point.
 #[tactic(auto, unfolding(crate::specs::TraceText::point_line))]
 fn point_line(path: Path, line: u32, word: &[u8], at: Point) -> Piece
     requires { length word.now ≤ 40 }
@@ -51,7 +51,7 @@ pub(crate) fn home_line(path: Path, at: Point) -> Piece
     point_line(path, 0, b" home", at)
 }
 
-/// The line of a shift.
+/// The line of a shift: machine minus work coordinates, from this line of the tape on.
 #[tactic(auto, unfolding(crate::specs::TraceText::trace_line_text))]
 pub(crate) fn shift_line(path: Path, line: u32, by: Point) -> Piece
     ensures { result ≡ trace_line_text (said.Shift path line by) }
@@ -59,7 +59,7 @@ pub(crate) fn shift_line(path: Path, line: u32, by: Point) -> Piece
     point_line(path, line, b" shift", by)
 }
 
-/// The line of the spindle's way.
+/// The line of the spindle's way: whether it keeps a surface speed (G96) or not (G97).
 #[tactic(auto, unfolding(crate::specs::TraceText::trace_line_text))]
 pub(crate) fn spindle_line(path: Path, line: u32, surface: bool) -> Piece
     ensures { result ≡ trace_line_text (said.Spindle path line surface) }

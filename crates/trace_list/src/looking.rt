@@ -1,6 +1,6 @@
-//! What a trace looks at between two records: where both paths stand, and what a block changed
-//! without a move.
-//! For this crate alone.
+//! What a trace looks at between two records: where both paths stand, and what a block changes
+//! without a move. The words are in specs/Trace.antt.
+//! For this crate alone: blocks.rt and tracing.rt use it.
 ghost use Rattle.std.specs.Prelude.{◌≡◌};
 ghost use Rattle.nc_number.specs.Both.{of_path};
 ghost use Rattle.two_path.specs.Turns.{tapes_of};
@@ -77,7 +77,7 @@ pub(crate) fn standing_of(machine: &Machine, left: &Flow, right: &Flow, path: Pa
     }
 }
 
-/// Whether both are one point.
+/// Whether these are one point.
 pub(crate) fn is_same_point(a: Point, b: Point) -> bool
     ensures { result ≡ is_same_point a b }
 {

@@ -1,6 +1,6 @@
-//! The text of the trace of a history: how both paths begin, then each record, done again once, and
-//! the end.
-//! lathe_calls uses it.
+//! The text of the trace of a history: how both paths begin, then the lines of each record, which
+//! is done again once, and the end. It is defined in specs/Trace.antt.
+//! lathe_calls writes it.
 ghost use Rattle.std.specs.Prelude.{◌≡◌, ◌≤◌, ◌<◌, [], ◌∷◌, ◌++◌, length, OnOk};
 ghost use Rattle.nc_number.specs.declared.limits.TheConstants.{MOST_RECORDS};
 ghost use Rattle.nc_number.specs.declared.path.Path.TheVariants as Path;
@@ -151,7 +151,7 @@ fn put_last<K: Sink>(sink: &mut K, count: u64, reason: &Reason) -> Result<(), Pu
     put_piece(sink, &end_lines(count, reason))
 }
 
-/// Does a record again that is legal there.
+/// Does a record again that is legal there, and gives its turn.
 fn done_again(machine: &mut Machine, left: &Flow, right: &Flow, entry: &Entry) -> Turn
     requires legal { IsNext (tapes_of left.now right.now) machine.old.machine entry.now }
     requires room { 0 < machine.old.room }
@@ -165,7 +165,8 @@ fn done_again(machine: &mut Machine, left: &Flow, right: &Flow, entry: &Entry) -
     machine.apply(left, right, entry).unwrap()
 }
 
-/// Does a record again for which there is room, after so many meetings, and puts its lines.
+/// Does a record again for which there is room, and puts its lines. There were `met` meetings
+/// before it.
 fn put_done<K: Sink>(
     sink: &mut K,
     machine: &mut Machine,
@@ -197,7 +198,8 @@ fn put_done<K: Sink>(
     put_turn(sink, entry.path, so_far, &before, &after, &turn)
 }
 
-/// Does a record again that is legal there, after so many meetings, and puts its lines.
+/// Makes room for a record that is legal there, does it again, and puts its lines. There were `met`
+/// meetings before it.
 fn put_again<K: Sink>(
     sink: &mut K,
     machine: &mut Machine,

@@ -1,4 +1,4 @@
--- What proves the clauses of this crate. No other crate takes any of it.
+-- The lemmas of this crate. Its own proofs use them, and no other crate does.
 mod ServedOn
 mod TablesCross
 mod TurretsGet

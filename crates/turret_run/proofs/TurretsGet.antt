@@ -1,5 +1,6 @@
 -- What a turret got in several calls, one after another.
--- `place_both` (src/placing.rt) and `run_opened` and `run_with_turrets` (src/run.rt) rest on it.
+-- TurretsRun and the proofs of `place_both` (src/placing.rt), `run_opened` and `run_with_turrets`
+-- (src/run.rt) use it.
 use Rattle.std.proofs.Common.{arith, ◌≡◌, ◌⊎◌, ◌+◌, ◌≤◌, ℕ, suc, Bool, true, false, true≢false, IsTrue, List, [], ◌∷◌, length, map, take, refl, ap, sym, ◌∙◌, subst, inl, inr}
 use Rattle.std.proofs.lemmas.List.{length-map, take-map}
 use Rattle.nc_number.specs.declared.point.Point.{Point}
@@ -12,7 +13,7 @@ use Rattle.drive_line.specs.Driving.{DrivenState, has_failed, Serves}
 use Rattle.drive_line.proofs.Adding.{adds_none, adds_both}
 use Rattle.turret_run.specs.Served.{told, GetsFirst, GetsAll, GetsPart, FailsAmong, GetsSome, Misses}
 
--- a turret that was not called
+-- a turret that was not called got a prefix of anything, the empty one
 pub not_called : (what : List Got) (a : TurretState) → GetsPart what a a
 not_called what a = (
   0,
@@ -26,7 +27,7 @@ not_called what a = (
   },
 )
 
--- a turret that was placed, and one that failed at that
+-- a turret that took the call with its place got its place
 pub placed : (at : Point) (a b : TurretState) → Receives a b (Placed at ∷ []) 1 → b.faults ≡ a.faults → GetsAll (told at []) a b
 placed at a b got same = record {
   at_call = 0;
@@ -51,8 +52,8 @@ not_placed at a b got later rose = (
   },
 )
 
--- What comes of a turret that was placed and served these moves: it got the first of what is due,
--- and missed so many.
+-- a turret that was placed and served moves got all that is due but the last `missed`, and failed
+-- or not
 abbrev pub GotBy : Bool → ℕ → List Got → TurretState → TurretState → Type 0
 GotBy failed missed what a c = (n : ℕ) × (n + missed ≡ length what) × (failed ≡ false → missed ≡ 0) × GetsFirst what n failed a c
 
@@ -60,7 +61,7 @@ GotBy failed missed what a c = (n : ℕ) × (n + missed ≡ length what) × (fai
 take_map : (n : ℕ) (moves : List LinedMove) → map Moved (take n moves) ≡ take n (map Moved moves)
 take_map n moves = sym (take-map (λ m. Moved m) n moves)
 
--- a turret that was placed and then served the moves got its place and those that it did not miss
+-- a turret that was placed and then served moves got its place and those that it did not miss
 pub served : (at : Point) (moves : List LinedMove) (a b : TurretState) (d : DrivenState) → GetsAll (told at []) a b → Serves moves b d
     → GotBy (has_failed d.phase) d.missed (told at moves) a d.state
 served at moves a b d place s =
@@ -89,9 +90,9 @@ served at moves a b d place s =
       },
     )
 
--- A turret that got what is due but so many moves, and failed or not.
+-- a turret that got all that is due but the last `missed`, and failed or not
 module _ (failed : Bool) (missed : ℕ) (what : List Got) (a c : TurretState) (got : GotBy failed missed what a c) where
-  -- if it did not fail it got all
+  -- a turret that did not fail got all
   pub all_of : failed ≡ false → GetsAll what a c
   all_of is =
       let none = got.2 is in
@@ -101,19 +102,19 @@ module _ (failed : Bool) (missed : ℕ) (what : List Got) (a c : TurretState) (g
       all : (n m l : ℕ) → n + m ≡ l → m ≡ 0 → n ≡ l
       all n m l both none = omega (arith, both, none)
 
-  -- if it failed it got the first of them
+  -- a turret that failed got a prefix
   pub fails_of : failed ≡ true → FailsAmong what a c
   fails_of is = (got.0, subst (λ f. GetsFirst what got.0 f a c) is got.3)
 
-  -- in any case it got the first of them
+  -- a turret got a prefix, and may have failed
   pub some_of : GetsSome what a c
   some_of = (got.0, failed, got.3)
 
-  -- it missed those that it did not get
+  -- a turret missed those moves that it did not get
   pub misses_of : Misses what missed a c
   misses_of = (got.0, failed, got.1, got.2, got.3)
 
--- all of it, or it failed
+-- a turret got all that is due, or it failed
 pub either_of : (failed : Bool) (missed : ℕ) (what : List Got) (a c : TurretState) → GotBy failed missed what a c → GetsAll what a c ⊎ FailsAmong what a c
 either_of true missed what a c got = inr (fails_of true missed what a c got refl)
 either_of false missed what a c got = inl (all_of false missed what a c got refl)

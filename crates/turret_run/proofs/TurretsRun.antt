@@ -1,5 +1,6 @@
 -- How a run with turrets ends, from what its threads and the turns after them left.
--- `end_of_run` (src/rest.rt) and `run_opened` and `run_with_turrets` (src/run.rt) rest on it.
+-- The proofs of `end_of_run` (src/rest.rt), `run_opened` and `run_with_turrets` (src/run.rt) use
+-- it.
 use Rattle.std.proofs.Common.{arith, ◌≡◌, ◌≢◌, ℕ, Bool, true, false, List, [], ◌-◌, length, refl, ap, sym, ◌∙◌, subst, Option, Some, None, ⊎_elim, inl, inr}
 use Rattle.std.specs.Prelude.{IsTrue, IfSome, IfNone, Result, Ok, Err}
 use Rattle.std.proofs.lemmas.List.{drop_all}
@@ -35,12 +36,13 @@ use Rattle.turret_run.specs.Runs.{due, GetsAt, GetsBeside, StandsBeside, none_mi
 use Rattle.turret_run.specs.Rests.{ArePlaced, FailsAtPlace, first_by, first_failed, HasCause}
 use Rattle.turret_run.proofs.TurretsGet.{GotBy, served, all_of, fails_of, some_of, misses_of, either_of}
 
--- a recording with these records, so many of which are flushed, and with this file of this version
+-- a recording with these records, so many of which are flushed, with this file and a journal of
+-- this version
 abbrev with_file : {D : Type 0} → RecordingView D → List Entry → ℕ → Gate D → Version → RecordingView D
 with_file r history flushed file version =
     record { history = history; room = r.room; flushed = flushed; log = record r.log { file = file; version = version } }
 
--- such a recording has the same records, so what follows it follows the other
+-- what follows a recording with such records and file follows the recording that has them
 follows_with : {D : Type 0} (state : D → DiskState) (made : List Entry) (a b new : RecordingView D)
     → Follows state made (with_file b a.history a.flushed a.log.file a.log.version) new → Follows state made a new
 follows_with state made a b new p = record {
@@ -67,9 +69,9 @@ follows_as state made a b new history flushed file version p = follows_with stat
     (subst (λ n. Follows state made (with_file b a.history n b.log.file b.log.version) new) flushed
     (subst (λ l. Follows state made (with_file b l b.flushed b.log.file b.log.version) new) history p))))
 
--- A table got leave and room for its records, and is else as it was.
+-- a table that got leave and room for its records, and is else as it was
 module _ {D : Type 0} (state : D → DiskState) (limit : ℕ) (old ready : TableView D) (stays : Stays old ready) (leave : ready.budget ≡ limit) where
-  -- what comes of a table that was made ready is what comes of it before, with that leave
+  -- what comes of the table that was made ready is what comes of the old one with that leave
   pub since_ready : (new : TableView D) → Since state ready new → Since state (record old { budget = limit }) new
   since_ready new since = record {
     verified = since.verified ∙ stays.verified;
@@ -80,7 +82,7 @@ module _ {D : Type 0} (state : D → DiskState) (limit : ℕ) (old ready : Table
         (λ rose. inr (subst (λ (file : Gate D). Rose (state file.disk).faults (state new.recording.log.file.disk).faults) stays.file rose)) (since.cause is);
   }
 
-  -- why it ended is why the table before ended
+  -- why the ready table's run ended is why that of the old one did
   ends_ready : (new : TableView D) (end : Reason) → EndsBy state ready new end → EndsBy state old new end
   ends_ready new (reason.Alarm alarm) e = e
   ends_ready new reason.Done e = e
@@ -90,13 +92,13 @@ module _ {D : Type 0} (state : D → DiskState) (limit : ℕ) (old ready : Table
   ends_ready new reason.DiskFault e =
       (e.0, subst (λ (file : Gate D). Rose (state file.disk).faults (state new.recording.log.file.disk).faults) stays.file e.1)
 
-  -- what is due to a turret is the same
+  -- what is due to a turret of the ready table is due by the old one
   pub due_ready : (path : Path) (new : TableView D) → due path ready new ≡ due path old new
   due_ready path new =
       ap (λ (m : MachineView). due path (record ready { machine = m }) new) stays.machine
       ∙ ap (λ (n : ℕ). told (position_of path old.machine) (moves_made new.verified path n new.recording.flushed new.recording.history)) (ap length stays.history)
 
-  -- what stays stays
+  -- what stays of the ready table stays of the old one
   stays_ready : (new : TableView D) → Stays ready new → Stays old new
   stays_ready new same = record {
     verified = same.verified ∙ stays.verified;
@@ -108,12 +110,12 @@ module _ {D : Type 0} (state : D → DiskState) (limit : ℕ) (old ready : Table
     halt = same.halt ∙ stays.halt;
   }
 
-  -- what stands beside a failed turret stands so
+  -- what holds beside a failed turret for the ready table holds for the old one
   stands_ready : (path other : Path) (a b : TurretState) → StandsBeside path (told (position_of other ready.machine) []) a b → StandsBeside path (told (position_of other old.machine) []) a b
   stands_ready One other a b same = same
   stands_ready Two other a b place = subst (λ (m : MachineView). GetsAll (told (position_of other m) []) a b) stays.machine place
 
-  -- how it ended is how the table before ended
+  -- how the run of the ready table ended is how that of the old one did
   ended_ready : (new : TableView D) (before after : Both TurretState) (missed : Both ℕ) (end : Reason) → HasEnded state ready.budget ready new before after missed end
       → HasEnded state limit old new before after missed end
   ended_ready new before after missed end r = record {
@@ -179,7 +181,7 @@ none_failed : (failed : Both Bool) → first_failed failed ≡ None → (path : 
 none_failed failed is One = (none_by failed.one failed.two is).0
 none_failed failed is Two = (none_by failed.one failed.two is).1
 
--- a turret that is let go hides no fault of the disk
+-- a reason that is no fault of the disk is none without a turret's fault either
 not_disk : (why : Option Halt) → why ≢ Some halt.Disk → without_turret why ≢ Some halt.Disk
 not_disk None other is = absurd cc
 not_disk (Some (halt.Alarm alarm)) other is = absurd cc
@@ -188,7 +190,7 @@ not_disk (Some (halt.Turret path)) other is = absurd cc
 not_disk (Some halt.Full) other is = absurd cc
 not_disk (Some halt.Budget) other is = absurd cc
 
--- a table that has halted for nothing but an alarm has no fault of the disk
+-- a table that only an alarm may have stopped keeps no fault of the disk
 pub calm_is_no_disk : (why : Option Halt) → IsNoneOrAlarm why → why ≢ Some halt.Disk
 calm_is_no_disk None may is = absurd cc
 calm_is_no_disk (Some (halt.Alarm alarm)) may is = absurd cc
@@ -197,7 +199,7 @@ calm_is_no_disk (Some (halt.Turret path)) may is = may
 calm_is_no_disk (Some halt.Full) may is = may
 calm_is_no_disk (Some halt.Budget) may is = may
 
--- and none of a turret that is let go
+-- a reason that is an alarm or none stays when a turret's fault is dropped
 pub calm_stays : (why : Option Halt) → IsNoneOrAlarm why → without_turret why ≡ why
 calm_stays None may = refl
 calm_stays (Some (halt.Alarm alarm)) may = refl
@@ -211,10 +213,10 @@ pub none_since : {D : Type 0} (opened : Option (TableView D)) (t : TableView D) 
 none_since opened t held is held_is path = subst (λ o. records_since o held path ≡ []) (sym is) (subst (λ h. records_since (Some t) h path ≡ []) (sym held_is)
     (ap (λ l. answered_from (tapes_in t.verified) (fold (tapes_in t.verified) (opening_of t.verified) t.recording.history) path true l) (drop_all (length t.recording.history) t.recording.history (omega arith))))
 
--- What each turret got by a run, of which the table was taken out.
+-- what each turret got in a run, after which the table was taken out
 module _ {D : Type 0} (state : D → DiskState) (opened : Option (TableView D)) (start taken : TableView D) (held : HeldView D) (is : opened ≡ Some start)
     (of : IsOf state opened taken) (shown : ShowsFlushed opened held taken) where
-  -- the table that was taken out comes of the one at the start
+  -- the table that was taken out has come of the one at the start
   pub taken_since : Since state start taken
   taken_since = subst (λ o. IsOf state o taken) is of
 
@@ -227,7 +229,7 @@ module _ {D : Type 0} (state : D → DiskState) (opened : Option (TableView D)) 
       let told_of = subst (λ o. ShowsFlushed o held taken) is shown path in
       served (position_of path start.machine) moves before now d place (subst (λ ms. Serves ms now d) told_of at)
 
--- each turret got no more than its place
+-- a turret that was placed and got no move got no more than its place
 pub placed_only : (m : MachineView) (before now : Both TurretState) → ArePlaced m before now → (path : Path) → GetsPart (told (position_of path m) []) (of_path before path) (of_path now path)
 placed_only m before now placed path = (1, placed path)
 
@@ -245,7 +247,7 @@ module _ {D : Type 0} (state : D → DiskState) (limit : ℕ) (old ready : Table
     none = refl;
   }
 
--- The first of the causes: the end of the run of a held table, and the turret that failed.
+-- the cause that is told: the end of the run of a held table, or the turret that failed
 module _ {D : Type 0} (held : HeldView D) where
   -- a held table that is at its end has no fault of the disk
   no_disk : (end : Option Reason) → IsAtEnd held end → held.halt ≢ Some halt.Disk
@@ -267,7 +269,7 @@ module _ {D : Type 0} (held : HeldView D) where
   has_cause (Some reason.Stopped) (Some path) ends on = (no_disk None ends.0, ends.0.live, refl)
   has_cause (Some (reason.TurretFault path)) failed ends on = absurd ends
 
--- The end of a run: the turns that were left found this cause.
+-- the end of a run, by the cause that the turns after the threads found
 module _ {D : Type 0} (state : D → DiskState) (start taken : TableView D) (since : Since state start taken) (held : HeldView D) (before after : Both TurretState) (failed : Both Bool) (missed : Both ℕ)
     (ends : (end : Reason) → Ends held end → EndsBy state start taken end) (halt_is : taken.halt ≡ without_turret held.halt) (file_is : taken.recording.log.file ≡ held.file)
     (gots : (path : Path) → GotBy (of_path failed path) (of_path missed path) (due path start taken) (of_path before path) (of_path after path)) where
@@ -289,7 +291,7 @@ module _ {D : Type 0} (state : D → DiskState) (start taken : TableView D) (sin
   ended_at (reason.TurretFault which) none path = gets_all path (none_failed failed (none (λ is. absurd cc)) path)
   ended_at reason.DiskFault none path = some_of (of_path failed path) (of_path missed path) (due path start taken) (of_path before path) (of_path after path) (gots path)
 
-  -- a turret that failed first got a first part, and the other one all, or it failed too
+  -- the turret that is named as failed got a prefix, and the other one all, or it failed too
   failed_at : (path : Path) → first_failed failed ≡ Some path → FailsAmong (due path start taken) (of_path before path) (of_path after path)
       × GetsBeside path (due (other_of path) start taken) (of_path before (other_of path)) (of_path after (other_of path))
   failed_at One is = (

@@ -1,7 +1,9 @@
--- What callers read: what a turret gets, and how a run ends. lathe_top takes Served and Runs.
+-- The words of the contracts of a run with turrets. What a turret gets (Served) and how a run ends
+-- (Runs) lathe_top cites too.
 pub mod Served
 pub mod Runs
 pub mod Draining
--- Words of the inside.
+-- How turrets are placed, what the threads leave and how the last turns are given: for this crate
+-- alone.
 pub mod Rests
 pub mod Seats

@@ -1,4 +1,5 @@
--- How both turrets are placed, and how the turns that are left after the threads are given.
+-- How both turrets are placed before the threads, and what the turns that are left after the
+-- threads keep.
 -- For this crate alone.
 use Rattle.std.specs.Prelude.{◌≡◌, ◌≢◌, ◌⊎◌, Bool, true, false, IsTrue, [], Option, Some, None}
 use Rattle.nc_number.specs.declared.both.Both.{Both}
@@ -24,17 +25,18 @@ use Rattle.turret_run.specs.Runs.{StandsBeside}
 abbrev pub ArePlaced : MachineView → Both TurretState → Both TurretState → Type 0
 ArePlaced m before after = (path : Path) → GetsAll (told (position_of path m) []) (of_path before path) (of_path after path)
 
--- the turret of this path failed at its place, and that of path 1 was placed before that of path 2
+-- the turret of this path failed at its place; if it is path 2's, that of path 1 had got its place,
+-- and if it is path 1's, that of path 2 was not called
 abbrev pub FailsAtPlace : MachineView → Both TurretState → Both TurretState → Path → Type 0
 FailsAtPlace m before after path =
     FailsAmong (told (position_of path m) []) (of_path before path) (of_path after path)
     × StandsBeside path (told (position_of (other_of path) m) []) (of_path before (other_of path)) (of_path after (other_of path))
 
--- a turret that had served the old records serves the new ones
+-- a turret that had served the moves of the old records has served those of the new ones
 abbrev pub ServesOn : Records → DrivenState → Records → DrivenState → Type 0
 ServesOn old was new is = (start : TurretState) → Serves (moves_in old) start was → Serves (moves_in new) start is
 
--- it stands still, or it failed
+-- a turret stands still, or it failed
 abbrev pub IsStillOrFailed : Phase → Type 0
 IsStillOrFailed phase = (phase ≡ Still) ⊎ (has_failed phase ≡ true)
 
@@ -42,18 +44,19 @@ IsStillOrFailed phase = (phase ≡ Still) ⊎ (has_failed phase ≡ true)
 abbrev pub who_failed : Both DrivenState → Both Bool
 who_failed turrets = both_of (λ d. has_failed d.phase) turrets
 
--- the path whose turret failed, that of path 1 first
+-- the path whose turret failed, by whether that of path 1 and that of path 2 did; path 1 if both
+-- did
 abbrev pub first_by : Bool → Bool → Option Path
 first_by true two = Some One
 first_by false true = Some Two
 first_by false false = None
 
--- the path whose turret failed, that of path 1 first
+-- the path whose turret failed, or none; path 1 if both failed
 abbrev pub first_failed : Both Bool → Option Path
 first_failed failed = first_by failed.one failed.two
 
--- Why no turn is given any more: a fault of the disk, the turret that failed, or another end of the
--- run.
+-- Why no turn is given any more, by the first of these causes: a fault of the disk, the turret that
+-- failed, or another end of the run.
 abbrev pub HasCause : {D : Type 0} → HeldView D → Option Path → Reason → Type 0
 HasCause held failed (reason.TurretFault path) = (held.halt ≢ Some Disk) × IsTrue held.file.live × (failed ≡ Some path)
 HasCause held failed end = HasEnded held end × (end ≢ reason.DiskFault → failed ≡ None)

@@ -1,5 +1,5 @@
--- A run with turrets, and how it ends.
--- lathe_top says by it what a session leaves.
+-- What a run with turrets comes to: its end, its records, and what each turret got and missed.
+-- The contract of `run_with_turrets` cites it, and lathe_top says by it what a session leaves.
 use Rattle.std.specs.Prelude.{◌≡◌, ◌≢◌, ◌⊎◌, ℕ, List, [], length, Some, Result, Ok, Err}
 use Rattle.disk_model.specs.Device.{DiskState}
 use Rattle.nc_number.specs.declared.both.Both.{Both}
@@ -26,19 +26,19 @@ abbrev pub due : {D : Type 0} → Path → TableView D → TableView D → List 
 due path old new = told (position_of path old.machine)
     (moves_made new.verified path (length old.recording.history) new.recording.flushed new.recording.history)
 
--- at an end of the run a turret got all that is due, and if the disk failed a first part of it
+-- at an end of the run a turret got all that is due; if the disk failed, it got a prefix of that
 abbrev pub GetsAt : Reason → List Got → TurretState → TurretState → Type 0
 GetsAt reason.DiskFault what old new = GetsSome what old new
 GetsAt end what old new = GetsAll what old new
 
--- beside the turret that is named as failed the other one got all that is due, or it failed too;
--- that of path 1 did not, else it were named
+-- What the other turret got if that of the named path failed. Beside path 2 that of path 1 got all
+-- that is due, else path 1 were named. Beside path 1 that of path 2 got all, or it failed too.
 abbrev pub GetsBeside : Path → List Got → TurretState → TurretState → Type 0
 GetsBeside One what old new = GetsAll what old new ⊎ FailsAmong what old new
 GetsBeside Two what old new = GetsAll what old new
 
--- beside the turret that failed at its place that of path 2 was not called, and that of path 1 had
--- got its place
+-- What the other turret got if that of the named path failed at its place. That of path 2 was not
+-- called then, and that of path 1 had got its place.
 abbrev pub StandsBeside : Path → List Got → TurretState → TurretState → Type 0
 StandsBeside One place old new = new ≡ old
 StandsBeside Two place old new = GetsAll place old new
@@ -57,42 +57,59 @@ pub record Stays {D : Type 0} (old new : TableView D) : Type 0 where
   pub version : new.recording.log.version ≡ old.recording.log.version
   pub halt : new.halt ≡ old.halt
 
+-- A run of the table `old` for at most `limit` records, which left `new`, with the turrets before
+-- and after it; `missed` is how many moves of records that are on the disk each turret did not get.
 module _ {D : Type 0} (state : D → DiskState) (limit : ℕ) (old new : TableView D) (before after : Both TurretState) (missed : Both ℕ) where
-  -- Before and after are the turrets, and missed is how many moves of records that are on the disk
-  -- each of them did not get.
-
-  -- The run ended, and no turret failed before, or the disk did: the table is one that has come of
-  -- the old one with so many records at most.
+  -- The run ended for another reason than a turret: its machine, a full journal, a spent budget, or
+  -- a fault of the disk.
   pub record HasEnded (end : Reason) : Type 0 where
+    -- the table has come of the old one by at most `limit` records
     pub since : Since state (record old { budget = limit }) new
+    -- the run ended for this reason
     pub ends : EndsBy state old new end
+    -- what each turret got of what is due to it
     pub turrets : (path : Path) → GetsAt end (due path old new) (of_path before path) (of_path after path)
+    -- how much of what is due each turret missed
     pub misses : (path : Path) → Misses (due path old new) (of_path missed path) (of_path before path) (of_path after path)
 
   -- A turret failed after its place, and no call of the disk failed.
   pub record HasFailed (path : Path) : Type 0 where
+    -- the table has come of the old one by at most `limit` records
     pub since : Since state (record old { budget = limit }) new
+    -- the table keeps no fault of the disk
     pub disk : new.halt ≢ Some Disk
+    -- no call of the disk failed
     pub calm : (state new.recording.log.file.disk).faults ≡ (state old.recording.log.file.disk).faults
+    -- the turret of this path got a prefix of what is due to it, and failed
     pub failed : FailsAmong (due path old new) (of_path before path) (of_path after path)
+    -- what the other turret got
     pub other : GetsBeside path (due (other_of path) old new) (of_path before (other_of path)) (of_path after (other_of path))
+    -- how much of what is due each turret missed
     pub misses : (p : Path) → Misses (due p old new) (of_path missed p) (of_path before p) (of_path after p)
 
   -- A turret failed at its place: the table is as it was, no turret got a move, and the other one
   -- got no more than its place.
   pub record IsNotPlaced (path : Path) : Type 0 where
+    -- the table has come of the old one, without a record
     pub since : Since state (record old { budget = limit }) new
     pub same : Stays old new
+    -- the table keeps no fault of the disk
     pub disk : new.halt ≢ Some Disk
+    -- the turret of this path failed at its place
     pub failed : FailsAmong (told (position_of path old.machine) []) (of_path before path) (of_path after path)
+    -- what the other turret got
     pub other : StandsBeside path (told (position_of (other_of path) old.machine) []) (of_path before (other_of path)) (of_path after (other_of path))
+    -- no move was missed
     pub none : missed ≡ none_missed
 
   -- Memory ran out before the first step, or a thread was refused: no record was made, and no
   -- turret got more than its place.
   pub record HasNotBegun : Type 0 where
+    -- the table is as it was
     pub same : Stays old new
+    -- each turret got its place at most
     pub turrets : (path : Path) → GetsPart (told (position_of path old.machine) []) (of_path before path) (of_path after path)
+    -- no move was missed
     pub none : missed ≡ none_missed
 
   -- What a run with turrets that ended so comes to.

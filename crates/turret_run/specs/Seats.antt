@@ -1,5 +1,5 @@
 -- What the two threads of a path begin with, and what they leave.
--- For this crate alone.
+-- For this crate alone: the contracts of src/pair.rt.
 use Rattle.std.specs.Prelude.{◌≡◌, true, false, [], IsTrue, Option, is_some}
 use Rattle.atomic_table.specs.Seated.{TableId}
 use Rattle.drive_line.specs.declared.phase.Phase.{Phase}
@@ -9,22 +9,22 @@ use Rattle.nc_number.specs.declared.path.Path.{Path}
 use Rattle.nc_outside.specs.declared.halt.Halt.{Halt}
 use Rattle.seat_table.specs.Passes.{Pass, Halter, fresh, fresh_halter}
 
--- the two ends of one line, of which nothing was made yet
+-- the two ends of one line to which no move was given yet
 abbrev pub AreNewEnds : Sending → Taking → Type 0
 AreNewEnds sending taking = (sending.line ≡ taking.line) × (sending.items ≡ []) × (taking.items ≡ []) × (taking.asked ≡ false)
 
--- the passes are of this table and path
+-- both passes, that of the worker and that of the drive, are of this table and path
 pub record AreOf (table : TableId) (path : Path) (pass : Pass) (halter : Halter) : Type 0 where
   pub table_is : pass.table ≡ table
   pub path_is : pass.path ≡ path
   pub halter_table : halter.table ≡ table
   pub halter_path : halter.path ≡ path
 
--- and no step was made by them yet
+-- both passes are new: no step was made by them, and they halted nothing
 pub record AreFresh (table : TableId) (path : Path) (pass : Pass) (halter : Halter) : Type 0 where
   pub pass_is : pass ≡ fresh table path
   pub halter_is : halter ≡ fresh_halter table path
 
--- if the turret failed the table has halted
+-- if the turret failed, the table has halted for a reason
 abbrev pub StopsBy : Phase → Option Halt → Type 0
 StopsBy phase reason = has_failed phase ≡ true → IsTrue (is_some reason)

@@ -1,5 +1,5 @@
 -- What a turret gets in a run: its place, and then moves.
--- lathe_top says by it what the turrets get from a session.
+-- Runs and Rests say by it how a run ends, and lathe_top what the turrets get from a session.
 use Rattle.std.specs.Prelude.{◌≡◌, ℕ, ◌+◌, ◌≤◌, Bool, true, false, IsTrue, List, ◌∷◌, length, map, take}
 use Rattle.nc_number.specs.declared.point.Point.{Point}
 use Rattle.nc_outside.specs.declared.got.Got.{Got}
@@ -17,29 +17,34 @@ told at moves = Placed at ∷ map Moved moves
 -- the next of them, or at a settle. Only then its count of faults rose.
 pub record GetsFirst (what : List Got) (n : ℕ) (failed : Bool) (old new : TurretState) : Type 0 where
   pub at_call : ℕ  -- how many calls failed
+  -- how many settles were asked of it
   pub settles : ℕ
+  -- one call failed at most, and only if the turret failed
   pub few : at_call ≤ most failed
+  -- the turret got no more than there is, with the call that failed
   pub within : n + at_call ≤ length what
+  -- the turret got the first n, by a call each, beside the call that failed and the settles
   pub received : Adds old.received new.received (take n what) (n + at_call) settles
+  -- its count of faults rose just if it failed
   pub counted : CountsFault old.faults new.faults (IsTrue failed)
 
--- it got all of these
+-- a turret got all of these, and did not fail
 abbrev pub GetsAll : List Got → TurretState → TurretState → Type 0
 GetsAll what old new = GetsFirst what (length what) false old new
 
--- it got the first of these, and did not fail
+-- a turret got a prefix of these, and did not fail
 abbrev pub GetsPart : List Got → TurretState → TurretState → Type 0
 GetsPart what old new = (n : ℕ) × GetsFirst what n false old new
 
--- it got the first of these, and failed then
+-- a turret got a prefix of these, and then failed
 abbrev pub FailsAmong : List Got → TurretState → TurretState → Type 0
 FailsAmong what old new = (n : ℕ) × GetsFirst what n true old new
 
--- it got the first of these, and may have failed then
+-- a turret got a prefix of these, and may have failed then
 abbrev pub GetsSome : List Got → TurretState → TurretState → Type 0
 GetsSome what old new = (n : ℕ) × (failed : Bool) × GetsFirst what n failed old new
 
--- it got all of these but so many, the last ones: it failed then, or they are none
+-- a turret got all of these but the last `missed`, and if it did not fail it missed none
 abbrev pub Misses : List Got → ℕ → TurretState → TurretState → Type 0
 Misses what missed old new =
     (n : ℕ) × (failed : Bool) × (n + missed ≡ length what) × (failed ≡ false → missed ≡ 0) × GetsFirst what n failed old new

@@ -1,6 +1,6 @@
-//! A held table may go to another thread. Each law stands on the ones before it, which keeps each
-//! proof short.
-//! For run.rt of this crate.
+//! That a held table may go to another thread, which the prover has to know before a thread gets
+//! it. Each law rests on the ones before it, which keeps each proof short.
+//! For run.rt of this crate, which calls `held_crosses`.
 ghost use denote.Param.Send.{IsSend};
 ghost use Rattle.cell_settings.specs.contracts.settings.Settings.{the_row as settings_row};
 ghost use Rattle.nc_number.specs.contracts.list_of.ListOf.{the_row as list_row};
@@ -19,7 +19,7 @@ use run_table::Opening;
 use tape_flow::{Flow, FlowBlockList, FlowProgram, FlowProgramList};
 use two_path::Machine;
 
-/// What may go to another thread does.
+/// A type that is `Send` may go to another thread, as the proofs say it.
 fn crosses<T: Send>()
     ensures { IsSend T.row }
 {}
@@ -56,7 +56,7 @@ fn pair_crosses()
     settings_cross();
 }
 
-/// A machine may go to another thread.
+/// The machine of two paths may go to another thread.
 fn machine_crosses()
     ensures { IsSend machine_row }
 {

@@ -1,5 +1,5 @@
-//! What a run with turrets leaves. Why it ended is in specs/Runs.antt.
-//! lathe_top uses it.
+//! What a run with turrets leaves for its caller. Which of it goes together is in specs/Runs.antt.
+//! run.rt makes it, and lathe_top reads it.
 use disk_model::Disk;
 use nc_number::{Both, NoMemory};
 use nc_outside::{Reason, Turret};
@@ -12,8 +12,8 @@ pub struct TurretRun<D: Disk, T: Turret> {
     pub table: Table<D>,
     /// The turrets of path 1 and path 2.
     pub turrets: Both<T>,
-    /// Why it ended. It is out of memory if memory ran out before the first step, or a thread was
-    /// refused.
+    /// Why it ended. An error says that it did not begin: memory ran out before the first step, or
+    /// a thread was refused.
     pub end: Result<Reason, NoMemory>,
     /// How many moves of records that are on the disk each turret did not get.
     pub missed: Both<u64>,

@@ -1,6 +1,6 @@
 //! Both paths at once: a worker and a drive for each, in four threads. What they leave undone is in
 //! rest.rt.
-//! For run.rt of this crate.
+//! For run.rt of this crate, and for tests.
 ghost use Rattle.std.specs.Prelude.{◌≡◌, [], true, IfOk, IfErr, IsTrue, is_some};
 ghost use Rattle.nc_number.specs.declared.path.Path.{Path as OnePath};
 ghost use Rattle.nc_number.specs.declared.path.Path.TheVariants.{One, Two};
@@ -19,7 +19,7 @@ use std::sync::Wait;
 use std::thread;
 use std::thread::Threads;
 
-/// How many moves a drive line holds.
+/// How many moves a drive line holds before its worker has to wait.
 const BOUND: usize = 64;
 
 /// What a run of both paths leaves.
@@ -31,10 +31,12 @@ pub struct Ran<C: Turns, T: Turret> {
     pub turrets: Both<Driven<T>>,
 }
 
-/// What comes back if there is no memory for a run: all as it was.
+/// What comes back if there is no memory for a run: the table and the turrets as they were.
 #[derive(Drop)]
 pub struct Unrun<C: Turns, T: Turret> {
+    /// The table, which was not run.
     pub table: C,
+    /// The turrets, which were not called.
     pub turrets: Both<T>,
 }
 

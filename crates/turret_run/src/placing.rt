@@ -1,4 +1,4 @@
-//! What comes before a run: leave for its records, and the places of both turrets.
+//! What is done before a run: leave for its records, and the places of both turrets.
 //! For run.rt of this crate.
 ghost use Rattle.std.specs.Prelude.{◌≡◌, IfErr, OnOk};
 ghost use Rattle.nc_number.specs.Both.{both_of};
@@ -10,8 +10,8 @@ use nc_number::{Both, NoMemory, Path};
 use nc_outside::Turret;
 use run_table::Table;
 
-/// Gives leave for so many records, and makes room for them, or answers `NoMemory`. Else the table
-/// stays as it was.
+/// Gives leave for so many records, and makes room for them, or answers `NoMemory`. All else of the
+/// table stays as it was.
 pub(crate) fn make_ready<D: Disk>(table: &mut Table<D>, limit: u32) -> Result<(), NoMemory>
     ensures budget { OnOk result (table.new.budget ≡ limit) }
     ensures same { Stays table.old table.new }

@@ -27,7 +27,7 @@ fn who_failed<T: Turret>(turrets: &Both<Driven<T>>) -> Both<bool>
     }
 }
 
-/// The path whose turret failed, that of path 1 first.
+/// The path whose turret failed, or none. If both failed, it is path 1.
 fn first_failed(failed: Both<bool>) -> Option<Path>
     ensures { result ≡ first_failed failed }
 {
@@ -78,8 +78,8 @@ fn give_turn_of<R: Wait, D: Disk, O: Opening<D>, T: Turret>(
     }
 }
 
-/// Gives path 1 and path 2 their turns, by turns, until the run ends or a turret fails, and answers
-/// which. Both turrets stand still then, but for one that failed.
+/// Gives path 1 and path 2 one turn each, again and again, until the run ends or a turret fails,
+/// and answers why. Both turrets stand still then, but for one that failed.
 pub(crate) fn give_rest<R: Wait, D: Disk, O: Opening<D>, T: Turret>(
     rt: &R,
     table: &mut Held<D, O>,

@@ -1,4 +1,6 @@
-//! A run of an opened table with its turrets. lathe_top calls `run_with_turrets`.
+//! A run of an opened table with its turrets: they are placed, both paths run in threads, the turns
+//! that are left are given, and the table and the turrets come back.
+//! lathe_top calls `run_with_turrets`.
 ghost use Rattle.std.specs.Prelude.{◌≡◌, length, Some, None, Err};
 ghost use Rattle.run_table.specs.Running.{MayRun, IsNoneOrAlarm};
 ghost use Rattle.two_path.specs.Ending.{end_of};
@@ -24,8 +26,8 @@ use std::marker::Brand;
 use std::sync::Wait;
 use std::thread::Threads;
 
-/// Runs both paths of the opened table, and then gives the turns that are left. Both turrets were
-/// placed. Gives the table, the turrets, and why the run ended.
+/// Runs both paths of the opened table, and then gives the turns that are left. Both turrets must
+/// be placed. Gives back the table and the turrets, and why the run ended.
 fn run_opened<O, R, D, T>(
     rt: &R,
     alloc: Global,
@@ -79,7 +81,7 @@ fn who_missed<T: Turret>(turrets: &Both<Driven<T>>) -> Both<u64>
     }
 }
 
-/// Both turrets, without their drives.
+/// The turrets themselves, which their drives give back.
 fn let_go<T: Turret>(turrets: Both<Driven<T>>) -> Both<T>
     ensures { both_of T.state result ≡ both_of (λ d. d.state) turrets }
 {

@@ -1,5 +1,6 @@
 //! How the program ends: with the exit status of its command. lathe_calls names the statuses, and
 //! lathe_top says which one a command has.
+//! For main.rt of this crate.
 ghost use Rattle.std.specs.Prelude.{◌≡◌};
 ghost use Rattle.std.specs.Process.{exit_status};
 
@@ -14,6 +15,7 @@ const NO_MEMORY: u8 = 12;
 /// The end of a command, with its status. `main` has no other way to end than with one of these.
 #[derive(Drop)]
 pub struct Ending {
+    /// The exit status.
     status: u8,
 }
 

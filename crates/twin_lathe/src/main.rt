@@ -57,10 +57,12 @@ fn main(rt: HostRuntime) -> Ending {
     end
 }
 
-/// The names of the files of the turrets, where they were given.
+/// The names of the files to which the turrets of a run write, if they were given.
 #[derive(Clone, Copy)]
 struct TurretNames<'a> {
+    /// The file of path 1's turret.
     one: Option<&'a str>,
+    /// The file of path 2's turret.
     two: Option<&'a str>,
 }
 
@@ -90,7 +92,7 @@ fn text_of(name: &Option<Name>) -> Option<&str> {
     }
 }
 
-/// How the command of these words uses the journal.
+/// Whether the command of these words writes the journal, or only looks at it.
 fn access_of(words: &[String]) -> Access {
     match journal_of(words) {
         Journal::Write => Access::Write,
@@ -110,7 +112,7 @@ fn tell_missed<R: Eprint, D: Disk, E: Disk, T: Turret>(rt: &R, outcome: &Outcome
     }
 }
 
-/// Says on standard error why the file of a journal can't be used, if there is a reason. Where that
+/// Says on standard error why the file of a journal can't be used, if there is a reason. If that
 /// can't be said, the status still tells of it.
 fn complain<R: Eprint>(rt: &R, journal: &str, trouble: Option<Trouble>) {
     if let Some(trouble) = trouble {
@@ -118,8 +120,8 @@ fn complain<R: Eprint>(rt: &R, journal: &str, trouble: Option<Trouble>) {
     }
 }
 
-/// The words behind the program's name. Where one of them is no text they are no command, and none
-/// is given.
+/// The words after the program's name. If one of them is no text they are no command, and none is
+/// given.
 fn words_given<R: Env + AllocGlobal>(rt: &R) -> Result<Vec<String>, AllocError> {
     match env::args(rt) {
         Ok(all) => all.skip(1).collect(rt.alloc()),

@@ -1,4 +1,6 @@
-//! A table in memory, whose paths make records of an auxiliary code each, and wait for nobody.
+//! A table in memory for the tests of both paths at once. Its paths make records of an auxiliary
+//! code each, and wait for nobody.
+//! runs.rt uses it.
 
 ghost use Rattle.std.specs.Prelude.{◌≡◌, ◌≢◌, map, [], ◌∷◌};
 ghost use Rattle.nc_outside.specs.declared.halt.Next.TheVariants.{Drain};
@@ -14,11 +16,14 @@ use std::alloc::Global;
 use std::sync::atomic::AtomicU64;
 use std::sync::atomic::Ordering::SeqCst;
 
+/// The table: the codes of each path's records, and what the tests count.
 #[derive(Drop)]
 pub struct CodeTable<'a> {
+    /// The auxiliary codes of path 1's records.
     pub first: Vec<u16>,
+    /// The auxiliary codes of path 2's records.
     pub second: Vec<u16>,
-    // So many records each path makes.
+    // How many records path 1 and path 2 make.
     pub goals: (usize, usize),
     // How many steps there were.
     pub steps: &'a AtomicU64,
@@ -28,10 +33,12 @@ pub struct CodeTable<'a> {
     pub owed: bool,
     // How many drains it was told.
     pub drained: u64,
+    /// Why the table was halted.
     pub halt: Option<Halt>,
 }
 
 impl<'a> CodeTable<'a> {
+    /// A table without records.
     pub fn new(
         alloc: Global,
         goals: (usize, usize),
@@ -53,7 +60,7 @@ impl<'a> CodeTable<'a> {
     }
 }
 
-/// The moves of a block with an auxiliary code.
+/// The moves of a block with this auxiliary code.
 fn block(m: u16) -> Moves
     ensures { lined result ≡ lined_move 1 (Aux m) ∷ [] }
 {
@@ -62,7 +69,7 @@ fn block(m: u16) -> Moves
     Moves { line: 1, list }
 }
 
-/// One record more of a path, up to so many.
+/// One record more of a path, or its end if it has as many as its goal.
 fn make(records: &mut Vec<u16>, goal: usize) -> Next
     ensures undrained { result ≢ Drain }
     ensures made { Answers (map (λ m. lined_move 1 (Aux m) ∷ []) records.old.items) result

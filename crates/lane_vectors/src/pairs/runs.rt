@@ -1,4 +1,5 @@
-//! Runs of both paths of a table in memory, in their threads and by single turns.
+//! Tests of `run_pair` and `give_turn` (turret_run): runs of both paths in their threads, and
+//! single turns of one path.
 ghost use Rattle.std.specs.Prelude.{◌≡◌, []};
 
 use super::codes::CodeTable;
@@ -27,9 +28,9 @@ fn run<'a, R: Threads + Wait + Sync, T: Turret + Send>(
     }
 }
 
-/// Runs path 1 up to 500 records where its turret fails at that call or that settle. It answers
-/// whether each turret failed and whether that halted the run, the moves that the turret of path 1
-/// got, and whether it got or missed all that were recorded.
+/// Runs path 1 up to 500 records, with a turret that fails at that call or at that settle. It
+/// answers whether each turret failed and whether that halted the run, how many moves the turret of
+/// path 1 got, and whether it got or missed all that were recorded.
 fn failed<R: Threads + Wait + Sync>(
     rt: &R,
     alloc: Global,
@@ -64,7 +65,7 @@ fn a_turret_that_fails_stops_both_paths(rt: HostRuntime) -> Result<(), Fail> {
 }
 
 /// Gives path 1 so many turns, up to 20 records. It answers how many drains the table was told, how
-/// many moves the turret took and missed, and whether it failed.
+/// many moves the turret took and how many it missed, and whether it failed.
 fn given<R: Wait>(
     rt: &R,
     alloc: Global,

@@ -1,4 +1,6 @@
-//! A table in memory, of which the paths take strict turns, path 1 first.
+//! A table in memory for the tests of seats. Its paths take strict turns, path 1 first, until each
+//! has as many records as its goal. When a path waits is in specs/Waiting.antt.
+//! paths.rt uses it.
 
 ghost use Rattle.std.specs.Prelude.{◌≡◌, ◌≢◌, map, [], ◌∷◌};
 ghost use Rattle.nc_outside.specs.declared.halt.Next.TheVariants.{Drain};
@@ -15,22 +17,27 @@ use std::sync::atomic::AtomicU64;
 use std::sync::atomic::Ordering::SeqCst;
 use std::thread;
 
+/// The table: the codes of each path's records, and what the tests count.
 #[derive(Drop)]
 pub struct MemoryTable {
+    /// The auxiliary codes of path 1's records.
     pub first: Vec<u16>,
+    /// The auxiliary codes of path 2's records.
     pub second: Vec<u16>,
-    // So many records each path makes.
+    // How many records each path makes.
     pub goal: usize,
-    // So long a turn lasts, in yields.
+    // How long a turn lasts, in yields.
     pub lasts: u32,
-    // How often a path was found to wait.
+    // How often a turn found its path waiting.
     pub looks: AtomicU64,
     // How many drains it was told.
     pub drains: u64,
+    /// Why the table was halted.
     pub halt: Option<Halt>,
 }
 
 impl MemoryTable {
+    /// A table without records.
     pub fn new(alloc: Global, goal: usize, lasts: u32) -> MemoryTable
         ensures { (result.first.items ≡ []) × (result.second.items ≡ []) }
     {
@@ -46,14 +53,14 @@ impl MemoryTable {
     }
 }
 
-/// Lets other threads run, so often.
+/// Lets other threads run, this many times.
 pub fn yield_often(times: u32) {
     for _ in 0..times {
         thread::yield_now();
     }
 }
 
-/// The moves of a block with an auxiliary code.
+/// The moves of a block with this auxiliary code.
 fn block(m: u16) -> Moves
     ensures { lined result ≡ lined_move 1 (Aux m) ∷ [] }
 {
@@ -62,7 +69,7 @@ fn block(m: u16) -> Moves
     Moves { line: 1, list }
 }
 
-/// One record more of a path.
+/// One record more of a path, or its end if memory runs out.
 fn make(records: &mut Vec<u16>) -> Next
     ensures undrained { result ≢ Drain }
     ensures made { Answers (map (λ m. lined_move 1 (Aux m) ∷ []) records.old.items) result

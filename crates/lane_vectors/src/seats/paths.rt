@@ -1,4 +1,5 @@
-//! Paths that walk in threads, for the tests of seats.
+//! Tests of seats: paths that walk in threads, and what each got of the moves of its records. The
+//! table is in memory.rt.
 ghost use Rattle.std.specs.Prelude.{◌≡◌};
 ghost use Rattle.nc_outside.specs.Calls.{moves_answered};
 ghost use Rattle.nc_number.specs.declared.path.Path.TheVariants.{One};
@@ -17,7 +18,7 @@ use std::test::*;
 use std::thread;
 use std::thread::Threads;
 
-/// A line along which so many moves were sent.
+/// A proof of a drain, as a stepper takes it: so many moves were sent.
 #[derive(Drop)]
 struct Sent {
     count: u64,
@@ -34,7 +35,7 @@ impl Drain for Sent {
 /// The auxiliary codes of a path, or that there was no memory for them.
 type Codes = Result<Vec<u16>, NoMemory>;
 
-/// Puts the codes of a block's moves behind those before.
+/// Adds the auxiliary codes of a block's moves to those before.
 fn keep(codes: &mut Vec<u16>, moves: &Moves) -> Result<(), NoMemory> {
     for what in moves.list.as_slice() {
         if let Move::Aux { m } = *what {
@@ -44,7 +45,7 @@ fn keep(codes: &mut Vec<u16>, moves: &Moves) -> Result<(), NoMemory> {
     Ok(())
 }
 
-/// One step, and a drain behind it. None where the path goes on no further.
+/// One step, and a drain after it. None if the path goes on no further.
 fn walk_once<S: Stepper + Drainable<Sent>>(
     path: Path,
     stepper: &mut S,
@@ -79,7 +80,7 @@ fn walk<R: Wait, S: Stepper + Drainable<Sent>>(
     unreachable!()
 }
 
-/// A stepper may go to another thread.
+/// Compiles only if the value may go to another thread.
 fn is_sent<T: Send>(_value: &T) {}
 
 /// Steps the path of the pass to its end, and keeps the codes of its moves.
@@ -116,6 +117,7 @@ fn look_on<R: Wait + Sync>(
     halter.into_pass()
 }
 
+/// The table after a run, and the codes that each path got.
 #[derive(Drop)]
 struct Ran {
     table: MemoryTable,
@@ -123,7 +125,7 @@ struct Ran {
     second: Vec<u16>,
 }
 
-/// Both paths, up to so many records each, where a turn lasts so long.
+/// Runs both paths, up to `goal` records each, with turns that last `lasts` yields.
 fn run_both<R: Threads + Wait + Sync>(
     rt: &R,
     alloc: Global,
@@ -160,7 +162,7 @@ fn run_both<R: Threads + Wait + Sync>(
     })
 }
 
-/// Path 2, which waits for path 1 until the run is halted.
+/// Runs path 2 alone, which waits for path 1 until the run is halted.
 fn run_second<R: Threads + Wait + Sync>(
     rt: &R,
     alloc: Global,
@@ -217,7 +219,7 @@ fn each_path_gets_the_moves_of_its_records(rt: HostRuntime) -> Result<(), Fail> 
     Ok(())
 }
 
-/// Path 1, which halts the run by its own pass and then asks for a step.
+/// Path 1 halts the run by its own pass and then asks for a step.
 fn halt_first<R: Wait>(rt: &R, alloc: Global) -> Result<(MemoryTable, Next), NoMemory> {
     let Ok(seated) = SeatTable::new(alloc, MemoryTable::new(alloc, 5, 0)) else {
         return Err(NoMemory);

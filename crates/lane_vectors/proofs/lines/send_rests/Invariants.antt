@@ -1,3 +1,5 @@
+-- For the loop of `send_rests` (src/lines.rt): the line is the one of the beginning, and its end
+-- was not sent yet.
 use Rattle.std.proofs.Common.{◌≡◌, false}
 use Rattle.drive_line.specs.Line.{has_end}
 use Rattle.lane_vectors.proofs.lines.send_rests.Given as goal

@@ -1,4 +1,5 @@
--- The events are those of the three texts and this order of turns (src/exports.rt).
+-- For the proof of `lathe_events` (src/exports.rt): the events are those of the three texts and
+-- this order of turns.
 use Rattle.lathe_c.proofs.Told.{events_told}
 use Rattle.lathe_c.proofs.exports.lathe_events.Goals as goal
 

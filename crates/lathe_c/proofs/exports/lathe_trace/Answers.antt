@@ -1,4 +1,4 @@
--- The trace is that of the three texts (src/exports.rt).
+-- For the proof of `lathe_trace` (src/exports.rt): the trace is that of the three texts.
 use Rattle.lathe_calls.specs.declared.question.Question.TheVariants as ask
 use Rattle.lathe_c.proofs.Told.{answered}
 use Rattle.lathe_c.proofs.exports.lathe_trace.Goals as goal

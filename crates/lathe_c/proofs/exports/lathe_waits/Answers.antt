@@ -1,4 +1,4 @@
--- The meetings are those of the three texts (src/exports.rt).
+-- For the proof of `lathe_waits` (src/exports.rt): the meetings are those of the three texts.
 use Rattle.std.proofs.Common.{Some}
 use Rattle.lathe_calls.specs.declared.question.Question.TheVariants as ask
 use Rattle.lathe_c.proofs.Told.{answered}

@@ -1,5 +1,5 @@
--- Answers a question about the texts: the front of the text that is due goes into the room, and
--- what lies behind it there stays as it was (src/answering.rt).
+-- For the proof of `answer` (src/answering.rt): the front of the text that is due stands in the
+-- caller's room, what lies behind it is as it was, and the whole length is told.
 use Rattle.std.proofs.Common.{List, ℕ, sym, subst, ◌∙◌}
 use Rattle.lathe_calls.specs.Answers.{Ends}
 use Rattle.lathe_calls.specs.Due.{IsDueTo}

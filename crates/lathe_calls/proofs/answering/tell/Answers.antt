@@ -1,5 +1,5 @@
--- Each question is answered by the text that is due to it, with its status; only a fault of the
--- sink or running out of memory may come instead (src/answering.rt).
+-- For the proof of `tell` (src/answering.rt): each question is answered by the text that is due to
+-- it, with its status; only a fault of the sink or running out of memory may come instead.
 use Rattle.lathe_calls.proofs.answering.tell.Goals as goal
 
 pub returns-in-Verify : goal.returns-in-Verify

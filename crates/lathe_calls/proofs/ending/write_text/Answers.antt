@@ -1,4 +1,5 @@
--- Writes a text and gives the status that goes with it, or that of what went wrong (src/ending.rt).
+-- For the proof of `write_text` (src/ending.rt): the text stands whole at the sink with its status,
+-- or a prefix of it with the status of what went wrong.
 use Rattle.std.proofs.Common.{refl}
 use Rattle.lathe_calls.proofs.Ended.{ends_put}
 use Rattle.lathe_calls.proofs.ending.write_text.Goals as goal

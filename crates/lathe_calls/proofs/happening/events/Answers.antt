@@ -1,5 +1,5 @@
--- The events of a pair whose paths get their turns in this order, a byte for each turn, 1 or 2:
--- where both turrets begin, and then what each turn came to (src/happening.rt).
+-- For the proof of `events` (src/happening.rt): the events that are due were handed out, as far as
+-- the caller's room holds.
 use Rattle.std.proofs.Common.{sym, ◌∙◌}
 use Rattle.lathe_calls.proofs.Handed.{events_said}
 use Rattle.lathe_calls.proofs.happening.events.Goals as goal

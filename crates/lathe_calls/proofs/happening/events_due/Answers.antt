@@ -1,4 +1,5 @@
--- The events that are due to the texts and an order (src/happening.rt).
+-- For the proof of `events_due` (src/happening.rt), by its ways: an order with another byte, an
+-- accepted pair, or refused texts.
 use Rattle.std.proofs.Common.{sym, ◌∙◌}
 use Rattle.lathe_calls.specs.Order.{disordered}
 use Rattle.lathe_calls.specs.Texts.{texts_of}

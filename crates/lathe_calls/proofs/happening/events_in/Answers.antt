@@ -1,4 +1,5 @@
--- The events of two flows whose paths get their turns in this order (src/happening.rt).
+-- For the proof of `events_in` (src/happening.rt): the events are where both turrets begin and what
+-- each turn came to, and the status says how far the run has come.
 use Rattle.std.proofs.Common.{◌≡◌, ◌++◌, List, map, sym, subst, ◌∙◌, ap}
 use Rattle.nc_number.specs.declared.path.Path.TheVariants.{One, Two}
 use Rattle.path_state.specs.Opening.{opening_path}

@@ -1,4 +1,4 @@
--- The events of a pair whose paths get their turns in this order (src/happening.rt).
+-- For the proof of `events_of` (src/happening.rt): the events of both tapes are those of the pair.
 use Rattle.lathe_calls.proofs.happening.events_of.Goals as goal
 
 pub returns : goal.returns

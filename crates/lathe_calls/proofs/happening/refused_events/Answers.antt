@@ -1,4 +1,4 @@
--- No event, since the texts are refused (src/happening.rt).
+-- For the proof of `refused_events` (src/happening.rt): refused texts have no events, and status 1.
 use Rattle.lathe_calls.proofs.happening.refused_events.Goals as goal
 
 pub returns-in-Fault : goal.returns-in-Fault

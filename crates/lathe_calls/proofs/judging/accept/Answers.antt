@@ -1,4 +1,4 @@
--- The line of an accepted pair is put, with status 0 (src/judging.rt).
+-- For the proof of `accept` (src/judging.rt): the line of an accepted pair is put, with status 0.
 use Rattle.std.proofs.Common.{refl}
 use Rattle.lathe_calls.proofs.Ended.{ends_put}
 use Rattle.lathe_calls.proofs.judging.accept.Goals as goal

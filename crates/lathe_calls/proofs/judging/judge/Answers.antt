@@ -1,4 +1,5 @@
--- Writes the verdict of the texts, and gives its status (src/judging.rt).
+-- For the proof of `judge` (src/judging.rt): what is written is the verdict of the texts, whether
+-- they are accepted or refused.
 use Rattle.lathe_calls.proofs.Ended.{ends_by}
 use Rattle.lathe_calls.proofs.VerdictTold.{judged_accepted, judged_refused}
 use Rattle.lathe_calls.proofs.judging.judge.Goals as goal

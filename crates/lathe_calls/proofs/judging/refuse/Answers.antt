@@ -1,4 +1,5 @@
--- The line of the refusal is put, with status 1; out of memory puts nothing (src/judging.rt).
+-- For the proof of `refuse` (src/judging.rt): the line of the refusal is put, with status 1; if
+-- memory ran out nothing is put.
 use Rattle.lathe_calls.proofs.Ended.{ends_put, ends_untold}
 use Rattle.lathe_calls.proofs.VerdictTold.{refusing, refusing_nothing}
 use Rattle.lathe_calls.proofs.judging.refuse.Goals as goal

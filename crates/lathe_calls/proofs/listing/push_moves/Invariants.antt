@@ -1,4 +1,5 @@
--- The events so far and those of the other moves are all events (loop of src/listing.rt).
+-- For the loop of `push_moves` (src/listing.rt): the events so far and those of the other moves are
+-- all events.
 use Rattle.std.proofs.Common.{◌≡◌, ◌++◌, drop, map}
 use Rattle.lathe_calls.specs.Events.{move_event}
 use Rattle.lathe_calls.proofs.listing.push_moves.Given as goal

@@ -1,4 +1,5 @@
--- The machine behind a history of the pair (src/machine.rt).
+-- For the proof of `machine_behind` (src/machine.rt): the machine that was made again is that after
+-- the history of the pair.
 use Rattle.lathe_calls.proofs.machine.machine_behind.Goals as goal
 
 pub machine_done-requires-clause-legal : goal.machine_done-requires-clause-legal

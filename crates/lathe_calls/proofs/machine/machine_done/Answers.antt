@@ -1,4 +1,5 @@
--- The machine behind a history: its records are done again once (src/machine.rt).
+-- For the proof of `machine_done` (src/machine.rt): each record is legal where it is done again,
+-- and after the last one the machine is that after the history.
 use Rattle.std.proofs.Common.{◌≡◌, ◌+◌, ◌≤◌, ◌<◌, drop, length, take, refl, sym, subst, ◌∙◌, ap, arith}
 use Rattle.std.proofs.lemmas.List.{take_all}
 use Rattle.nc_number.specs.declared.path.Path.TheVariants.{One, Two}

@@ -1,5 +1,5 @@
--- The machine is that behind the records so far, and the others are legal there (loop of
--- src/machine.rt).
+-- For the loop of `machine_done` (src/machine.rt): the machine is that after the records so far,
+-- and the others are legal there.
 use Rattle.std.proofs.Common.{◌≡◌, drop, take}
 use Rattle.two_path.specs.Machine.{without_reads}
 use Rattle.two_path.specs.Turns.{tapes_of}

@@ -1,5 +1,5 @@
--- Gives the paths their turns in this order, as long as there are fewer records than there may be,
--- and lists the events (src/ordering.rt).
+-- For the proof of `give_turns` (src/ordering.rt): the events of the turns that are given are
+-- listed, and no turn is given once there are as many records as there may be.
 use Rattle.std.proofs.Common.{◌+◌, ◌<◌, ◌++◌, drop, get_or, map, refl, ◌∙◌, ap, arith}
 use Rattle.std.proofs.lemmas.List.{at_drop_all, drop_more}
 use Rattle.nc_number.specs.declared.path.Path.{Path}

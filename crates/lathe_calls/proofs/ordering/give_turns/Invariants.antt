@@ -1,5 +1,5 @@
--- The events so far and those of the further turns are all events, and the machine behind the
--- further turns is that behind all (loop of src/ordering.rt).
+-- For the loop of `give_turns` (src/ordering.rt): the events so far and those of the further turns
+-- are all events, and the machine after the further turns is that after all.
 use Rattle.std.proofs.Common.{◌≡◌, ◌++◌, drop, map}
 use Rattle.two_path.specs.Turns.{tapes_of}
 use Rattle.two_path.specs.Histories.{run, turns_of}

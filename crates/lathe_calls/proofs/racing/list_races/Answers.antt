@@ -1,4 +1,5 @@
--- Writes the races of the texts, and gives their status (src/racing.rt).
+-- For the proof of `list_races` (src/racing.rt): the races that are due to the texts are written,
+-- or their refusal.
 use Rattle.lathe_calls.specs.Due.{accepted}
 use Rattle.lathe_calls.proofs.Ended.{ends_by}
 use Rattle.lathe_calls.proofs.PairTold.{refused_texts}

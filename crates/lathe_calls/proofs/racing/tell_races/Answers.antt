@@ -1,4 +1,5 @@
--- Writes the list of the races of a pair, and gives its status (src/racing.rt).
+-- For the proof of `tell_races` (src/racing.rt): the list of all races of the pair is written, with
+-- status 0; or memory ran out.
 use Rattle.lathe_calls.specs.Races.{listed, unlisted}
 use Rattle.lathe_calls.proofs.Ended.{ends_put, ends_untold}
 use Rattle.lathe_calls.proofs.racing.tell_races.Goals as goal

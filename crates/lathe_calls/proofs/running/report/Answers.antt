@@ -1,4 +1,5 @@
--- Writes the report of the run of the texts, and gives its status (src/running.rt).
+-- For the proof of `report` (src/running.rt): the report that is due to the texts is written, or
+-- their refusal.
 use Rattle.lathe_calls.proofs.Ended.{ends_by}
 use Rattle.lathe_calls.specs.Due.{accepted}
 use Rattle.lathe_calls.proofs.PairTold.{refused_texts}

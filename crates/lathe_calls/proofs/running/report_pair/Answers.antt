@@ -1,4 +1,5 @@
--- Writes the report of a pair, and gives its status (src/running.rt).
+-- For the proof of `report_pair` (src/running.rt): the report of the run of the pair is written,
+-- with the status of how it ended; or memory ran out.
 use Rattle.lathe_calls.proofs.Ended.{ends_put, ends_untold}
 use Rattle.lathe_calls.specs.Due.{unran}
 use Rattle.lathe_calls.proofs.PairTold.{reported}

@@ -1,5 +1,5 @@
--- Writes the state of the machine behind the records of the run of the texts, and gives its status
--- (src/running.rt).
+-- For the proof of `show` (src/running.rt): the state that is due to the texts is written, or their
+-- refusal.
 use Rattle.lathe_calls.proofs.Ended.{ends_by}
 use Rattle.lathe_calls.specs.Due.{accepted}
 use Rattle.lathe_calls.proofs.PairTold.{refused_texts}

@@ -1,4 +1,5 @@
--- Writes the state of the machine behind a history of a pair (src/running.rt).
+-- For the proof of `show_machine` (src/running.rt): the state of the machine after the history is
+-- written, with status 0; or memory ran out.
 use Rattle.std.proofs.Common.{refl, sym, ◌∙◌}
 use Rattle.lathe_calls.proofs.Ended.{ends_put, ends_unwritten}
 use Rattle.lathe_calls.proofs.running.show_machine.Goals as goal

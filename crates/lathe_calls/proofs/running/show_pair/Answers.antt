@@ -1,4 +1,5 @@
--- Writes the state of a pair, and gives its status (src/running.rt).
+-- For the proof of `show_pair` (src/running.rt): the state of the machine after the run of the pair
+-- is written; or memory ran out.
 use Rattle.lathe_calls.proofs.Ended.{ends_by, ends_untold}
 use Rattle.lathe_calls.specs.Due.{unran}
 use Rattle.lathe_calls.proofs.PairTold.{state_told}

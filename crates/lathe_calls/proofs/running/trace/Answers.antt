@@ -1,5 +1,5 @@
--- Writes the trace of the run of the texts with the races of their pair, and gives its status
--- (src/running.rt).
+-- For the proof of `trace` (src/running.rt): the trace that is due to the texts is written, or
+-- their refusal.
 use Rattle.lathe_calls.specs.Traced.{traced}
 use Rattle.lathe_calls.proofs.Ended.{ends_by}
 use Rattle.lathe_calls.proofs.TurnsTold.{traced_refused}

@@ -1,4 +1,5 @@
--- Writes the trace of a pair, and gives its status (src/running.rt).
+-- For the proof of `trace_pair` (src/running.rt): if memory runs out for the races of the pair,
+-- nothing is told.
 use Rattle.lathe_calls.specs.Traced.{unran}
 use Rattle.lathe_calls.proofs.Ended.{ends_untold}
 use Rattle.lathe_calls.proofs.running.trace_pair.Goals as goal

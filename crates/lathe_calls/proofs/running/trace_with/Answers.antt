@@ -1,4 +1,5 @@
--- Writes the trace of a pair that has these races, and gives its status (src/running.rt).
+-- For the proof of `trace_with` (src/running.rt): the trace of the run of the pair with its races
+-- is written, with the status of how it ended; or memory ran out.
 use Rattle.lathe_calls.specs.Traced.{unran}
 use Rattle.lathe_calls.proofs.Ended.{ends_put, ends_untold}
 use Rattle.lathe_calls.proofs.TurnsTold.{ran_so}

@@ -1,4 +1,5 @@
--- Writes the trace of a history of a pair, and behind it the races of the pair (src/running.rt).
+-- For the proof of `write_traced` (src/running.rt): the trace is put and then the races, or a
+-- prefix of both.
 use Rattle.nc_verify.proofs.Put.{put_then, put_stops}
 use Rattle.lathe_calls.proofs.running.write_traced.Goals as goal
 

@@ -1,4 +1,5 @@
--- Writes the meetings of the texts, and gives their status (src/waiting.rt).
+-- For the proof of `judge_waits` (src/waiting.rt): the meetings that are due to the texts are
+-- written, or their refusal.
 use Rattle.lathe_calls.proofs.Ended.{ends_by}
 use Rattle.lathe_calls.proofs.WaitsTold.{waits_told, waits_refused}
 use Rattle.lathe_calls.proofs.waiting.judge_waits.Goals as goal

@@ -1,4 +1,5 @@
--- Writes the text of a pair that is accepted for its waits (src/waiting.rt).
+-- For the proof of `tell_waits` (src/waiting.rt): if memory runs out for the text of the meetings,
+-- nothing is written.
 use Rattle.std.proofs.Common.{refl}
 use Rattle.lathe_calls.proofs.Ended.{ends_unwritten}
 use Rattle.lathe_calls.proofs.waiting.tell_waits.Goals as goal

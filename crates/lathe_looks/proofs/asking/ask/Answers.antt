@@ -1,5 +1,5 @@
--- The texts that were read are judged; else the first file that can't be read is told
--- (src/asking.rt).
+-- For the proof of `ask` (src/asking.rt): what is due to the texts that were read is told; or which
+-- file can't be read.
 use Rattle.lathe_looks.specs.Fetched.{answers}
 use Rattle.lathe_looks.specs.Texts.{texts_of}
 use Rattle.lathe_calls.proofs.Ended.{ends_by, ends_just}

@@ -1,5 +1,5 @@
--- The edits, or what is due to the text, are those of the file; else the file can't be read
--- (src/editing.rt).
+-- For the proof of `edits_of_file` (src/editing.rt): the edits of the text that was read, or its
+-- bad line, are those of the file; or the file can't be read.
 use Rattle.lathe_calls.proofs.Ended.{ends_just}
 use Rattle.lathe_looks.proofs.NotHad.{unfetched_due}
 use Rattle.lathe_looks.proofs.EditsTold.{edits_read, edits_unread}

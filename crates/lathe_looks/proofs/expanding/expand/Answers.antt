@@ -1,4 +1,5 @@
--- What is due to the text is due to its file; else the file can't be read (src/expanding.rt).
+-- For the proof of `expand` (src/expanding.rt): what is due to the text that was read is due to its
+-- file; or the file can't be read.
 use Rattle.lathe_looks.specs.Fetched.{answers}
 use Rattle.lathe_calls.proofs.Ended.{ends_by, ends_just}
 use Rattle.lathe_looks.proofs.NotHad.{unfetched_due}

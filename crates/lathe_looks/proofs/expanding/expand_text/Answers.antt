@@ -1,5 +1,5 @@
--- The bytes that are written out, the refusal, or no text if memory ran out are the answer
--- (src/expanding.rt).
+-- For the proof of `expand_text` (src/expanding.rt), by its ways: the bytes that are written out,
+-- the refusal, or no text if memory ran out.
 use Rattle.std.proofs.Common.{subst}
 use Rattle.nc_number.specs.declared.fault.Failing.TheVariants.{Fault}
 use Rattle.nc_number.specs.Answers.{Fails}

@@ -1,4 +1,5 @@
--- The cause is the one that has the refusal's number (src/expanding.rt).
+-- For the proof of `refuse_tape` (src/expanding.rt): the cause that was looked up is the one that
+-- has the refusal's number.
 use Rattle.lathe_calls.proofs.Ended.{ends_just}
 use Rattle.lathe_looks.proofs.ExpansionTold.{refusal_told}
 use Rattle.lathe_looks.proofs.expanding.refuse_tape.Goals as goal

@@ -1,4 +1,4 @@
--- If memory ran out, nothing is written (src/expanding.rt).
+-- For the proof of `tell_refusal` (src/expanding.rt): if memory ran out, nothing is written.
 use Rattle.std.proofs.Common.{refl}
 use Rattle.lathe_calls.proofs.Ended.{ends_unwritten}
 use Rattle.lathe_looks.proofs.expanding.tell_refusal.Goals as goal

@@ -1,4 +1,5 @@
--- Each of the shelf's three faults is the cause that the file can't be read (src/fetching.rt).
+-- For the proof of `fetch` (src/fetching.rt): each of the shelf's three faults is the cause that
+-- the file can't be read.
 use Rattle.std.proofs.Common.{subst, rules}
 use Rattle.nc_outside.specs.Files.{HoldsMore}
 use Rattle.lathe_looks.specs.Fetched.{failed, absent, too_long}

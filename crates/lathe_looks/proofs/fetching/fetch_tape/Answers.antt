@@ -1,5 +1,5 @@
--- One file that has a text is a list that has texts; else it is the first that can't be read
--- (src/fetching.rt).
+-- For the proof of `fetch_tape` (src/fetching.rt): the file has a text, or it is the one that can't
+-- be read.
 use Rattle.lathe_looks.proofs.NotHad.{first_not_had, tape_had}
 use Rattle.lathe_looks.proofs.fetching.fetch_tape.Goals as goal
 

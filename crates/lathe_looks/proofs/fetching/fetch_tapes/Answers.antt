@@ -1,4 +1,5 @@
--- Both tapes have texts; else the first or the second can't be read (src/fetching.rt).
+-- For the proof of `fetch_tapes` (src/fetching.rt): both tapes have texts; or the first of them
+-- that has none is told.
 use Rattle.lathe_looks.proofs.NotHad.{first_not_had, second_not_had, tapes_had}
 use Rattle.lathe_looks.proofs.fetching.fetch_tapes.Goals as goal
 

@@ -1,5 +1,5 @@
--- Both tapes and the settings have texts; else a tape or the settings can't be read
--- (src/fetching.rt).
+-- For the proof of `fetch_texts` (src/fetching.rt): both tapes and the settings have texts; or the
+-- first of them that has none is told.
 use Rattle.lathe_looks.proofs.NotHad.{tapes_not_had, third_not_had, texts_had}
 use Rattle.lathe_looks.proofs.fetching.fetch_texts.Goals as goal
 

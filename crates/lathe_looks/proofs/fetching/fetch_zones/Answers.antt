@@ -1,5 +1,5 @@
--- One file that has a text is a list that has texts; else it is the first that can't be read
--- (src/fetching.rt).
+-- For the proof of `fetch_zones` (src/fetching.rt): the file has a short text, or it is the one
+-- that can't be read.
 use Rattle.std.proofs.Common.{arith}
 use Rattle.lathe_looks.proofs.NotHad.{first_not_had, tape_had}
 use Rattle.lathe_looks.proofs.fetching.fetch_zones.Goals as goal

@@ -1,4 +1,5 @@
--- The file's status and line are told; if memory ran out, nothing is (src/fetching.rt).
+-- For the proof of `tell_unfetched` (src/fetching.rt): the file's status and line are told; if
+-- memory ran out, nothing is.
 use Rattle.std.proofs.Common.{sym, ap}
 use Rattle.lathe_looks.specs.Fetched.{unfetched}
 use Rattle.lathe_calls.proofs.Ended.{ends_untold}

@@ -1,4 +1,5 @@
--- The law of src/laws.rt is the lemma of OfFiles.
+-- For the proof of the law in src/laws.rt: what a command answers of its files is due to their
+-- texts, if the shelf did not fail (OfFiles).
 use Rattle.lathe_looks.specs.Named.{files_of}
 use Rattle.lathe_looks.proofs.OfFiles.{due_to_texts}
 use Rattle.lathe_looks.proofs.laws.the_program_answers_what_the_library_answers.Goals as goal

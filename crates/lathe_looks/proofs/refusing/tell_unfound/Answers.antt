@@ -1,4 +1,5 @@
--- Each cause why no run is found has its status and text (src/refusing.rt).
+-- For the proof of `tell_unfound` (src/refusing.rt): each cause for which no run is found has its
+-- status and text.
 use Rattle.std.proofs.Common.{sym, ap}
 use Rattle.lathe_looks.specs.Shown.{unfound}
 use Rattle.lathe_calls.proofs.Ended.{ends_untold}

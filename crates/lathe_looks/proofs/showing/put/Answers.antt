@@ -1,4 +1,5 @@
--- The report and the state are those of the history that was found (src/showing.rt).
+-- For the proof of `put` (src/showing.rt): the report and the state are those of the history that
+-- was found.
 use Rattle.std.proofs.Common.{sym, subst, ◌∙◌}
 use Rattle.nc_verify.specs.Printed.{IsPut}
 use Rattle.lathe_looks.proofs.TextsShown.{moves_are, state_is}

@@ -1,4 +1,5 @@
--- The text of a run that was found, or why there is none, is the answer (src/showing.rt).
+-- For the proof of `show` (src/showing.rt): the answer is the text of a run that was found, or why
+-- there is none.
 use Rattle.std.proofs.Common.{sym, subst}
 use Rattle.lathe_calls.specs.Answers.{tells}
 use Rattle.lathe_looks.specs.Shown.{IsShown, shown, unshown, shown_text}

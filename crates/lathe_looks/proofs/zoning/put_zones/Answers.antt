@@ -1,4 +1,5 @@
--- The zones of the history are written, or memory ran out (src/zoning.rt).
+-- For the proof of `put_zones` (src/zoning.rt): the zones of the history are written, or memory ran
+-- out.
 use Rattle.nc_verify.proofs.InPieces.{none_put}
 use Rattle.lathe_looks.proofs.zoning.put_zones.Goals as goal
 

@@ -1,4 +1,5 @@
--- The zones of a run that was found, or why there is none, are the answer (src/zoning.rt).
+-- For the proof of `show_zones` (src/zoning.rt): the answer is the zones of a run that was found,
+-- or why there is none.
 use Rattle.std.proofs.Common.{sym, subst}
 use Rattle.lathe_calls.specs.Answers.{tells}
 use Rattle.lathe_looks.specs.Shown.{IsShown, shown, unshown}

@@ -1,5 +1,5 @@
--- The zones, or what is due to the text, are those of the file; else the file can't be read
--- (src/zoning.rt).
+-- For the proof of `zones_of_file` (src/zoning.rt): the zones of the text that was read, or its bad
+-- line, are those of the file; or the file can't be read.
 use Rattle.lathe_calls.proofs.Ended.{ends_just}
 use Rattle.lathe_looks.proofs.NotHad.{unfetched_due}
 use Rattle.lathe_looks.proofs.ZonesTold.{zones_read, zones_unread}

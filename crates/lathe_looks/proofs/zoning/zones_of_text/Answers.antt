@@ -1,4 +1,5 @@
--- A bad line is told; if memory ran out, nothing is (src/zoning.rt).
+-- For the proof of `zones_of_text` (src/zoning.rt), if it fails: the first bad line is told, and if
+-- memory ran out nothing is.
 use Rattle.std.proofs.Common.{subst}
 use Rattle.nc_number.specs.declared.fault.Failing.TheVariants.{Fault}
 use Rattle.nc_number.specs.Answers.{FailsBy}

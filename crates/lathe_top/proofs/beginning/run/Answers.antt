@@ -1,4 +1,5 @@
--- The pair of three files is run anew, or it is said why no file was read (src/beginning.rt).
+-- For the proof of `run` (src/beginning.rt): the pair of the three files is run with a new journal;
+-- or it is told which file can't be read, and nothing is run.
 use Rattle.lathe_looks.specs.Fetched.{answers}
 use Rattle.lathe_looks.specs.Texts.{texts_of}
 use Rattle.lathe_calls.proofs.Ended.{ends_by, ends_just}

@@ -1,4 +1,5 @@
--- A journal is begun and the run goes on, or it is said why there is none (src/beginning.rt).
+-- For the proof of `run_pair` (src/beginning.rt): a journal is begun and the run goes on; or it is
+-- told why no journal was begun.
 use Rattle.std.proofs.Common.{refl}
 use Rattle.lathe_calls.specs.Answers.{Ends}
 use Rattle.nc_number.specs.Both.{both_of}

@@ -1,4 +1,5 @@
--- Texts that are refused are told so, and nothing is run (src/beginning.rt).
+-- For the proof of `run_texts` (src/beginning.rt), if the texts are refused: the refusal is told,
+-- and nothing is run.
 use Rattle.lathe_calls.proofs.Ended.{ends_by}
 use Rattle.lathe_top.proofs.Opened.{none_called}
 use Rattle.lathe_top.proofs.RunsBegun.{run_refused}

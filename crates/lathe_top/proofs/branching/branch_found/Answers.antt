@@ -1,4 +1,5 @@
--- The run that was found is branched, or it is said why not (src/branching.rt).
+-- For the proof of `branch_found` (src/branching.rt): the run that was found is branched; or it is
+-- told why not.
 use Rattle.std.proofs.Common.{sym, subst}
 use Rattle.lathe_calls.specs.Answers.{tells}
 use Rattle.lathe_calls.specs.Statuses as exit

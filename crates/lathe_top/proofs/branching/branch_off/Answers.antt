@@ -1,4 +1,5 @@
--- A branch is made on the second disk, and the turrets rest (src/branching.rt).
+-- For the proof of `branch_off` (src/branching.rt): what is due to a branch is told, and no turret
+-- is called.
 use Rattle.std.proofs.Common.{refl}
 use Rattle.lathe_calls.proofs.Ended.{ends_by}
 use Rattle.lathe_top.proofs.branching.branch_off.Goals as goal

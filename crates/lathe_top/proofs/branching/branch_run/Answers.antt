@@ -1,4 +1,5 @@
--- A branch is made of the run on the disk, or it is said why there is none (src/branching.rt).
+-- For the proof of `branch_run` (src/branching.rt): the run on the disk is branched; or it is told
+-- why no run is found, and the second disk is not called.
 use Rattle.std.proofs.Common.{refl}
 use Rattle.lathe_calls.proofs.Ended.{ends_just}
 use Rattle.lathe_top.specs.Branched.{not_found}

@@ -1,4 +1,5 @@
--- Each cause for which no branch is made has its text and its status (src/branching.rt).
+-- For the proof of `tell_unbranched` (src/branching.rt): each cause for which no branch is made has
+-- its text and its status.
 use Rattle.std.proofs.Common.{refl}
 use Rattle.lathe_calls.proofs.Ended.{ends_untold}
 use Rattle.lathe_top.proofs.branching.tell_unbranched.Goals as goal

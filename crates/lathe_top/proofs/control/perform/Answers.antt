@@ -1,5 +1,5 @@
--- Each command does what it says, and leaves the second disk alone unless it branches
--- (src/control.rt).
+-- For the proof of `perform` (src/control.rt): each command does what is due to it, and leaves the
+-- second disk alone unless it branches. A new command needs its line here.
 use Rattle.std.proofs.Common.{refl}
 use Rattle.lathe_calls.proofs.Ended.{ends_by}
 use Rattle.lathe_top.proofs.control.perform.Goals as goal

@@ -1,4 +1,5 @@
--- Words that are a command are done; others are told with status 2 (src/control.rt).
+-- For the proof of `respond` (src/control.rt): words that are a command are done; others are told
+-- with status 2.
 use Rattle.std.proofs.Common.{refl, rules}
 use Rattle.lathe_top.specs.Done.{usage, unread, commanded}
 use Rattle.lathe_calls.proofs.Ended.{ends_by, ends_just, ends_untold}

@@ -1,4 +1,5 @@
--- What a call did and told, and that the cause that holds gives its status (src/control.rt).
+-- For the proof of `top` (src/control.rt): what a call did and told, and that a cause that holds
+-- gives its status.
 use Rattle.std.specs.Prelude.{codes}
 use Rattle.lathe_calls.specs.Statuses as exit
 use Rattle.lathe_top.proofs.Agreed.{ends_or, ends_told}

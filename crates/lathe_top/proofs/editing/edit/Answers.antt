@@ -1,4 +1,5 @@
--- The edits of a file are made, or it is said why the file gives none (src/editing.rt).
+-- For the proof of `edit` (src/editing.rt): the edits of the file are made; or it is told why the
+-- file gives none.
 use Rattle.lathe_calls.proofs.Ended.{ends_by}
 use Rattle.lathe_looks.specs.Fetched.{answers}
 use Rattle.lathe_top.specs.Edited.{edited}

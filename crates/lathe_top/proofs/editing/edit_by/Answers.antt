@@ -1,4 +1,5 @@
--- Edits are made in the run on the disk, and the turrets rest (src/editing.rt).
+-- For the proof of `edit_by` (src/editing.rt): what is due to the edits is told, and no turret is
+-- called.
 use Rattle.std.proofs.Common.{refl}
 use Rattle.lathe_calls.proofs.Ended.{ends_by}
 use Rattle.lathe_top.proofs.editing.edit_by.Goals as goal

@@ -1,5 +1,5 @@
--- Edits are made in the run that was found; or an alarm or a full journal refuses them
--- (src/editing.rt).
+-- For the proof of `edit_found` (src/editing.rt): the edits are made in the run that was found; or
+-- an alarm or a full journal refuses them.
 use Rattle.std.proofs.Common.{rules, ◌≡◌, ◌+◌, true, false, nat_le, List, length, refl, sym, subst}
 use Rattle.std.specs.Prelude.{codes, is_some}
 use Rattle.edit_texts.specs.declared.edit_list.PathEdit.{PathEdit}

@@ -1,4 +1,5 @@
--- Edits are made in the run on the disk, or it is said why there is none (src/editing.rt).
+-- For the proof of `edit_run` (src/editing.rt): the edits are made in the run on the disk; or it is
+-- told why no run is found.
 use Rattle.lathe_calls.proofs.Ended.{ends_just}
 use Rattle.lathe_top.specs.Edited.{not_found}
 use Rattle.lathe_top.proofs.editing.edit_run.Goals as goal

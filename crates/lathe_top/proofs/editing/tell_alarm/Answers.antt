@@ -1,4 +1,5 @@
--- The report of a run that an alarm stopped, with status 3 (src/editing.rt).
+-- For the proof of `tell_alarm` (src/editing.rt): the report of a run that an alarm stopped is
+-- told, with the status of the alarm.
 use Rattle.std.proofs.Common.{subst}
 use Rattle.nc_outside.specs.declared.reason.Reason.{Reason}
 use Rattle.lathe_calls.specs.Answers.{Ends, IsJust, tells}

@@ -1,4 +1,5 @@
--- Why edits were not written: a fault of the disk, or no memory (src/editing.rt).
+-- For the proof of `tell_unmade` (src/editing.rt): a fault of the disk is told with its status, and
+-- out of memory by nothing.
 use Rattle.std.proofs.Common.{refl}
 use Rattle.lathe_calls.proofs.Ended.{ends_untold}
 use Rattle.lathe_top.proofs.editing.tell_unmade.Goals as goal

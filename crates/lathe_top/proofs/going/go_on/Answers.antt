@@ -1,4 +1,5 @@
--- A run goes on with both turrets, its records stay legal, and its report is told (src/going.rt).
+-- For the proof of `go_on` (src/going.rt): a run goes on with both turrets, its records stay legal,
+-- and its text is told.
 use Rattle.std.proofs.Common.{List, sym, subst}
 use Rattle.nc_number.specs.Both.{both_of}
 use Rattle.lathe_top.specs.Lathe.{lathe_with}

@@ -1,4 +1,5 @@
--- The report of how a run ended; nothing if there was no memory to run (src/going.rt).
+-- For the proof of `tell_run` (src/going.rt): the text of how a run ended is told; nothing if the
+-- run did not begin.
 use Rattle.std.proofs.Common.{sym, ap}
 use Rattle.lathe_top.specs.Going.{told_of}
 use Rattle.lathe_top.specs.Texts.{text_by}

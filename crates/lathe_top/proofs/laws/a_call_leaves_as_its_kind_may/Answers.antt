@@ -1,4 +1,5 @@
--- What `top` promises of a call is what the laws over calls ask for (src/laws.rt).
+-- For the proof of this law (src/laws.rt): what `top` promises of a call is what the laws over
+-- calls ask for.
 use Rattle.std.proofs.Common.{sym, subst}
 use Rattle.lathe_top.specs.Kept.{Leaves}
 use Rattle.lathe_top.specs.Kinds.{kind_of}

@@ -1,4 +1,5 @@
--- A turret gets its place and at most eight moves a record (src/laws.rt).
+-- For the proof of this law (src/laws.rt): what is due to a turret is its place and at most seven
+-- moves a record.
 use Rattle.std.proofs.Common.{length, arith}
 use Rattle.std.proofs.lemmas.List.{length-map}
 use Rattle.nc_outside.specs.declared.got.Got.TheVariants.{Moved}

@@ -1,4 +1,5 @@
--- A stop leaves no bad journal, and loses no record that was found (src/laws.rt).
+-- For the proof of this law (src/laws.rt): a stop leaves no bad journal, and loses no record that
+-- was found.
 use Rattle.lathe_top.specs.Kinds.{kind_of}
 use Rattle.lathe_top.specs.Stops.{lathe_before, lathe_behind}
 use Rattle.lathe_top.proofs.StopsLeave.{none_or_run, goes_on_as}

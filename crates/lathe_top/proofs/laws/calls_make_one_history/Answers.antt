@@ -1,4 +1,5 @@
--- Over calls that are cut off anywhere, all records are one history (src/laws.rt).
+-- For the proof of this law (src/laws.rt): over calls that are cut off at any moment, all records
+-- are one history.
 use Rattle.lathe_top.proofs.StopsLeave.{becomes_one, one_history}
 use Rattle.lathe_top.proofs.laws.calls_make_one_history.Goals as goal
 

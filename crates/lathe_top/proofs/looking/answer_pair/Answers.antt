@@ -1,4 +1,5 @@
--- A question about three files is answered, and the disk and the turrets rest (src/looking.rt).
+-- For the proof of `answer_pair` (src/looking.rt): a question about three files is answered, and
+-- neither the disk nor a turret is called.
 use Rattle.lathe_calls.proofs.Ended.{ends_by}
 use Rattle.lathe_top.proofs.Opened.{none_called}
 use Rattle.lathe_top.proofs.looking.answer_pair.Goals as goal

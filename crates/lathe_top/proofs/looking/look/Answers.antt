@@ -1,4 +1,5 @@
--- What the journal holds is shown, and the turrets rest (src/looking.rt).
+-- For the proof of `look` (src/looking.rt): what the journal holds is shown, and no turret is
+-- called.
 use Rattle.std.proofs.Common.{refl}
 use Rattle.lathe_calls.proofs.Ended.{ends_by}
 use Rattle.lathe_top.proofs.looking.look.Goals as goal

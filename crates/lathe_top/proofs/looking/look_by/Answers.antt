@@ -1,4 +1,5 @@
--- The zones of the run are shown, and the turrets rest (src/looking.rt).
+-- For the proof of `look_by` (src/looking.rt): the zones of the run are shown, and no turret is
+-- called.
 use Rattle.std.proofs.Common.{refl}
 use Rattle.lathe_calls.proofs.Ended.{ends_by}
 use Rattle.lathe_top.proofs.looking.look_by.Goals as goal

@@ -1,4 +1,5 @@
--- The zones of a file are shown, or it is said why the file gives none (src/looking.rt).
+-- For the proof of `show_zoned` (src/looking.rt): the zones of the run are shown by those of the
+-- file; or it is told why the file gives none.
 use Rattle.lathe_calls.proofs.Ended.{ends_by}
 use Rattle.lathe_looks.specs.Fetched.{answers}
 use Rattle.lathe_top.specs.Zoned.{zoned}

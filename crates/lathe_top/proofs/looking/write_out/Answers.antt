@@ -1,5 +1,5 @@
--- A tape is written with its cycles as plain blocks, and the disk and the turrets rest
--- (src/looking.rt).
+-- For the proof of `write_out` (src/looking.rt): a tape is written with its cycles as plain blocks,
+-- and neither the disk nor a turret is called.
 use Rattle.lathe_calls.proofs.Ended.{ends_by}
 use Rattle.lathe_top.proofs.Opened.{none_called}
 use Rattle.lathe_top.proofs.looking.write_out.Goals as goal

@@ -1,4 +1,5 @@
--- Without memory for the made pair nothing is told, and nothing is run (src/making.rt).
+-- For the proof of `make` (src/making.rt): without memory for the made pair nothing is told, and
+-- nothing is run.
 use Rattle.lathe_top.specs.Ran.{unjudged}
 use Rattle.lathe_calls.proofs.Ended.{ends_untold}
 use Rattle.lathe_top.proofs.Opened.{none_called}

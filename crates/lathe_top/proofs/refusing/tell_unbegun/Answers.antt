@@ -1,4 +1,5 @@
--- Each cause for which no journal is begun has its text and its status (src/refusing.rt).
+-- For the proof of `tell_unbegun` (src/refusing.rt): each cause for which no journal is begun has
+-- its text and its status.
 use Rattle.lathe_calls.proofs.Ended.{ends_untold}
 use Rattle.lathe_top.proofs.RunsBegun.{none_told}
 use Rattle.lathe_top.proofs.refusing.tell_unbegun.Goals as goal

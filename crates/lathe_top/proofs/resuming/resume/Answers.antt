@@ -1,4 +1,5 @@
--- The run on the disk goes on, or it is said why there is none (src/resuming.rt).
+-- For the proof of `resume` (src/resuming.rt): the run on the disk goes on; or it is told why no
+-- run is found.
 use Rattle.std.proofs.Common.{refl}
 use Rattle.nc_number.specs.Both.{both_of}
 use Rattle.lathe_top.specs.Held.{lathe_left}

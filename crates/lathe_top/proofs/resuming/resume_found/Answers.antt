@@ -1,4 +1,5 @@
--- A run that is over is only reported; another goes on with both turrets (src/resuming.rt).
+-- For the proof of `resume_found` (src/resuming.rt): a run that is over is only reported; another
+-- goes on with both turrets.
 use Rattle.std.proofs.Common.{refl, sym, subst, ◌∙◌, ◌≡◌, false}
 use Rattle.run_table.specs.Kept.{TableView}
 use Rattle.run_table.specs.Running.{MayRun}

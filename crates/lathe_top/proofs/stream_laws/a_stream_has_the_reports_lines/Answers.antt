@@ -1,4 +1,5 @@
--- What a turret wrote are the lines that the report has for its path (src/stream_laws.rt).
+-- For the proof of this law (src/stream_laws.rt): what a turret writes are the lines that the
+-- report has for its path.
 use Rattle.lathe_top.specs.Stops.{call_in}
 use Rattle.lathe_top.proofs.StreamsWritten.{streams_of}
 use Rattle.lathe_top.proofs.stream_laws.a_stream_has_the_reports_lines.Goals as goal

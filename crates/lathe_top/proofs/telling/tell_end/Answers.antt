@@ -1,4 +1,5 @@
--- The report or the summary is written, and the status is that of the reason (src/telling.rt).
+-- For the proof of `tell_end` (src/telling.rt): the report or the summary is written, and the
+-- status is that of the reason.
 use Rattle.std.proofs.Common.{refl}
 use Rattle.lathe_calls.proofs.Ended.{ends_put}
 use Rattle.lathe_top.proofs.telling.tell_end.Goals as goal

@@ -1,4 +1,5 @@
--- The words `turret fault` and the path are added, and no more (src/end_line.rt).
+-- For the proof of `add_turret_fault` (src/end_line.rt): the words `turret fault` and the path are
+-- added, and no more.
 use Rattle.std.proofs.Common.{List, ℕ, ◌++◌, append_assoc, ap, ◌∙◌}
 use Rattle.std.specs.Prelude.{codes}
 use Rattle.text_pieces.specs.Pieces.{path_name}

@@ -1,4 +1,5 @@
--- A variable that the settings share is one that may be asked of the machine (src/listing.rt).
+-- For the proof of `shared_line` (src/listing.rt): a variable that the settings share is one that
+-- may be asked of the machine.
 use Rattle.std.proofs.Common.{sym, ◌∙◌}
 use Rattle.move_list.proofs.SharedNumbers.{shared_where}
 use Rattle.move_list.proofs.listing.shared_line.Goals as goal

@@ -1,4 +1,5 @@
--- A line for each move is put, or a part of them and the sink's fault (src/report.rt).
+-- For the proof of `put_lines` (src/report.rt): a line for each move is put, or, with the sink's
+-- fault, a prefix of them.
 use Rattle.std.proofs.lemmas.Result.{err_from_is_err_and}
 use Rattle.move_list.specs.Report.{lined_text}
 use Rattle.nc_verify.proofs.InPieces.{put_nothing, put_on, put_breaks, each_more, each_parted, each_whole, put_same}

@@ -1,4 +1,4 @@
--- The lines of the moves so far were put whole.
+-- For the loop of `put_lines` (src/report.rt): the lines of the moves so far were put whole.
 use Rattle.std.proofs.Common.{take, Ok}
 use Rattle.std.specs.List.{flat_map}
 use Rattle.nc_verify.specs.Printed.{IsPut}

@@ -1,4 +1,5 @@
--- The head of a path and its moves are put, in order (src/report.rt).
+-- For the proof of `put_path` (src/report.rt): the head of a path and its moves are put, in order,
+-- or a prefix of them.
 use Rattle.nc_verify.proofs.Put.{put_then, put_stops}
 use Rattle.move_list.specs.Report.{path_text}
 use Rattle.move_list.proofs.report.put_path.Goals as goal

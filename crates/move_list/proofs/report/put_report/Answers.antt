@@ -1,4 +1,5 @@
--- The moves of the history, done again, are put as its report; or memory ran out (src/report.rt).
+-- For the proof of `put_report` (src/report.rt): the moves of the history, done again, are put as
+-- its report, or a prefix of it; or memory ran out.
 use Rattle.two_path.specs.Turns.{tapes_of}
 use Rattle.two_path.specs.Start.{machine_at_start}
 use Rattle.nc_verify.proofs.InPieces.{none_put}

@@ -1,4 +1,5 @@
--- The lines of path 2 and the last lines are put, in order (src/report.rt).
+-- For the proof of `put_rest` (src/report.rt): the lines of path 2 and the last lines are put, in
+-- order, or a prefix of them.
 use Rattle.nc_verify.proofs.Put.{put_then, put_stops}
 use Rattle.move_list.proofs.report.put_rest.Goals as goal
 

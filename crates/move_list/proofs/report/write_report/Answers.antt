@@ -1,4 +1,5 @@
--- The report of a history of the pair is put (src/report.rt).
+-- For the proof of `write_report` (src/report.rt): the report of a history of the pair is put, or a
+-- prefix of it.
 use Rattle.move_list.proofs.report.write_report.Goals as goal
 
 pub put_report-requires-clause-legal : goal.put_report-requires-clause-legal

@@ -1,4 +1,5 @@
--- Both paths of a machine of the pair share the variables that the settings say (src/state.rt).
+-- For the proof of this law (src/state.rt): both paths of a machine of the pair share the variables
+-- that the settings say.
 use Rattle.move_list.proofs.Fixed.{first_shares, second_shares}
 use Rattle.move_list.proofs.state.machines_share_as_the_settings_say.Goals as goal
 

@@ -1,4 +1,5 @@
--- A line for each number of a listing that is set is put, or a part of them (src/state.rt).
+-- For the proof of `put_listing` (src/state.rt): a line for each number of a listing that is set is
+-- put, or a prefix of them.
 use Rattle.std.proofs.Common.{◌≡◌, ◌<◌, ap, arith}
 use Rattle.std.proofs.lemmas.Result.{err_from_is_err_and}
 use Rattle.nc_number.specs.Both.{of_path}

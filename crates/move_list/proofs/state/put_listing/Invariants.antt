@@ -1,4 +1,4 @@
--- The lines of the numbers so far were put whole.
+-- For the loop of `put_listing` (src/state.rt): the lines of the numbers so far were put whole.
 use Rattle.std.proofs.Common.{Ok}
 use Rattle.nc_number.specs.Both.{of_path}
 use Rattle.nc_verify.specs.Printed.{IsPut}

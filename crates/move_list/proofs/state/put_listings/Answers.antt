@@ -1,4 +1,5 @@
--- The lines of each listing are put, in order, or a part of them (src/state.rt).
+-- For the proof of `put_listings` (src/state.rt): the lines of each listing are put, in order, or a
+-- prefix of them.
 use Rattle.std.proofs.lemmas.Result.{err_from_is_err_and}
 use Rattle.nc_number.specs.Both.{of_path}
 use Rattle.move_list.specs.State.{listing_text, listings_text}

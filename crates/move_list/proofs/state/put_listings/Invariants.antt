@@ -1,4 +1,4 @@
--- The listings so far were put whole.
+-- For the loop of `put_listings` (src/state.rt): the listings so far were put whole.
 use Rattle.std.proofs.Common.{take, Ok}
 use Rattle.std.specs.List.{flat_map}
 use Rattle.nc_number.specs.Both.{of_path}

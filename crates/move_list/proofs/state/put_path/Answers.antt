@@ -1,4 +1,5 @@
--- The standing of a path and what its listings have are put, in order (src/state.rt).
+-- For the proof of `put_path` (src/state.rt): the standing of a path and what its listings have are
+-- put, in order, or a prefix of them.
 use Rattle.nc_verify.proofs.Put.{put_then, put_stops}
 use Rattle.move_list.specs.State.{path_lines}
 use Rattle.move_list.proofs.state.put_path.Goals as goal

@@ -1,4 +1,5 @@
--- The lines of path 2 and what both paths share are put, in order (src/state.rt).
+-- For the proof of `put_rest` (src/state.rt): the lines of path 2 and what both paths share are
+-- put, in order, or a prefix of them.
 use Rattle.nc_verify.proofs.Put.{put_then, put_stops}
 use Rattle.move_list.proofs.state.put_rest.Goals as goal
 

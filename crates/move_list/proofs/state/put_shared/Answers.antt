@@ -1,4 +1,5 @@
--- The shared variables and the number of records are put, in order (src/state.rt).
+-- For the proof of `put_shared` (src/state.rt): the shared variables and the number of records are
+-- put, in order, or a prefix of them.
 use Rattle.nc_verify.proofs.Put.{put_then, put_stops}
 use Rattle.move_list.specs.State.{shared_lines}
 use Rattle.move_list.proofs.state.put_shared.Goals as goal

@@ -1,4 +1,5 @@
--- The lines of both paths and what they share are put, in order (src/state.rt).
+-- For the proof of `put_state` (src/state.rt): the lines of both paths and of what they share are
+-- put, in order, or a prefix of them.
 use Rattle.nc_verify.proofs.Put.{put_then, put_stops}
 use Rattle.move_list.specs.State.{state_text}
 use Rattle.move_list.proofs.state.put_state.Goals as goal

@@ -1,4 +1,5 @@
--- The text of a machine of the pair is put (src/state.rt).
+-- For the proof of `write_state` (src/state.rt): the text of a machine of the pair is put, or a
+-- prefix of it.
 use Rattle.move_list.proofs.state.write_state.Goals as goal
 
 pub returns : goal.returns

@@ -1,4 +1,5 @@
--- The blocks of the programs so far are counted, and each program has fewer than 2 ^ 64 of them.
+-- For the loop of `block_count` (src/summary.rt): the blocks of the programs so far are counted,
+-- and each program has fewer than 2 ^ 64 of them.
 use Rattle.std.proofs.Common.{◌≡◌, ◌*◌, ◌≤◌, take}
 use Rattle.move_list.specs.Summary.{block_count}
 use Rattle.move_list.proofs.summary.block_count.Given as goal

@@ -1,4 +1,5 @@
--- The count is that of the meetings among the records so far (loop of src/summary.rt).
+-- For the loop of `meeting_count` (src/summary.rt): the count is that of the meetings among the
+-- records so far.
 use Rattle.std.proofs.Common.{◌≡◌, ◌≤◌, length, take}
 use Rattle.move_list.specs.Summary.{meetings_in}
 use Rattle.move_list.proofs.summary.meeting_count.Given as goal

@@ -1,4 +1,5 @@
--- The summary of the history, done again, is put; or memory ran out (src/summary.rt).
+-- For the proof of `put_summary` (src/summary.rt): the summary of the history, done again, is put,
+-- or a prefix of it; or memory ran out.
 use Rattle.nc_verify.proofs.InPieces.{none_put}
 use Rattle.move_list.proofs.SummaryOfMoves.{summary_put}
 use Rattle.move_list.proofs.summary.put_summary.Goals as goal

@@ -1,4 +1,5 @@
--- The summary of a history of the made pair is put (src/summary.rt).
+-- For the proof of `write_summary` (src/summary.rt): the summary of a history of the made pair is
+-- put, or a prefix of it.
 use Rattle.move_list.proofs.summary.write_summary.Goals as goal
 
 pub put_summary-requires-clause-legal : goal.put_summary-requires-clause-legal

@@ -1,4 +1,5 @@
--- The moves so far and those that are left are the moves before and all of the block.
+-- For the loop of `add_moves` (src/turns.rt): the moves so far and those that are left are the
+-- moves before and all of the block.
 use Rattle.std.proofs.Common.{◌≡◌, ◌++◌, drop}
 use Rattle.std.specs.Prelude.{map}
 use Rattle.nc_outside.specs.Lined.{lined_move}

@@ -1,5 +1,5 @@
--- The records are done again in order, each as a turn; their moves and the machine after them are
--- those of the history (src/turns.rt).
+-- For the proof of `history_done` (src/turns.rt): each record is done again as a turn, in order;
+-- the moves and the machine after them are those of the history.
 use Rattle.std.proofs.Common.{◌≡◌, ◌+◌, ◌≤◌, ◌<◌, ◌++◌, length, take, drop, refl, sym, subst, ◌∙◌, ap, arith}
 use Rattle.std.proofs.lemmas.List.{take_all}
 use Rattle.nc_number.specs.declared.path.Path.TheVariants.{One, Two}

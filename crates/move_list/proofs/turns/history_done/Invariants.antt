@@ -1,5 +1,5 @@
--- The machine is the fold of the records so far, and its moves and those of the records that are
--- left are all moves.
+-- For the loop of `history_done` (src/turns.rt): the machine is the fold of the records so far, and
+-- its moves and those of the records that are left are all moves.
 use Rattle.std.proofs.Common.{◌≡◌, ◌+◌, ◌≤◌, ◌++◌, length, take, drop}
 use Rattle.nc_number.specs.declared.path.Path.TheVariants.{One, Two}
 use Rattle.two_path.specs.Machine.{without_reads}

@@ -1,4 +1,5 @@
--- The gate so far stands before the end of a file (src/chain.rt).
+-- For the loop of `last_gate` (src/chain.rt): the gate so far lies before the greatest end of a
+-- file.
 use Rattle.std.proofs.Common.{◌≡◌, ◌<◌, ◌^◌, ◌-◌, ℕ}
 use Rattle.real_outside.specs.declared.chain.Head.TheVariants.{Open}
 use Rattle.real_outside.proofs.chain.last_gate.Given as goal

@@ -1,4 +1,5 @@
--- What was appended are bytes of the file, no more than were asked for (src/file_shelf.rt).
+-- For the proof of `read` (src/file_shelf.rt): bytes were appended, no more than were asked for,
+-- and what was there stayed.
 use Rattle.std.proofs.Common.{◌≡◌, ℕ, ◌+◌, ◌≤◌, List, ◌++◌, length, take, drop, arith, sym, length-drop}
 use Rattle.std.proofs.lemmas.List.{take-append-drop}
 use Rattle.real_outside.proofs.file_shelf.read.Goals as goal

@@ -1,4 +1,4 @@
--- No more bytes were read than there is room for (src/pieces.rt).
+-- For the loop of `read_up_to` (src/pieces.rt): no more bytes were read than there is room for.
 use Rattle.std.proofs.Common.{◌≡◌, ◌≤◌, length}
 use Rattle.real_outside.proofs.pieces.read_up_to.Given as goal
 

@@ -1,4 +1,4 @@
--- The place so far is no further than the end (src/pieces.rt).
+-- For the loop of `write_again` (src/pieces.rt): the place so far is no further than the end.
 use Rattle.std.proofs.Common.{◌-◌}
 use Rattle.real_outside.proofs.pieces.write_again.Given as goal
 

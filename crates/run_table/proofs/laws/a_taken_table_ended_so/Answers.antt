@@ -1,5 +1,5 @@
--- The run of a table that is taken out ended by the cause by which it ended while held
--- (src/laws.rt).
+-- The run of a table that is taken out of a held one ended by the cause by which it ended while it
+-- was held (src/laws.rt).
 use Rattle.run_table.proofs.EndsTold.{taken_ended}
 use Rattle.run_table.proofs.laws.a_taken_table_ended_so.Goals as goal
 

@@ -1,4 +1,4 @@
--- A machine that is the fold of a legal history of an accepted pair can go on (src/laws.rt).
+-- A machine that is the fold of a legal history of an accepted pair is not stuck (src/laws.rt).
 use Rattle.std.proofs.Common.{refl, subst}
 use Rattle.nc_number.specs.declared.path.Path.TheVariants.{One, Two}
 use Rattle.path_state.specs.Opening.{opening_path}

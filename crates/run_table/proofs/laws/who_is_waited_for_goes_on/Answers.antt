@@ -1,4 +1,4 @@
--- While a path waits, the other one has a turn of a block (src/laws.rt).
+-- While a path waits, the other one's turn is that of a block (src/laws.rt).
 use Rattle.run_table.specs.Kept.{tapes_in}
 use Rattle.run_table.proofs.OtherGoesOn.{other_goes_on}
 use Rattle.run_table.proofs.laws.who_is_waited_for_goes_on.Goals as goal

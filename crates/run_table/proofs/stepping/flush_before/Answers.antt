@@ -1,5 +1,5 @@
--- All records are on the disk before the answer, or the answer is a fault of the disk
--- (src/stepping.rt).
+-- For the proof of `flush_before` (src/stepping.rt): all records are on the disk before the answer,
+-- or the answer is a fault of the disk.
 use Rattle.std.proofs.Common.{rules, ◌≡◌, true, false}
 use Rattle.run_table.specs.Apart.{step_with}
 use Rattle.run_table.proofs.StepsTaken.{answer_flushed, answer_failed}

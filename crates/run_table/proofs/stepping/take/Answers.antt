@@ -1,5 +1,5 @@
--- The record of a turn joins the history, and is on the disk before a turn that shows something is
--- answered (src/stepping.rt).
+-- For the proof of `take` (src/stepping.rt): the record of a turn joins the history, and is on the
+-- disk before a turn that shows something is answered.
 use Rattle.std.proofs.Common.{◌≡◌, true, List, length, sym, ◌∙◌}
 use Rattle.std.specs.Prelude.{nat_lt}
 use Rattle.run_records.specs.Entries.{Entry}

@@ -1,4 +1,5 @@
--- Writes to the sink an alarm; if the sink fails, a prefix of that (src/blocks.rt).
+-- For the proof of `put_alarm`: it puts an alarm; if the sink fails, a prefix of that
+-- (src/blocks.rt).
 use Rattle.trace_list.specs.TraceText.{Raised}
 use Rattle.trace_list.proofs.InParts.{one_line}
 use Rattle.trace_list.proofs.blocks.put_alarm.Goals as goal

@@ -1,5 +1,5 @@
--- Writes to the sink what a block changed, and then its moves; if the sink fails, a prefix of that
--- (src/blocks.rt).
+-- For the proof of `put_block`: it puts what a block changed, and then its moves; if the sink
+-- fails, a prefix of that (src/blocks.rt).
 use Rattle.std.proofs.Common.{◌++◌}
 use Rattle.trace_list.specs.Trace.{moved_lines, shift_lines, spindle_lines}
 use Rattle.trace_list.proofs.InParts.{lines_then, lines_stop}

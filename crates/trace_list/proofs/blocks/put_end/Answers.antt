@@ -1,5 +1,5 @@
--- Writes to the sink a block, and that its path ends there; if the sink fails, a prefix of that
--- (src/blocks.rt).
+-- For the proof of `put_end`: it puts a block, and that its path ends there; if the sink fails, a
+-- prefix of that (src/blocks.rt).
 use Rattle.std.proofs.Common.{[], ◌∷◌}
 use Rattle.trace_list.specs.Trace.{block_lines}
 use Rattle.trace_list.specs.TraceText.{Ended}

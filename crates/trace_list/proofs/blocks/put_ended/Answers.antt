@@ -1,5 +1,5 @@
--- Writes to the sink that a path ends at this line; if the sink fails, a prefix of that
--- (src/blocks.rt).
+-- For the proof of `put_ended`: it puts that a path ends at this line; if the sink fails, a prefix
+-- of that (src/blocks.rt).
 use Rattle.trace_list.specs.TraceText.{Ended}
 use Rattle.trace_list.proofs.InParts.{one_line}
 use Rattle.trace_list.proofs.blocks.put_ended.Goals as goal

@@ -1,5 +1,5 @@
--- Writes to the sink that a path comes to its wait, and that both paths meet there; if the sink
--- fails, a prefix of that (src/blocks.rt).
+-- For the proof of `put_meeting`: it puts that a path comes to its wait, and that both paths meet
+-- there; if the sink fails, a prefix of that (src/blocks.rt).
 use Rattle.std.proofs.Common.{[], ◌∷◌, ◌+◌}
 use Rattle.nc_number.specs.Both.{of_path}
 use Rattle.trace_list.specs.TraceText.{Met, Wait}

@@ -1,4 +1,5 @@
--- Writes to the sink that both paths meet; if the sink fails, a prefix of that (src/blocks.rt).
+-- For the proof of `put_met`: it puts that both paths meet; if the sink fails, a prefix of that
+-- (src/blocks.rt).
 use Rattle.trace_list.specs.TraceText.{Met}
 use Rattle.trace_list.proofs.InParts.{one_line}
 use Rattle.trace_list.proofs.blocks.put_met.Goals as goal

@@ -1,4 +1,5 @@
--- Writes to the sink the line of a move; if the sink fails, a prefix of that (src/blocks.rt).
+-- For the proof of `put_move`: it puts the line of a move; if the sink fails, a prefix of that
+-- (src/blocks.rt).
 use Rattle.nc_verify.proofs.Put.{put_then, put_stops}
 use Rattle.trace_list.specs.TraceText.{trace_line_text}
 use Rattle.trace_list.proofs.blocks.put_move.Goals as goal

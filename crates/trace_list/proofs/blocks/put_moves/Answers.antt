@@ -1,5 +1,5 @@
--- Writes to the sink a line for each move of a block; if the sink fails, a prefix of that
--- (src/blocks.rt).
+-- For the proof of `put_moves`: it puts a line for each move of a block; if the sink fails, a
+-- prefix of that (src/blocks.rt).
 use Rattle.std.proofs.Common.{refl, ap}
 use Rattle.std.proofs.lemmas.Result.{err_from_is_err_and}
 use Rattle.std.proofs.lemmas.List.{at_drop_all}

@@ -1,5 +1,5 @@
--- The lines of the moves so far were put, and those of the others are the rest (loop of
--- src/blocks.rt).
+-- For the loop of `put_moves` (src/blocks.rt): the lines of the moves so far were put, and those of
+-- the others are the rest.
 use Rattle.std.proofs.Common.{drop}
 use Rattle.trace_list.specs.Trace.{moved_lines}
 use Rattle.trace_list.specs.TraceText.{lines_text}

@@ -1,5 +1,5 @@
--- Writes to the sink that a path comes to its wait; if the sink fails, a prefix of that
--- (src/blocks.rt).
+-- For the proof of `put_wait`: it puts that a path comes to its wait; if the sink fails, a prefix
+-- of that (src/blocks.rt).
 use Rattle.trace_list.specs.TraceText.{Wait}
 use Rattle.trace_list.proofs.InParts.{one_line}
 use Rattle.trace_list.proofs.blocks.put_wait.Goals as goal

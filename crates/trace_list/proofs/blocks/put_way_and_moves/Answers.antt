@@ -1,5 +1,5 @@
--- Writes to the sink the way of the spindle, and then the moves; if the sink fails, a prefix of
--- that (src/blocks.rt).
+-- For the proof of `put_way_and_moves`: it puts the way of the spindle, and then the moves; if the
+-- sink fails, a prefix of that (src/blocks.rt).
 use Rattle.trace_list.specs.Trace.{moved_lines, spindle_lines}
 use Rattle.trace_list.proofs.InParts.{lines_then, lines_stop}
 use Rattle.trace_list.proofs.blocks.put_way_and_moves.Goals as goal

@@ -1,4 +1,5 @@
--- The lines of both waits of a meeting stand behind the piece (src/lines.rt).
+-- For the proof of `add_waits` (src/lines.rt): the lines of both waits of a meeting are added to
+-- the piece, and no more.
 use Rattle.std.proofs.Common.{List, ℕ, ◌++◌, append_assoc, ap, ◌∙◌}
 use Rattle.std.specs.Prelude.{codes}
 use Rattle.text_pieces.specs.Pieces.{numbered}

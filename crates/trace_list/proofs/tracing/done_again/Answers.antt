@@ -1,4 +1,5 @@
--- A legal record can be done again, so there is an answer to unwrap (src/tracing.rt).
+-- For the proof of `done_again` (src/tracing.rt): a legal record can be done again, so there is a
+-- turn to unwrap.
 use Rattle.two_path.proofs.DoneAgain.{is_done}
 use Rattle.trace_list.proofs.tracing.done_again.Goals as goal
 

@@ -1,5 +1,5 @@
--- Does a record again that is legal there, after so many meetings, and puts its lines
--- (src/tracing.rt).
+-- For the proof of `put_again` (src/tracing.rt): with room for a record, it is done again and its
+-- lines are put, or a prefix of them; without memory nothing is put.
 use Rattle.std.proofs.Common.{subst}
 use Rattle.nc_verify.specs.Printed.{IsPut}
 use Rattle.two_path.specs.Machine.{MachineView}

@@ -1,5 +1,5 @@
--- Writes to the sink where the turret of a path begins; if the sink fails, a prefix of that
--- (src/tracing.rt).
+-- For the proof of `put_at`: it puts where the turret of a path begins; if the sink fails, a prefix
+-- of that (src/tracing.rt).
 use Rattle.trace_list.specs.TraceText.{At}
 use Rattle.trace_list.proofs.InParts.{one_line}
 use Rattle.trace_list.proofs.tracing.put_at.Goals as goal

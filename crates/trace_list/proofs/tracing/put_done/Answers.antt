@@ -1,5 +1,5 @@
--- Does a record again for which there is room, after so many meetings, and puts its lines
--- (src/tracing.rt).
+-- For the proof of `put_done` (src/tracing.rt): the lines of a record are put, or a prefix of them,
+-- and the machine and the number of meetings are those after it.
 use Rattle.std.proofs.Common.{◌≡◌, ap, subst, ◌∙◌}
 use Rattle.nc_number.specs.declared.path.Path.{Path}
 use Rattle.nc_verify.specs.Printed.{IsPut}

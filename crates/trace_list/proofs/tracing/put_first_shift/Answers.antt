@@ -1,5 +1,5 @@
--- Writes to the sink the shift with which a path begins; if the sink fails, a prefix of that
--- (src/tracing.rt).
+-- For the proof of `put_first_shift`: it puts the shift with which a path begins; if the sink
+-- fails, a prefix of that (src/tracing.rt).
 use Rattle.trace_list.specs.TraceText.{Shift}
 use Rattle.trace_list.proofs.InParts.{one_line}
 use Rattle.trace_list.proofs.tracing.put_first_shift.Goals as goal

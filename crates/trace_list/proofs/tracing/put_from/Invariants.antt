@@ -1,5 +1,5 @@
--- The machine is the fold of the records so far, and the events of the others, with the last lines,
--- are the rest of the text (loop of src/tracing.rt).
+-- For the loop of `put_from` (src/tracing.rt): the machine is the fold of the records so far, and
+-- the events of the others, with the last lines, are the rest of the text.
 use Rattle.std.proofs.Common.{◌≡◌, ◌≤◌, ◌++◌, length, take, drop}
 use Rattle.two_path.specs.Machine.{without_reads}
 use Rattle.two_path.specs.Turns.{tapes_of}

@@ -1,5 +1,5 @@
--- Writes to the sink the reference position of a path; if the sink fails, a prefix of that
--- (src/tracing.rt).
+-- For the proof of `put_home`: it puts the reference position of a path; if the sink fails, a
+-- prefix of that (src/tracing.rt).
 use Rattle.trace_list.specs.TraceText.{Home}
 use Rattle.trace_list.proofs.InParts.{one_line}
 use Rattle.trace_list.proofs.tracing.put_home.Goals as goal

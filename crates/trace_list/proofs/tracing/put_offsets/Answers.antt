@@ -1,5 +1,5 @@
--- Writes to the sink the reference position of a path, and the shift with which it begins; if the
--- sink fails, a prefix of that (src/tracing.rt).
+-- For the proof of `put_offsets`: it puts the reference position of a path, and the shift with
+-- which it begins; if the sink fails, a prefix of that (src/tracing.rt).
 use Rattle.std.proofs.Common.{[], ◌∷◌}
 use Rattle.path_state.specs.Looks.{shift_now}
 use Rattle.trace_list.specs.TraceText.{Home, Shift}

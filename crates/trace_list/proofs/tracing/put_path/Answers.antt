@@ -1,4 +1,5 @@
--- Writes to the sink how a path begins; if the sink fails, a prefix of that (src/tracing.rt).
+-- For the proof of `put_path`: it puts how a path begins; if the sink fails, a prefix of that
+-- (src/tracing.rt).
 use Rattle.std.proofs.Common.{[], ◌∷◌}
 use Rattle.path_state.specs.Looks.{shift_now}
 use Rattle.trace_list.specs.TraceText.{At, Home, Shift}

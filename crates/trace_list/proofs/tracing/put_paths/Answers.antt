@@ -1,4 +1,5 @@
--- Writes to the sink how both paths begin; if the sink fails, a prefix of that (src/tracing.rt).
+-- For the proof of `put_paths`: it puts how both paths begin; if the sink fails, a prefix of that
+-- (src/tracing.rt).
 use Rattle.nc_number.specs.declared.path.Path.TheVariants.{One, Two}
 use Rattle.trace_list.specs.Trace.{begin_lines}
 use Rattle.trace_list.proofs.InParts.{lines_then, lines_stop}

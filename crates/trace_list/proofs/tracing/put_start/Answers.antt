@@ -1,5 +1,5 @@
--- Writes to the sink the first line, and how both paths begin; if the sink fails, a prefix of that
--- (src/tracing.rt).
+-- For the proof of `put_start`: it puts the first line, and how both paths begin; if the sink
+-- fails, a prefix of that (src/tracing.rt).
 use Rattle.nc_verify.proofs.Put.{put_then, put_stops}
 use Rattle.trace_list.proofs.tracing.put_start.Goals as goal
 

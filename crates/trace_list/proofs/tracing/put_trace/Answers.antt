@@ -1,4 +1,5 @@
--- Writes to the sink the trace of a history; if the sink fails, a prefix of that (src/tracing.rt).
+-- For the proof of `put_trace`: it puts the trace of a history; if the sink fails, a prefix of that
+-- (src/tracing.rt).
 use Rattle.nc_verify.proofs.InPieces.{none_put}
 use Rattle.trace_list.proofs.tracing.put_trace.Goals as goal
 

@@ -1,4 +1,4 @@
--- An accepted pair may go to another thread (src/crossing.rt).
+-- An accepted pair may go to another thread, as its tapes and its settings may (src/crossing.rt).
 use denote.Param.SendFields.{declared_send}
 use Rattle.nc_verify.specs.contracts.verified.Verified.{the_type}
 use Rattle.turret_run.proofs.crossing.pair_crosses.Goals as goal

@@ -1,4 +1,5 @@
--- The passes that come back are of the same table and path (src/pair.rt).
+-- For the proof of `run_seat` (src/pair.rt): the passes that a path's threads give back are of the
+-- table and path of those that they got.
 use Rattle.std.proofs.Common.{ap, ◌∙◌}
 use Rattle.turret_run.proofs.pair.run_seat.Goals as goal
 

@@ -1,4 +1,5 @@
--- The turret of path 1 or that of path 2 failed at its place (src/placing.rt).
+-- For the proof of `place_both` (src/placing.rt), if it fails: one turret failed at its place, and
+-- that of path 1 was placed before that of path 2.
 use Rattle.std.proofs.Common.{[], ◌∷◌, refl, subst, sym, true≢false}
 use Rattle.nc_number.specs.declared.point.Point.{Point}
 use Rattle.nc_number.specs.declared.path.Path.TheVariants.{One, Two}

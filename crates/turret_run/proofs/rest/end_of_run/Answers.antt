@@ -1,4 +1,4 @@
--- A cause that is told is the first that holds (src/rest.rt).
+-- For the proof of `end_of_run` (src/rest.rt): the cause that is told is the first that holds.
 use Rattle.std.proofs.Common.{subst, sym}
 use Rattle.std.specs.Prelude.{IfSome}
 use Rattle.turret_run.specs.Rests.{HasCause}

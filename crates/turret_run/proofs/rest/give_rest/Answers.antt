@@ -1,4 +1,5 @@
--- At the end each turret has served the records of its path (src/rest.rt).
+-- For the proof of `give_rest` (src/rest.rt): when the last turns are given, each turret has served
+-- the moves of its path's records.
 use Rattle.std.proofs.Common.{◌≡◌, List, sym, subst}
 use Rattle.nc_number.specs.declared.path.Path.TheVariants.{One, Two}
 use Rattle.nc_outside.specs.declared.lined_move.LinedMove.{LinedMove}

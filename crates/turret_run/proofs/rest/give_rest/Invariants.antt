@@ -1,5 +1,5 @@
--- Each turret that had served the records at the beginning has served those of now (loop of
--- src/rest.rt).
+-- For the loop of `give_rest` (src/rest.rt): a turret that had served the records at the beginning
+-- has served those of now.
 use Rattle.nc_number.specs.declared.path.Path.TheVariants.{One, Two}
 use Rattle.run_table.specs.Holding.{records_since}
 use Rattle.turret_run.specs.Rests.{ServesOn}

@@ -1,4 +1,5 @@
--- The run ended by the cause that the last turns found (src/run.rt).
+-- For the proof of `run_opened` (src/run.rt): the run ended by the cause that the last turns found,
+-- and each turret got what is due but what it missed; or it did not begin.
 use Rattle.std.proofs.Common.{ap, sym, ◌∙◌, subst, refl}
 use Rattle.nc_number.specs.declared.both.Both.{Both}
 use Rattle.nc_number.specs.declared.path.Path.{Path}

@@ -1,4 +1,5 @@
--- What came of the run: no memory, no threads, a failed place, or its end (src/run.rt).
+-- For the proof of `run_with_turrets` (src/run.rt), by its ways: no memory, no threads, a failed
+-- place, or a run to its end.
 use Rattle.std.proofs.Common.{[], refl, inr}
 use Rattle.nc_number.specs.Both.{both_of, of_path}
 use Rattle.two_path.specs.Machine.{position_of}

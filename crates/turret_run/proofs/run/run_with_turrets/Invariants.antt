@@ -1,4 +1,5 @@
--- The opening is the table with room for its records (loop of src/run.rt).
+-- For the call of `run_opened` by `run_with_turrets` (src/run.rt): the opening is the table itself,
+-- which was made ready.
 use Rattle.std.proofs.Common.{Some}
 use Rattle.turret_run.proofs.run.run_with_turrets.Given as goal
 

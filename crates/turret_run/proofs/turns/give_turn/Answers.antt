@@ -1,4 +1,5 @@
--- The turret serves the moves of the turn, whatever the turn answers (src/turns.rt).
+-- For the proof of `give_turn` (src/turns.rt): the turret serves the moves of the turn, whatever
+-- the turn answers.
 use Rattle.std.proofs.Common.{List, ap, subst}
 use Rattle.nc_outside.specs.declared.lined_move.LinedMove.{LinedMove}
 use Rattle.nc_outside.specs.Calls.{moves_of}

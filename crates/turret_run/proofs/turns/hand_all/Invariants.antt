@@ -1,5 +1,5 @@
--- Whatever moves the turret had served, it has served those of the block so far besides (loop of
--- src/turns.rt).
+-- For the loop of `hand_all` (src/turns.rt): beside the moves that the turret had served, it has
+-- served those of the block so far.
 use Rattle.std.proofs.Common.{List, ◌++◌, map, take}
 use Rattle.drive_line.specs.Driving.{Serves}
 use Rattle.nc_outside.specs.declared.lined_move.LinedMove.{LinedMove}

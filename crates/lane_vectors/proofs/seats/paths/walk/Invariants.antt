@@ -1,3 +1,5 @@
+-- For the loop of `walk` (src/seats/paths.rt): the stepper is still of the table and path of its
+-- beginning.
 use Rattle.std.proofs.Common.{◌≡◌}
 use Rattle.lane_vectors.proofs.seats.paths.walk.Given as goal
 

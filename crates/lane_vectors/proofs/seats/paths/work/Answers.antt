@@ -1,3 +1,5 @@
+-- For the proof of `work` (src/seats/paths.rt): the pass that comes back is of the same table and
+-- path.
 use Rattle.std.proofs.Common.{ap, ◌∙◌}
 use Rattle.lane_vectors.proofs.seats.paths.work.Goals as goal
 

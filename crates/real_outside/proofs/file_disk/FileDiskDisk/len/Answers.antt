@@ -1,4 +1,4 @@
--- A length that the system did not give is a counted fault (src/file_disk.rt).
+-- For the proof of `len` (src/file_disk.rt), if it fails: the fault was counted.
 use Rattle.real_outside.proofs.Untold.{failed_measure}
 use Rattle.real_outside.proofs.file_disk.FileDiskDisk.len.Goals as goal
 

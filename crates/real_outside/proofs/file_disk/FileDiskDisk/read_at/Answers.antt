@@ -1,4 +1,4 @@
--- A read that failed is a counted fault (src/file_disk.rt).
+-- For the proof of `read_at` (src/file_disk.rt), if it fails: the fault was counted.
 use Rattle.real_outside.proofs.Untold.{failed_fetch}
 use Rattle.real_outside.proofs.file_disk.FileDiskDisk.read_at.Goals as goal
 

@@ -1,4 +1,4 @@
--- A sync that failed is a counted fault (src/file_disk.rt).
+-- For the proof of `sync` (src/file_disk.rt), if it fails: the fault was counted.
 use Rattle.real_outside.proofs.Untold.{failed_sync}
 use Rattle.real_outside.proofs.file_disk.FileDiskDisk.sync.Goals as goal
 

@@ -1,4 +1,5 @@
--- A write was done within the file's greatest length, or its fault is counted (src/file_disk.rt).
+-- For the proof of `write_at` (src/file_disk.rt): the write ended within a file's greatest length;
+-- or it failed, and the fault was counted.
 use Rattle.real_outside.proofs.Untold.{failed_write, done_write}
 use Rattle.real_outside.proofs.file_disk.FileDiskDisk.write_at.Goals as goal
 

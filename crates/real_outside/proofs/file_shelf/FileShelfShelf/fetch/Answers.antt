@@ -1,4 +1,5 @@
--- What was fetched are some bytes that the shelf does not tell (src/file_shelf.rt).
+-- For the proof of `fetch` (src/file_shelf.rt): some bytes were appended, of which the shelf makes
+-- nothing known.
 use Rattle.std.proofs.lemmas.Result.{on_ok_weaker}
 use Rattle.real_outside.proofs.file_shelf.FileShelfShelf.fetch.Goals as goal
 

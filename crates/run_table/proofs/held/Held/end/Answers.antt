@@ -1,5 +1,5 @@
--- Why the run ended is the first cause that stands, or none stands; else the held table is as it
--- was (src/held.rt).
+-- For the proof of `Held::end` (src/held.rt): the end that is told is the first cause that holds,
+-- or none holds; all else of the held table is as it was.
 use Rattle.std.proofs.Common.{◌≡◌, subst}
 use Rattle.nc_number.specs.declared.path.Path.{Path}
 use Rattle.run_table.specs.Ending.{KeepsRest}

@@ -1,5 +1,5 @@
--- The table that is taken out is the held one without its turret, shows what was on the disk, and
--- may be held again (src/held.rt).
+-- For the proof of `Held::into_table` (src/held.rt): the table that is taken out is the held one
+-- without a turret's fault, what it showed is on the disk, and it may be held again.
 use Rattle.std.proofs.Common.{◌≢◌, sym, subst, Some}
 use Rattle.nc_outside.specs.declared.halt.Halt.TheVariants as halt
 use Rattle.run_table.specs.Kept.{TableView}

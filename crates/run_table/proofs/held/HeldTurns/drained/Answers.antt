@@ -1,4 +1,5 @@
--- A path that was drained is not to be drained; the table is held still (src/held.rt).
+-- For the proof of `drained` of a held table (src/held.rt): the path is then not to be drained, no
+-- record is made, and the table is still a held one.
 use Rattle.std.proofs.Common.{◌≡◌, false, sym, subst}
 use Rattle.run_table.specs.Kept.{TableView}
 use Rattle.run_table.specs.Draining.{with_owed}

@@ -1,4 +1,5 @@
--- A turret's reason to stop leaves a held table (src/held.rt).
+-- For the proof of `halt` of a held table (src/held.rt): a turret's fault as a reason to stop
+-- leaves a held table with the same records.
 use Rattle.std.proofs.Common.{sym, subst}
 use Rattle.run_table.specs.Kept.{TableView}
 use Rattle.seat_table.specs.Turning.{first_reason}

@@ -1,5 +1,5 @@
--- A flush puts all records on the disk, or the disk failed and a prefix stands there
--- (src/recording.rt).
+-- For the proof of `flush` (src/recording.rt): all records are on the disk after it, or the disk
+-- failed and holds a prefix of them.
 use Rattle.std.proofs.Common.{rules, ◌≡◌, [], true, false, sym, subst}
 use Rattle.std.specs.Prelude.{IsTrue}
 use Rattle.run_table.specs.Recording.{RecordingView, Records}

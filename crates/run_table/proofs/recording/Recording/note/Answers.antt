@@ -1,4 +1,4 @@
--- One record more pends, and the disk isn't touched (src/recording.rt).
+-- For the proof of `note` (src/recording.rt): one record more pends, and the disk isn't touched.
 use Rattle.std.proofs.Common.{[], ◌∷◌, refl, subst}
 use Rattle.run_table.specs.Recording.{RecordingView, IsNoted}
 use Rattle.run_table.proofs.JournalsOn.{noted}

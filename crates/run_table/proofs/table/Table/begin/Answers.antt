@@ -1,4 +1,5 @@
--- A new table has no records, and its journal holds the header (src/table.rt).
+-- For the proof of `Table::begin` (src/table.rt): a new table has no records, and its journal holds
+-- the header.
 use Rattle.std.proofs.Common.{rules, ◌≡◌, List, sym, subst, Ok}
 use Rattle.run_records.specs.Entries.{Entry}
 use Rattle.run_journal.specs.Beginning.{BeginsRun}

@@ -1,4 +1,5 @@
--- A path is drained if it is owed moves and comes to a wait with its next turn (src/table.rt).
+-- For the proof of `Table::drains` (src/table.rt): a path is to be drained if moves were answered
+-- to it since its last drain and its next turn brings it to a wait.
 use Rattle.std.proofs.Common.{◌≡◌, ◌&&◌, Bool, true, sym, ◌∙◌, ap, subst}
 use Rattle.tape_flow.specs.declared.flow.Flow.{Flow}
 use Rattle.tape_flow.specs.Places.{label_at}

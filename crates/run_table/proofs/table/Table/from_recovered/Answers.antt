@@ -1,4 +1,5 @@
--- What a recovery found is a table, whose journal is that of the recovery (src/table.rt).
+-- For the proof of `Table::from_recovered` (src/table.rt): what a recovery found makes a table,
+-- whose journal is that of the recovery.
 use Rattle.std.proofs.Common.{◌≡◌, length, sym, ap, subst, ◌∙◌, Option, Bool}
 use Rattle.nc_number.specs.declared.path.Path.TheVariants.{One, Two}
 use Rattle.nc_outside.specs.declared.halt.Halt.{Halt}

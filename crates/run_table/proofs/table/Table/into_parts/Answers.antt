@@ -1,4 +1,5 @@
--- The machine that is left is the fold of the history that is left (src/table.rt).
+-- For the proof of `Table::into_parts` (src/table.rt): the machine that is left is the fold of the
+-- history that is left.
 use Rattle.std.proofs.Common.{subst}
 use Rattle.two_path.specs.Histories.{IsKept}
 use Rattle.run_table.specs.Kept.{TableView, tapes_in, opening_of}

@@ -1,5 +1,5 @@
--- A table with room for so many records is a table, and stays one if memory runs out
--- (src/table.rt).
+-- For the proof of `Table::prepare` (src/table.rt): a table with room for so many records is a
+-- table, and it stays one if memory runs out.
 use Rattle.std.proofs.Common.{refl, length, arith, ap}
 use Rattle.run_table.proofs.TablesKept.{room_made}
 use Rattle.run_table.proofs.table.Table.prepare.Goals as goal

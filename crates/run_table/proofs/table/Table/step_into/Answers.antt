@@ -1,5 +1,5 @@
--- One step, whose moves stand in a list that is lent: by why the table stopped, a drain, or the
--- path's turn (src/table.rt).
+-- For the proof of `Table::step_into` (src/table.rt): one step, whose moves stand in a list that is
+-- lent. Its cases: the table has stopped, is full or has no budget, a drain, or the path's turn.
 use Rattle.std.proofs.Common.{◌≡◌, length, true, false, None, Some, sym, ap, subst, ◌∙◌, Option}
 use Rattle.std.specs.Prelude.{IfSome}
 use Rattle.nc_number.specs.declared.path.Path.TheVariants.{One, Two}
