@@ -1,5 +1,6 @@
 -- Where the moves of a block lead and how far they reach: to positions, and no farther than its
 -- motion.
+-- For the proofs of `last_end` and `put_moves` (src/moves.rt) and of the motion (src/motion.rt).
 use Rattle.std.proofs.Common.{ℕ, Bool, true, false, List, [], ◌∷◌, ◌++◌, Option, Some, None, unwrap_or, IfSome, if◌then◌else◌}
 use Rattle.std.proofs.lemmas.List.Elements.{All-nil, All-cons, All-head, All-tail, All-append}
 use Rattle.nc_number.specs.declared.point.Point.{Point}
@@ -30,36 +31,36 @@ last_end_stands at [] here all = here
 last_end_stands at (move ∷ moves) here all =
     last_end_stands (unwrap_or (end_of move) at) moves (end_after (end_of move) at here (All-head Lies move moves all).0) (All-tail Lies move moves all)
 
--- no move at all is within range,
+-- an empty list of moves is within range
 pub none_within : AreMovesWithin LONGEST []
 none_within = All-nil Lies
 
--- nor does a dwell reach anywhere,
+-- the one move of a dwell is within range, since it leads nowhere
 pub dwell_within : (ms : ℕ) → AreMovesWithin LONGEST (move.Dwell ms ∷ [])
 dwell_within ms = All-cons Lies (move.Dwell ms) [] (tt, tt) (All-nil Lies)
 
--- nor a speed,
+-- the move of S is within range, since it leads nowhere
 speed_within : (limits : Bool) (modal : ModalView) (speed : Var) → AreMovesWithin LONGEST (speed_moves limits modal speed)
 speed_within limits modal Vacant = All-nil Lies
 speed_within true modal (Is s) = All-cons Lies _ [] (tt, tt) (All-nil Lies)
 speed_within false modal (Is s) = All-cons Lies _ [] (tt, tt) (All-nil Lies)
 
--- nor a tool,
+-- the move of T is within range, since it leads nowhere
 tool_within : (tool : Option ℕ) → AreMovesWithin LONGEST (tool_moves tool)
 tool_within None = All-nil Lies
 tool_within (Some t) = All-cons Lies (move.Tool t) [] (tt, tt) (All-nil Lies)
 
--- nor an M code
+-- an auxiliary code that the machine gets, or none, is within range
 one_more : (b : Bool) (m : ℕ) → AreMovesWithin LONGEST (if b then move.Aux m ∷ [] else [])
 one_more true m = All-cons Lies (move.Aux m) [] (tt, tt) (All-nil Lies)
 one_more false m = All-nil Lies
 
--- if there is one
+-- the move of the M code, if there is one, is within range
 auxiliary_within : (code : Option ℕ) → AreMovesWithin LONGEST (auxiliary_moves code)
 auxiliary_within None = All-nil Lies
 auxiliary_within (Some m) = one_more (is_auxiliary m) m
 
--- so all moves of a block reach no farther than its motion
+-- all moves of a block are within range if those of its motion are
 pub all_within : (limits : Bool) (modal : ModalView) (values : Values) (motion : List Move) (code : Option ℕ) → AreMovesWithin LONGEST motion → AreMovesWithin LONGEST (all_moves limits modal values motion code)
 all_within limits modal values motion code all =
     let behind = All-append Lies motion (auxiliary_moves code) all (auxiliary_within code) in

@@ -1,4 +1,5 @@
--- What the parts of a block depend on: each on its own words alone.
+-- What the parts of a block depend on: the modal state, the motion and the moves each on its own
+-- words alone. So src/modal.rt, motion.rt and moves.rt hand on these words and no others.
 use Rattle.std.proofs.Common.{◌≡◌, ℕ, Bool, List, Option, refl}
 use Rattle.code_tables.specs.declared.kind.CodeKind.{CodeKind}
 use Rattle.code_tables.specs.declared.kind.CodeKind.TheVariants.{Rapid, Feed, ArcCw, ArcCcw, Thread, CycleTurn, CycleThread, CycleFace, Surface, Spindle, PerMin, PerRev, Inch, Metric, NoseOff, NoseOn, Work, Dwell, Setting, Home, Limit, Machine, MacroCall, Absolute, Incremental, Idle}
@@ -22,13 +23,13 @@ pub modal_hangs : (modal : ModalView) (system : System) (words : List FlowWord) 
     ≡ modal_behind modal (rows system words) (settings_said values.feed values.speed values.tool)
 modal_hangs modal system words values = refl
 
--- its other moves depend only on S, T and the M code
+-- the moves of a block depend only on its motion, on S, T and the M code
 pub moves_hang : (limits : Bool) (modal : ModalView) (values : Values) (motion : List Move) (code : Option ℕ)
     → all_moves limits modal values motion code
     ≡ all_moves limits modal (settings_said Vacant values.speed values.tool) motion code
 moves_hang limits modal values motion code = refl
 
--- its motion depends only on the words that the motion takes
+-- the motion of a block depends only on the words of `motion_part`
 pub motion_hangs : (home position : Point) (offsets : OffsetTable) (modal : ModalView) (kind : CodeKind) (has_l : Bool)
     (values : Values)
     → motion_of home position offsets modal kind has_l values

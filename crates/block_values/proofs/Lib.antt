@@ -1,4 +1,5 @@
--- The lemmas of this crate, each file by its subject.
+-- The lemmas of block_values, each file by its subject. path_state takes Locals; the others are for
+-- the proofs of this crate.
 mod Ends
 mod Hanging
 pub mod Locals

@@ -1,5 +1,6 @@
--- The arguments of a macro call.
--- path_state takes `argument_with` and `arguments_with`.
+-- The arguments of a macro call (G65): which local variable each address sets, and to which value.
+-- The contracts of src/arguments.rt cite all of it; path_state takes `argument_with` and
+-- `arguments_with` into its definition of a block's effect.
 use Rattle.std.specs.Prelude.{ℕ, Bool, ◌-◌, ◌==◌, ◌&&◌, not, List, [], ◌∷◌, Option, Some, None, Result, ℤ, pos, int_div, slice_set, codes, if◌then◌else◌}
 use Rattle.nc_number.specs.declared.literal.Literal.{Literal}
 use Rattle.nc_number.specs.declared.value.Var.{Var}
@@ -13,7 +14,7 @@ use Rattle.macro_eval.specs.declared.scope.VarFault.{VarFault}
 use Rattle.block_values.specs.Outcomes.{Outcome, Gives, ◌>>=◌, value_with}
 use Rattle.block_values.specs.Values.{computed}
 
--- the number beside a letter in two lists of one length
+-- the number that stands in the second list where this letter stands in the first
 abbrev pub beside : List ℕ → List ℕ → ℕ → Option ℕ
 beside [] numbers letter = None
 beside (own ∷ letters) [] letter = None
@@ -25,29 +26,31 @@ local_of letter =
     beside (codes "ABCDEFHIJKMQRSTUVWXYZ")
     (1 ∷ 2 ∷ 3 ∷ 7 ∷ 8 ∷ 9 ∷ 11 ∷ 4 ∷ 5 ∷ 6 ∷ 13 ∷ 17 ∷ 18 ∷ 19 ∷ 20 ∷ 21 ∷ 22 ∷ 23 ∷ 24 ∷ 25 ∷ 26 ∷ []) letter
 
--- without a point X, Z, U, W, I, K and R count 0.001, and every other argument is in whole units
+-- the value of an argument, in 0.000001: a number without a point counts thousandths for X, Z, U,
+-- W, I, K and R, and whole units for every other letter
 abbrev pub argument : ℕ → Literal → ℤ
 argument letter literal =
     if not literal.point && is_one_of (codes "XZUWIKR") letter then int_div literal.value (pos 1000) else literal.value
 
--- the arguments with the one of this local variable, if an address has one
+-- the list of local variables, with this value in the variable of this number, if there is a number
 abbrev pub with_argument : Option ℕ → ℤ → List Var → List Var
 with_argument None value arguments = arguments
 with_argument (Some i) value arguments = slice_set arguments (i - 1) (Is value)
 
--- the arguments with the value of this address; a vacant one sets none
+-- the list of local variables, with a computed value in the variable of this address; a vacant
+-- value sets none
 abbrev pub with_var : ℕ → Bool → Var → List Var → List Var
 with_var letter minus Vacant arguments = arguments
 with_var letter minus (Is value) arguments = with_argument (local_of letter) (argument letter (computed minus value)) arguments
 
--- one argument, by what a table says of each variable
+-- the local variables behind one argument, by what a table says of each variable
 abbrev pub argument_with : (ℕ → Result Look VarFault) → ℕ → WordValue → List Var → List Var → Outcome (List Var)
 argument_with table letter (Written literal) arguments reads =
     Gives (with_argument (local_of letter) (argument letter literal) arguments) reads
 argument_with table letter (Computed minus tree) arguments reads =
     value_with table tree reads >>= λ value left. Gives (with_var letter minus value arguments) left
 
--- all arguments; a vacant one leaves its variable vacant
+-- the local variables behind all arguments, each evaluated before the next; a vacant one sets none
 abbrev pub arguments_with : (ℕ → Result Look VarFault) → List FlowWord → List Var → List Var → Outcome (List Var)
 arguments_with table [] arguments reads = Gives arguments reads
 arguments_with table (word ∷ words) arguments reads =

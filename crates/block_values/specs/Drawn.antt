@@ -1,4 +1,5 @@
--- What the code's own structs are as records of the definitions.
+-- How contracts read the structs of src/motion.rt as the records of Values and Motion, so that the
+-- code of a motion can be compared with its definition.
 -- path_state takes `step_motion` and `step_seen`.
 use Rattle.std.specs.Prelude.{ℕ, List, Some, unwrap_or, Result, Ok, Err}
 use Rattle.motion_track.specs.Centre.{IsLengthWithin}
@@ -9,7 +10,7 @@ use Rattle.block_values.specs.declared.motion.MotionWords.{MotionWords}
 use Rattle.block_values.specs.Motion.{Motion}
 use Rattle.block_values.specs.Values.{Values, nothing_said}
 
--- what the words of a block say to its motion
+-- the words of a block as its motion has them; F, S and T, which no motion takes, are not said
 abbrev pub motion_said : MotionWords → Values
 motion_said words = record nothing_said {
   x = words.x;
@@ -23,7 +24,7 @@ motion_said words = record nothing_said {
   rest = Some words.rest;
 }
 
--- what the motion of a block takes of its words
+-- the words that the motion of a block takes out of all its words; a dwell that is not said is 0
 abbrev pub motion_part : Values → MotionWords
 motion_part values = record {
   x = values.x;
@@ -37,7 +38,7 @@ motion_part values = record {
   rest = unwrap_or values.rest 0;
 }
 
--- no length of the words is longer than that
+-- no length of the words is longer than `far`, in 0.001 mm
 pub record AreLengthsWithin (far : ℕ) (words : MotionWords) : Type 0 where
   pub x : IsLengthWithin far words.x
   pub z : IsLengthWithin far words.z
@@ -47,20 +48,20 @@ pub record AreLengthsWithin (far : ℕ) (words : MotionWords) : Type 0 where
   pub k : IsLengthWithin far words.k
   pub r : IsLengthWithin far words.r
 
--- a motion of the code
+-- a motion of the code, as the record of specs/Motion
 abbrev pub motion_view : Drawn → Motion
 motion_view motion = record { moves = motion.moves; cycle = motion.cycle; offset = motion.offset }
 
--- the motion of a block, or why there is none
+-- a motion of the code as that record, or the fault for which there is none
 abbrev pub seen : {F : Type 0} → Result Drawn F → Result Motion F
 seen (Ok motion) = Ok (motion_view motion)
 seen (Err fault) = Err fault
 
--- a motion whose moves stand apart
+-- a step of the code with its moves, which stand in a list that was lent, as one motion
 abbrev pub step_motion : MotionStep → List Move → Motion
 step_motion step moves = record { moves = moves; cycle = step.cycle; offset = step.offset }
 
--- the motion of a block whose moves stand apart, or why there is none
+-- a step of the code with its moves as one motion, or the fault for which there is none
 abbrev pub step_seen : {F : Type 0} → Result MotionStep F → List Move → Result Motion F
 step_seen (Ok step) moves = Ok (step_motion step moves)
 step_seen (Err fault) moves = Err fault

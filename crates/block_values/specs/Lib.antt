@@ -1,5 +1,6 @@
 -- The words of the contracts of block_values, from the value of an operand (Outcomes) to all moves
--- of a block (Moves). path_state cites all but Drawn's and Seen's inner words.
+-- of a block (Moves). path_state builds the effect of a block from them, so a change of one changes
+-- what a block does.
 pub mod Outcomes
 pub mod Readings
 pub mod Values

@@ -1,5 +1,7 @@
--- The motion of a block: by its one-shot code if it has one, else by the motion code in force.
--- path_state, run_table and two more crates take words from here.
+-- What the motion of a block comes to: its moves, where a cycle ends, the offset that G10 sets. It
+-- goes by the block's one-shot code if it has one, else by the motion code in force.
+-- path_state takes `motion_of` into a block's effect. The proofs of run_table, two_path and
+-- zone_check take words from here too.
 use Rattle.std.specs.Prelude.{ℕ, Bool, true, false, List, [], ◌∷◌, Option, Some, None, unwrap_or, Result, Ok, Err, ℤ}
 use Rattle.nc_number.specs.declared.point.Point.{Point}
 use Rattle.nc_number.specs.declared.axis.Axis.{Axis}
@@ -33,22 +35,23 @@ use Rattle.block_values.specs.Values.{Values}
 
 -- what the motion of a block comes to
 pub record Motion : Type 0 where
+  -- the moves, in their order
   pub moves : List Move
-  -- where the cycle in force ends from then on
+  -- where the cycle in force ends from then on, in machine coordinates (0.001 mm)
   pub cycle : Option Point
-  -- the offset that is set
+  -- the offset that G10 sets, and its new value
   pub offset : Option (Slot × Point)
 
--- a motion of these moves that sets no offset
+-- a motion of these moves that sets no offset; `cycle` is where the cycle in force ends behind it
 abbrev pub moving : Option Point → List Move → Motion
 moving cycle moves = record { moves = moves; cycle = cycle; offset = None }
 
--- the number of an alarm
+-- an answer of a motion, with its fault as the number of the alarm
 abbrev pub motion_number : {A : Type 0} → Result A MotionFault → Result A ℕ
 motion_number (Ok value) = Ok value
 motion_number (Err fault) = Err fault.number
 
--- what was set, or the number of the alarm
+-- an answer of the setting of an offset, with its fault as the number of the alarm
 abbrev pub offset_number : {A : Type 0} → Result A OffsetFault → Result A ℕ
 offset_number (Ok value) = Ok value
 offset_number (Err fault) = Err fault.number
@@ -57,22 +60,23 @@ offset_number (Err fault) = Err fault.number
 abbrev pub motion_kind : ModalView → Option CodeKind → CodeKind
 motion_kind modal one_shot = unwrap_or one_shot modal.motion
 
--- what the words of an axis say: X and Z are incremental where G91 is in force, as U and W always
--- are
+-- what the two words of an axis say, the one of X or Z before the one of U or W: X and Z are
+-- incremental where G91 is in force (true), as U and W always are
 abbrev pub axis_under : Bool → Option ℤ → Option ℤ → Axis
 axis_under false word way = axis_of word way
 axis_under true None way = axis_of None way
 axis_under true (Some word) way = By word
 
--- what the words say of X
+-- what X and U of a block say of the axis X
 abbrev pub x_axis : ModalView → Values → Axis
 x_axis modal values = axis_under modal.incremental values.x values.u
 
--- and of Z
+-- what Z and W of a block say of the axis Z
 abbrev pub z_axis : ModalView → Values → Axis
 z_axis modal values = axis_under modal.incremental values.z values.w
 
--- what the motion depends on: the modal state is the one with the block's codes and words taken
+-- what the motion of a block depends on. `modal` is the state behind the block's own codes and
+-- words.
 abbrev pub block_motion : Point → Point → OffsetTable → ModalView → Values → BlockMotion
 block_motion home position offsets modal values = record {
   start = position;
@@ -87,13 +91,13 @@ block_motion home position offsets modal values = record {
   per_rev = modal.per_rev;
 }
 
--- G10: with L a work offset, without it a tool's; an absolute word sets, an incremental one adds.
--- Alarm 40 of its number, then 41 of the offset
+-- which kind of offset G10 sets: with L a work offset, without it a tool offset
 abbrev pub form_of : Bool → OffsetForm
 form_of true = WorkOffset
 form_of false = ToolOffset
 
--- the offset that G10 sets, and its point; or the alarm of why there is none
+-- the offset that G10 sets, and its new value: an absolute word sets it, an incremental one adds to
+-- it. Alarm 40 if P names none, then 41 if the new value is past the range.
 abbrev pub setting_of : OffsetTable → ModalView → Bool → Values → Result (Slot × Point) OffsetFault
 setting_of offsets modal has_l values = do
   slot ← slot_named (form_of has_l) values.number
@@ -110,7 +114,7 @@ abbrev pub passed_motion : Result CyclePass MotionFault → Result Motion Motion
 passed_motion (Ok pass) = Ok (moving pass.kept pass.moves)
 passed_motion (Err fault) = Err fault
 
--- moves of a line, an arc or a thread as a motion
+-- the moves of a code that is no cycle, as a motion; the cycle's end stays
 abbrev pub tracked : Option Point → Result (List Move) MotionFault → Result Motion MotionFault
 tracked cycle (Ok moves) = Ok (moving cycle moves)
 tracked cycle (Err fault) = Err fault
@@ -120,7 +124,7 @@ abbrev pub cut_motion : Option CycleKind → CodeKind → Option Point → Block
 cut_motion (Some cycle) kind kept block = passed_motion (pass_of cycle kept block)
 cut_motion None kind kept block = tracked kept (moves_of kind block)
 
--- the motion of a code that leads the turret, or of one that leads it nowhere
+-- the motion of a block whose code is no dwell and sets no offset; most of these codes move nothing
 abbrev pub turret_motion : Point → Point → OffsetTable → ModalView → CodeKind → Values → Result Motion ℕ
 turret_motion home position offsets modal kind values =
     motion_number (cut_motion (cycle_kind_of kind) kind modal.cycle (block_motion home position offsets modal values))

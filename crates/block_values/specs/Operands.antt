@@ -1,5 +1,7 @@
--- What the operands of a statement come to, by what a table says of each variable.
--- named_vars, path_state and two more crates take words from here.
+-- What the operands of a statement come to, by what a table says of each variable: the variable on
+-- the left side, a condition, the sequence number of a jump.
+-- path_state takes them into the effect of a statement. The proofs of named_vars, two_path and
+-- zone_check take words from here too.
 use Rattle.std.specs.Prelude.{ℕ, Bool, List, Option, Some, None, Result, Ok, Err, ℤ, pos, negsuc}
 use Rattle.nc_number.specs.declared.cause.Cause.{Cause}
 use Rattle.nc_number.specs.declared.cause.Cause.TheVariants.{VariableRange, NoSequence}
@@ -17,17 +19,18 @@ use Rattle.macro_eval.specs.Relations.{holds_of}
 use Rattle.block_values.specs.Outcomes.{Outcome, Gives, ◌>>=◌, reading_none, value_with}
 use Rattle.block_values.specs.Readings.{variable_in}
 
--- a number that is given names a variable, or is alarm 30
+-- the variable that was found for a number, or alarm 30 if none was
 abbrev pub existing : Option Variable → Result Variable Cause
 existing None = Err VariableRange
 existing (Some variable) = Ok variable
 
--- the variable of a number, or the alarm of a number that is none
+-- the variable of a computed number, or the alarm for which there is no such number
 abbrev pub number_named : ModalView → Result ℕ Cause → Result Variable Cause
 number_named modal (Ok n) = existing (variable_in modal n)
 number_named modal (Err cause) = Err cause
 
--- the variable on the left side: its number is computed before the value
+-- the variable on the left side of an assignment, whose number is evaluated if it is not written
+-- out. Alarms: those of the number, and 30 if there is no such variable.
 abbrev pub variable_with : (ℕ → Result Look VarFault) → ModalView → Named → List Var → Outcome Variable
 variable_with table modal (Numbered n) reads = reading_none (existing (variable_in modal n)) reads
 variable_with table modal (Computed tree) reads =
@@ -37,16 +40,17 @@ variable_with table modal (Computed tree) reads =
 abbrev pub length_of : Var → ℤ
 length_of value = nearest_quotient (or_zero value) (pos 1000)
 
--- a condition whose left side is evaluated
+-- whether a condition holds whose left side is evaluated already
 abbrev pub relation_with : (ℕ → Result Look VarFault) → Rel → Var → Tree → List Var → Outcome Bool
 relation_with table rel left tree reads = value_with table tree reads >>= λ right rest. Gives (holds_of rel left right) rest
 
--- a condition, left and then right
+-- whether a condition holds; its left side is evaluated before its right one
 abbrev pub condition_with : (ℕ → Result Look VarFault) → Test → List Var → Outcome Bool
 condition_with table test reads =
     value_with table test.left reads >>= λ left behind_left. relation_with table test.rel left test.right behind_left
 
--- a computed sequence number: 4 where it is not whole, and 50 where no block can have it
+-- a computed sequence number: the alarm of a value that is not whole, and 50 of one below 0, which
+-- no block can have
 abbrev pub sequence_number : Result ℤ Cause → Result ℕ Cause
 sequence_number (Ok (pos n)) = Ok n
 sequence_number (Ok (negsuc n)) = Err NoSequence

@@ -1,6 +1,6 @@
--- What a step of a block comes to: a value and the reads that are left, the need of a shared
--- variable, or an alarm.
--- named_vars, path_state and three more crates take words from here.
+-- How a step of a block ends: with a value and the reads that are left, with the need of a shared
+-- variable, or with an alarm. Each definition of what words and operands say answers so.
+-- named_vars, path_state, run_table, two_path and zone_check take words from here.
 use Rattle.std.specs.Prelude.{ℕ, List, Result, Ok, Err, ℤ, pos}
 use Rattle.nc_number.specs.declared.cause.Cause.{Cause}
 use Rattle.nc_number.specs.declared.value.Var.{Var}
@@ -11,14 +11,15 @@ use Rattle.macro_eval.specs.declared.scope.Look.{Look}
 use Rattle.macro_eval.specs.declared.scope.VarFault.{VarFault}
 use Rattle.macro_eval.specs.Meaning.{Answer, meaning}
 
--- how a step ends
+-- how a step of a block ends
 pub data Outcome (A : Type 0) : Type 0 where
+  -- it gives a value; `left` are the values of shared variables that are not read yet
   Gives : (value : A) → (left : List Var) → Outcome A
+  -- it can't go on before this shared variable is read
   Needs : (variable : ℕ) → Outcome A
-  -- the number of the alarm, and its value, which is 0 but for 33
+  -- it raises an alarm: its number, and its value, which is 0 but for alarm 33
   Alarms : (number : ℕ) → (value : ℤ) → Outcome A
 
--- one step behind the other
 infixl 10 ◌>>=◌
 -- one step and then another, with the reads that the first one left
 abbrev pub ◌>>=◌ : {A B : Type 0} → Outcome A → (A → List Var → Outcome B) → Outcome B
@@ -30,7 +31,7 @@ abbrev pub ◌>>=◌ : {A B : Type 0} → Outcome A → (A → List Var → Outc
 abbrev pub alarm : {A : Type 0} → Cause → Outcome A
 alarm cause = Alarms (cause_number cause) (pos 0)
 
--- a step that takes no read
+-- an answer that took no read of a shared variable, as an outcome
 abbrev pub reading_none : {A : Type 0} → Result A Cause → List Var → Outcome A
 reading_none (Ok value) left = Gives value left
 reading_none (Err cause) left = alarm cause

@@ -1,4 +1,5 @@
--- What a number names, and how a variable gives what it holds.
+-- Which variable a number names under the code system in force, and how the value of a system
+-- variable is counted: lengths in millimetres, codes and numbers in whole units.
 -- named_vars, path_state and two_path take words from here.
 use Rattle.std.specs.Prelude.{ℕ, Bool, true, Option, Some, None, is_some, ℤ, pos, if◌then◌else◌}
 use Rattle.nc_number.specs.declared.value.Var.{Var}
@@ -13,8 +14,8 @@ use Rattle.common_vars.specs.Variables.{variable_of}
 use Rattle.modal_state.specs.View.{ModalView}
 use Rattle.modal_state.specs.Modal.{code_of}
 
--- the code of a modal group is a variable only where the system has the group: that of absolute and
--- incremental in B alone
+-- whether the system in force has this variable. The code of a modal group is one only where the
+-- system has the group; system B alone has that of absolute and incremental. All others exist.
 abbrev pub is_there : ModalView → Variable → Bool
 is_there modal (variable.Code group) = is_some (code_of modal group)
 is_there modal _ = true
@@ -28,7 +29,7 @@ if_there modal (Some variable) = if is_there modal variable then Some variable e
 abbrev pub variable_in : ModalView → ℕ → Option Variable
 variable_in modal n = if_there modal (variable_of n)
 
--- a number in whole units, and a length in 0.001 mm, as a variable gives it
+-- a value as a variable holds it, vacant if there is none
 abbrev pub or_vacant : Option ℤ → Var
 or_vacant None = Vacant
 or_vacant (Some value) = Is value
@@ -46,7 +47,7 @@ abbrev pub code_in_force : Option ℕ → Var
 code_in_force None = Vacant
 code_in_force (Some code) = in_units code
 
--- X or Z of a point
+-- the part of a point along this axis, in 0.001 mm
 abbrev pub part : AxisLetter → Point → ℤ
 part X point = point.x
 part Z point = point.z

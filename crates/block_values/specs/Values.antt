@@ -1,5 +1,7 @@
--- What the words of a block say once each is evaluated, in the order of the text.
--- named_vars, path_state and three more crates take words from here.
+-- What the words of a block say once each is evaluated, in the order of the text: which fields a
+-- word sets, and when it is refused (56, 64).
+-- path_state takes `words_with` into a block's effect. The proofs of named_vars, run_table,
+-- two_path and zone_check take words from here too.
 use Rattle.std.specs.Prelude.{ℕ, Bool, true, false, not, ◌&&◌, ◌||◌, List, [], ◌∷◌, Option, Some, None, Result, Ok, Err, ℤ, neg_ℤ, unsigned_abs, codes, if◌then◌else◌}
 use Rattle.nc_number.specs.declared.cause.Cause.{Cause}
 use Rattle.nc_number.specs.declared.cause.Cause.TheVariants.{UnknownCode, WordRange}
@@ -22,7 +24,7 @@ use Rattle.block_values.specs.Outcomes.{Outcome, Gives, ◌>>=◌, reading_none,
 
 -- what the words of a block say; of an address given twice the last that is not vacant
 pub record Values : Type 0 where
-  -- lengths in 0.001 mm
+  -- X, Z, U, W, I, K and R in 0.001 mm: X and U count on the diameter, I and R on the radius
   pub x : Option ℤ
   pub z : Option ℤ
   pub u : Option ℤ
@@ -30,11 +32,12 @@ pub record Values : Type 0 where
   pub i : Option ℤ
   pub k : Option ℤ
   pub r : Option ℤ
-  -- in whole units
+  -- F and S as values (0.000001), which count whole units without a point
   pub feed : Var
   pub speed : Var
+  -- T as a whole number
   pub tool : Option ℕ
-  -- P of the setting of an offset
+  -- P of the setting of an offset (G10): the number of the offset
   pub number : Option ℤ
   -- a dwell in milliseconds
   pub rest : Option ℕ
@@ -58,39 +61,42 @@ nothing_said = record {
 
 -- what decides the meaning of a word in its block
 pub record Sense : Type 0 where
+  -- what the block's codes make of its words
   pub purpose : Purpose
   -- an arc is in force behind the block's own codes; beside it I, K and R are read
   pub arc : Bool
   -- the setting of an offset is given, beside which R is read and ignored
   pub setting : Bool
 
--- I, K and R mean something there
+-- whether a word of this letter means something in a block of this sense: I and K beside an arc, R
+-- beside an arc or G10, every other letter always
 abbrev pub is_meant : Sense → ℕ → Bool
 is_meant sense letter =
     not (is_one_of (codes "IKR") letter) || (sense.arc || (sense.setting && is_one_of (codes "R") letter))
 
--- the block is a dwell
+-- the codes of the block make it a dwell (G04)
 abbrev pub is_dwell : Purpose → Bool
 is_dwell Dwell = true
 is_dwell _ = false
 
--- the block sets an offset
+-- the codes of the block make it the setting of an offset (G10)
 abbrev pub is_offset : Purpose → Bool
 is_offset Setting = true
 is_offset _ = false
 
--- how long a dwell is
+-- the length of a dwell in milliseconds
 abbrev pub milliseconds : ℤ → Option ℕ
 milliseconds n = Some (unsigned_abs n)
 
--- in a dwell X, U and P say how long it is; Z and W are read and ignored
+-- the values with a word of a dwell taken: X, U and P say how long it is; Z and W are read and
+-- ignored
 abbrev pub with_rest : ℕ → Literal → Values → Values
 with_rest letter literal values =
     if is_one_of (codes "XU") letter then record values { rest = milliseconds (thousandths_of literal) }
     else if is_one_of (codes "P") letter then record values { rest = natural (whole_of literal.value) }
     else values
 
--- a length along an axis, or to a centre
+-- the values with a length taken: along an axis, to the centre of an arc, or its radius
 abbrev pub with_length : ℕ → ℤ → Values → Values
 with_length letter length values =
     if is_one_of (codes "X") letter then record values { x = Some length }
@@ -102,7 +108,7 @@ with_length letter length values =
     else if is_one_of (codes "R") letter then record values { r = Some length }
     else values
 
--- F, S and T, and the number of an offset
+-- the values with F, S, T or the number of an offset taken; every other word leaves them
 abbrev pub with_setting : Sense → ℕ → Literal → Values → Values
 with_setting sense letter literal values =
     if is_one_of (codes "F") letter then record values { feed = Is literal.value }
@@ -118,7 +124,8 @@ with_word sense letter literal values =
     else if is_one_of (codes "XZUWIKR") letter then with_length letter (thousandths_of literal) values
     else with_setting sense letter literal values
 
--- 56 of I, K and R that mean nothing, then 64 of a word out of its range
+-- the values with a word taken; or 56 of I, K and R that mean nothing, then 64 of a word out of its
+-- range
 abbrev pub taken : Sense → ℕ → Literal → Values → Result Values Cause
 taken sense letter literal values =
     if not (is_meant sense letter) then Err UnknownCode
@@ -129,19 +136,19 @@ taken sense letter literal values =
 abbrev pub computed : Bool → ℤ → Literal
 computed minus value = record { value = if minus then neg_ℤ value else value; point = true }
 
--- a vacant word counts as absent
+-- the values with a computed word taken, which counts as absent if its value is vacant
 abbrev pub taken_var : Sense → ℕ → Bool → Var → Values → Result Values Cause
 taken_var sense letter minus Vacant values = Ok values
 taken_var sense letter minus (Is value) values = taken sense letter (computed minus value) values
 
--- one word, by what a table says of each variable: it is evaluated, and then converted, before the
--- next
+-- the values behind one word, by what a table says of each variable: it is evaluated, and then
+-- taken
 abbrev pub word_with : (ℕ → Result Look VarFault) → Sense → ℕ → WordValue → Values → List Var → Outcome Values
 word_with table sense letter (Written literal) values reads = reading_none (taken sense letter literal values) reads
 word_with table sense letter (Computed minus tree) values reads =
     value_with table tree reads >>= λ value left. reading_none (taken_var sense letter minus value values) left
 
--- all words
+-- the values behind all words of a block, each evaluated and taken before the next
 abbrev pub words_with : (ℕ → Result Look VarFault) → Sense → List FlowWord → Values → List Var → Outcome Values
 words_with table sense [] values reads = Gives values reads
 words_with table sense (word ∷ words) values reads =

@@ -1,5 +1,5 @@
-//! The arguments of a macro call: which local variable an address is, and its value.
-//! path_state uses it.
+//! The arguments of a macro call (G65): which local variable an address sets, and to which value.
+//! path_state calls `arguments_taken` when a block opens a macro program.
 ghost use Rattle.std.specs.Prelude.{◌≡◌, ◌≤◌, IfSome, pos, int_div};
 ghost use Rattle.block_values.specs.Arguments.{local_of, argument, with_argument, with_var, argument_with, arguments_with};
 ghost use Rattle.block_values.specs.Seen.{outcome_of};
@@ -11,7 +11,7 @@ use local_levels::LOCALS;
 use macro_eval::{Eval, Scope, evaluate};
 use nc_number::{Literal, Value, Var};
 
-/// Which local variable an address of a macro call is, from 1 to 26.
+/// The local variable that an address of a macro call sets, from 1 to 26.
 pub fn local_of(letter: u8) -> Option<u8>
     ensures local { result ≡ local_of letter }
     ensures range { IfSome result (λ i. (1 ≤ i) × (i ≤ 26)) }
@@ -52,8 +52,8 @@ fn thousandth(value: Value) -> Value
     }
 }
 
-/// What an argument counts: without a point X, Z, U, W, I, K and R count 0.001, and every other
-/// argument is in whole units.
+/// The value of an argument: a number without a point counts thousandths for X, Z, U, W, I, K and
+/// R, and whole units for every other letter.
 pub fn argument(letter: u8, literal: &Literal) -> Value
     ensures { result ≡ argument letter literal.now }
 {
@@ -73,7 +73,7 @@ fn set_argument(letter: u8, value: Value, arguments: &mut [Var; LOCALS])
     }
 }
 
-/// A vacant argument leaves its variable as it is.
+/// Gives the local variable of the address a computed value; a vacant one leaves it as it is.
 fn set_computed(letter: u8, minus: bool, value: Var, arguments: &mut [Var; LOCALS])
     ensures { arguments.new ≡ with_var letter minus value arguments.old }
 {
@@ -86,7 +86,7 @@ fn set_computed(letter: u8, minus: bool, value: Var, arguments: &mut [Var; LOCAL
     }
 }
 
-/// One argument: it is evaluated, and then converted, before the next.
+/// Evaluates one argument and puts it into its local variable.
 fn argument_taken<'a, S: Scope>(
     word: &FlowWord,
     scope: &S,

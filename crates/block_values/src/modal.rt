@@ -1,5 +1,5 @@
-//! The modal state behind the codes and words of a block.
-//! path_state and tests use it.
+//! Which modal state is in force behind the codes and words of a block.
+//! path_state calls `modal_behind`; tests call `modal_after`.
 ghost use Rattle.std.specs.Prelude.{◌≡◌};
 ghost use Rattle.block_words.specs.Codes.{rows};
 ghost use Rattle.block_values.specs.InForce.{modal_after, speed_word, settings_said, has_limit, modal_behind};
@@ -36,7 +36,8 @@ pub fn modal_after(
     }
 }
 
-/// The modal state behind the codes and words of a block. Alarm 40 of T, as its number.
+/// The modal state behind the codes and words of a block; alarm 40, as its number, if T names no
+/// tool offset from 0 to 64.
 pub fn modal_behind(modal: &Modal, words: &FlowWords, values: &Values) -> Result<Modal, u8>
     ensures { result ≡ modal_after modal.now words.now.dialect.system words.now.words (values_seen values.now) }
 {

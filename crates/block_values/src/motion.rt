@@ -1,5 +1,6 @@
-//! The motion of a block: by its one-shot code if it has one, else by the motion code in force.
-//! path_state and tests use it.
+//! The motion of a block: its moves, where a cycle ends, the offset that G10 sets. It goes by the
+//! block's one-shot code if it has one, else by the motion code in force.
+//! path_state calls `motion_behind`; tests call `motion_of`.
 ghost use Rattle.std.specs.Prelude.{ℕ, ◌≡◌, ◌≤◌, ◌∷◌, [], codes, length, None, IfOk, IfSome, unsigned_abs};
 ghost use Rattle.nc_number.specs.Axes.{IsAxisWithin};
 ghost use Rattle.nc_number.specs.Position.{IsPosition};
@@ -26,26 +27,27 @@ use nc_number::{Axis, Cause, Point};
 use offset_store::{OffsetFault, OffsetForm, Offsets, Slot};
 use turn_cycles::{CycleKind, cycle_pass};
 
-/// What the words of a block say to its motion. Lengths are in 0.001 mm.
+/// What the words of a block say to its motion. Lengths are in 0.001 mm: X and U count on the
+/// diameter, I and R on the radius.
 #[derive(Clone, Copy, Debug, PartialEq, Eq)]
 pub struct MotionWords {
-    /// X where the axis goes to.
+    /// X: where the axis goes to; under G91 how far it goes. In G10 the offset's part along X.
     pub x: Option<i64>,
-    /// Z where the axis goes to.
+    /// Z: where the axis goes to; under G91 how far it goes. In G10 the offset's part along Z.
     pub z: Option<i64>,
-    /// How far it goes along X.
+    /// U: how far the axis goes along X; in G10 what is added to the offset's part.
     pub u: Option<i64>,
-    /// How far it goes along Z.
+    /// W: how far the axis goes along Z; in G10 what is added to the offset's part.
     pub w: Option<i64>,
-    /// From the start to the centre of an arc along X.
+    /// I: from the start of an arc to its centre along X.
     pub i: Option<i64>,
-    /// And along Z.
+    /// K: from the start of an arc to its centre along Z.
     pub k: Option<i64>,
-    /// The radius of an arc, or the taper of a cycle.
+    /// R: the radius of an arc, which counts before I and K. No other motion heeds it.
     pub r: Option<i64>,
-    /// P of the setting of an offset.
+    /// P of the setting of an offset (G10): the number of the offset.
     pub number: Option<i64>,
-    /// A dwell in milliseconds.
+    /// How long a dwell (G04) is, in milliseconds; 0 if no word says it.
     pub rest: u64,
 }
 
@@ -75,24 +77,24 @@ impl MotionWords {
 pub struct Motion {
     /// The moves, in their order.
     pub moves: MoveList,
-    /// Where the cycle in force ends from then on.
+    /// Where the cycle in force ends from then on, in machine coordinates.
     pub cycle: Option<Point>,
-    /// The offset that is set, and to what.
+    /// The offset that G10 sets, and its new value.
     pub offset: Option<(Slot, Point)>,
 }
 
-/// What the motion of a block comes to, its moves apart: they stand in a list that was lent.
+/// What the motion of a block comes to but for its moves, which stand in a list that was lent.
 #[derive(Debug, Drop)]
 pub struct MotionStep {
-    /// Where the cycle in force ends from then on.
+    /// Where the cycle in force ends from then on, in machine coordinates.
     pub cycle: Option<Point>,
-    /// The offset that is set, and to what.
+    /// The offset that G10 sets, and its new value.
     pub offset: Option<(Slot, Point)>,
 }
 
-/// The motion of a block of these words, where this is in force behind its codes and words: by its
-/// one-shot code if it has one, else by the motion code in force. Its moves are put into the list,
-/// which is empty.
+/// The motion of a block of these words. `modal` is in force behind its codes and words. It goes by
+/// the block's one-shot code if it has one, else by the motion code in force. Its moves are put
+/// into the list, which is empty.
 ///
 /// Alarms: those of [`motion_of`].
 #[tactic(auto, using(crate::proofs::Hanging::motion_hangs))]
@@ -133,9 +135,10 @@ pub fn motion_behind(
 /// The motion of a block by the kind of its code, from where the turret stands: a dwell, the
 /// setting of an offset, a cycle, a line, an arc, a thread, a way home, or none.
 ///
-/// Alarms, as their numbers: 40 of an offset that does not exist, 41 past the range, 43 of an arc
-/// without a centre, 42 of one that ends off its circle, 44 of a cut without a feed; 56 of a rapid
-/// in machine coordinates while words are incremental, whatever words stand beside it.
+/// Alarms, as their numbers: of G10 40 of an offset that does not exist; 41 of a target or an
+/// offset past the range; 43 of an arc without I, K and R, 42 of one that ends off its circle; 44
+/// of a cut, an arc, a thread or a cycle without a feed; 56 of G53 under G91, whatever words stand
+/// beside it.
 pub fn motion_of(
     position: Point,
     home: Point,
@@ -166,7 +169,7 @@ pub fn motion_of(
     }
 }
 
-/// The same with its moves put into the list, which is empty.
+/// What [`motion_of`] answers, with its moves put into the list, which is empty.
 #[tactic(auto, using(crate::proofs::Ends::none_within))]
 fn motion_step(
     position: Point,
@@ -208,7 +211,7 @@ fn motion_step(
     }
 }
 
-/// A rest alone.
+/// A dwell: it puts this one move into the list, which is empty, and leaves the cycle's end.
 #[tactic(auto, using(crate::proofs::Ends::dwell_within))]
 fn dwell(cycle: Option<Point>, ms: u64, moves: &mut MoveList) -> MotionStep
     requires { moves.old ≡ [] }
@@ -223,8 +226,8 @@ fn dwell(cycle: Option<Point>, ms: u64, moves: &mut MoveList) -> MotionStep
     }
 }
 
-/// What the words of an axis say: X and Z are incremental where G91 is in force, as U and W always
-/// are.
+/// What the two words of an axis say, the one of X or Z before the one of U or W: X and Z are
+/// incremental where G91 is in force, as U and W always are.
 fn axis_under(incremental: bool, word: Option<i64>, way: Option<i64>) -> Axis
     ensures told { result ≡ axis_under incremental word way }
     ensures range { (far : ℕ) → IfSome word (λ n. unsigned_abs n ≤ far)
@@ -239,9 +242,9 @@ fn axis_under(incremental: bool, word: Option<i64>, way: Option<i64>) -> Axis
     }
 }
 
-/// The offset that G10 sets, and to what: with L a work offset, else a tool's. An absolute word
-/// sets, and an incremental one adds. Alarm 40 exactly where P names none, then 41 exactly where a
-/// part of it would be past 99,999.999 mm.
+/// The offset that G10 sets, and its new value: with L a work offset, else a tool offset. An
+/// absolute word sets it, and an incremental one adds to it. Alarm 40 exactly where P names none,
+/// then 41 exactly where a part of the new value would be past 99,999.999 mm.
 pub fn setting(
     offsets: &Offsets,
     modal: &Modal,
@@ -271,7 +274,7 @@ fn form_of(has_l: bool) -> OffsetForm
     }
 }
 
-/// What the moves of the block depend on.
+/// What the moves of the block depend on: its words, and the state of its path.
 fn block_motion(
     position: Point,
     home: Point,

@@ -1,5 +1,6 @@
-//! All moves of a block in their order, and where the turret stands behind them.
-//! path_state and tests use it.
+//! All moves that a block asks of its turret, in their order, and where the turret stands behind
+//! them.
+//! path_state calls `moves_behind` and `last_end`; tests call `all_moves`.
 ghost use Rattle.std.specs.Prelude.{Option, ◌≡◌, ◌≤◌, ◌<◌, ◌+◌, ◌++◌, length};
 ghost use Rattle.nc_number.specs.declared.value.Var.TheVariants.{Vacant};
 ghost use Rattle.nc_number.specs.Arithmetic.{whole_of};
@@ -19,7 +20,8 @@ use motion_track::LONGEST;
 use nc_moves::{Move, MoveList};
 use nc_number::{Point, Value, Var};
 
-/// Puts all moves of a block of these words into the list: what [`all_moves`] makes of them.
+/// Puts all moves of a block of these words into the list: what [`all_moves`] makes of them. What
+/// the list held before is gone.
 #[tactic(auto, using(crate::proofs::Hanging::moves_hang))]
 pub fn moves_behind(
     words: &FlowWords,
@@ -100,7 +102,7 @@ pub fn last_end(at: Point, moves: &[Move]) -> Point
     end
 }
 
-/// S, where it is said: the highest speed beside G50, else the speed.
+/// Adds the move of S, if S is said: the highest speed beside G50, else the speed.
 fn put_speed(moves: &mut MoveList, limits: bool, modal: &Modal, speed: Var)
     requires { length moves.old < 8 }
     ensures moves { moves.new ≡ moves.old ++ speed_moves limits modal.now speed }
@@ -119,7 +121,8 @@ fn put_speed(moves: &mut MoveList, limits: bool, modal: &Modal, speed: Var)
     }
 }
 
-/// The whole number of a speed; one with a fraction counts 0, and no tape has one.
+/// The whole number of a speed. One with a fraction counts 0, but words out of range never come
+/// here.
 fn whole_or_zero(speed: &Value) -> u32
     ensures { result ≡ whole_or_zero (whole_of speed.now) }
 {
@@ -153,7 +156,8 @@ fn put_auxiliary(moves: &mut MoveList, code: Option<u32>)
     }
 }
 
-/// Whether it is an M code, and none of the control's own.
+/// Whether the machine gets this M code: it is at most 999, and none of M02, M30, M98 and M99,
+/// which the control does itself.
 fn is_auxiliary(m: u32) -> bool
     ensures { result ≡ is_auxiliary m }
 {

@@ -1,6 +1,7 @@
 //! What the operands of a statement come to: the variable on its left side, a value, a condition,
-//! and the sequence number of a jump.
-//! path_state uses it.
+//! and the sequence number of a jump. Each is evaluated over a scope and takes the reads that it
+//! needs.
+//! path_state runs statements with it.
 ghost use Rattle.std.specs.Prelude.{◌≡◌, List, IfOk};
 ghost use Rattle.nc_number.specs.declared.value.Var.{Var};
 ghost use Rattle.common_vars.specs.Variables.{IsVariable};
@@ -19,7 +20,7 @@ use macro_expr::{Cond, Rel, Target, VarRef};
 use modal_state::Modal;
 use nc_number::{Cause, Var, to_increment};
 
-/// The variable of a number, or alarm 30.
+/// The variable of a number, or alarm 30 if there is none.
 fn existing(modal: &Modal, number: u32) -> Result<Variable, Cause>
     ensures existing { result ≡ existing (variable_in modal.now number) }
     ensures exists { IfOk result IsVariable }
@@ -30,7 +31,7 @@ fn existing(modal: &Modal, number: u32) -> Result<Variable, Cause>
     }
 }
 
-/// The variable whose number was computed, or alarm 4 or 30.
+/// The variable whose number was computed; or alarm 4 if that is not whole, 30 if it names none.
 fn number_named(modal: &Modal, value: &Var) -> Result<Variable, Cause>
     ensures named { result ≡ number_named modal.now (variable_number value.now) }
     ensures exists { IfOk result IsVariable }
@@ -41,7 +42,7 @@ fn number_named(modal: &Modal, value: &Var) -> Result<Variable, Cause>
     }
 }
 
-/// A variable, or the alarm of the cause.
+/// The variable, or its cause as an alarm that stops the block.
 fn variable_or_stop(variable: Result<Variable, Cause>) -> Result<Variable, Stop>
     ensures same { (left : List Var) → outcome_of (λ found. found) result left ≡ reading_none variable left }
     ensures exists { IfOk variable IsVariable → IfOk result IsVariable }
@@ -63,7 +64,7 @@ fn sequence_number(value: &Var) -> Result<u32, Cause>
     }
 }
 
-/// The sequence number, or the alarm of a number that is none.
+/// The sequence number, or its cause as an alarm that stops the block.
 fn sequence_or_stop(number: Result<u32, Cause>) -> Result<u32, Stop>
     ensures { (left : List Var) → outcome_of (λ found. found) result left ≡ reading_none number left }
 {
@@ -99,7 +100,8 @@ pub fn value_taken<'a, S: Scope>(
     }
 }
 
-/// The variable on the left side, whose number is computed where it is not written out.
+/// The variable on the left side of an assignment, whose number is evaluated if it is not written
+/// out.
 ///
 /// Alarms: those of [`evaluate`], 4 of a number that is not whole, and 30 of a variable that does
 /// not exist.
@@ -127,7 +129,7 @@ pub fn variable_taken<'a, S: Scope>(
     }
 }
 
-/// A condition whose left side is evaluated.
+/// Whether a condition holds whose left side is evaluated already.
 fn relation_taken<'a, S: Scope>(
     rel: Rel,
     left: Var,
@@ -145,7 +147,7 @@ fn relation_taken<'a, S: Scope>(
     }
 }
 
-/// A condition, left and then right.
+/// Whether a condition holds; its left side is evaluated before its right one.
 ///
 /// Alarms: those of [`evaluate`].
 pub fn condition_taken<'a, S: Scope>(
@@ -165,7 +167,7 @@ pub fn condition_taken<'a, S: Scope>(
     }
 }
 
-/// The sequence number to which a jump goes.
+/// The sequence number to which a jump goes, which is evaluated if it is not written out.
 ///
 /// Alarms: those of [`evaluate`], 4 of a number that is not whole, and 50 of one below 0.
 pub fn sequence_taken<'a, S: Scope>(

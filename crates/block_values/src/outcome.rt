@@ -1,5 +1,6 @@
-//! Why a step of a block gives no value: it needs a shared variable, or raises an alarm.
-//! path_state uses it.
+//! Why a step of a block gives no value: it needs a shared variable, or raises an alarm. Every call
+//! of this crate that evaluates answers so.
+//! path_state hands it on as the answer of the block.
 ghost use Rattle.std.specs.Prelude.{◌≡◌, pos};
 ghost use Rattle.nc_number.specs.Causes.{cause_number};
 
@@ -8,9 +9,9 @@ use nc_number::{Cause, Value};
 /// Why a step of a block gives no value.
 #[derive(Clone, Copy, Debug, PartialEq, Eq)]
 pub enum Stop {
-    /// This shared variable must be read next.
+    /// The shared variable of this number must be read next.
     Needs(u32),
-    /// An alarm, and its value, which is 0 but for 33.
+    /// An alarm by its number, and its value, which is 0 but for alarm 33.
     Alarms { number: u8, value: Value },
 }
 

@@ -1,5 +1,6 @@
-//! What the number of a variable names, and how a variable gives what it holds.
-//! path_state uses it.
+//! Which variable a number names under the code system in force, and how a variable gives what it
+//! holds: lengths in millimetres, codes and numbers in whole units.
+//! path_state reads the variables of a path with it.
 ghost use Rattle.std.specs.Prelude.{◌≡◌, ℕ, ◌≤◌, ◌-ℤ◌, unsigned_abs, IfSome};
 ghost use Rattle.nc_number.specs.Position.{IsPosition, IsWithin, travel};
 ghost use Rattle.offset_store.specs.Offsets.{shift_travel};
@@ -20,8 +21,8 @@ fn known_variable(number: u32) -> Option<Variable>
     variable_of(number)
 }
 
-/// Whether the variable is one of the system whose codes are in force: the code of a modal group is
-/// where the system has the group, and every other variable.
+/// Whether the system whose codes are in force has this variable: the code of a modal group exists
+/// only if the system has the group, every other variable always.
 fn is_there(modal: &Modal, variable: Variable) -> bool
     ensures { result ≡ is_there modal.now variable }
 {
@@ -45,7 +46,7 @@ pub fn variable_in(modal: &Modal, number: u32) -> Option<Variable>
     any_variable_in(modal, number)
 }
 
-/// The variable of any number.
+/// The variable of any number in the system whose codes are in force, if there is one.
 #[inline(never)]
 fn any_variable_in(modal: &Modal, number: u32) -> Option<Variable>
     ensures named { result ≡ variable_in modal.now number }
@@ -68,7 +69,7 @@ pub fn part(axis: AxisLetter, point: &Point) -> i64
     }
 }
 
-/// A length of the machine without that of the shift.
+/// A machine coordinate without the shift along its axis.
 fn without(shift: i64, length: i64) -> i64
     requires shift { unsigned_abs shift ≤ shift_travel }
     requires length { unsigned_abs length ≤ travel }
@@ -77,7 +78,7 @@ fn without(shift: i64, length: i64) -> i64
     length - shift
 }
 
-/// The value, or vacant where none fits.
+/// The value as a variable holds it, vacant if there is none.
 fn or_vacant(value: Option<Value>) -> Var
     ensures { result ≡ or_vacant value }
 {
@@ -87,21 +88,21 @@ fn or_vacant(value: Option<Value>) -> Var
     }
 }
 
-/// A number in whole units.
+/// A number in whole units as the value of a variable.
 pub fn in_units(number: u16) -> Var
     ensures { result ≡ in_units number }
 {
     or_vacant(Value::of_units(i64::from(number)))
 }
 
-/// A length in 0.001 mm, as millimetres.
+/// A length in 0.001 mm as the value of a variable, which is in millimetres.
 pub fn in_millimetres(length: i64) -> Var
     ensures { result ≡ in_millimetres length }
 {
     or_vacant(Value::of_increments(length))
 }
 
-/// The code of a modal group, as its variable gives it.
+/// The code of a modal group, as its variable gives it; vacant if none is in force.
 pub fn code_in_force(code: Option<u16>) -> Var
     ensures { result ≡ code_in_force code }
 {
@@ -111,7 +112,8 @@ pub fn code_in_force(code: Option<u16>) -> Var
     }
 }
 
-/// The programmed position along an axis: that of the machine without the shift.
+/// The programmed position along an axis, as its variable gives it: the machine coordinate without
+/// the shift, in millimetres.
 pub fn programmed(axis: AxisLetter, shift: &Point, position: &Point) -> Var
     requires shift { IsWithin shift_travel shift.now }
     requires position { IsPosition position.now }

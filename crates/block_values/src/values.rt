@@ -1,5 +1,6 @@
-//! What the words of a block say once each is evaluated: lengths in 0.001 mm, F, S, T and P.
-//! path_state uses it.
+//! What the words of a block say once each is evaluated: lengths in 0.001 mm, F, S, T and P; and
+//! when a word is refused (56, 64).
+//! path_state hands it from `words_taken` to the motion, the modal state and the moves of a block.
 ghost use Rattle.std.specs.Prelude.{◌≡◌, ◌≤◌, true, codes, unsigned_abs, Ok, Err, IfOk, IfErr, OnOk};
 ghost use Rattle.block_words.specs.Ranges.{fits, range_of};
 ghost use Rattle.block_words.specs.Words.{is_one_of};
@@ -17,27 +18,27 @@ use nc_number::{Cause, Literal, Var};
 /// What the words of a block say; of an address given twice the last that is not vacant.
 #[derive(Clone, Copy, Debug, PartialEq, Eq)]
 pub struct Values {
-    /// X, as every length here in 0.001 mm.
+    /// X in 0.001 mm, on the diameter.
     pub x: Option<i64>,
-    /// Z.
+    /// Z in 0.001 mm.
     pub z: Option<i64>,
-    /// U, along X.
+    /// U in 0.001 mm: a way along X, on the diameter.
     pub u: Option<i64>,
-    /// W, along Z.
+    /// W in 0.001 mm: a way along Z.
     pub w: Option<i64>,
-    /// I, along X.
+    /// I in 0.001 mm: from an arc's start to its centre along X, on the radius.
     pub i: Option<i64>,
-    /// K, along Z.
+    /// K in 0.001 mm: from an arc's start to its centre along Z.
     pub k: Option<i64>,
-    /// R.
+    /// R in 0.001 mm: an arc's radius.
     pub r: Option<i64>,
-    /// F, in whole units.
+    /// F, which counts whole units without a point.
     pub feed: Var,
-    /// S, in whole units.
+    /// S, which counts whole units without a point.
     pub speed: Var,
     /// T, at most 9,999.
     pub tool: Option<u16>,
-    /// P of the setting of an offset.
+    /// P of the setting of an offset (G10): the number of the offset.
     pub number: Option<i64>,
     /// How long a dwell is, in milliseconds.
     pub rest: Option<u64>,
@@ -66,7 +67,7 @@ impl Values {
     }
 }
 
-/// A whole number that is not below 0.
+/// The number of a literal, if it is whole and not below 0.
 fn natural(literal: &Literal) -> Option<u32>
     ensures { result ≡ natural (whole_of literal.now.value) }
 {
@@ -76,7 +77,7 @@ fn natural(literal: &Literal) -> Option<u32>
     }
 }
 
-/// The number of a tool.
+/// The number of a tool, which is whole and at most 9,999 in a literal of that range.
 fn tool_of(literal: &Literal) -> Option<u16>
     requires { fits (Between 0 9999) literal.now ≡ true }
     ensures { result ≡ natural (whole_of literal.now.value) }
@@ -87,7 +88,8 @@ fn tool_of(literal: &Literal) -> Option<u16>
     }
 }
 
-/// Whether I, K and R mean something there; every other letter does.
+/// Whether a word of this letter means something in a block of this sense: I and K beside an arc, R
+/// beside an arc or G10, every other letter always.
 fn is_meant(sense: &Sense, letter: u8) -> bool
     ensures { result ≡ is_meant (sense_seen sense.now) letter }
 {
@@ -98,7 +100,7 @@ fn is_meant(sense: &Sense, letter: u8) -> bool
     }
 }
 
-/// X, U and P say how long a dwell is.
+/// Takes a word of a dwell: X, U and P say how long it is; Z and W are read and ignored.
 fn set_rest(letter: u8, literal: &Literal, values: &mut Values)
     ensures said { values_seen values.new ≡ with_rest letter literal.now (values_seen values.old) }
     ensures within { AreLengthsSaid values.old → AreLengthsSaid values.new }
@@ -110,7 +112,7 @@ fn set_rest(letter: u8, literal: &Literal, values: &mut Values)
     }
 }
 
-/// A length along an axis, or to a centre.
+/// Takes a length: along an axis, to the centre of an arc, or its radius.
 fn set_length(letter: u8, length: i64, values: &mut Values)
     requires { unsigned_abs length ≤ longest_said }
     ensures said { values_seen values.new ≡ with_length letter length (values_seen values.old) }
@@ -128,7 +130,7 @@ fn set_length(letter: u8, length: i64, values: &mut Values)
     }
 }
 
-/// F, S and T, and the number of an offset.
+/// Takes F, S, T or the number of an offset; every other word leaves the values.
 fn set_setting(sense: &Sense, letter: u8, literal: &Literal, values: &mut Values)
     requires { fits (range_of sense.now.purpose letter) literal.now ≡ true }
     ensures said { values_seen values.new ≡ with_setting (sense_seen sense.now) letter literal.now (values_seen values.old) }
@@ -143,21 +145,21 @@ fn set_setting(sense: &Sense, letter: u8, literal: &Literal, values: &mut Values
     }
 }
 
-/// Whether the block is a dwell.
+/// Whether the codes of the block make it a dwell (G04).
 fn is_dwell(sense: &Sense) -> bool
     ensures { result ≡ is_dwell sense.now.purpose }
 {
     matches!(sense.purpose, Purpose::Dwell)
 }
 
-/// Whether a word of this letter says a length, but for a dwell.
+/// Whether a word of this letter says a length in a block that is no dwell.
 fn is_length(letter: u8) -> bool
     ensures { result ≡ is_one_of (codes "XZUWIKR") letter }
 {
     matches!(letter, b'X' | b'Z' | b'U' | b'W' | b'I' | b'K' | b'R')
 }
 
-/// Puts a word into the values.
+/// Puts a word that is in its range into the values.
 fn set_word(sense: &Sense, letter: u8, literal: &Literal, values: &mut Values)
     requires { fits (range_of sense.now.purpose letter) literal.now ≡ true }
     ensures said { values_seen values.new ≡ with_word (sense_seen sense.now) letter literal.now (values_seen values.old) }

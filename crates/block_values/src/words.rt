@@ -1,5 +1,5 @@
-//! The words of a block, evaluated one by one.
-//! path_state uses it.
+//! The words of a block, evaluated one by one in the order of the text and taken into its values.
+//! path_state calls `words_taken` for every block of words.
 ghost use Rattle.std.specs.Prelude.{◌≡◌, Result, Ok, Err, IfOk, IfErr, OnOk};
 ghost use Rattle.nc_number.specs.declared.cause.Cause.{Cause};
 ghost use Rattle.block_values.specs.Values.{Values as Said, nothing_said, computed, taken_var, word_with, words_with};
@@ -24,7 +24,7 @@ pub(crate) fn computed(minus: bool, value: Value) -> Literal
     }
 }
 
-/// A vacant word counts as absent.
+/// Takes a word whose value was computed; a vacant one counts as absent.
 fn take_var(
     sense: &Sense,
     letter: u8,
@@ -44,7 +44,7 @@ fn take_var(
     }
 }
 
-/// The answer of a step that takes no read.
+/// The answer of a step that took no read: its cause, if it has one, is an alarm.
 fn answer<'a>(step: Result<(), Cause>, left: &'a [Var]) -> (Result<(), Stop>, &'a [Var])
     ensures { (word : Result Said Cause) (said : Said) → OnOk step (word ≡ Ok said) → IfErr step (λ cause. word ≡ Err cause)
         → outcome_of (λ done. said) result.0 result.1.now ≡ reading_none word left.now }
@@ -55,7 +55,7 @@ fn answer<'a>(step: Result<(), Cause>, left: &'a [Var]) -> (Result<(), Stop>, &'
     }
 }
 
-/// One word: it is evaluated, and then converted, before the next.
+/// Evaluates one word and takes it into the values.
 fn word_taken<'a, S: Scope>(
     word: &FlowWord,
     sense: &Sense,

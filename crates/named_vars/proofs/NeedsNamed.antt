@@ -1,6 +1,7 @@
--- A block asks only for variables that it names.
+-- A block asks only for variables that its text names: the first half of the law
+-- `a_block_does_as_its_text_says` (src/laws.rt). Each lemma says of one part of a block: what holds
+-- (P) of each variable that the part names holds of the one that it needs.
 -- race_order takes the last lemma.
--- `a_block_does_as_its_text_says` (src/laws.rt) rests on it.
 use Rattle.std.proofs.Common.{◌≡◌, ℕ, ◌||◌, Bool, true, false, List, [], ◌∷◌, ◌++◌, Option, Some, None, Result, Ok, Err, ℤ, refl, subst, if◌then◌else◌}
 use Rattle.std.proofs.lemmas.Bool.{eq-eqb, or_right}
 use Rattle.nc_number.specs.declared.cause.Cause.{Cause}
@@ -52,7 +53,7 @@ use Rattle.path_state.specs.Effect.{Effect, Moved, acted, done_by, controlled, o
 use Rattle.path_state.specs.Effect as effect
 use Rattle.named_vars.specs.Names.{names, some_names, sentence_may_write, sentence_names, word_names, words_name, body_names, found_names, block_names}
 
--- what is said of a variable that is needed
+-- if an evaluation needs a variable, P holds of it
 abbrev OnNeed : (ℕ → Type 0) → Eval → Type 0
 OnNeed P (Need n) = P n
 OnNeed P (Got v) = Unit {0}
@@ -60,31 +61,31 @@ OnNeed P (Fault n) = Unit {0}
 
 -- What holds of each variable that is looked up holds of each that an expression needs.
 module _ (table : ℕ → Result Look VarFault) (P : ℕ → Type 0) where
-  -- of two steps in a row, if it holds of each
+  -- if P holds of what each of two evaluations in a row needs, it holds of what both need
   then_needs : (a : Answer) (next : Var → List Var → Answer) → OnNeed P a.0
       → ((v : Var) (left : List Var) → OnNeed P (next v left).0) → OnNeed P (then_with a next).0
   then_needs (Got v, left) next first further = further v left
   then_needs (Need n, left) next first further = first
   then_needs (Fault n, left) next first further = tt
 
-  -- a number that is made needs none
+  -- a calculation needs no variable
   made_needs : (r : Result ℤ NumberFault) → OnNeed P (made r)
   made_needs (Ok z) = tt
   made_needs (Err fault) = tt
 
-  -- a variable that is looked up by its number
+  -- a look at a variable of which P holds needs no other
   seen_needs : (n : ℕ) (found : Result Look VarFault) → P n → (reads : List Var) → OnNeed P (seen found n reads).0
   seen_needs n (Ok (look.Is v)) said reads = tt
   seen_needs n (Ok look.Shared) said [] = said
   seen_needs n (Ok look.Shared) said (v ∷ left) = tt
   seen_needs n (Err fault) said reads = tt
 
-  -- a variable whose number is computed may be any
+  -- if P holds of every variable, it holds of the one that a computed number needs
   by_needs : (number : Result ℕ Cause) → ((v : ℕ) → P v) → (reads : List Var) → OnNeed P (looked_by table number reads).0
   by_needs (Ok n) all reads = seen_needs n (table n) (all n) reads
   by_needs (Err cause) all reads = tt
 
--- an expression needs only variables that it names
+-- if P holds of the variables that an expression names, it holds of the one that it needs
 tree_needs : (table : ℕ → Result Look VarFault) (P : ℕ → Type 0) (t : Tree) → ((v : ℕ) → names t v ≡ true → P v)
     → (reads : List Var) → OnNeed P (meaning table t reads).0
 tree_needs table P (Number z) all reads = tt
@@ -103,20 +104,20 @@ tree_needs table P (Joined op a b) all reads =
     (tree_needs table P b (λ n e. all n (or_right (names a n) (names b n) e)) left)
     (λ w rest. made_needs table P (operator_value op (or_zero v) (or_zero w))))
 
--- what is said of a variable that a step needs
+-- if a step needs a variable, P holds of it
 abbrev Asks : {A : Type 0} → (ℕ → Type 0) → Outcome A → Type 0
 Asks P (Gives value left) = Unit {0}
 Asks P (Needs variable) = P variable
 Asks P (Alarms number value) = Unit {0}
 
--- of two steps of a statement in a row, if it holds of each
+-- if P holds of what each of two steps in a row needs, it holds of what both need
 then_asks : {A B : Type 0} (P : ℕ → Type 0) (step : Outcome A) (next : A → List Var → Outcome B)
     → Asks P step → ((value : A) (left : List Var) → Asks P (next value left)) → Asks P (step >>= next)
 then_asks P (Needs variable) next first further = first
 then_asks P (Alarms number value) next first further = tt
 then_asks P (Gives value left) next first further = further value left
 
--- what reads nothing needs none
+-- a step that reads nothing needs no variable
 none_asks : {A : Type 0} (P : ℕ → Type 0) (r : Result A Cause) (left : List Var) → Asks P (reading_none r left)
 none_asks P (Ok value) left = tt
 none_asks P (Err cause) left = tt
@@ -137,7 +138,7 @@ in_front v (x ∷ xs) ys e = go (names x v) refl e (in_front v xs ys)
     go true is e further = rw is refl
     go false is e further = or_right (names x v) (some_names (xs ++ ys) v) (further (let rest : (false || some_names xs v) ≡ true = subst (λ b. (b || some_names xs v) ≡ true) is e in rest))
 
--- and so of the last ones
+-- what one of the last expressions names, one of all does
 behind : (v : ℕ) (xs ys : List Tree) → some_names ys v ≡ true → some_names (xs ++ ys) v ≡ true
 behind v [] ys e = e
 behind v (x ∷ xs) ys e = or_right (names x v) (some_names (xs ++ ys) v) (behind v xs ys e)
@@ -146,7 +147,8 @@ behind v (x ∷ xs) ys e = or_right (names x v) (some_names (xs ++ ys) v) (behin
 first_names : (t : Tree) (trees : List Tree) (v : ℕ) → names t v ≡ true → some_names (t ∷ trees) v ≡ true
 first_names t trees v e = rw e refl
 
--- A path before its block, and what is said of variables.
+-- A path before its block, and a statement P on variables, which holds of those that a part of the
+-- block names: then it holds of the one that the part needs.
 module _ (fixed : Fixed) (path : PathView) (P : ℕ → Type 0) where
   -- the value of an expression
   value_asks : (t : Tree) → ((v : ℕ) → names t v ≡ true → P v) → (reads : List Var) → Asks P (evaluated fixed path t reads)
@@ -218,7 +220,7 @@ module _ (fixed : Fixed) (path : PathView) (P : ℕ → Type 0) where
       then_asks P (aimed fixed path aim reads) _ (aim_asks aim all reads)
       (λ n left. move_asks (place_of_jump tape n path.place) left)
 
-  -- by what a condition comes to
+  -- a condition, and what follows it either way
   test_asks : (test : Test) → ((v : ℕ) → some_names (evaluated_test test) v ≡ true → P v)
       → (reads : List Var) (one other : List Var → Outcome After)
       → ((left : List Var) → Asks P (one left)) → ((left : List Var) → Asks P (other left))
@@ -290,50 +292,51 @@ module _ (fixed : Fixed) (path : PathView) (P : ℕ → Type 0) where
       (argument_asks w.letter w.value (λ v e. all v (rw e refl)) arguments reads)
       (λ next left. arguments_ask words (λ v e. all v (or_right (word_names w.value v) (words_name words v) e)) next left)
 
--- what is said of a variable that a block needs
+-- if a block needs a variable, P holds of it
 abbrev EffectAsks : (ℕ → Type 0) → Effect → Type 0
 EffectAsks P (effect.Need variable) = P variable
 EffectAsks P _ = Unit {0}
 
--- The block of a path: it asks only for what its steps ask for, each of which is one of these.
+-- A block of a path: if P holds of what its words or its statement need, it holds of what the block
+-- needs. Each lemma takes one step of the definition of its effect.
 module _ (tape : List ControlProgram) (fixed : Fixed) (path : PathView) (P : ℕ → Type 0) where
-  -- it moves, and goes on
+  -- the block moves, and goes on
   done-asks : (moved : Moved) (to : Result Standing Cause) → EffectAsks P (done_by moved to)
   done-asks moved (Ok to) = tt
   done-asks moved (Err cause) = tt
 
-  -- it goes where its control says
+  -- the block goes where its control says
   controlled-asks : (moved : Moved) (arguments : Option (List Var)) (c : Control)
       → EffectAsks P (controlled tape moved arguments c)
   controlled-asks moved arguments control.End = tt
   controlled-asks moved arguments c = done-asks moved (standing_behind tape (standing_of moved.path) arguments c)
 
-  -- its motion, or a fault of it
+  -- the block by its motion, or by a fault of it
   moves-ask : (c : Control) (moved : Result Moved ℕ) → EffectAsks P (of_moved tape c moved)
   moves-ask c (Ok moved) = controlled-asks moved None c
   moves-ask c (Err number) = tt
 
-  -- the values of its words
+  -- the block by the values of its words
   values-ask : (system : System) (words : List FlowWord) (c : Control) (values : Outcome Values) → Asks P values
       → EffectAsks P (of_values tape fixed path system words c values)
   values-ask system words c (Gives values left) asks = moves-ask c (acted fixed path system words values)
   values-ask system words c (Needs variable) asks = asks
   values-ask system words c (Alarms number value) asks = tt
 
-  -- its call, after its arguments
+  -- a macro call, by its arguments
   call-asks : (c : Control) (arguments : Outcome (List Var)) → Asks P arguments
       → EffectAsks P (of_arguments tape path c arguments)
   call-asks c (Gives arguments left) asks = controlled-asks (record { path = path; moves = [] }) (Some arguments) c
   call-asks c (Needs variable) asks = asks
   call-asks c (Alarms number value) asks = tt
 
-  -- what a statement comes to
+  -- a block that is a statement, by what that comes to
   after-asks : (after : Outcome After) → Asks P after → EffectAsks P (of_after after)
   after-asks (Gives after left) asks = tt
   after-asks (Needs variable) asks = asks
   after-asks (Alarms number value) asks = tt
 
-  -- what its words are for
+  -- a block of words, by its purpose
   purpose-asks : (purpose : Purpose) (system : System) (words : List FlowWord) → ((v : ℕ) → words_name words v ≡ true → P v)
       → (c : Control) (reads : List Var) → EffectAsks P (of_purpose tape fixed path purpose system words c reads)
   purpose-asks MacroCall system words all c reads =
@@ -342,13 +345,13 @@ module _ (tape : List ControlProgram) (fixed : Fixed) (path : PathView) (P : ℕ
       values-ask system words c (words_taken fixed path (sense_of path purpose system words) words nothing_said reads)
       (words_ask fixed path P (sense_of path purpose system words) words all nothing_said reads)
 
-  -- its words
+  -- a block of words, which needs nothing at a wait
   words-ask : (purpose : Purpose) (system : System) (words : List FlowWord) → ((v : ℕ) → words_name words v ≡ true → P v)
       → (c : Control) (reads : List Var) → EffectAsks P (block_of_words tape fixed path purpose system words c reads)
   words-ask purpose system words all (control.Wait code) reads = tt
   words-ask purpose system words all c reads = purpose-asks purpose system words all c reads
 
-  -- its text
+  -- a block, by its text
   body-asks : (body : FlowBody) → ((v : ℕ) → body_names body v ≡ true → P v)
       → (c : Control) (reads : List Var) → EffectAsks P (effect_of_body tape fixed path body c reads)
   body-asks (Words words) all c reads = words-ask words.purpose words.dialect.system words.words all c reads

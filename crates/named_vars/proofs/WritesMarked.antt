@@ -1,6 +1,7 @@
--- A block writes only variables that it may write by its text.
+-- A block writes only variables that it may write by its text: the second half of the law
+-- `a_block_does_as_its_text_says` (src/laws.rt). Each lemma says of one part of a block: what holds
+-- (P) of each variable that the part may write holds of the one that it writes.
 -- race_order takes the last lemma.
--- `a_block_does_as_its_text_says` (src/laws.rt) rests on it.
 use Rattle.std.proofs.Common.{◌≡◌, ◌==◌, ℕ, Bool, true, false, List, [], ◌∷◌, Option, Some, None, Result, Ok, Err, refl, subst}
 use Rattle.std.proofs.lemmas.Bool.{eq-eqb}
 use Rattle.nc_number.specs.declared.cause.Cause.{Cause}
@@ -47,16 +48,16 @@ use Rattle.path_state.proofs.NeedsShared.{named_in_table}
 use Rattle.path_state.proofs.ControlledStatements.{OnGives, behind_gives, after_any, either}
 use Rattle.named_vars.specs.Names.{may_be, sentence_may_write, body_may_write, found_may_write, block_may_write}
 
--- what is said of the variable of a write, if there is one
+-- if there is a write, P holds of its variable
 abbrev OnWrite : (ℕ → Type 0) → Option Write → Type 0
 OnWrite P None = Unit {0}
 OnWrite P (Some write) = P write.variable
 
--- what is said of the variable that a step writes
+-- if a step writes a shared variable, P holds of it
 abbrev Writes : (ℕ → Type 0) → After → Type 0
 Writes P after = OnWrite P after.write
 
--- a common variable that a left side comes to may be its variable
+-- if a left side comes to a common variable, it may be that by its text
 abbrev IsMeant : Named → Variable → Type 0
 IsMeant name (variable.Common v) = may_be name v ≡ true
 IsMeant name _ = Unit {0}
@@ -80,32 +81,33 @@ module _ (fixed : Fixed) (path : PathView) where
   plain_gives n None is reads = tt
   plain_gives n (Some v) is reads = plain_meant path.modal n v is
 
-  -- a computed one gives one that it may be
+  -- a left side with a computed number gives a variable that it may be
   number_gives : (t : Tree) (r : Result Variable Cause) (left : List Var) → OnGives (IsMeant (Computed t)) (reading_none r left)
   number_gives t (Ok v) left = computed_meant t v
   number_gives t (Err cause) left = tt
 
-  -- so a left side gives a variable that it may be
+  -- every left side gives a variable that it may be
   named_gives : (name : Named) (reads : List Var) → OnGives (IsMeant name) (named fixed path name reads)
   named_gives (Plain n) reads = plain_gives n (variable_in path.modal n) refl reads
   named_gives (Computed t) reads =
       after_any (IsMeant (Computed t)) (evaluated fixed path t reads) _
       (λ value left. number_gives t (number_named path.modal (variable_number value)) left)
 
-  -- What is said of variables.
+  -- A statement P on variables, which holds of those that a part of the block may write: then it
+  -- holds of the one that the part writes.
   module _ (P : ℕ → Type 0) where
-    -- a common variable is written
+    -- a write to a common variable of which P holds
     common-writes : (shared : Bool) (v : ℕ) (value : Var) → P v → Writes P (with_common shared path v value)
     common-writes true v value said = said
     common-writes false v value said = tt
 
-    -- writing an offset writes no common variable
+    -- a write to an offset, which writes no common variable
     offset-writes : (slot : Slot) (to : Result Point OffsetFault) (left : List Var)
         → OnGives (Writes P) (written_path (with_offset path slot to) left)
     offset-writes slot (Ok to) left = tt
     offset-writes slot (Err fault) left = tt
 
-    -- a variable that the left side may be is written
+    -- a write to a variable that the left side may be
     written-writes : (name : Named) → ((v : ℕ) → may_be name v ≡ true → P v) → (v : Variable) → IsMeant name v
         → (value : Var) (left : List Var) → OnGives (Writes P) (written fixed path v value left)
     written-writes name all (variable.Local i) meant value left = tt
@@ -115,7 +117,7 @@ module _ (fixed : Fixed) (path : PathView) where
     written-writes name all variable.Raise meant value left = tt
     written-writes name all _ meant value left = tt
 
-    -- an assignment writes only what its left side may be
+    -- an assignment, which writes only what its left side may be
     assigned-writes : (name : Named) (t : Tree) → ((v : ℕ) → may_be name v ≡ true → P v) → (reads : List Var)
         → OnGives (Writes P) (assigned_next fixed path name t reads)
     assigned-writes name t all reads =
@@ -125,12 +127,12 @@ module _ (fixed : Fixed) (path : PathView) where
         (λ value left. written-writes name all v meant value left)))
         (λ after left writes. writes)
 
-    -- going to a next place writes none
+    -- a statement that goes to a place, which writes none
     move-writes : (to : Result (List Frame) Cause) (left : List Var) → OnGives (Writes P) (move_effect path to left)
     move-writes (Ok to) left = tt
     move-writes (Err cause) left = tt
 
-    -- a jump writes none
+    -- a jump, which writes none
     jump-writes : (tape : List ControlProgram) (aim : Aim) (reads : List Var)
         → OnGives (Writes P) (jump_effect tape fixed path aim reads)
     jump-writes tape aim reads =
@@ -156,62 +158,63 @@ module _ (fixed : Fixed) (path : PathView) where
     statement-writes tape (DoOnly m) all reads = tt
     statement-writes tape (EndLoop m) all reads = move-writes (place_of_head tape path.place) reads
 
--- what is said of the variable that a block writes
+-- if a block writes a shared variable, P holds of it
 abbrev EffectWrites : (ℕ → Type 0) → Effect → Type 0
 EffectWrites P (Done after write moves) = OnWrite P write
 EffectWrites P _ = Unit {0}
 
--- The block of a path: it writes only what its steps write, each of which is one of these.
+-- A block of a path: if P holds of what its statement writes, it holds of what the block writes.
+-- Each lemma takes one step of the definition of its effect.
 module _ (tape : List ControlProgram) (fixed : Fixed) (path : PathView) (P : ℕ → Type 0) where
-  -- it moves, and goes on: it writes none
+  -- a block of words that moves and goes on writes no variable
   done-writes : (moved : Moved) (to : Result Standing Cause) → EffectWrites P (done_by moved to)
   done-writes moved (Ok to) = tt
   done-writes moved (Err cause) = tt
 
-  -- it goes where its control says: it writes none
+  -- a block of words that goes where its control says writes no variable
   controlled-writes : (moved : Moved) (arguments : Option (List Var)) (c : Control)
       → EffectWrites P (controlled tape moved arguments c)
   controlled-writes moved arguments control.End = tt
   controlled-writes moved arguments c = done-writes moved (standing_behind tape (standing_of moved.path) arguments c)
 
-  -- its motion, or a fault of it
+  -- a block of words, by its motion or by a fault of it, writes no variable
   moves-write : (c : Control) (moved : Result Moved ℕ) → EffectWrites P (of_moved tape c moved)
   moves-write c (Ok moved) = controlled-writes moved None c
   moves-write c (Err number) = tt
 
-  -- the values of its words
+  -- a block of words, by their values, writes no variable
   values-write : (system : System) (words : List FlowWord) (c : Control) (values : Outcome Values)
       → EffectWrites P (of_values tape fixed path system words c values)
   values-write system words c (Gives values left) = moves-write c (acted fixed path system words values)
   values-write system words c (Needs variable) = tt
   values-write system words c (Alarms number value) = tt
 
-  -- its call, after its arguments
+  -- a macro call, by its arguments, writes no variable
   arguments-write : (c : Control) (arguments : Outcome (List Var)) → EffectWrites P (of_arguments tape path c arguments)
   arguments-write c (Gives arguments left) = controlled-writes (record { path = path; moves = [] }) (Some arguments) c
   arguments-write c (Needs variable) = tt
   arguments-write c (Alarms number value) = tt
 
-  -- what its words are for
+  -- a block of words, by its purpose, writes no variable
   purpose-writes : (purpose : Purpose) (system : System) (words : List FlowWord) (c : Control) (reads : List Var)
       → EffectWrites P (of_purpose tape fixed path purpose system words c reads)
   purpose-writes MacroCall system words c reads = arguments-write c (arguments_taken fixed path words all_vacant reads)
   purpose-writes purpose system words c reads =
       values-write system words c (words_taken fixed path (sense_of path purpose system words) words nothing_said reads)
 
-  -- its words
+  -- a block of words writes no variable
   words-write : (purpose : Purpose) (system : System) (words : List FlowWord) (c : Control) (reads : List Var)
       → EffectWrites P (block_of_words tape fixed path purpose system words c reads)
   words-write purpose system words (control.Wait code) reads = tt
   words-write purpose system words c reads = purpose-writes purpose system words c reads
 
-  -- what a statement comes to
+  -- a block that is a statement writes what that writes
   after-writes : (after : Outcome After) → OnGives (Writes P) after → EffectWrites P (of_after after)
   after-writes (Gives after left) writes = writes
   after-writes (Needs variable) writes = tt
   after-writes (Alarms number value) writes = tt
 
-  -- its text
+  -- a block, by its text, writes only what that may write
   body-writes : (body : FlowBody) → ((v : ℕ) → body_may_write body v ≡ true → P v) → (c : Control) (reads : List Var)
       → EffectWrites P (effect_of_body tape fixed path body c reads)
   body-writes (Words words) all c reads = words-write words.purpose words.dialect.system words.words c reads

@@ -1,2 +1,3 @@
--- Which variables a block names, by its text alone.
+-- The words of the contract of named_vars: which variables a block names and may write, by its text
+-- alone. race_order and race_report cite them.
 pub mod Names

@@ -1,4 +1,5 @@
--- The lemmas of this crate, each file by its subject. Other crates use all of these.
+-- The lemmas of nc_verify, each file by its subject. wait_verify, and the crates that write texts,
+-- use all of these.
 pub mod Put
 pub mod InPieces
 pub mod Refused

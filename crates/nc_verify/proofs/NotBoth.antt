@@ -1,5 +1,5 @@
--- No three texts are both accepted and refused.
--- lathe_top, nc_restart and wait_verify use these lemmas.
+-- No three texts are both accepted and refused: for the law `accepted_texts_are_not_refused`.
+-- lathe_top, nc_restart and wait_verify use the lemmas on the way to it.
 use Rattle.std.proofs.Common.{◌≡◌, ℕ, zero, suc, ◌↔◌, List, [], ◌∷◌, slice_get, Result, Ok, Err, Some, sym, subst, ap, ◌∙◌, arith}
 use Rattle.nc_number.specs.declared.path.Path.{Path}
 use Rattle.nc_number.specs.declared.path.Path.TheVariants.{One, Two}
@@ -28,26 +28,26 @@ abbrev pub NotBoth : Type 0
 NotBoth = (dialect : Dialect) (tape : List Program) (programs : List ProgramForm) (line number : ℕ)
     → IsAccepted dialect tape programs → IsRefused dialect tape line number → ⊥
 
--- one text of settings gives one cell,
+-- one text of settings gives one cell
 pub one_cell : (a b : Cell) (r : Result Cell ℕ) → r ≡ Ok a → r ≡ Ok b → a ≡ b
 one_cell a b r p q = let e : ◌≡◌ {A = Result Cell ℕ} (Ok a) (Ok b) = sym p ∙ q in cc
 
--- one text gives one tape,
+-- one text gives one tape
 pub one_tape : (a b : List Program) (r : Result (List Program) TextFault) → r ≡ Ok a → r ≡ Ok b → a ≡ b
 one_tape a b r p q = let e : ◌≡◌ {A = Result (List Program) TextFault} (Ok a) (Ok b) = sym p ∙ q in cc
 
--- and one tape one list of programs
+-- one reading of a tape gives one list of programs
 one_programs : (a b : List ProgramForm) (r : Result (List ProgramForm) FlowFault) → r ≡ Ok a → r ≡ Ok b → a ≡ b
 one_programs a b r p q = let e : ◌≡◌ {A = Result (List ProgramForm) FlowFault} (Ok a) (Ok b) = sym p ∙ q in cc
 
--- a tape has one flow
+-- the text of a path has one flow under the settings of a cell
 pub one_flow : (cell : Cell) (path : Path) (text : List ℕ) (a b : List ProgramForm) → IsFlowOf cell path text a → IsFlowOf cell path text b → a ≡ b
 one_flow cell path text a b x y =
     let same : x.tape ≡ y.tape = one_tape x.tape y.tape (tape_of (skips_of path cell) text) x.reads y.reads in
     one_programs a b (programs_read (dialect_in cell) y.tape)
     (subst (λ t. programs_read (dialect_in cell) t ≡ Ok a) same x.accepted.reads) y.accepted.reads
 
--- a tape isn't both a flow and refused,
+-- the text of a path does not both have a flow and a refusal
 pub not_both_tape : NotBoth → (cell : Cell) (path : Path) (text : List ℕ) (programs : List ProgramForm) (refusal : Refusal)
     → IsFlowOf cell path text programs → IsTapeRefusal cell path text refusal → ⊥
 not_both_tape law cell path text programs refusal x (reading fault refused is) =
@@ -56,7 +56,7 @@ not_both_tape law cell path text programs refusal x (flow tape line number reads
     let same : x.tape ≡ tape = one_tape x.tape tape (tape_of (skips_of path cell) text) x.reads reads in
     law (dialect_in cell) tape programs line number (subst (λ t. IsAccepted (dialect_in cell) t programs) same x.accepted) refused
 
--- lists that agree, lines aside, have the same label everywhere
+-- lists of labels that agree but for their lines have the same label at each place
 pub same_label : (xs ys : List Labelled) (n : ℕ) (a b : Labelled) → bare xs ≡ bare ys → slice_get xs n ≡ Some a → slice_get ys n ≡ Some b
     → a.label ≡ b.label
 same_label [] ys n a b e p q = absurd cc
@@ -68,14 +68,15 @@ same_label (x ∷ xs) (y ∷ ys) zero a b e p q =
     sym (ap (λ (z : Labelled). z.label) one') ∙ (heads ∙ ap (λ (z : Labelled). z.label) two')
 same_label (x ∷ xs) (y ∷ ys) (suc n) a b e p q = same_label xs ys n a b (let t : bare xs ≡ bare ys = cc in t) p q
 
--- two flows are not both an accepted pair and refused,
+-- two flows are not both an accepted pair and refused as a pair
 pub not_both_pair : (l r : List ControlProgram) (refusal : Refusal) → AgreeOnLabels l r → IsPairRefusal l r refusal → ⊥
 not_both_pair l r refusal agree (one long) = omega (arith, long.long, agree.left_few)
 not_both_pair l r refusal agree (two few long) = omega (arith, long.long, agree.right_few)
 not_both_pair l r refusal agree (differ few_l few_r fault m is) =
     m.differ (same_label (path_labels l) (path_labels r) fault.after m.one m.two agree.same m.is_one m.is_two)
 
--- so no three texts are both
+-- no three texts are both accepted and refused, by the law of tape_flow and that of label_list that
+-- a pair is accepted exactly by its lists
 pub not_both : NotBoth → ((l r : List ControlProgram) → IsUnforked l → IsUnforked r → IsAcceptedPair l r ↔ AgreeOnLabels l r)
     → (texts : Texts) (cell : Cell) (l r : List ProgramForm) (refusal : Refusal)
     → AreAccepted texts cell l r → IsRefusalOf texts refusal → ⊥

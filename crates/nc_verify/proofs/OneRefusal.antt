@@ -1,5 +1,5 @@
--- Three texts have one refusal at most.
--- wait_verify uses these lemmas.
+-- Three texts have one refusal at most: for the law `texts_have_one_refusal`.
+-- wait_verify uses the lemmas on the settings, the reading and the pair.
 use Rattle.std.proofs.Common.{◌≡◌, ℕ, zero, suc, ◌<◌, ◌⊎◌, inl, inr, List, [], ◌∷◌, take, slice_get, Option, Some, Result, Ok, Err, refl, ap, sym, subst, ◌∙◌, arith}
 use Rattle.nc_number.specs.declared.path.Path.{Path}
 use Rattle.nc_number.specs.declared.path.Path.TheVariants.{One, Two}
@@ -26,16 +26,16 @@ use Rattle.nc_verify.specs.Verdict.IsPairRefusal.{one, two, differ}
 use Rattle.nc_verify.specs.Verdict.IsRefusalOf.{settings, left, right, pair}
 use Rattle.nc_verify.proofs.NotBoth.{NotBoth, one_cell, one_tape, one_flow, not_both_tape, same_label}
 
--- the law of tape_flow that a tape has one refusal, as these lemmas take it
+-- the law of flow_laws that a tape has one refusal at most, as these lemmas take it
 abbrev pub OneOfTape : Type 0
 OneOfTape = (dialect : Dialect) (tape : List Program) (line other_line number other : ℕ) → HasRisingBlocks tape
     → IsRefused dialect tape line number → IsRefused dialect tape other_line other → (line ≡ other_line) × (number ≡ other)
 
--- the law of nc_text that the lines of a tape's blocks rise, as these lemmas take it
+-- the law of flow_laws that the lines of a tape's blocks rise, as these lemmas take it
 abbrev pub Rising : Type 0
 Rising = (skips : ℕ) (text : List ℕ) (tape : List Program) → tape_of skips text ≡ Ok tape → HasRisingBlocks tape
 
--- settings have one refusal,
+-- a text of settings has one refusal at most
 pub one_of_settings : (text : List ℕ) (a b : Refusal) → AreRefusedSettings text a → AreRefusedSettings text b → a ≡ b
 one_of_settings text a b x y =
     let both : ◌≡◌ {A = Result Cell ℕ} (Err x.line) (Err y.line) = sym x.refused ∙ y.refused in
@@ -50,7 +50,7 @@ pub not_both_read : (text : List ℕ) (skips : ℕ) (tape : List Program) (fault
 not_both_read text skips tape fault read refused =
     absurd (let e : ◌≡◌ {A = Result (List Program) TextFault} (Ok tape) (Err fault) = sym read ∙ refused in cc)
 
--- a tape has one refusal
+-- the text of a path's tape has one refusal at most under the settings of a cell
 one_of_tape : Rising → OneOfTape → (cell : Cell) (path : Path) (text : List ℕ) (a b : Refusal) → IsTapeRefusal cell path text a
     → IsTapeRefusal cell path text b → a ≡ b
 one_of_tape rising law cell path text a b (reading fault e is) (reading other f own) =
@@ -69,14 +69,14 @@ one_of_tape rising law cell path text a b (flow tape line number read refused is
 
 -- Two lists of labels.
 
--- an element in front of a place is that of the list
+-- an element of the front of a list is that of the whole list at its place
 take_get : (xs : List Labelled) (n k : ℕ) → k < n → slice_get (take n xs) k ≡ slice_get xs k
 take_get xs zero k less = absurd (omega arith)
 take_get [] (suc n) k less = refl
 take_get (x ∷ xs) (suc n) zero less = refl
 take_get (x ∷ xs) (suc n) (suc k) less = take_get xs n k (omega arith)
 
--- no mismatch comes before another
+-- of two mismatches of the same lists none has fewer equal labels before it
 not_before : (l r : List Labelled) (f g : PairFault) → IsMismatch l r f → IsMismatch l r g → f.after < g.after → ⊥
 not_before l r f g x y less =
     x.differ (same_label (take g.after l) (take g.after r) f.after x.one x.two y.equal
@@ -90,7 +90,7 @@ before_or_not n m = grind arith
 one_label : (a b : Labelled) (o : Option Labelled) → o ≡ Some a → o ≡ Some b → a ≡ b
 one_label a b o p q = let both : ◌≡◌ {A = Option Labelled} (Some a) (Some b) = sym p ∙ q in cc
 
--- so two lists of labels have one mismatch,
+-- two lists of labels have one mismatch at most
 one_mismatch : (l r : List Labelled) (f g : PairFault) → IsMismatch l r f → IsMismatch l r g → f ≡ g
 one_mismatch l r f g x y = elim (before_or_not f.after g.after) [
   | inl less ↦ absurd (not_before l r f g x y less)
@@ -104,7 +104,7 @@ one_mismatch l r f g x y = elim (before_or_not f.after g.after) [
       ∙ ap (λ (z : Labelled). labels.mismatch g.after y.one.line z.line) two' ∙ sym y.is
 ]
 
--- and two flows have one refusal
+-- two flows have one refusal as a pair at most
 pub one_of_pair : (l r : List ControlProgram) (a b : Refusal) → IsPairRefusal l r a → IsPairRefusal l r b → a ≡ b
 one_of_pair l r a b (one x) (one y) = x.is ∙ sym y.is
 one_of_pair l r a b (one x) (two few y) = absurd (omega (arith, x.long, few))
@@ -124,7 +124,7 @@ pub not_both_settings : (text : List ℕ) (cell : Cell) (a : Refusal) → AreRef
 not_both_settings text cell a x read =
     absurd (let e : ◌≡◌ {A = Result Cell ℕ} (Ok cell) (Err x.line) = sym read ∙ x.refused in cc)
 
--- a flow and a refusal of one path's tape, under the settings of one text
+-- under the settings of one text no path's tape has both a flow and a refusal
 not_both_path : NotBoth → (texts : Texts) (path : Path) (text : List ℕ) (cell other : Cell) (programs : List ProgramForm) (refusal : Refusal)
     → settings_of texts.settings ≡ Ok cell → settings_of texts.settings ≡ Ok other → IsFlowOf cell path text programs
     → IsTapeRefusal other path text refusal → ⊥
@@ -132,7 +132,7 @@ not_both_path law texts path text cell other programs refusal read again flows r
     let same : cell ≡ other = one_cell cell other (settings_of texts.settings) read again in
     not_both_tape law other path text programs refusal (subst (λ c. IsFlowOf c path text programs) same flows) refused
 
--- one path's tape has one refusal under the settings of one text,
+-- under the settings of one text a path's tape has one refusal at most
 one_of_path : Rising → OneOfTape → (texts : Texts) (path : Path) (text : List ℕ) (cell other : Cell) (a b : Refusal)
     → settings_of texts.settings ≡ Ok cell → settings_of texts.settings ≡ Ok other → IsTapeRefusal cell path text a
     → IsTapeRefusal other path text b → a ≡ b
@@ -140,7 +140,7 @@ one_of_path rising law texts path text cell other a b read again x y =
     let same : cell ≡ other = one_cell cell other (settings_of texts.settings) read again in
     one_of_tape rising law other path text a b (subst (λ c. IsTapeRefusal c path text a) same x) y
 
--- and the flows of three texts have one
+-- the flows of three texts have one refusal as a pair at most
 one_of_flows : (texts : Texts) (cell other : Cell) (l r l' r' : List ProgramForm) (a b : Refusal) → AreFlows texts cell l r
     → AreFlows texts other l' r' → IsPairRefusal (controls l) (controls r) a → IsPairRefusal (controls l') (controls r') b → a ≡ b
 one_of_flows texts cell other l r l' r' a b flows others x y =
@@ -150,7 +150,7 @@ one_of_flows texts cell other l r l' r' a b flows others x y =
     one_of_pair (controls l') (controls r') a b
     (subst (λ z. IsPairRefusal (controls l') (controls z) a) rr (subst (λ z. IsPairRefusal (controls z) (controls r) a) ll x)) y
 
--- so three texts have one refusal at most
+-- three texts have one refusal at most, by the three laws above
 pub one_refusal : NotBoth → Rising → OneOfTape → (texts : Texts) (a b : Refusal) → IsRefusalOf texts a → IsRefusalOf texts b → a ≡ b
 one_refusal apart rising law texts a b (settings x) (settings y) = one_of_settings texts.settings a b x y
 one_refusal apart rising law texts a b (settings x) (left cell read y) = absurd (not_both_settings texts.settings cell a x read)

@@ -1,4 +1,5 @@
--- Texts that are put in pieces. One piece after another; texts of many pieces are in InPieces.
+-- Texts that are put into a sink in two pieces, one after another; texts of many pieces are in
+-- InPieces.
 -- lathe_calls, move_list, race_report, trace_list and zone_check use these lemmas.
 use Rattle.std.proofs.Common.{◌≡◌, ℕ, ◌+◌, ◌≤◌, min, List, ◌++◌, length, take, Result, Ok, Err, sym, subst, ◌∙◌, arith}
 use Rattle.std.proofs.KnownBytes.{Appends-trans}
@@ -10,11 +11,11 @@ use Rattle.nc_outside.specs.Faults.{Rose, CountsFault}
 use Rattle.nc_outside.specs.Written.{SinkState, Writes}
 use Rattle.nc_verify.specs.Printed.{IsPut}
 
--- a fault of a later time is one of the longer time
+-- if the count of faults rose in the later part of a time, it rose in the whole time
 rose_before : (a b c : ℕ) → a ≤ b → Rose b c → Rose a c
 rose_before a b c le rose = omega arith
 
--- a call that did not fail, and then another
+-- a call that did not fail and then another count the faults of the other
 counts_on : (a b c : ℕ) {First Fails : Type 0} → (First → ⊥) → CountsFault a b First → CountsFault b c Fails → CountsFault a c Fails
 counts_on a b c calm one two = record {
   later = omega (arith, one.later, two.later);
@@ -22,11 +23,12 @@ counts_on a b c calm one two = record {
   kept = λ none. two.kept none ∙ one.kept calm;
 }
 
--- what went well has not failed
+-- an answer that is Ok is no failure
 put_well : ◌≡◌ {A = Result (Unit {0}) PutFault} (Ok tt) (Err Failed) → ⊥
 put_well clash = absurd cc
 
--- a piece was put, and then another
+-- if a piece was put whole and then another was put, whole or up to a fault, so was the text of
+-- both
 pub put_then : (a b c : SinkState) (front back : List ℕ) (result : Result (Unit {0}) PutFault)
     → IsPut a b front (Ok tt) → IsPut b c back result → IsPut a c (front ++ back) result
 put_then a b c front back (Ok x) one two = record {
@@ -46,7 +48,7 @@ put_then a b c front back (Err fault) one two = record {
   fault = counts_on a.faults b.faults c.faults put_well one.fault two.fault;
 }
 
--- the first piece was not put whole
+-- if the first piece was put up to a fault, so was a text that begins with it
 pub put_stops : (a b : SinkState) (front back : List ℕ) (fault : PutFault) → IsPut a b front (Err fault)
     → IsPut a b (front ++ back) (Err fault)
 put_stops a b front back fault one = record {

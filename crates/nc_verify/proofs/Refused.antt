@@ -1,5 +1,6 @@
--- What follows from a refusal of a part for the whole.
--- wait_verify uses these lemmas.
+-- A refusal of a part is one of the whole: of a path's tape by its reading or its flow
+-- (src/tape.rt), of a pair by its labels (src/meeting.rt).
+-- wait_verify uses `by_refusal`.
 use Rattle.std.proofs.Common.{◌≡◌, ℕ, ◌≤◌, List, length, Ok, Err, subst}
 use Rattle.nc_number.specs.declared.fault.Failing.{Failing}
 use Rattle.nc_number.specs.declared.fault.Failing.TheVariants.{Fault, NoMemory}
@@ -24,20 +25,21 @@ use Rattle.nc_verify.specs.Verdict.{skips_of, dialect_in, IsTapeRefusal, IsPairR
 use Rattle.nc_verify.specs.Verdict.IsTapeRefusal.{reading, flow}
 use Rattle.nc_verify.specs.Verdict.IsPairRefusal.{differ}
 
--- what follows from the one refusal follows for an error
+-- if one statement on a refusal follows from another, it follows for an error, which is a refusal
+-- or that memory ran out
 pub by_refusal : (P Q : Refusal → Type 0) (error : Failing Refusal) → ((refusal : Refusal) → P refusal → Q refusal)
     → IfFault error P → IfFault error Q
 by_refusal P Q (Fault refusal) follows p = follows refusal p
 by_refusal P Q NoMemory follows p = tt
 
--- the tape is refused as it is read
+-- a text that does not read is the refusal of its path's tape
 pub tape_refused : (cell : Cell) (path : Path) (text : List ℕ) (skips : ℕ) (error : Failing TextFault) (fault : TextFault) (refusal : Refusal)
     → error ≡ Fault fault → skips ≡ skips_of path cell → Fails error (tape_of skips text)
     → refusal ≡ at_line path fault.line fault.number → IsTapeRefusal cell path text refusal
 tape_refused cell path text skips error fault refusal is same fails told =
     reading fault (subst (λ n. tape_of n text ≡ Err fault) same (subst (λ e. Fails e (tape_of skips text)) is fails)) told
 
--- the flow of the tape is refused
+-- a tape that reads and has no flow is the refusal of its path's tape
 pub flow_refused : (cell : Cell) (path : Path) (text : List ℕ) (skips : ℕ) (tape : List Program) (error : Failing FlowFault)
     (fault : FlowFault) (refusal : Refusal) → error ≡ Fault fault → skips ≡ skips_of path cell → tape_of skips text ≡ Ok tape
     → IfFault error (λ f. IsRefused (dialect_in cell) tape f.line f.number) → refusal ≡ at_line path fault.line fault.number
@@ -46,7 +48,7 @@ flow_refused cell path text skips tape error fault refusal is same reads refused
     flow tape fault.line fault.number (subst (λ n. tape_of n text ≡ Ok tape) same reads)
     (subst (λ e. IfFault e (λ f. IsRefused (dialect_in cell) tape f.line f.number)) is refused) told
 
--- the labels of two flows differ
+-- the mismatch of two flows' labels, of which there are few enough, is the refusal of the pair
 pub labels_differ : (left right : List ControlProgram) (xs ys : List Labelled) (fault : PairFault) (refusal : Refusal)
     → xs ≡ path_labels left → ys ≡ path_labels right → length xs ≤ MOST_LABELS → length ys ≤ MOST_LABELS
     → IsMismatch xs ys fault → refusal ≡ mismatch fault → IsPairRefusal left right refusal

@@ -1,5 +1,6 @@
--- No three texts are neither accepted nor refused.
--- wait_verify uses these lemmas.
+-- No three texts are neither accepted nor refused: for the law `no_texts_are_without_an_answer`.
+-- `CantBothFail` says that it can't be that neither of the two holds.
+-- wait_verify uses `OneList`, `ByLists` and `pair_answer`.
 use Rattle.std.proofs.Common.{◌≡◌, ◌≢◌, ℕ, suc, ◌<◌, ◌≤◌, ◌⊎◌, inl, inr, ◌↔◌, List, [], ◌∷◌, length, take, slice_get, Some, Result, Ok, Err, refl, ap, sym, ◌∙◌, arith}
 use Rattle.nc_number.specs.declared.path.Path.{Path}
 use Rattle.nc_number.specs.declared.path.Path.TheVariants.{One, Two}
@@ -31,16 +32,17 @@ use Rattle.nc_verify.specs.Verdict.IsTapeRefusal.{reading, flow}
 use Rattle.nc_verify.specs.Verdict.IsPairRefusal.{one, two, differ}
 use Rattle.nc_verify.specs.Verdict.IsRefusalOf.{settings, left, right, pair}
 
--- three laws, as these lemmas take them: a tape is accepted or refused,
+-- the law of flow_laws that a tape is accepted or refused, as these lemmas take it
 abbrev pub SomeOfTape : Type 0
 SomeOfTape = (dialect : Dialect) (tape : List Program) → CantBothFail ((programs : List ProgramForm) × IsAccepted dialect tape programs)
     ((line : ℕ) × (number : ℕ) × IsRefused dialect tape line number)
 
--- a tape in which nothing is wrong with its waits has one list of labels,
+-- the law of block_order that a tape in which nothing is wrong with its waits has one list of
+-- labels, as these lemmas take it
 abbrev pub OneList : Type 0
 OneList = (tape : List ControlProgram) → IsClear tape Waiting → IsUnforked tape
 
--- and a pair is accepted by its lists
+-- the law of label_list that a pair is accepted exactly by its lists, as these lemmas take it
 abbrev pub ByLists : Type 0
 ByLists = (l r : List ControlProgram) → IsUnforked l → IsUnforked r → IsAcceptedPair l r ↔ AgreeOnLabels l r
 
@@ -48,16 +50,16 @@ ByLists = (l r : List ControlProgram) → IsUnforked l → IsUnforked r → IsAc
 
 -- the labels differ after so many equal ones
 record DifferAt (l r : List Labelled) (after : ℕ) : Type 0 where
-  -- the label of path 1 there,
+  -- the label of path 1 there
   one' : Labelled
-  -- and that of path 2
+  -- the label of path 2 there
   two' : Labelled
   equal : bare (take after l) ≡ bare (take after r)
   is_one : slice_get l after ≡ Some one'
   is_two : slice_get r after ≡ Some two'
   differs : one'.label ≢ two'.label
 
--- with an equal label more in front they differ one place later
+-- with an equal label in front of each, two lists differ one place later
 one_behind : (x y : Labelled) (xs ys : List Labelled) (after : ℕ) → x.label ≡ y.label → DifferAt xs ys after → DifferAt (x ∷ xs) (y ∷ ys) (suc after)
 one_behind x y xs ys after same d = record {
   one' = d.one';
@@ -68,7 +70,7 @@ one_behind x y xs ys after same d = record {
   differs = d.differs;
 }
 
--- behind a label that both have, both lists end, or go on
+-- behind a label of this kind that both lists have, both end, or both go on
 both_behind : (kind : Label) (xs ys : List Labelled) → ended_by kind xs (IsEnded xs) → ended_by kind ys (IsEnded ys)
     → (bare xs ≡ bare ys) ⊎ (IsEnded xs × IsEnded ys)
 both_behind (label.Wait code) xs ys ex ey = inr (ex, ey)
@@ -103,7 +105,7 @@ same_or_differ (x ∷ xs) (y ∷ ys) el er unequal none =
         rest ends.0 ends.1 (λ tails. unequal (λ i. same i ∷ tails i))
         (λ d. none (suc d.0, one_behind x y xs ys d.0 same d.1))
 
--- where they differ first is their mismatch
+-- the first place at which two lists of labels differ is their mismatch
 mismatch_at : (l r : List Labelled) (after : ℕ) (d : DifferAt l r after)
     → IsMismatch l r (labels.mismatch after d.one'.line d.two'.line)
 mismatch_at l r after d = record {
@@ -116,11 +118,11 @@ mismatch_at l r after d = record {
   is = refl;
 }
 
--- there are few enough labels, or too many
+-- a number of labels is few enough or too many
 few_or_many : (n : ℕ) → (n ≤ MOST_LABELS) ⊎ (MOST_LABELS < n)
 few_or_many n = grind arith
 
--- so two flows are an accepted pair, or refused
+-- two flows, each with one list of labels, are an accepted pair, or refused as a pair
 pub pair_answer : ByLists → (l r : List ControlProgram) → IsUnforked l → IsUnforked r
     → CantBothFail (IsAcceptedPair l r) ((refusal : Refusal) × IsPairRefusal l r refusal)
 pair_answer lists l r ul ur unaccepted unrefused = go (few_or_many (length (path_labels l))) (few_or_many (length (path_labels r)))
@@ -139,7 +141,7 @@ pair_answer lists l r ul ur unaccepted unrefused = go (few_or_many (length (path
 
 -- Three texts.
 
--- a tape has a flow, or is refused,
+-- the text of a path's tape has a flow, or is refused
 tape_answer : SomeOfTape → (cell : Cell) (path : Path) (text : List ℕ)
     → CantBothFail ((programs : List ProgramForm) × IsFlowOf cell path text programs) ((refusal : Refusal) × IsTapeRefusal cell path text refusal)
 tape_answer law cell path text unaccepted unrefused = go (tape_of (skips_of path cell) text) refl
@@ -150,7 +152,7 @@ tape_answer law cell path text unaccepted unrefused = go (tape_of (skips_of path
         law (dialect_in cell) tape (λ own. unaccepted (own.0, record { tape = tape; reads = is; accepted = own.1 }))
         (λ own. unrefused (at_line path own.0 own.1, flow tape own.0 own.1 is own.2 refl))
 
--- and so are three texts with flows accepted or refused
+-- three texts whose tapes have flows are accepted, or refused
 flows_answer : OneList → ByLists → (texts : Texts) (cell : Cell) (l r : List ProgramForm) → settings_of texts.settings ≡ Ok cell
     → IsFlowOf cell One texts.left l → IsFlowOf cell Two texts.right r
     → CantBothFail (AreAccepted texts cell l r) ((refusal : Refusal) × IsRefusalOf texts refusal)
@@ -159,7 +161,7 @@ flows_answer unforked lists texts cell l r is fl fr unaccepted unrefused =
     (λ own. unaccepted (record { flows = record { settings_are = is; left_is = fl; right_is = fr }; pair = own }))
     (λ own. unrefused (own.0, pair cell l r (record { settings_are = is; left_is = fl; right_is = fr }) own.1))
 
--- so three texts are accepted, or refused
+-- three texts are accepted, or refused, by the three laws above
 pub some_answer : SomeOfTape → OneList → ByLists → (texts : Texts)
     → CantBothFail ((cell : Cell) × (l : List ProgramForm) × (r : List ProgramForm) × AreAccepted texts cell l r)
     ((refusal : Refusal) × IsRefusalOf texts refusal)

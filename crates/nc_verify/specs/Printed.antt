@@ -1,6 +1,7 @@
--- The line of a verdict as it is printed. Also what it means that a text is put into a sink.
--- lathe_calls, lathe_looks, lathe_top, move_list, race_report, trace_list and zone_check use these
--- words.
+-- The line of a verdict as it is printed (src/writing.rt); and what it means that a text is put
+-- into a sink, whole or up to a fault.
+-- Every crate that writes a text states so by `IsPut`: lathe_calls, lathe_looks, lathe_top,
+-- move_list, race_report, trace_list and zone_check.
 use Rattle.std.specs.Prelude.{◌≡◌, ◌≢◌, ℕ, List, ◌++◌, take, Option, Some, None, Result, OnOk, OnErr, IsErrOf, codes}
 use Rattle.nc_number.specs.declared.cause.Cause.{Cause}
 use Rattle.nc_number.specs.declared.cause.Cause.TheVariants.{BadSetting, TooManyLabels, WaitMismatch}
@@ -12,36 +13,36 @@ use Rattle.nc_outside.specs.Faults.{CountsFault}
 use Rattle.nc_outside.specs.Written.{SinkState, TellsOn, Writes}
 use Rattle.nc_verify.specs.declared.refusal.Refusal.{Refusal}
 
--- the cause of a number, if there is one
+-- `None` if no cause has this number, else the cause that has it
 abbrev pub IsCauseOf : ℕ → Option Cause → Type 0
 IsCauseOf number None = (cause : Cause) → cause_number cause ≢ number
 IsCauseOf number (Some cause) = cause_number cause ≡ number
 
--- a path and a line of its tape, as they are printed
+-- a path and a line of its tape, as they are printed: ` path 1 line 3`
 unfoldable pub place_text : ℕ → ℕ → List ℕ
 place_text path line = numbered (codes " path ") path ++ numbered (codes " line ") line
 
--- the line of path 2's label, and how many labels before are equal
+-- of labels that differ, the line of path 2's label, and how many labels before are equal
 unfoldable pub other_text : Refusal → List ℕ
 other_text refusal = place_text 2 refusal.other ++ numbered (codes " after ") refusal.after
 
--- where the labels of the paths differ
+-- where the labels of the paths differ: the line of each, and how many labels before are equal
 unfoldable pub mismatch_text : Refusal → List ℕ
 mismatch_text refusal = place_text 1 refusal.line ++ other_text refusal
 
--- what a refusal of this cause is about
+-- where a refusal of this cause is: a line of the settings, a path, two lines, or a path and a line
 abbrev pub about_text : Option Cause → Refusal → List ℕ
 about_text (Some BadSetting) refusal = numbered (codes " line ") refusal.line
 about_text (Some TooManyLabels) refusal = numbered (codes " path ") refusal.path
 about_text (Some WaitMismatch) refusal = mismatch_text refusal
 about_text other refusal = place_text refusal.path refusal.line
 
--- a refusal of this cause as a line
+-- a refusal of this cause as a line: `refused 65 BranchAtWait path 1 line 3`
 unfoldable pub refused_text : Option Cause → Refusal → List ℕ
 refused_text cause refusal =
     numbered (codes "refused ") refusal.number ++ name_text cause ++ about_text cause refusal ++ codes "\n"
 
--- the line of a verdict is this text
+-- the line of a verdict, which is none or one refusal, is this text
 abbrev pub IsVerdictText : Option Refusal → List ℕ → Type 0
 IsVerdictText None text = text ≡ codes "accepted\n"
 IsVerdictText (Some refusal) text =
@@ -50,7 +51,11 @@ IsVerdictText (Some refusal) text =
 -- The text was put behind what the sink held, or the sink failed behind a part of it, or memory ran
 -- out.
 pub record IsPut (old new : SinkState) (text : List ℕ) (result : Result (Unit {0}) PutFault) : Type 0 where
+  -- after an Ok the whole text was added
   pub ok : OnOk result (Writes old new text)
+  -- after an error a prefix of the text was added
   pub err : OnErr result ((n : ℕ) × Writes old new (take n text))
+  -- the sink makes known what it holds afterwards exactly if it did so before
   pub tells : TellsOn old new
+  -- the sink's count of faults rose exactly if it failed
   pub fault : CountsFault old.faults new.faults (IsErrOf result Failed)

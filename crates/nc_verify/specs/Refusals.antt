@@ -1,5 +1,6 @@
--- The refusals of a pair, each with what it is about. Which texts they refuse is in Verdict.
--- wait_verify uses these words.
+-- The refusals of a pair, each as a record of its number, its path and its lines. Which texts they
+-- refuse is in Verdict; src/refusal.rt makes them.
+-- wait_verify tells its refusals by the same records.
 use Rattle.std.specs.Prelude.{ℕ}
 use Rattle.nc_number.specs.declared.cause.Cause.TheVariants.{BadSetting, TooManyLabels}
 use Rattle.nc_number.specs.declared.path.Path.{Path}
@@ -8,19 +9,19 @@ use Rattle.nc_number.specs.Path.{number_of}
 use Rattle.label_list.specs.declared.fault.PairFault.{PairFault}
 use Rattle.nc_verify.specs.declared.refusal.Refusal.{Refusal}
 
--- the settings are refused at a line
+-- the refusal of the settings at a line (90)
 abbrev pub at_setting : ℕ → Refusal
 at_setting line = record { number = cause_number BadSetting; path = 0; line = line; other = 0; after = 0 }
 
--- the tape of a path is refused at a line by this number
+-- the refusal of a path's tape at a line by this number
 abbrev pub at_line : Path → ℕ → ℕ → Refusal
 at_line path line number = record { number = number; path = number_of path; line = line; other = 0; after = 0 }
 
--- a path has too many labels
+-- the refusal of a path that has too many labels (70)
 abbrev pub too_long : Path → Refusal
 too_long path = record { number = cause_number TooManyLabels; path = number_of path; line = 0; other = 0; after = 0 }
 
--- the labels of the paths differ
+-- the refusal of a pair whose labels differ (72), by what label_list tells of the difference
 abbrev pub mismatch : PairFault → Refusal
 mismatch fault =
     record { number = fault.number; path = fault.path; line = fault.line; other = fault.other; after = fault.after }

@@ -3,6 +3,9 @@
 //! [`verdict`] accepts exactly the texts whose settings are allowed, whose tapes read and whose
 //! flows are an accepted pair, and else tells their one refusal. [`Verified`] is what was accepted:
 //! whoever holds one need not ask again. [`write_verdict`] prints the answer.
+//!
+//! Every crate that runs a pair or tells of one takes a [`Verified`]; lathe_calls answers `verify`;
+//! wait_verify takes the parts that its own verdict shares.
 #![tactic(auto)]
 
 mod laws;

@@ -1,5 +1,6 @@
-//! Whether two orders of blocks are an accepted pair. It compares their lists of labels.
-//! wait_verify uses what it exports.
+//! Whether two orders of blocks are an accepted pair: it lists the labels of each path and compares
+//! the lists.
+//! verifying.rt calls `meet` for `verify`, and wait_verify for `waits`.
 ghost use Rattle.std.specs.Prelude.{◌≡◌, ◌≤◌, length, IfOk, IfErr};
 ghost use Rattle.nc_number.specs.declared.limits.TheConstants.{MOST_LABELS};
 ghost use Rattle.block_order.specs.Answers.{IfFault};
@@ -14,7 +15,7 @@ use label_list::{LabelList, a_pair_is_accepted_by_its_lists, compare, labels_of_
 use nc_number::{Both, Failing, Path};
 use std::alloc::Global;
 
-/// The labels of a path.
+/// The labels of a path, in order; or the refusal that there are too many, or that memory ran out.
 fn labels_of(alloc: Global, path: Path, order: &BlockOrder) -> Result<LabelList, Failing<Refusal>>
     ensures list { IfOk result (λ list. list ≡ path_labels order.now) }
     ensures few { IfOk result (λ list. length list ≤ MOST_LABELS) }

@@ -1,5 +1,5 @@
-//! Why a pair is refused. Its number, path and line; its text is written in writing.rt.
-//! lathe_calls and wait_verify use what it exports.
+//! Why a pair is refused: the number, the path and the lines. writing.rt writes it as a line.
+//! lathe_calls answers it; wait_verify refuses by the same struct.
 ghost use Rattle.std.specs.Prelude.{◌≡◌};
 ghost use Rattle.nc_verify.specs.Refusals.{at_setting, at_line, too_long, mismatch};
 
@@ -16,7 +16,8 @@ pub struct Refusal {
     pub number: u8,
     /// The path whose tape is refused, 1 or 2; 0 where the settings are. 1 where the labels differ.
     pub path: u8,
-    /// The line that the refusal is about, counted from 1; 0 where a path has too many labels.
+    /// The line that the refusal is about, counted from 1; where the labels differ, that of path
+    /// 1's label; 0 where a path has too many labels.
     pub line: u32,
     /// Where the labels differ, the line of path 2's label; else 0.
     pub other: u32,
@@ -25,7 +26,7 @@ pub struct Refusal {
 }
 
 impl Refusal {
-    /// A line of the settings is not allowed.
+    /// The refusal of the settings for a line that is not allowed.
     pub fn at_setting(fault: SettingFault) -> Self
         ensures { result ≡ at_setting fault.line }
     {
@@ -38,7 +39,7 @@ impl Refusal {
         }
     }
 
-    /// The tape of a path is refused at a line by this number.
+    /// The refusal of a path's tape at a line by this number.
     pub fn at_line(path: Path, line: u32, number: u8) -> Self
         ensures { result ≡ at_line path line number }
     {
@@ -51,14 +52,14 @@ impl Refusal {
         }
     }
 
-    /// A path has too many labels.
+    /// The refusal of a path that has too many labels.
     pub fn too_long(path: Path) -> Self
         ensures { result ≡ too_long path }
     {
         Refusal::at_line(path, 0, Cause::TooManyLabels.number())
     }
 
-    /// The labels of the paths differ.
+    /// The refusal of a pair whose labels differ.
     pub fn mismatch(fault: PairFault) -> Self
         ensures { result ≡ mismatch fault }
     {

@@ -1,5 +1,5 @@
 //! The tape of one path, from its text to its flow. The settings and the pair are in verifying.rt.
-//! wait_verify uses what it exports.
+//! wait_verify takes `read_tape` and `skips_of`.
 ghost use Rattle.std.specs.Prelude.{◌≡◌, map, IfOk, IfErr};
 ghost use Rattle.block_order.specs.Answers.{IfFault};
 ghost use Rattle.cell_settings.specs.View.{view};
@@ -26,7 +26,7 @@ pub fn read_tape(alloc: Global, skips: u16, text: &[u8]) -> Result<Tape, Failing
     }
 }
 
-/// The switches of the blocks that a path skips, a bit for each.
+/// The block-skip switches of a path that are on, a bit for each.
 pub fn skips_of(settings: &Settings, path: Path) -> u16
     ensures { result ≡ skips_of path (view settings.now) }
 {

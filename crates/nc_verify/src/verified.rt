@@ -1,6 +1,7 @@
-//! An accepted pair. Only verifying.rt makes one.
-//! lathe_calls, lathe_top, move_list, nc_restart, race_report, run_table, trace_list, turn_order
-//! and zone_check use what it exports.
+//! An accepted pair, by its type: only verifying.rt makes one. So who holds it knows that both
+//! tapes read, and that no path will wait in vain.
+//! The crates that run a pair or tell of one take it: lathe_calls, lathe_top, move_list,
+//! nc_restart, race_report, run_table, trace_list, turn_order and zone_check.
 ghost use Rattle.std.specs.Prelude.{◌≡◌};
 ghost use Rattle.label_list.specs.Accepted.{IsAcceptedPair};
 
@@ -10,14 +11,17 @@ use tape_flow::Flow;
 /// The flows of an accepted pair of tapes, and the settings under which they were read.
 #[derive(Drop)]
 pub struct Verified {
+    /// The flow of path 1's tape.
     left: Flow,
+    /// The flow of path 2's tape.
     right: Flow,
+    /// The settings under which both tapes were read.
     settings: Settings,
     ghost accepted: { IsAcceptedPair left.order right.order },
 }
 
 impl Verified {
-    /// Flows that are an accepted pair.
+    /// The pair of two flows that are accepted as one.
     pub(crate) fn of(left: Flow, right: Flow, settings: Settings) -> Self
         requires { IsAcceptedPair left.order right.order }
         ensures left { result.left ≡ left }

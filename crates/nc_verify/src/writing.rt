@@ -1,5 +1,6 @@
-//! The line of a verdict. What it says is in refusal.rt.
-//! lathe_calls uses what it exports.
+//! The line of a verdict, `accepted` or `refused ..`, into a sink. Its definition is in
+//! specs/Printed.antt.
+//! lathe_calls calls `write_verdict`.
 ghost use Rattle.std.specs.Prelude.{◌≡◌, ◌+◌, ◌≤◌, ℕ, List, ◌++◌, length, codes};
 ghost use Rattle.std.specs.Option.{option_copied};
 ghost use Rattle.nc_verify.specs.Printed.{IsPut, IsVerdictText, about_text, mismatch_text, other_text, place_text, refused_text};
@@ -43,7 +44,8 @@ fn add_mismatch(piece: &mut Piece, refusal: &Refusal)
     add_other(piece, refusal);
 }
 
-/// Adds what a refusal is about.
+/// Adds where a refusal of this cause is: a line of the settings, a path, two lines, or a path and
+/// a line.
 fn add_about(piece: &mut Piece, cause: Option<Cause>, refusal: &Refusal)
     requires { length piece.old + 131 ≤ 512 }
     ensures text { piece.new ≡ piece.old ++ about_text cause refusal.now }

@@ -1,6 +1,6 @@
--- If reading a tape ends at a block, that block is the first one that is refused, and every other
--- one stands after it.
--- `the_first_refused_block_has_the_least_line` (src/laws.rt) rests on it.
+-- If the reading of a tape ends at a block, that block is the first one that is refused, and every
+-- other one that is refused stands after it.
+-- For the law `the_first_refused_block_has_the_least_line` (src/laws.rt).
 use Rattle.std.proofs.Common.{◌≡◌, ℕ, ◌≤◌, Bool, List, [], ◌∷◌, ◌++◌, map, refl, ap, sym, ◌∙◌, arith, Option, Some, None, Result, Ok, Err, All, Contains}
 use Rattle.std.proofs.lemmas.List.Elements.{All-nil, All-cons, All-weaker, All-contains, Contains-append_left, Contains-append_right, Contains-push}
 use Rattle.nc_number.specs.Results.{◌>>=◌}
@@ -25,7 +25,7 @@ abbrev pub first_refusal : Basis → List Block → Option FlowFault
 first_refusal basis [] = None
 first_refusal basis (block ∷ blocks) = refusal_or (block_read basis block) (first_refusal basis blocks)
 
--- reading blocks refuses the first of them that is refused
+-- reading a list of blocks comes to its first refusal, or hands over to what follows it
 blocks_tell : (basis : Basis) (blocks more : List Block) (done : List ControlBlock)
     → Tells (blocks_from basis done blocks) (first_refusal basis (blocks ++ more)) (first_refusal basis more)
 blocks_tell basis [] more done = refl
@@ -34,7 +34,7 @@ blocks_tell basis (block ∷ blocks) more done =
     (first_refusal basis (blocks ++ more)) (first_refusal basis more)
     (λ own. blocks_tell basis blocks more (done ++ own ∷ []))
 
--- reading the programs of a tape refuses the first block that is refused
+-- reading a tape comes to the refusal of its first block that has one, or no block has one
 programs_tell : (basis : Basis) (tape : List Program) (done : List ControlProgram)
     → Tells (programs_from basis done tape) (first_refusal basis (blocks_in tape)) None
 programs_tell basis [] done = refl
@@ -46,7 +46,7 @@ programs_tell basis (program ∷ programs) done =
     (blocks_tell basis program.blocks (blocks_in programs) [])
     (λ own. programs_tell basis programs (done ++ own ∷ []))
 
--- a refusal of a block names its line
+-- an answer of open_forms that refuses a block is told at the block's line
 line_at : (gone : ℕ → Bool) (block : Block) (read : Result Control FormFault) (fault : FlowFault)
     → at_line gone block read ≡ Err fault → block.line ≡ fault.line
 line_at gone block (Ok control) fault is = absurd cc
@@ -59,11 +59,12 @@ line_of_refusal : (basis : Basis) (block : Block) (fault : FlowFault) → block_
 line_of_refusal basis block fault is =
     line_at (gone_from basis) block (numbered (open_control basis.premises.dialect block.body)) fault is
 
--- if a block is refused, its line is no less
+-- if this block is refused, its line is not before that of the fault
 abbrev pub IsNoEarlier : Basis → FlowFault → Block → Type 0
 IsNoEarlier basis fault block = (other : FlowFault) → block_read basis block ≡ Err other → fault.line ≤ block.line
 
--- a block that is refused, before others at no lower line, is refused at the least line
+-- no refusal among a block and those behind it is earlier than the first one, if that holds of
+-- those behind it
 least_at : (basis : Basis) (block : Block) (blocks : List Block) (fault : FlowFault) (read : Result ControlBlock FlowFault)
     → block_read basis block ≡ read → refusal_or read (first_refusal basis blocks) ≡ Some fault
     → All (λ other. block.line ≤ other.line) blocks
@@ -87,11 +88,11 @@ least basis (block ∷ blocks) low fault first rise =
     least_at basis block blocks fault (block_read basis block) refl first (all_behind blocks block.line rise.1)
     (λ rest. least basis blocks block.line fault rest rise.1)
 
--- a block of the list is refused so
+-- a block of the list has this refusal
 abbrev pub IsThere : Basis → List Block → FlowFault → Type 0
 IsThere basis blocks fault = (block : Block) × Contains blocks block × (block_read basis block ≡ Err fault)
 
--- the block that is refused is among them, if it is the first or among the rest
+-- the first refusal is that of this block, or of one behind it
 there_at : (basis : Basis) (block : Block) (blocks : List Block) (fault : FlowFault) (read : Result ControlBlock FlowFault)
     → block_read basis block ≡ read → refusal_or read (first_refusal basis blocks) ≡ Some fault
     → (first_refusal basis blocks ≡ Some fault → IsThere basis blocks fault) → IsThere basis (block ∷ blocks) fault
@@ -101,14 +102,14 @@ there_at basis block blocks fault (Err own) is first rest =
     let same : own ≡ fault = cc in
     (block, Contains-append_left (block ∷ []) blocks block (Contains-push [] block), is ∙ ap (λ f. Err f) same)
 
--- the block that is refused is among them
+-- the first refusal is that of a block of the list
 there : (basis : Basis) (blocks : List Block) (fault : FlowFault) → first_refusal basis blocks ≡ Some fault
     → IsThere basis blocks fault
 there basis [] fault first = absurd cc
 there basis (block ∷ blocks) fault first =
     there_at basis block blocks fault (block_read basis block) refl first (λ rest. there basis blocks fault rest)
 
--- a tape of which a block does not read is refused by the one of the least line
+-- a tape of which a block is refused is refused for the refused block on the least line
 pub least_refused : (premises : Premises) (tape : List Program) (line number : ℕ) → IsTapeShape tape
     → programs_read premises tape ≡ Err (refusal line number) → IsLeastRefused premises tape line number
 least_refused premises tape line number shape failed =

@@ -1,6 +1,6 @@
 -- The programs of a tape that was read stand in the text as the tape does: as many, on the same
 -- lines, of as many blocks.
--- `open_order` (src/ordering.rt) rests on it.
+-- So `open_order` (src/ordering.rt) may call the check of their order.
 use Rattle.std.proofs.Common.{◌≡◌, ℕ, ◌+◌, Bool, List, [], ◌∷◌, ◌++◌, length, map, refl, ap, sym, ◌∙◌, arith, Result, Ok, Err, IfOk, append_assoc, length-append, subst}
 use Rattle.std.proofs.lemmas.List.{map-append, length-map, append-nil}
 use Rattle.std.proofs.lemmas.Grind.{flat_map-append}
@@ -35,7 +35,7 @@ line_kept basis block =
 abbrev control_lines : List ControlBlock → List ℕ
 control_lines blocks = map (λ block. block.line) blocks
 
--- one more block leaves the lines of what is read and of the rest together
+-- if one block more is read, its line goes from those ahead to those read
 one_line_more : (done : List ControlBlock) (read : ControlBlock) (block : Block) (blocks : List Block) (whole : List ℕ)
     → read.line ≡ block.line → control_lines done ++ text_lines (block ∷ blocks) ≡ whole
     → control_lines (done ++ read ∷ []) ++ text_lines blocks ≡ whole
@@ -56,7 +56,8 @@ blocks_kept basis (block ∷ blocks) done whole is =
     (λ read. control_lines read ≡ whole) (line_kept basis block)
     (λ read same. blocks_kept basis blocks (done ++ read ∷ []) whole (one_line_more done read block blocks whole same is))
 
--- a program that was read stands in the text as the program does
+-- what it means that a program that was read stands in the text as the program does: the O number
+-- and each block are on the same lines
 record IsLike (program : Program) (read : ControlProgram) : Type 0 where
   line : read.line ≡ program.line
   lines : control_lines read.blocks ≡ text_lines program.blocks
@@ -87,7 +88,7 @@ record IsSplit (done : List ControlProgram) (rest : List Program) (lines : List 
   blocks_are : length (order.blocks_in done) + length (tape.blocks_in rest) ≡ blocks
   programs_are : length done + length rest ≡ programs
 
--- one more program leaves what is read and the rest together
+-- if one program more is read, lines, blocks and programs stay as many together
 split_more : (done : List ControlProgram) (read : ControlProgram) (program : Program) (rest : List Program) (lines : List ℕ)
     (blocks programs : ℕ) → IsLike program read → IsSplit done (program ∷ rest) lines blocks programs
     → IsSplit (done ++ read ∷ []) rest lines blocks programs
@@ -114,7 +115,7 @@ split_more done read program rest lines blocks programs like split =
       programs_are = rw (length-append done (read ∷ [])) (omega (arith, split.programs_are));
     }
 
--- the programs that are read have the lines, blocks and programs of the text
+-- programs that are read to the end have all lines, blocks and programs of the tape
 programs_kept : (basis : Basis) (rest : List Program) (done : List ControlProgram) (lines : List ℕ) (blocks programs : ℕ)
     → IsSplit done rest lines blocks programs
     → IfOk (programs_from basis done rest) (λ read. IsSplit read [] lines blocks programs)

@@ -1,5 +1,5 @@
--- What follows for a tape from the refusal of a part.
--- `open_order` (src/ordering.rt) rests on it.
+-- A refusal of a part is one of the tape: of a block, and of the order of blocks that read.
+-- For `open_order` (src/ordering.rt).
 use Rattle.std.proofs.Common.{◌≡◌, List, Ok}
 use Rattle.nc_number.specs.declared.fault.Failing.{Failing}
 use Rattle.nc_number.specs.declared.fault.Failing.TheVariants.{Fault, NoMemory}

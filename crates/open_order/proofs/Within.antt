@@ -1,5 +1,5 @@
--- Where the searches of a contour lead, and how many blocks a program has.
--- `contour_cause`, `contour_fault` and `fault_from` (src/cycles.rt) rest on it.
+-- The searches for the blocks of a contour lead to blocks of the program, and a program has no more
+-- blocks than its tape: what the calls in src/cycles.rt require.
 use Rattle.std.proofs.Common.{◌≡◌, ℕ, ◌<◌, ◌≤◌, ◌==◌, Bool, true, false, cond, List, [], ◌∷◌, length, Option, Some, None, IfSome, All, sym, arith, length-append}
 use Rattle.std.proofs.lemmas.List.Elements.{All-nil, All-cons}
 use Rattle.nc_text.specs.declared.tape.Program.{Program}
@@ -10,13 +10,13 @@ use Rattle.block_order.proofs.Findable.{seek-within}
 use Rattle.open_order.specs.declared.contour.Contour.{Contour}
 use Rattle.open_order.specs.Contours.{last_block}
 
--- a search leads to a block of the program
+-- a search for a sequence number, if it finds a block, leads to one of the program
 pub seek_some : (bs : List ControlBlock) (from n : ℕ) (found : Option ℕ) → found ≡ seek bs from n
     → IfSome found (λ t. t < length bs)
 seek_some bs from n None is = tt
 seek_some bs from n (Some t) is = seek-within bs from n t (sym is)
 
--- so does the search for a contour's last block
+-- the search for the last block of a contour, if it finds a block, leads to one of the program
 pub last_some : (bs : List ControlBlock) (contour : Contour) (first : ℕ) (found : Option ℕ) → first < length bs
     → found ≡ last_block bs contour first → IfSome found (λ t. t < length bs)
 last_some bs contour first None within is = tt

@@ -1,14 +1,15 @@
--- What a tape is read over, and what it takes on trust, as contracts see them.
+-- How contracts read two structs of the code: what a tape is read over (src/reading.rt), and what
+-- is taken on trust (src/trusting.rt).
 -- wait_verify and lathe_calls take `seen`.
 use Rattle.open_order.specs.declared.reading.Reading.{Reading}
 use Rattle.open_order.specs.declared.trusting.Trust.{Trust}
 use Rattle.open_order.specs.Reading.{Basis}
 use Rattle.open_order.specs.Trusted.{TrustView}
 
--- what the code reads a block over
+-- what the code reads a block over, as the record of Reading
 abbrev pub basis : Reading → Basis
 basis reading = record { premises = reading.premises; tape = reading.tape.now }
 
--- what the code keeps as taken on trust
+-- what the code keeps as taken on trust, as the record of Trusted
 abbrev pub seen : Trust → TrustView
 seen trust = record { geometry = trust.geometry.keys; auxiliary = trust.auxiliary.keys; programs = trust.programs.keys }

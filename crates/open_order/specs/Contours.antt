@@ -1,6 +1,8 @@
--- The contours of the cycles G70 to G73: what is wrong with one, and the first fault of a tape.
--- What its P and Q name is at the top. 50 and 65 are alarm numbers (docs/ERRORS.md).
--- wait_verify takes it.
+-- The contours of the cycles G70 to G73: which blocks P and Q name, what is wrong with a contour
+-- that has a wait or an end in it, and the first fault of a tape. 50 and 65 are numbers of refusals
+-- (docs/ERRORS.md).
+-- `open_order` (src/ordering.rt) refuses tapes by it; wait_verify proves that a tape which `verify`
+-- accepts has no such fault.
 use Rattle.std.specs.Prelude.{ℕ, suc, ◌-◌, Bool, true, false, not, ◌==◌, ◌&&◌, ◌||◌, nat_le, List, [], ◌∷◌, take, drop, Option, Some, None, ℤ, codes, if◌then◌else◌}
 use Rattle.std.specs.List.{list_any}
 use Rattle.nc_number.specs.declared.cause.Cause.{Cause}
@@ -23,17 +25,17 @@ use Rattle.open_forms.specs.Codes.{is_g}
 use Rattle.open_forms.specs.Words.{written, last_number}
 use Rattle.open_order.specs.declared.contour.Contour.{Contour}
 
--- G70, G71, G72 or G73, by its millionths
+-- whether a code, in millionths, is G70, G71, G72 or G73
 abbrev pub is_cycle_code : Option ℤ → Bool
 is_cycle_code None = false
 is_cycle_code (Some z) = (is_g 70000000 z || is_g 71000000 z) || (is_g 72000000 z || is_g 73000000 z)
 
--- G65, of which every other word is an argument
+-- whether a code, in millionths, is G65, a macro call, of which every other word is an argument
 abbrev pub is_macro_code : Option ℤ → Bool
 is_macro_code None = false
 is_macro_code (Some z) = is_g 65000000 z
 
--- one of the G words is such a code
+-- one of the G words is a code of which `is_it` holds
 abbrev pub has_code : (Option ℤ → Bool) → List Word → Bool
 has_code is_it words = list_any (λ word. is_one_of (codes "G") word.letter && is_it (written word)) words
 
@@ -42,7 +44,8 @@ abbrev pub contour_by : Option ℕ → Option ℕ → Option Contour
 contour_by (Some from) (Some to) = Some (record { from = from; to = to })
 contour_by _ _ = None
 
--- the contour of the cycle that a block begins, from the block numbered P to the one numbered Q
+-- the contour of the cycle that a block begins, if it begins one: from the block numbered P to the
+-- one numbered Q
 abbrev pub contour_in : Body → Option Contour
 contour_in (Words words) =
     if not (has_code is_macro_code words) && has_code is_cycle_code words
@@ -50,8 +53,8 @@ contour_in (Words words) =
     else None
 contour_in (Statement text) = None
 
--- a block of this control may not stand in a contour: a wait, an end, an M99, or a call of a
--- program that waits or ends
+-- whether a block of this control may not stand in a contour: a wait, an end, an M99, or a call of
+-- a program that is loud, which means that it reaches a wait or an end
 abbrev pub disturbs : (ℕ → Bool) → Control → Bool
 disturbs loud (Wait code) = true
 disturbs loud End = true
@@ -64,12 +67,14 @@ disturbs loud other = false
 abbrev pub between : List ControlBlock → ℕ → ℕ → List ControlBlock
 between bs first last = take (suc (last - first)) (drop first bs)
 
--- The contour runs from a block to the same or a later one, and none of its blocks disturbs it.
+-- The contour runs from a block to the same or a later one, and no block of it is one that may not
+-- stand in a contour.
 abbrev pub is_calm : (ℕ → Bool) → List ControlBlock → ℕ → ℕ → Bool
 is_calm loud bs first last =
     nat_le first last && not (list_any (λ b. disturbs loud b.control) (between bs first last))
 
--- the last block of the contour that begins with this one
+-- the place of the last block of the contour whose first block is at this place, if the program has
+-- it
 abbrev pub last_block : List ControlBlock → Contour → ℕ → Option ℕ
 last_block bs contour first = if contour.from == contour.to then Some first else seek bs first contour.to
 
@@ -84,17 +89,17 @@ fault_from loud bs contour None = Some NoSequence
 fault_from loud bs contour (Some first) = fault_between loud bs first (last_block bs contour first)
 
 -- What is wrong with the contour of a cycle at a place of a program: 50 if the program lacks one of
--- its numbers; else 65 if it ends before it begins, or a block of it disturbs it.
+-- its numbers; else 65 if it ends before it begins, or a block of it may not stand in a contour.
 abbrev pub contour_cause : (ℕ → Bool) → List ControlBlock → ℕ → Option Contour → Option Cause
 contour_cause loud bs place None = None
 contour_cause loud bs place (Some contour) = fault_from loud bs contour (seek bs place contour.from)
 
--- the fault with the line of the cycle
+-- the fault of a contour, told at the line of its cycle
 abbrev pub fault_at : ℕ → Option Cause → Option FlowFault
 fault_at line None = None
 fault_at line (Some cause) = Some (record { number = cause_number cause; line = line })
 
--- the fault of a block at a place of a program, told at its line
+-- the fault of the contour that a block at a place of a program begins, told at the block's line
 abbrev pub block_fault : (ℕ → Bool) → List ControlBlock → ℕ → Block → Option FlowFault
 block_fault loud bs place block = fault_at block.line (contour_cause loud bs place (contour_in block.body))
 

@@ -1,4 +1,5 @@
--- That the refusal of a tape's blocks is the one of the least line. The law of src/laws.rt says it.
+-- What it means that the refusal of a tape is that of its refused block on the least line. The law
+-- of src/laws.rt says it for readers; no crate uses it.
 use Rattle.std.specs.Prelude.{◌≡◌, ℕ, ◌≤◌, List, Err, Contains}
 use Rattle.nc_text.specs.declared.tape.Block.{Block}
 use Rattle.nc_text.specs.declared.tape.Program.{Program}
@@ -14,9 +15,14 @@ basis_of premises tape = record { premises = premises; tape = tape }
 
 -- a block of the tape at this line is refused so, and none at a lower line is refused
 pub record IsLeastRefused (premises : Premises) (tape : List Program) (line number : ℕ) : Type 0 where
+  -- the block that is refused
   pub block : Block
+  -- the tape has it
   pub there : Contains (blocks_in tape) block
+  -- the block is at this line
   pub at : block.line ≡ line
+  -- the block is refused by this number
   pub refused : block_read (basis_of premises tape) block ≡ Err (refusal line number)
+  -- every block of the tape that is refused is at this line or behind it
   pub least : (other : Block) (fault : FlowFault) → Contains (blocks_in tape) other
       → block_read (basis_of premises tape) other ≡ Err fault → line ≤ other.line

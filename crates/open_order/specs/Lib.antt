@@ -1,4 +1,5 @@
--- What callers read.
+-- The words in which contracts speak of a tape that is read for its waits alone: what its blocks do
+-- to the order, when it is refused, what it takes on trust. wait_verify cites most of them.
 pub mod Gone
 pub mod Reading
 pub mod Contours

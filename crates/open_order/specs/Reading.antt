@@ -1,5 +1,6 @@
--- The blocks of a tape, each read for its control alone, or the first of them that is refused.
--- wait_verify takes `programs_read`.
+-- The blocks of a tape, each read for its control alone, or the first of them that is refused. What
+-- one block does to the order is defined in open_forms.
+-- wait_verify proves over these words that a tape which `verify` accepts reads to the same order.
 use Rattle.std.specs.Prelude.{ℕ, Bool, List, [], ◌∷◌, ◌++◌, Result, Ok, Err, if◌then◌else◌}
 use Rattle.nc_number.specs.Results.{◌>>=◌}
 use Rattle.nc_text.specs.declared.tape.Block.{Block}
@@ -14,20 +15,23 @@ use Rattle.tape_flow.specs.declared.fault.FlowFault.{FlowFault}
 use Rattle.open_order.specs.declared.premises.Premises.{Premises}
 use Rattle.open_order.specs.Gone.{is_gone}
 
--- a call of a program that the tape lacks goes on to the next block, however often it is repeated
+-- the control of a block on its tape: a call of a program that the tape lacks (`gone`) goes on to
+-- the next block, however often it is repeated
 abbrev pub settled : (ℕ → Bool) → Control → Control
 settled gone (Call program repeats) = if gone program then Next else Call program repeats
 settled gone other = other
 
--- what a block says, at its line: its control, or why it is refused
+-- a block with its line, its sequence number and its control; or its refusal, told at its line
 abbrev pub at_line : (ℕ → Bool) → Block → Result Control FormFault → Result ControlBlock FlowFault
 at_line gone block (Ok control) =
     Ok (record { line = block.line; sequence = block.sequence; control = settled gone control })
 at_line gone block (Err fault) = Err (record { number = fault.number; line = block.line })
 
--- the premises by which a block is read, and the programs of its tape
+-- what a block is read over
 pub record Basis : Type 0 where
+  -- how words are read, and which programs may be missing
   pub premises : Premises
+  -- all programs of the block's tape
   pub tape : List Program
 
 -- the tape lacks the program of this number, as it may
@@ -39,7 +43,7 @@ abbrev pub block_read : Basis → Block → Result ControlBlock FlowFault
 block_read basis block =
     at_line (gone_from basis) block (numbered (open_control basis.premises.dialect block.body))
 
--- the blocks after those that are read, or the first refusal
+-- the blocks that are read, and then these ones, or the first refusal among these
 abbrev pub blocks_from : Basis → List ControlBlock → List Block → Result (List ControlBlock) FlowFault
 blocks_from basis done [] = Ok done
 blocks_from basis done (block ∷ blocks) = do
@@ -52,7 +56,7 @@ program_read basis program = do
   blocks ← blocks_from basis [] program.blocks
   Ok (record { number = program.number; line = program.line; blocks = blocks })
 
--- the programs after those that are read, or the first refusal
+-- the programs that are read, and then these ones, or the first refusal among these
 abbrev pub programs_from : Basis → List ControlProgram → List Program → Result (List ControlProgram) FlowFault
 programs_from basis done [] = Ok done
 programs_from basis done (program ∷ programs) = do

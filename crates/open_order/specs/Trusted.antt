@@ -1,6 +1,7 @@
--- What is taken on trust: codes that this control does not know in the system of the tape and that
--- are taken to go on, and calls of programs that the tape lacks.
--- wait_verify, lathe_calls and lathe_top take `TrustView` and `with_tape`.
+-- What is taken on trust when a tape is read for its waits: codes that this control does not run,
+-- which are taken to go on to the next block, and calls of programs that the tape lacks. `waits`
+-- prints it in its line `goes on`.
+-- wait_verify and lathe_top take `TrustView` and `with_tape`, lathe_calls takes `TrustView`.
 use Rattle.std.specs.Prelude.{ℕ, Bool, true, false, not, ◌==◌, ◌&&◌, ◌||◌, nat_le, List, [], ◌∷◌, Option, Some, None, ℤ, pos, negsuc, Result, Ok, Err, if◌then◌else◌}
 use Rattle.std.specs.Ordering.{nat_cmp}
 use Rattle.std.specs.BTreeSet.{insert_key}
@@ -24,98 +25,103 @@ use Rattle.open_order.specs.Reading.{Basis, gone_from}
 use Rattle.open_order.specs.declared.code.Code.{Code}
 use Rattle.open_order.specs.declared.code.Code.TheVariants.{Geometry, Auxiliary, Subprogram}
 
--- G codes by their millionths, M codes and O numbers, each once and in order
+-- what is taken on trust, each number once and in rising order
 pub record TrustView : Type 0 where
+  -- G codes, by their millionths
   pub geometry : List ℕ
+  -- M codes
   pub auxiliary : List ℕ
+  -- O numbers of programs that are called and that the tapes lack
   pub programs : List ℕ
 
 -- nothing is taken on trust
 abbrev pub no_trust : TrustView
 no_trust = record { geometry = []; auxiliary = []; programs = [] }
 
--- the list has nothing
+-- whether the list is empty
 abbrev pub is_none : List ℕ → Bool
 is_none [] = true
 is_none (x ∷ xs) = false
 
--- nothing was taken on trust
+-- whether nothing is taken on trust
 abbrev pub is_nothing : TrustView → Bool
 is_nothing trust = (is_none trust.geometry && is_none trust.auxiliary) && is_none trust.programs
 
--- this code besides
+-- what is taken on trust, with this code besides, if there is one
 abbrev pub with_code : TrustView → Option Code → TrustView
 with_code trust None = trust
 with_code trust (Some (Geometry micro)) = record trust { geometry = insert_key nat_cmp trust.geometry micro }
 with_code trust (Some (Auxiliary code)) = record trust { auxiliary = insert_key nat_cmp trust.auxiliary code }
 with_code trust (Some (Subprogram number)) = record trust { programs = insert_key nat_cmp trust.programs number }
 
--- M00 to M05, M08, M09, M30, M98 and M99: stops, ends, the spindle, coolant, and calls. None of
--- them is ever made a call on a machine.
+-- whether an M code is one of M00 to M05, M08, M09, M30, M98 and M99: stops, ends, the spindle,
+-- coolant, and calls. They mean the same on every machine, so they need no trust.
 abbrev pub is_standard_m : ℕ → Bool
 is_standard_m code = (nat_le code 5 || (code == 8 || code == 9)) || (code == 30 || (code == 98 || code == 99))
 
--- the row of a code that this control knows, and that it does not refuse
+-- whether the row of a code is there and is one that this control runs
 abbrev pub is_own_row : Option Row → Bool
 is_own_row None = false
 is_own_row (Some row) = not (is_refused row.kind)
 
--- the G code of so many millionths
+-- the G code of so many millionths, if they are not below 0
 abbrev pub geometry_code : Option ℤ → Option Code
 geometry_code None = None
 geometry_code (Some (pos micro)) = Some (Geometry micro)
 geometry_code (Some (negsuc n)) = None
 
--- an M code that is no wait and none of the standard ones
+-- the M code as one that is taken on trust, unless it is a wait or a standard one
 abbrev pub auxiliary_code : Dialect → Option ℕ → Option Code
 auxiliary_code dialect None = None
 auxiliary_code dialect (Some code) =
     if is_waiting dialect code || is_standard_m code then None else Some (Auxiliary code)
 
--- what a word takes on trust: a G (71) that this control does not know in that system, or an M (77)
--- of those
+-- what a word takes on trust, if anything: a G code (letter 71) that this control does not run in
+-- the system of the tape, or an M code (letter 77) that is no wait and no standard one
 abbrev pub word_code : Dialect → Word → Option Code
 word_code dialect word =
     if word.letter == 71 then (if is_own_row (row_of_number dialect.system (number word)) then None else geometry_code (written word))
     else if word.letter == 77 then auxiliary_code dialect (number word)
     else None
 
--- the codes of these words besides
+-- what is taken on trust, with the codes of these words besides
 abbrev pub with_words : Dialect → TrustView → List Word → TrustView
 with_words dialect trust [] = trust
 with_words dialect trust (word ∷ words) = with_words dialect (with_code trust (word_code dialect word)) words
 
--- the codes of a block besides; a macro call and a statement have none
+-- what is taken on trust, with the codes of a block's words besides; a macro call and a statement
+-- have none
 abbrev pub with_body : Dialect → TrustView → Body → TrustView
 with_body dialect trust (Words words) = if has_code is_macro_code words then trust else with_words dialect trust words
 with_body dialect trust (Statement text) = trust
 
--- the program of a call that the tape lacks
+-- the program of a call, if the tape lacks it
 abbrev pub gone_call : (ℕ → Bool) → Control → Option Code
 gone_call gone (Call program repeats) = if gone program then Some (Subprogram program) else None
 gone_call gone other = None
 
--- the program that a block of this control calls, if the tape lacks it
+-- the program that a block calls, if it is not refused and the tape lacks the program
 abbrev pub called_outside : (ℕ → Bool) → Result Control FormFault → Option Code
 called_outside gone (Ok control) = gone_call gone control
 called_outside gone (Err fault) = None
 
--- the codes of a block besides, and the program that it calls if the tape lacks it
+-- what is taken on trust, with the codes of a block besides, and the program that it calls if the
+-- tape lacks it
 abbrev pub with_block : Basis → TrustView → Block → TrustView
 with_block basis trust block =
     with_code (with_body basis.premises.dialect trust block.body)
     (called_outside (gone_from basis) (numbered (open_control basis.premises.dialect block.body)))
 
--- those of these blocks besides
+-- what is taken on trust, with what these blocks take besides
 abbrev pub with_blocks : Basis → TrustView → List Block → TrustView
 with_blocks basis trust [] = trust
 with_blocks basis trust (block ∷ blocks) = with_blocks basis (with_block basis trust block) blocks
 
--- those of these programs besides
+-- what is taken on trust, with what the blocks of these programs take besides
 abbrev pub with_programs : Basis → TrustView → List Program → TrustView
 with_programs basis trust [] = trust
 with_programs basis trust (program ∷ programs) = with_programs basis (with_blocks basis trust program.blocks) programs
 
--- what a tape takes on trust, besides what another one did
+-- what is taken on trust, with what a tape takes besides
 abbrev pub with_tape : Premises → TrustView → List Program → TrustView
 with_tape premises trust tape = with_programs (record { premises = premises; tape = tape }) trust tape

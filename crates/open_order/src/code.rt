@@ -1,5 +1,6 @@
-//! The codes of a block that are taken on trust: G and M codes that this control does not know, and
-//! calls of programs that the tape lacks. What is kept of them is in trusting.rt.
+//! The codes of a block that are taken on trust: G codes that this control does not run, M codes
+//! that only the machine knows, and calls of programs that the tape lacks.
+//! trusting.rt gathers them over the tapes of a pair.
 ghost use Rattle.std.specs.Prelude.{◌≡◌};
 ghost use Rattle.block_words.specs.Codes.{row_of_number};
 ghost use Rattle.open_forms.specs.Words.{number};
@@ -16,7 +17,7 @@ use code_tables::{Row, System};
 use nc_text::{Block, Word};
 use open_forms::{number, open_control, written};
 
-/// A code that is taken to go on to the next block.
+/// A code or call that is taken on trust to go on to the next block.
 #[derive(Clone, Copy, Debug, PartialEq, Eq)]
 pub(crate) enum Code {
     /// A G code, by its millionths.
@@ -27,8 +28,8 @@ pub(crate) enum Code {
     Subprogram(u16),
 }
 
-/// Whether a row of the code table is one that this control runs. A code that it refuses is known
-/// by the machine alone, so it is taken on trust.
+/// Whether the row of a code is there and is one that this control runs. A code that it refuses is
+/// known by the machine alone, so it is taken on trust.
 fn is_own_row(row: Option<Row>) -> bool
     ensures { result ≡ is_own_row row }
 {
@@ -38,7 +39,7 @@ fn is_own_row(row: Option<Row>) -> bool
     }
 }
 
-/// Whether this control knows a G word in that system, and does not refuse it.
+/// Whether this control runs the code of a G word in that system.
 fn is_own(system: System, word: &Word) -> bool
     ensures { result ≡ is_own_row (row_of_number system (number word.now)) }
 {
@@ -58,14 +59,15 @@ fn geometry_code(micro: Option<i64>) -> Option<Code>
     }
 }
 
-/// Whether an M code is one of the standard ones: stops, ends, the spindle, coolant, and calls.
+/// Whether an M code is a standard one, which means the same on every machine: stops, ends, the
+/// spindle, coolant, and calls.
 fn is_standard_m(code: u32) -> bool
     ensures { result ≡ is_standard_m code }
 {
     (code <= 5 || (code == 8 || code == 9)) || (code == 30 || (code == 98 || code == 99))
 }
 
-/// An M code that is no wait and none of the standard ones. Those mean the same on every machine.
+/// The M code as one that is taken on trust, unless it is a wait or a standard one.
 fn auxiliary_code(dialect: &Dialect, code: Option<u32>) -> Option<Code>
     ensures { result ≡ auxiliary_code dialect.now code }
 {
@@ -81,8 +83,8 @@ fn auxiliary_code(dialect: &Dialect, code: Option<u32>) -> Option<Code>
     }
 }
 
-/// What a word takes on trust: a G code that the control does not know in the system of the tape,
-/// or an M code that is no wait and none of the standard ones.
+/// What a word takes on trust, if anything: a G code that this control does not run in the system
+/// of the tape, or an M code that is no wait and no standard one.
 pub(crate) fn word_code(dialect: &Dialect, word: &Word) -> Option<Code>
     ensures { result ≡ word_code dialect.now word.now }
 {
@@ -118,7 +120,7 @@ fn gone_call(reading: &Reading<'_>, control: Control) -> Option<Code>
     }
 }
 
-/// The program that a block calls, if the tape lacks it.
+/// The program that a block calls, if the block is not refused and the tape lacks the program.
 pub(crate) fn called_outside(reading: &Reading<'_>, block: &Block) -> Option<Code>
     ensures { result ≡ called_outside (gone_from (basis reading.now))
         (numbered (open_control reading.now.premises.dialect block.now.body)) }

@@ -1,5 +1,5 @@
-//! The contour of a cycle G70 to G73: which blocks its P and Q name. What is wrong with one is in
-//! cycles.rt.
+//! The contour of a cycle G70 to G73: which blocks its P and Q name.
+//! cycles.rt finds what is wrong with it; trusting.rt takes `is_macro_call`.
 ghost use Rattle.std.specs.Prelude.{◌≡◌};
 ghost use Rattle.open_order.specs.Contours.{is_cycle_code, is_macro_code, has_code, contour_by, contour_in};
 
@@ -16,7 +16,7 @@ pub(crate) struct Contour {
     pub(crate) to: u32,
 }
 
-/// Whether so many millionths are the code G70, G71, G72 or G73.
+/// Whether a code, in millionths, is G70, G71, G72 or G73.
 fn is_cycle_code(micro: Option<i64>) -> bool
     ensures { result ≡ is_cycle_code micro }
 {
@@ -29,7 +29,7 @@ fn is_cycle_code(micro: Option<i64>) -> bool
     }
 }
 
-/// Whether so many millionths are the code G65.
+/// Whether a code, in millionths, is G65, a macro call.
 fn is_macro_code(micro: Option<i64>) -> bool
     ensures { result ≡ is_macro_code micro }
 {
@@ -39,7 +39,7 @@ fn is_macro_code(micro: Option<i64>) -> bool
     }
 }
 
-/// Whether one of the words is the code of such a cycle.
+/// Whether one of the words is G70, G71, G72 or G73.
 fn is_cycle(words: &[Word]) -> bool
     ensures { result ≡ has_code is_cycle_code words.now }
 {

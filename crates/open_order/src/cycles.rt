@@ -1,6 +1,7 @@
-//! What is wrong with the contours of a tape: a number that is missing, or a wait, an end or a call
-//! inside. The alarm numbers 50 and 65 are those of docs/ERRORS.md.
-//! For ordering.rt of this crate.
+//! What is wrong with the contours of the cycles G70 to G73 of a tape: 50 if the program lacks the
+//! number of P or Q; 65 if the contour ends before it begins, or holds a wait, an end, an M99 or a
+//! call of a program that waits or ends. docs/ERRORS.md explains the numbers.
+//! `open_order` (ordering.rt) asks for the first of them, after the order of the blocks.
 ghost use Rattle.std.specs.Prelude.{◌≡◌, ◌≤◌, ◌<◌, length, IfSome};
 ghost use Rattle.std.specs.List.{list_any};
 ghost use Rattle.block_order.specs.Loud.{loud};
@@ -30,7 +31,7 @@ fn disturbs(order: &BlockOrder, control: Control) -> bool
     }
 }
 
-/// Whether one of these blocks disturbs a contour.
+/// Whether one of these blocks may not stand in a contour.
 fn has_disturbing(order: &BlockOrder, inside: &[ControlBlock]) -> bool
     ensures { result ≡ list_any (λ b. disturbs (loud order.now) b.control) inside.now }
 {
@@ -48,8 +49,8 @@ fn between(blocks: &[ControlBlock], first: u32, last: u32) -> &[ControlBlock]
     inside
 }
 
-/// Whether a contour is allowed: it does not end before it begins, and none of its blocks disturbs
-/// it.
+/// Whether a contour is allowed: it does not end before it begins, and no block of it is one that
+/// may not stand in a contour.
 fn is_calm(order: &BlockOrder, blocks: &[ControlBlock], first: u32, last: u32) -> bool
     requires { last < length blocks.now }
     ensures { result ≡ is_calm (loud order.now) blocks.now first last }
@@ -68,8 +69,8 @@ fn last_block(order: &BlockOrder, program: u16, contour: Contour, first: u32) ->
     }
 }
 
-/// The fault of a contour whose first block was found: 50 if its last number is not found, 65 if
-/// something in it disturbs it.
+/// The fault of a contour whose first block was found: 50 if its last block was not, 65 if the
+/// contour is not allowed.
 fn fault_between(order: &BlockOrder, program: u16, first: u32, last: Option<u32>) -> Option<Cause>
     requires { IfSome last (λ n. n < length (blocks order.now program)) }
     ensures { result ≡ fault_between (loud order.now) (blocks order.now program) first last }
@@ -86,7 +87,7 @@ fn fault_between(order: &BlockOrder, program: u16, first: u32, last: Option<u32>
     }
 }
 
-/// The fault of a contour: 50 if its first number is not found, else that of what follows from
+/// The fault of a contour: 50 if its first block was not found, else that of the contour from
 /// there.
 fn fault_from(
     order: &BlockOrder,
@@ -106,7 +107,7 @@ fn fault_from(
     }
 }
 
-/// What is wrong with the contour of a cycle at a place of a program, if the block begins one.
+/// What is wrong with the contour that the block at a place of a program begins, if it begins one.
 fn contour_cause(
     order: &BlockOrder,
     program: u16,
@@ -124,7 +125,7 @@ fn contour_cause(
     }
 }
 
-/// The fault with its line: that of the cycle, not that of the contour.
+/// The fault of a contour, told at the line of its cycle.
 fn fault_at(line: u32, cause: Option<Cause>) -> Option<FlowFault>
     ensures { result ≡ fault_at line cause }
 {
@@ -137,7 +138,7 @@ fn fault_at(line: u32, cause: Option<Cause>) -> Option<FlowFault>
     }
 }
 
-/// The fault of a block at a place of a program.
+/// The fault of the contour that the block at a place of a program begins, if it begins one.
 fn block_fault(order: &BlockOrder, program: u16, place: u32, block: &Block) -> Option<FlowFault>
     ensures { result ≡ block_fault (loud order.now) (blocks order.now program) place block.now }
 {
@@ -147,7 +148,7 @@ fn block_fault(order: &BlockOrder, program: u16, place: u32, block: &Block) -> O
     )
 }
 
-/// The first fault of the blocks of a program.
+/// The first fault of a contour of these blocks, which are all of a program.
 fn blocks_fault(order: &BlockOrder, program: u16, listed: &[Block]) -> Option<FlowFault>
     requires { length listed.now ≤ MOST_BLOCKS }
     ensures { result ≡ blocks_fault (loud order.now) (blocks order.now program) 0 listed.now }

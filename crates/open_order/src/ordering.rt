@@ -1,5 +1,6 @@
-//! The order of the blocks of a tape, read for its waits: reading, order and contours, one after
-//! another. wait_verify calls it.
+//! The order of the blocks of a tape, read for its waits alone, or the tape's one refusal: of a
+//! block, else of the order, else of a contour.
+//! wait_verify calls `open_order` for each tape of a pair.
 ghost use Rattle.std.specs.Prelude.{◌≡◌, IfOk, IfErr};
 ghost use Rattle.block_order.specs.Answers.{IfFault};
 ghost use Rattle.block_order.specs.Faults.{IsSound};
@@ -18,7 +19,7 @@ use std::alloc::Global;
 use tape_flow::FlowFault;
 use wait_order::check_order;
 
-/// The order of the blocks of programs, or its first fault; no memory left is an error too.
+/// The order of the blocks of programs, or its first fault, or that memory ran out.
 fn order_of(alloc: Global, programs: Vec<ControlProgram>) -> Result<BlockOrder, Failing<FlowFault>>
     requires { IsListed programs.items }
     ensures same { IfOk result (λ order. order ≡ programs.items) }
@@ -36,7 +37,7 @@ fn order_of(alloc: Global, programs: Vec<ControlProgram>) -> Result<BlockOrder, 
     }
 }
 
-/// The order of the blocks of a tape, or its refusal, or out of memory.
+/// The order of the blocks of a tape, or its refusal, or that memory ran out.
 ///
 /// The refusal is that of the first block that is refused. If none is, it is one of the order of
 /// the blocks: 60 or 52 first, then 50, 51 or 53, then 65 or 66. If that is in order, it is 50 or

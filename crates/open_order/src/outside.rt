@@ -1,5 +1,6 @@
-//! The programs that the tapes may lack, as `--outside` names them.
-//! lathe_c, lathe_calls, lathe_top and wait_verify use it.
+//! The programs that the tapes of a pair may lack, as `waits --outside` names them; and whether a
+//! tape lacks one.
+//! lathe_c, lathe_calls, lathe_top and wait_verify hand the range down to this crate.
 ghost use Rattle.std.specs.Prelude.{◌≡◌};
 ghost use Rattle.open_order.specs.Gone.{is_in, is_on, is_gone};
 
@@ -17,7 +18,7 @@ pub struct Outside {
     pub greatest: u16,
 }
 
-/// Whether the number is one of those programs.
+/// Whether an O number is in the range of the programs that a tape may lack, if there is one.
 fn is_in(outside: Option<Outside>, number: u16) -> bool
     ensures { result ≡ is_in outside number }
 {
@@ -35,7 +36,7 @@ fn is_on(tape: &[Program], number: u16) -> bool
         .any(|program| program.number == u32::from(number))
 }
 
-/// Whether the tape lacks the program, as it may.
+/// Whether the tape lacks the program of this O number, as it may.
 pub(crate) fn is_gone(outside: Option<Outside>, tape: &[Program], number: u16) -> bool
     ensures { result ≡ is_gone outside tape.now number }
 {

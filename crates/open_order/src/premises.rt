@@ -1,13 +1,14 @@
-//! What a tape is read by: how the words of the cell are read, and the programs outside.
-//! wait_verify uses it.
+//! What a tape is read by: how its words are read under the settings of the cell, and which
+//! programs it may lack.
+//! wait_verify makes it once for a pair and hands it to `open_order` and `add_tape`.
 use crate::outside::Outside;
 use block_forms::Dialect;
 
 /// What a tape is read by.
 #[derive(Clone, Copy, Debug)]
 pub struct Premises {
-    /// How the tapes of the cell are read.
+    /// How the tapes of the cell are read: the wait codes, how P names paths, the code system.
     pub dialect: Dialect,
-    /// The programs that a tape may lack.
+    /// The programs that a tape may lack; none if it may lack none.
     pub outside: Option<Outside>,
 }

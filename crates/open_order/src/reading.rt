@@ -1,5 +1,6 @@
-//! The blocks of a tape, each read for its control alone. What one block says is in open_forms.
-//! For code.rt, ordering.rt and trusting.rt of this crate.
+//! The blocks of a tape, each read for its control alone, up to the first that is refused. What one
+//! block does to the order is in open_forms.
+//! ordering.rt calls `read_tape`; code.rt and trusting.rt take `Reading`.
 ghost use Rattle.std.specs.Prelude.{◌≡◌, ◌≤◌, []};
 ghost use Rattle.nc_number.specs.Answers.{Gives};
 ghost use Rattle.nc_text.specs.Shape.{IsTapeShape};

@@ -1,6 +1,6 @@
 //! What the tapes of a pair take on trust, gathered over all blocks. `waits` prints it in its line
 //! `goes on`.
-//! wait_verify uses it.
+//! wait_verify calls `add_tape` for each tape of a pair and prints the `Trust`.
 ghost use Rattle.std.specs.Prelude.{◌≡◌, OnOk, Some};
 ghost use Rattle.open_order.specs.declared.code.Code.TheVariants as Code;
 ghost use Rattle.open_order.specs.Basis.{basis, seen};
@@ -19,7 +19,7 @@ use std::collections::BTreeSet;
 /// Codes and calls that are taken to go on to the next block, each once and in order.
 #[derive(Drop)]
 pub struct Trust {
-    /// G codes that this control does not know, by their millionths.
+    /// G codes that this control does not run, by their millionths.
     pub geometry: BTreeSet<u64>,
     /// M codes that are no waits, and none of the standard ones.
     pub auxiliary: BTreeSet<u32>,
@@ -123,7 +123,7 @@ fn add_block(trust: &mut Trust, reading: &Reading<'_>, block: &Block) -> Result<
     add_code(trust, called_outside(reading, block))
 }
 
-/// Keeps those of the blocks of a program, in turn.
+/// Keeps the codes and calls of the blocks of a program, in turn.
 fn add_blocks(trust: &mut Trust, reading: &Reading<'_>, blocks: &[Block]) -> Result<(), NoMemory>
     ensures { OnOk result (seen trust.new ≡ with_blocks (basis reading.now) (seen trust.old) blocks.now) }
 {
@@ -133,7 +133,7 @@ fn add_blocks(trust: &mut Trust, reading: &Reading<'_>, blocks: &[Block]) -> Res
     Ok(())
 }
 
-/// Keeps those of the programs of a tape, in turn.
+/// Keeps the codes and calls of the programs of a tape, in turn.
 fn add_programs(trust: &mut Trust, reading: &Reading<'_>) -> Result<(), NoMemory>
     ensures { OnOk result (seen trust.new
         ≡ with_programs (basis reading.now) (seen trust.old) reading.now.tape.now) }
@@ -144,7 +144,7 @@ fn add_programs(trust: &mut Trust, reading: &Reading<'_>) -> Result<(), NoMemory
     Ok(())
 }
 
-/// Adds what a tape takes on trust to what other tapes did. An error is out of memory.
+/// Adds what a tape takes on trust. The only error is that memory ran out.
 pub fn add_tape(trust: &mut Trust, premises: Premises, tape: &[Program]) -> Result<(), NoMemory>
     ensures { OnOk result (seen trust.new ≡ with_tape premises (seen trust.old) tape.now) }
 {

@@ -1,4 +1,5 @@
--- An assignment whose variable is known does what is left: the variable takes the value.
+-- An assignment whose variable is known does what is left: the variable takes the value. For
+-- `assigned` (src/statements.rt).
 use Rattle.std.proofs.Common.{◌≡◌, List, refl, ap, ◌∙◌}
 use Rattle.nc_number.specs.declared.value.Var.{Var}
 use Rattle.common_vars.specs.declared.variable.Variable.{Variable}
@@ -9,7 +10,8 @@ use Rattle.path_state.specs.Said.{evaluated}
 use Rattle.path_state.specs.Statements.{After, named, written, then_next, assigned_next}
 use Rattle.path_state.specs.StatementSteps.{taken_next}
 
--- three steps are the first, and then the other two
+-- steps one after another may be bracketed either way: the first two and then the last, or the
+-- first and then the other two
 in_turn : {A B C : Type 0} → (step : Outcome A) (next : A → List Var → Outcome B) (last : B → List Var → Outcome C)
     → ((step >>= next) >>= last) ≡ (step >>= λ value left. next value left >>= last)
 in_turn (Gives value left) next last = refl

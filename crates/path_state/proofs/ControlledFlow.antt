@@ -1,4 +1,5 @@
--- The effect of a flow's block leads where its order of blocks allows.
+-- The effect of a flow's block leads where its order of blocks allows, a wait and an end stop the
+-- path, and past the last block there is an alarm: for the laws of src/control_law.rt.
 -- race_order takes `steady`.
 use Rattle.std.proofs.Common.{◌≡◌, ◌≢◌, ℕ, List, [], ◌∷◌, map, slice_get, Option, Some, None, refl, ap, sym, subst, ◌∙◌}
 use Rattle.std.specs.Option.{option_map}
@@ -46,7 +47,7 @@ stands_in programs number place block is =
         ap (λ found. control_of found) (sym (block_seen program.blocks place))
         ∙ ap (λ found. control_of (option_map (λ b. control_block (block_form b)) found)) there
 
--- what holds of where a statement goes holds of its effect
+-- if the outcome of a statement goes a step of the order, the effect of the statement is steady
 after-steady : (tape : List ControlProgram) (path : PathView) (after : Outcome After)
     → OnGives (Goes tape path) after → IsSteady tape path (of_after after)
 after-steady tape path (Gives after left) goes = record { goes = goes.step; keeps = goes.fixed }
@@ -65,7 +66,7 @@ body-steady tape fixed path (Statement statement) reads stands =
     after-steady tape path (statement_effect tape fixed path (sentence_of statement.statement) reads)
     (statement-goes tape fixed path (sentence_of statement.statement) reads stands)
 
--- so is the block that was found there, or none
+-- the effect of the block that was found at the path's place, if there is one, is steady
 block-steady : (tape : List ControlProgram) (path : PathView) (found : Option FlowBlock)
     (reads : List Var)
     → ((block : FlowBlock) → found ≡ Some block → standing tape path.place ≡ Some block.control)
@@ -88,12 +89,13 @@ steady flow path reads =
     go [] block is = absurd cc
     go (f ∷ stack) block is = rw (flow.agrees) (stands_in flow.programs f.program f.block block is)
 
--- Where the order of blocks has a control, the flow has a block of it, and none where it has none.
+-- what the flow has at a place and what the order has there agree: a block and its control, or none
+-- and none
 abbrev Stands : Option FlowBlock → Option Control → Type 0
 Stands None o = o ≡ None
 Stands (Some block) o = o ≡ Some block.control
 
--- so it is at each place of a flow
+-- at each place of a flow its block and the control of its order agree
 standing_of_block : (flow : Flow) (place : List Frame)
     → Stands (block_at flow.programs place) (standing flow.order place)
 standing_of_block flow [] = refl
@@ -148,7 +150,7 @@ waits flow path code reads stands =
         let waits : block.control ≡ control.Wait code = cc in
         body-waits flow.order path.fixed path block.body block.control code reads block.controls waits
 
--- past the last block of a program, whatever was read
+-- a path past the last block of a program comes to the alarm of it, whatever was read
 pub runs_off : (flow : Flow) (path : PathView) (reads : List Var)
     → standing flow.order path.place ≡ None → effect_of flow path reads ≡ past_the_last
 runs_off flow path reads stands =
@@ -160,7 +162,7 @@ runs_off flow path reads stands =
     go (Some block) there =
         absurd (let e : ◌≡◌ {A = Option Control} None (Some block.control) = sym stands ∙ there in cc)
 
--- no block follows an end
+-- a path that stands on an end is never done with the block, whatever was read
 pub at_end : (flow : Flow) (path : PathView) (reads : List Var)
     → standing flow.order path.place ≡ Some control.End
     → (after : PathView) (write : Option Write) (moves : List Move)

@@ -1,4 +1,6 @@
--- A block that is done keeps the labels ahead of its path, by the law of one path.
+-- A block that is done keeps the labels ahead of its path, by the law of block_order on one step:
+-- for the laws `each_block_keeps_the_labels` and `the_flow_of_an_accepted_tape_is_unforked`
+-- (src/control_law.rt).
 use Rattle.std.proofs.Common.{List, map, [], ◌∷◌, Some, sym, subst}
 use Rattle.nc_number.specs.declared.value.Var.{Var}
 use Rattle.block_order.specs.declared.control.Control.{Control}
@@ -58,12 +60,12 @@ labels_kept flow unforked path reads here =
     effect-ahead flow.order (keeps_labels flow.order unforked) path here (effect_of flow path reads)
     (steady flow path reads).goes
 
--- the order of an accepted tape
+-- the order of an accepted tape's flow is sound
 pub accepted_sound : (flow : Flow) (dialect : Dialect) (tape : List Program)
     → IsAccepted dialect tape (map program_form flow.programs) → IsSound flow.order
 accepted_sound flow dialect tape accepted = rw (flow.agrees) (accepted.sound)
 
--- all runs of an accepted tape come to one list of labels
+-- all runs of an accepted tape's flow come to one list of labels
 pub accepted_unforked : (flow : Flow) (dialect : Dialect) (tape : List Program)
     → IsAccepted dialect tape (map program_form flow.programs) → IsUnforked flow.order
 accepted_unforked flow dialect tape accepted =

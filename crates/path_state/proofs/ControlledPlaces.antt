@@ -1,5 +1,5 @@
--- Where control goes behind a block, the order of blocks allows: each move of a place is a step of
--- it.
+-- Where control goes behind a block of words, the order of blocks allows: each move of a place is a
+-- step of it. For ControlledWords.
 use Rattle.std.proofs.Common.{◌≡◌, ℕ, inl, inr, List, Option, Some, Result, Ok, Err, refl}
 use Rattle.nc_number.specs.declared.cause.Cause.{Cause}
 use Rattle.nc_number.specs.declared.value.Var.{Var}
@@ -11,12 +11,12 @@ use Rattle.block_order.specs.Moves.{place_of_call, place_of_jump_back}
 use Rattle.block_order.specs.Steps.{Step, standing}
 use Rattle.path_state.specs.Standing.{Standing, standing_at, with_call, without_call, standing_behind}
 
--- where control goes, if it goes, is a step
+-- a standing that a path goes to, if it goes anywhere, is a step of the order from the place
 abbrev pub Steps : List ControlProgram → List Frame → Result Standing Cause → Type 0
 Steps tape place (Ok to) = Step tape place to.place
 Steps tape place (Err cause) = Unit {0}
 
--- a control behind which a block of words may stand done
+-- a control of words behind which the block can be done: no end of a loop, no wait, no end
 abbrev pub Passes : Control → Type 0
 Passes (EndLoop name) = ⊥
 Passes (Wait code) = ⊥
@@ -29,7 +29,7 @@ steps_at : (tape : List ControlProgram) (place : List Frame) (s : Standing) (to 
 steps_at tape place s (Ok there) step = step there refl
 steps_at tape place s (Err cause) step = tt
 
--- behind a block of words
+-- where control leads behind a block of words of such a control is a step of the order
 pub behind_steps : (tape : List ControlProgram) (s : Standing) (arguments : Option (List Var)) (c : Control)
     → standing tape s.place ≡ Some c → Passes c → Steps tape s.place (standing_behind tape s arguments c)
 behind_steps tape s arguments (Call program repeats) is passes =

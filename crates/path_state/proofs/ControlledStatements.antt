@@ -1,5 +1,5 @@
 -- A statement that is done leads where the order of blocks allows, and what is fixed for its path
--- stays.
+-- stays: for the law `control_goes_as_the_flow_orders` (src/control_law.rt).
 -- named_vars takes `OnGives`, `after_any`, `behind_gives` and `either`.
 use Rattle.std.proofs.Common.{◌≡◌, ℕ, Bool, true, false, inl, inr, List, Some, Result, Ok, Err, refl, sym, subst, if◌then◌else◌}
 use Rattle.nc_number.specs.declared.cause.Cause.{Cause}
@@ -27,13 +27,14 @@ use Rattle.path_state.specs.Said.{evaluated}
 use Rattle.block_values.specs.Operands.{length_of}
 use Rattle.path_state.specs.Statements.{After, along, with_offset, written_path, with_common, written, named, assigned, tested, aimed, move_effect, jump_effect, next_effect, assigned_next, statement_effect}
 
--- what is said of a value holds where a step gives one
+-- if the step gives a value, P holds of it
 abbrev pub OnGives : {A : Type 0} → (A → Type 0) → Outcome A → Type 0
 OnGives P (Gives value left) = P value
 OnGives P (Needs variable) = Unit {0}
 OnGives P (Alarms number value) = Unit {0}
 
--- where one step behind another gives a value, the first gives one too
+-- if P holds of what the first step gives, and from this Q of what the next one gives, Q holds of
+-- what both give
 pub behind_gives : {A B : Type 0} (P : A → Type 0) (Q : B → Type 0) (step : Outcome A)
     (next : A → List Var → Outcome B) → OnGives P step
     → ((value : A) (left : List Var) → P value → OnGives Q (next value left))
@@ -42,49 +43,49 @@ behind_gives P Q (Gives value left) next first further = further value left firs
 behind_gives P Q (Needs variable) next first further = tt
 behind_gives P Q (Alarms number value) next first further = tt
 
--- anything may be said of nothing
+-- of each step's value the statement without content holds
 anything : {A : Type 0} (step : Outcome A) → OnGives (λ value. Unit {0}) step
 anything (Gives value left) = tt
 anything (Needs variable) = tt
 anything (Alarms number value) = tt
 
--- whatever the first step gives
+-- if Q holds of what the next step gives, whatever the first gave, Q holds of what both give
 pub after_any : {A B : Type 0} (Q : B → Type 0) (step : Outcome A) (next : A → List Var → Outcome B)
     → ((value : A) (left : List Var) → OnGives Q (next value left)) → OnGives Q (step >>= next)
 after_any Q step next further =
     behind_gives (λ value. Unit {0}) Q step next (anything step) (λ value left said. further value left)
 
--- a path that stays where it is
+-- the path is at the same place, and what is fixed for it stays
 pub record Stays (before after : PathView) : Type 0 where
   pub place : after.place ≡ before.place
   pub fixed : after.fixed ≡ before.fixed
 
--- a path that goes a step of the order of blocks
+-- the path went a step of the order of blocks, and what is fixed for it stays
 pub record Follows (tape : List ControlProgram) (before after : PathView) : Type 0 where
   pub step : Step tape before.place after.place
   pub fixed : after.fixed ≡ before.fixed
 
--- behind a write the path stays where it is
+-- behind this write the path is at the same place
 abbrev Keeps : PathView → After → Type 0
 Keeps path after = Stays path after.path
 
--- behind a statement the path has gone a step of the order of blocks
+-- behind this statement the path has gone a step of the order of blocks
 abbrev pub Goes : List ControlProgram → PathView → After → Type 0
 Goes tape path after = Follows tape path after.path
 
--- a common variable that takes a value leaves the path where it is,
+-- a common variable that takes a value leaves the path where it is
 with_common-keeps : (shared : Bool) (path : PathView) (v : ℕ) (value : Var)
     → Keeps path (with_common shared path v value)
 with_common-keeps true path v value = record { place = refl; fixed = refl }
 with_common-keeps false path v value = record { place = refl; fixed = refl }
 
--- so does an offset that takes a point,
+-- an offset that takes a point leaves the path where it is
 offset-keeps : (path : PathView) (slot : Slot) (to : Result Point OffsetFault) (left : List Var)
     → OnGives (Keeps path) (written_path (with_offset path slot to) left)
 offset-keeps path slot (Ok to) left = record { place = refl; fixed = refl }
 offset-keeps path slot (Err fault) left = tt
 
--- a variable that takes a value moves no path
+-- a variable of any kind that takes a value leaves the path where it is
 written-keeps : (fixed : Fixed) (path : PathView) (v : Variable) (value : Var) (left : List Var)
     → OnGives (Keeps path) (written fixed path v value left)
 written-keeps fixed path (variable.Local i) value left = record { place = refl; fixed = refl }
@@ -96,7 +97,7 @@ written-keeps fixed path (variable.Work n axis) value left =
 written-keeps fixed path variable.Raise value left = tt
 written-keeps fixed path _ value left = tt
 
--- and an assignment
+-- an assignment, before the next block follows, leaves the path where it is
 assigned-keeps : (fixed : Fixed) (path : PathView) (name : Named) (tree : Tree) (reads : List Var)
     → OnGives (Keeps path) (assigned fixed path name tree reads)
 assigned-keeps fixed path name tree reads =
@@ -104,7 +105,7 @@ assigned-keeps fixed path name tree reads =
     after_any (Keeps path) (evaluated fixed path tree behind_name) _
     (λ value left. written-keeps fixed path v value left))
 
--- an assignment, and on to the next block
+-- an assignment behind which the next block follows goes a step, if that leads to the next block
 assigned_next-goes : (tape : List ControlProgram) (fixed : Fixed) (path : PathView) (name : Named) (tree : Tree)
     (reads : List Var)
     → Step tape path.place (place_behind path.place) → OnGives (Goes tape path) (assigned_next fixed path name tree reads)
@@ -139,14 +140,14 @@ jump-goes tape fixed path aim reads stands =
     (λ n left may. move-goes tape path (place_of_jump tape n path.place) left
     (λ there e. (control.Goto (number_of_aim aim), stands, inr (n, may, e))))
 
--- by what a condition comes to
+-- if P holds of what each of two steps gives, it holds of what the one gives that a condition picks
 pub either : {A : Type 0} (P : A → Type 0) (holds : Bool) (first second : Outcome A) → OnGives P first
     → OnGives P second
     → OnGives P (if holds then first else second)
 either P true first second one other = one
 either P false first second one other = other
 
--- a statement
+-- every statement goes a step of the order of blocks, if it is done
 pub statement-goes : (tape : List ControlProgram) (fixed : Fixed) (path : PathView)
     (sentence : Sentence) (reads : List Var)
     → standing tape path.place ≡ Some (control_of_sentence sentence)

@@ -1,5 +1,5 @@
 -- A block of words that is done leads where the order of blocks allows, and what is fixed for its
--- path stays.
+-- path stays: for the law `control_goes_as_the_flow_orders` (src/control_law.rt).
 use Rattle.std.proofs.Common.{◌≡◌, ℕ, Bool, true, false, ◌||◌, nat_le, List, [], codes, Option, Some, None, Result, Ok, Err, refl, ap, subst, ◌∙◌, if◌then◌else◌}
 use Rattle.nc_number.specs.declared.cause.Cause.{Cause}
 use Rattle.nc_number.specs.declared.value.Var.{Var}
@@ -29,38 +29,38 @@ use Rattle.path_state.specs.Controlled.{GoesAsOrdered, KeepsFixed}
 use Rattle.path_state.proofs.ControlledPlaces.{Steps, Passes, behind_steps}
 use Rattle.path_state.proofs.ControlledStatements.{Stays}
 
--- an effect that leads where the order of blocks allows and keeps what is fixed
+-- the effect is steady: it goes as the order of blocks allows, and keeps what is fixed for the path
 pub record IsSteady (tape : List ControlProgram) (path : PathView) (effect : Effect) : Type 0 where
   pub goes : GoesAsOrdered tape path effect
   pub keeps : KeepsFixed path effect
 
--- the words of a block may wait, and end no loop
+-- a control that is no end of a loop
 abbrev EndsNoLoop : Control → Type 0
 EndsNoLoop (control.EndLoop name) = ⊥
 EndsNoLoop _ = Unit {0}
 
--- a call ends no loop,
+-- a call ends no loop
 call-no_end : (b : Bool) (p q repeats other : ℕ)
     → EndsNoLoop (if b then control.Call p repeats else control.Call q other)
 call-no_end true p q repeats other = tt
 call-no_end false p q repeats other = tt
 
--- a return ends no loop,
+-- a return ends no loop
 back-no_end : (n : Option ℕ) → EndsNoLoop (back_to n)
 back-no_end None = tt
 back-no_end (Some n) = tt
 
--- a wait ends no loop,
+-- a wait ends no loop
 wait-no_end : (code : Option ℕ) → EndsNoLoop (wait_at code)
 wait-no_end None = tt
 wait-no_end (Some code) = tt
 
--- an end of the program ends no loop,
+-- M02 and M30, which end the program, and plain M codes end no loop
 end-no_end : (b : Bool) → EndsNoLoop (if b then control.End else control.Next)
 end-no_end true = tt
 end-no_end false = tt
 
--- and so, whatever the words say, their control ends none
+-- whatever the purpose of a block of words, its control ends no loop
 control-no_end : (purpose : Purpose) (dialect : Dialect) (words : List FlowWord)
     → EndsNoLoop (control_by purpose dialect words)
 control-no_end MacroCall dialect words = tt
@@ -70,24 +70,24 @@ control-no_end Return dialect words = back-no_end (number_of (codes "P") words)
 control-no_end Wait dialect words = wait-no_end (first_waiting dialect (m_codes words))
 control-no_end _ dialect words = end-no_end (has_code 2 words || has_code 30 words)
 
--- the words of a block end no loop: a loop is ended by a statement
+-- the control of a block of words ends no loop: a statement does that
 pub words_end_no_loop : (dialect : Dialect) (words : List FlowWord)
     → EndsNoLoop (control_of_words dialect words)
 words_end_no_loop dialect words = control-no_end (purpose_of dialect words) dialect words
 
--- where the words move the path, it stays on its block
+-- if the words of a block raise no alarm, the path is on its block still
 abbrev MovesThere : PathView → Result Moved ℕ → Type 0
 MovesThere path (Ok moved) = Stays path moved.path
 MovesThere path (Err number) = Unit {0}
 
--- the motion of a block leaves the path on its block,
+-- the motion of a block leaves the path on its block
 motion-stays : (path : PathView) (modal : ModalView) (system : System) (words : List FlowWord)
     (values : Values) (motion : Result Motion ℕ)
     → MovesThere path (after_motion path modal system words values motion)
 motion-stays path modal system words values (Ok motion) = record { place = refl; fixed = refl }
 motion-stays path modal system words values (Err number) = tt
 
--- so does its modal state with the motion,
+-- the modal state and the motion of a block leave the path on its block
 modal-stays : (fixed : Fixed) (path : PathView) (system : System) (words : List FlowWord)
     (values : Values) (modal : Result ModalView ℕ)
     → MovesThere path (motion_with fixed path system words values modal)
@@ -96,7 +96,7 @@ modal-stays fixed path system words values (Ok modal) =
     (motion_of fixed.home path.position path.offsets modal (motion_kind modal (one_shot system words)) (has (codes "L") words) values)
 modal-stays fixed path system words values (Err number) = tt
 
--- and all that its words do
+-- all that the words of a block do, control aside, leaves the path on its block
 acted-stays : (fixed : Fixed) (path : PathView) (system : System) (words : List FlowWord) (values : Values)
     → MovesThere path (acted fixed path system words values)
 acted-stays fixed path system words values =
@@ -109,7 +109,7 @@ done-steady : (tape : List ControlProgram) (path : PathView) (moved : Moved)
 done-steady tape path moved (Ok to) stays steps = record { goes = steps; keeps = stays.fixed }
 done-steady tape path moved (Err cause) stays steps = record { goes = tt; keeps = tt }
 
--- behind the moves of a block that does not wait
+-- a block whose moves are known, and whose control lets it be done, is steady
 moved-steady : (tape : List ControlProgram) (path : PathView) (moved : Moved)
     (arguments : Option (List Var)) (c : Control)
     → Stays path moved.path → standing tape path.place ≡ Some c → Passes c
@@ -120,13 +120,13 @@ moved-steady tape path moved arguments c stays stands passes =
     (behind_steps tape (standing_of moved.path) arguments c
     (ap (λ place. standing tape place) stays.place ∙ stands) passes))
 
--- a control of words that waits nowhere
+-- a control of words that is no wait and ends no loop
 abbrev pub Runs : Control → Type 0
 Runs (control.EndLoop name) = ⊥
 Runs (control.Wait code) = ⊥
 Runs _ = Unit {0}
 
--- control behind the moves of a block is steady
+-- a block whose moves are known, and which is no wait, is steady, at an end too
 controlled-steady : (tape : List ControlProgram) (path : PathView) (moved : Moved)
     (arguments : Option (List Var)) (c : Control)
     → Stays path moved.path → standing tape path.place ≡ Some c → Runs c
@@ -138,7 +138,7 @@ controlled-steady tape path moved arguments (control.Wait code) stays stands run
 controlled-steady tape path moved arguments c stays stands runs =
     moved-steady tape path moved arguments c stays stands tt
 
--- a block is steady by its motion, or by its alarm,
+-- a block that is no wait is steady, whether its words moved the path or raised an alarm
 moves-steady : (tape : List ControlProgram) (path : PathView) (c : Control) (moved : Result Moved ℕ)
     → MovesThere path moved
     → standing tape path.place ≡ Some c → Runs c → IsSteady tape path (of_moved tape c moved)
@@ -146,7 +146,7 @@ moves-steady tape path c (Ok moved) stays stands runs =
     controlled-steady tape path moved None c stays stands runs
 moves-steady tape path c (Err number) stays stands runs = record { goes = tt; keeps = tt }
 
--- by the values of its words, or without them,
+-- a block that is no wait is steady, whether its words gave values, a need or an alarm
 values-steady : (tape : List ControlProgram) (fixed : Fixed) (path : PathView) (system : System)
     (words : List FlowWord) (c : Control) (values : Outcome Values)
     → standing tape path.place ≡ Some c → Runs c
@@ -158,7 +158,7 @@ values-steady tape fixed path system words c (Needs variable) stands runs = reco
 values-steady tape fixed path system words c (Alarms number value) stands runs =
     record { goes = tt; keeps = tt }
 
--- a macro call by its arguments, or without them,
+-- a macro call is steady, whether its words gave arguments, a need or an alarm
 arguments-steady : (tape : List ControlProgram) (path : PathView) (c : Control)
     (arguments : Outcome (List Var))
     → standing tape path.place ≡ Some c → Runs c
@@ -169,7 +169,7 @@ arguments-steady tape path c (Gives arguments left) stands runs =
 arguments-steady tape path c (Needs variable) stands runs = record { goes = tt; keeps = tt }
 arguments-steady tape path c (Alarms number value) stands runs = record { goes = tt; keeps = tt }
 
--- whatever the purpose of the block
+-- a block of words that is no wait is steady, whatever its purpose
 purpose-steady : (tape : List ControlProgram) (fixed : Fixed) (path : PathView) (purpose : Purpose)
     (system : System) (words : List FlowWord) (c : Control) (reads : List Var)
     → standing tape path.place ≡ Some c → Runs c
@@ -180,7 +180,7 @@ purpose-steady tape fixed path purpose system words c reads stands runs =
     values-steady tape fixed path system words c
     (words_taken fixed path (sense_of path purpose system words) words nothing_said reads) stands runs
 
--- a block of words
+-- every block of words is steady
 pub words-steady : (tape : List ControlProgram) (fixed : Fixed) (path : PathView) (purpose : Purpose)
     (system : System) (words : List FlowWord) (c : Control) (reads : List Var)
     → standing tape path.place ≡ Some c → EndsNoLoop c

@@ -1,4 +1,5 @@
--- What a block writes beside its path is a variable that both paths share.
+-- What a block writes beside its path is a variable that both paths share: for the law
+-- `what_is_written_is_shared` (src/control_law.rt).
 -- race_order takes `shared_written`.
 use Rattle.std.proofs.Common.{◌≡◌, ℕ, Bool, true, false, List, [], Option, Some, None, Result, Ok, Err, refl, subst}
 use Rattle.nc_number.specs.declared.cause.Cause.{Cause}
@@ -112,7 +113,7 @@ module _ (fixed : Fixed) (path : PathView) where
   statement-writes tape (DoOnly name) reads = tt
   statement-writes tape (EndLoop name) reads = move-writes (place_of_head tape path.place) reads
 
--- the effect of a block
+-- what a block writes, if it is done, is a shared variable
 abbrev EffectWrites : Fixed → Effect → Type 0
 EffectWrites fixed (Done after write moves) = WritesShared fixed write
 EffectWrites fixed _ = Unit {0}
@@ -170,7 +171,7 @@ module _ (tape : List ControlProgram) (fixed : Fixed) (path : PathView) where
       after-writes (statement_effect tape fixed path (sentence_of statement.statement) reads)
       (statement-writes fixed path tape (sentence_of statement.statement) reads)
 
--- the block that was found, if there is one
+-- the block that was found, if there is one, writes only to shared variables
 found-writes : (tape : List ControlProgram) (path : PathView) (found : Option FlowBlock)
     (reads : List Var)
     → EffectWrites path.fixed (effect_of_block tape path found reads)

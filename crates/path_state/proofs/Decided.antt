@@ -1,4 +1,5 @@
--- What a block comes to, decided step by step.
+-- What the code decides of a block, step by step, is the effect of the definition: for the clauses
+-- of src/decision.rt and src/taking.rt.
 use Rattle.std.proofs.Common.{◌≡◌, ◌≢◌, ℕ, false, List, [], Option, Some, Result, Ok, Err, refl, ap, sym, ◌∙◌}
 use Rattle.nc_number.specs.declared.cause.Cause.{Cause}
 use Rattle.nc_number.specs.declared.value.Var.{Var}
@@ -31,7 +32,7 @@ use Rattle.block_values.specs.Arguments.{arguments_with}
 use Rattle.path_state.specs.Effect.{Moved, alarm_of, of_values, of_arguments, controlled, done_by, macro_effect, block_of_words, of_purpose, words_effect}
 use Rattle.path_state.specs.Decisions.{macro_decided, of_said, of_arguments_said, MayTake, MayTakeWords}
 
--- of a step that gives values or stops, the effect
+-- the effect of a block by the outcome of its words is that by what the code was told of them
 pub of_values_said : (tape : List ControlProgram) (path : PathView) (system : System) (words : List FlowWord) (control : Control) (said : Result kept.Values Stop) (left : List Var)
     → of_values tape path.fixed path system words control (outcome_of values_seen said left) ≡ of_said tape path system words control said
 of_values_said tape path system words control (Ok values) left = refl
@@ -46,12 +47,12 @@ words_said tape path sense system words control reads said left e =
     ap (of_values tape path.fixed path system words control) (sym e)
     ∙ of_values_said tape path system words control said left
 
--- what is taken, where it is taken
+-- what the code put into its array, if the taking did not stop
 abbrev pub if_taken : {A B : Type 0} → Result A Stop → B → Result B Stop
 if_taken (Ok done) value = Ok value
 if_taken (Err stop) value = Err stop
 
--- of arguments that are taken or not, the effect
+-- the effect of a macro call by the outcome of its arguments is that by what the code was told
 of_taken : {A : Type 0} → (tape : List ControlProgram) (path : PathView) (control : Control) (arguments : List Var) (taken : Result A Stop) (left : List Var)
     → of_arguments tape path control (outcome_of (λ done. arguments) taken left) ≡ of_arguments_said tape path control (if_taken taken arguments)
 of_taken tape path control arguments (Ok done) left = refl
@@ -66,7 +67,7 @@ arguments_said tape path words control reads arguments taken left e =
     ap (of_arguments tape path control) (sym e)
     ∙ of_taken tape path control arguments taken left
 
--- a block of words that calls no macro, and stands at no wait
+-- by its purpose, a block of words that is no macro call does what its words do
 pub plain : (tape : List ControlProgram) (fixed : Fixed) (path : PathView) (purpose : Purpose) (system : System) (words : List FlowWord) (control : Control) (reads : List Var)
     → is_macro purpose ≡ false → of_purpose tape fixed path purpose system words control reads ≡ words_effect tape fixed path purpose system words control reads
 plain tape fixed path MacroCall system words control reads is = absurd cc
@@ -77,7 +78,7 @@ plain tape fixed path Dwell system words control reads is = refl
 plain tape fixed path Setting system words control reads is = refl
 plain tape fixed path Other system words control reads is = refl
 
--- a block that stands at no wait and calls no macro does what its words do
+-- a block of words that is no wait and no macro call does what its words do
 pub unwaiting : (tape : List ControlProgram) (fixed : Fixed) (path : PathView) (purpose : Purpose) (system : System) (words : List FlowWord) (control : Control) (reads : List Var)
     → ((code : ℕ) → control ≢ AtWait code) → is_macro purpose ≡ false
     → block_of_words tape fixed path purpose system words control reads ≡ words_effect tape fixed path purpose system words control reads
@@ -92,12 +93,12 @@ unwaiting tape fixed path purpose system words (Call p r) reads is calls = plain
 unwaiting tape fixed path purpose system words Back reads is calls = plain tape fixed path purpose system words Back reads calls
 unwaiting tape fixed path purpose system words (BackTo n) reads is calls = plain tape fixed path purpose system words (BackTo n) reads calls
 
--- a block that calls a macro
+-- the control of a block whose purpose is a macro call is a call
 pub called : (purpose : Purpose) (dialect : Dialect) (words : List FlowWord) → purpose ≡ MacroCall → (program : ℕ) × (repeats : ℕ) × (control_by purpose dialect words ≡ Call program repeats)
 called MacroCall dialect words is = (_, _, refl)
 called _ dialect words is = absurd cc
 
--- behind a block that is no end control goes on
+-- a block whose moves are known and that is no end goes where its control leads
 pub goes : (tape : List ControlProgram) (moved : Moved) (arguments : Option (List Var)) (control : Control) → control ≢ End
     → controlled tape moved arguments control ≡ done_by moved (standing_behind tape (standing_of moved.path) arguments control)
 goes tape moved arguments End is = absurd (is refl)
@@ -111,7 +112,7 @@ goes tape moved arguments (Call program repeats) is = refl
 goes tape moved arguments Back is = refl
 goes tape moved arguments (BackTo n) is = refl
 
--- a macro call goes where it leads, and raises the alarm of why it leads nowhere
+-- a macro call that leads somewhere, once decided, is the effect of the definition
 pub call_goes : (tape : List ControlProgram) (path : PathView) (arguments : List Var) (program repeats : ℕ) (there : Standing)
     → standing_of_call (Some arguments) program repeats (standing_of path) ≡ Ok there
     → macro_decided path program repeats (Ok arguments) ≡ controlled tape (record { path = path; moves = [] }) (Some arguments) (Call program repeats)
@@ -123,14 +124,14 @@ pub call_stays : (tape : List ControlProgram) (path : PathView) (arguments : Lis
     → alarm_of cause ≡ controlled tape (record { path = path; moves = [] }) (Some arguments) (Call program repeats)
 call_stays tape path arguments program repeats cause e = rw e refl
 
--- where the running block has one behind it, whatever was decided may be done
+-- if the running block has a number for the one behind it, what was decided of words may be done
 pub may_take_words : (path : PathView) (what : WordsTurn) → MayPass path.place → MayTakeWords path what
 may_take_words path (turn.Stops stop) may = tt
 may_take_words path (turn.AtWait code) may = tt
 may_take_words path (turn.AtEnd step) may = tt
 may_take_words path (turn.Goes step route) may = may
 
--- whatever was decided may be done where the running block has one behind it
+-- if the running block has a number for the one behind it, whatever was decided may be done
 pub may_take : (path : PathView) (what : Decision) → MayPass path.place → MayTake path what
 may_take path (decision.Stops stop) may = tt
 may_take path (decision.Words turn) may = may_take_words path turn may

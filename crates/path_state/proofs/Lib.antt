@@ -1,4 +1,4 @@
--- The lemmas of this crate, each file by its subject.
+-- The lemmas of path_state, each file by its subject. named_vars and race_order take some of them.
 pub mod ControlledPlaces
 pub mod ControlledStatements
 pub mod ControlledWords

@@ -1,5 +1,5 @@
 -- What an expression needs is a variable that the paths share, and fewer values were given than it
--- names variables.
+-- names variables. NeedsStatements and NeedsWords build on it.
 -- named_vars takes `named_in_table`.
 use Rattle.std.proofs.Common.{◌≡◌, ℕ, ◌+◌, ◌<◌, ◌≤◌, Bool, true, false, List, [], ◌∷◌, length, Option, Some, None, Result, Ok, Err, ℤ, refl, ap, subst, arith, if◌then◌else◌}
 use Rattle.nc_number.specs.declared.cause.Cause.{Cause}
@@ -26,7 +26,7 @@ use Rattle.path_state.specs.Looks.{is_shared, held_by, look_of}
 use Rattle.block_values.specs.Outcomes.{Outcome, Gives, Needs, Alarms, ◌>>=◌, reading_none, answered}
 use Rattle.path_state.specs.Said.{evaluated}
 
--- what a step needs is shared by the table
+-- if an evaluation needs a variable, the table says that it is shared
 abbrev NeedsShared : (ℕ → Result Look VarFault) → Eval → Type 0
 NeedsShared table (Need n) = table n ≡ Ok look.Shared
 NeedsShared table (Got v) = Unit {0}
@@ -72,7 +72,7 @@ module _ (table : ℕ → Result Look VarFault) where
       (λ v left. then_needs (meaning table b left) _ (meaning_needs b left)
       (λ w rest. made_needs (operator_value op (or_zero v) (or_zero w))))
 
--- a number that names a variable in some system names it in the table of all
+-- a number that names a variable in the system in force names it in the table of all variables
 pub named_in_table : (modal : ModalView) (n : ℕ) (v : Variable) → variable_in modal n ≡ Some v → variable_of n ≡ Some v
 named_in_table modal n v named = go (variable_of n) named
   where
@@ -85,7 +85,7 @@ named_in_table modal n v named = go (variable_of n) named
     go None e = absurd cc
     go (Some found) e = held found (is_there modal found) e
 
--- a look says that a variable is shared only where it is
+-- if a look says that a variable is shared, it is
 looked-shared : (fixed : Fixed) (path : PathView) (n : ℕ) → look_of fixed path n ≡ Ok look.Shared
     → is_shared fixed n ≡ true
 looked-shared fixed path n is = go (variable_in path.modal n) refl is
@@ -104,13 +104,14 @@ looked-shared fixed path n is = go (variable_in path.modal n) refl is
         (common v (is_shared fixed v) refl e)
     go (Some _) named e = absurd cc
 
--- A step takes so many values at most; what it needs is shared, and fewer values were given.
+-- the step takes at most `most` of the values that were read; if it needs a variable, that is
+-- shared, and fewer values were read
 abbrev pub Asks : {A : Type 0} → Fixed → ℕ → List Var → Outcome A → Type 0
 Asks fixed most reads (Gives value left) = length reads ≤ length left + most
 Asks fixed most reads (Needs variable) = (is_shared fixed variable ≡ true) × (length reads < most)
 Asks fixed most reads (Alarms number value) = Unit {0}
 
--- what goes on with a value asks for what both ask for
+-- two steps one after another ask for at most as many values as both together
 pub then_asks : {A B : Type 0} (fixed : Fixed) (m k most : ℕ) → m + k ≤ most
     → (reads : List Var) (step : Outcome A) (next : A → List Var → Outcome B)
     → Asks fixed m reads step → ((value : A) (left : List Var) → Asks fixed k left (next value left))
@@ -132,7 +133,7 @@ pub none_asks : {A : Type 0} (fixed : Fixed) (most : ℕ) (reads : List Var) (r 
 none_asks fixed most reads (Ok value) = omega arith
 none_asks fixed most reads (Err cause) = tt
 
--- an expression
+-- an expression asks for at most as many values as it names variables
 pub tree_asks : (fixed : Fixed) (path : PathView) (tree : Tree) (reads : List Var)
     → Asks fixed (variables tree) reads (evaluated fixed path tree reads)
 tree_asks fixed path tree reads = go (meaning (look_of fixed path) tree reads) refl

@@ -1,5 +1,5 @@
--- Of values: a statement asks for no more values than it names variables, and for shared ones
--- alone.
+-- A statement asks for no more values than it names variables, and for shared ones alone: each
+-- lemma says it of one part of a statement, the last of the whole. For NeedsWords.
 use Rattle.std.proofs.Common.{ℕ, ◌+◌, ◌≤◌, Bool, true, false, List, [], ◌∷◌, ◌++◌, Result, Ok, Err, arith, if◌then◌else◌}
 use Rattle.nc_number.specs.declared.cause.Cause.{Cause}
 use Rattle.nc_number.specs.declared.point.Point.{Point}
@@ -100,7 +100,7 @@ module _ (fixed : Fixed) (path : PathView) where
   next_asks : (most : ℕ) (reads : List Var) → Asks fixed most reads (next_effect path reads)
   next_asks most reads = omega arith
 
-  -- by what a condition comes to
+  -- a condition and what follows it, either way, ask for at most as many values as both together
   test_asks : (test : Test) (most all : ℕ) → variables test.left + variables test.right + most ≤ all
       → (reads : List Var) (one other : List Var → Outcome After)
       → ((left : List Var) → Asks fixed most left (one left))
@@ -116,7 +116,7 @@ module _ (fixed : Fixed) (path : PathView) where
       either true left = first left
       either false left = second left
 
-  -- a statement
+  -- a statement asks for at most as many values as its expressions name variables
   pub statement_asks : (tape : List ControlProgram) (sentence : Sentence) (reads : List Var)
       → Asks fixed (variables_in (evaluated_in sentence)) reads
       (statement_effect tape fixed path sentence reads)

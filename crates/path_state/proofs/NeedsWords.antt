@@ -1,5 +1,6 @@
--- A block asks for no more values than it names variables, and for shared ones alone.
--- race_order takes `needed_shared`.
+-- A block asks for no more values than it names variables, and for shared ones alone: for the laws
+-- `a_block_asks_for_each_variable_once_at_most` and `what_is_needed_is_shared`
+-- (src/control_law.rt). race_order takes `needed_shared`.
 use Rattle.std.proofs.Common.{◌≡◌, ℕ, ◌<◌, ◌≤◌, true, List, [], ◌∷◌, length, Option, Some, None, Result, Ok, Err, subst, arith}
 use Rattle.nc_number.specs.declared.cause.Cause.{Cause}
 use Rattle.nc_number.specs.declared.value.Var.{Var}
@@ -31,7 +32,7 @@ use Rattle.path_state.specs.Controlled.{AsksForShared}
 use Rattle.path_state.proofs.NeedsShared.{Asks, then_asks, none_asks, tree_asks}
 use Rattle.path_state.proofs.NeedsStatements.{statement_asks}
 
--- what an effect needs is shared, and fewer values were given than so many
+-- if the effect is a need, the variable is shared, and fewer than `most` values were read
 abbrev pub AsksFor : Fixed → ℕ → List Var → Effect → Type 0
 AsksFor fixed most reads (Need variable) = (is_shared fixed variable ≡ true) × (length reads < most)
 AsksFor fixed most reads _ = Unit {0}
@@ -73,7 +74,7 @@ module _ (fixed : Fixed) (path : PathView) where
       (λ next left. arguments_asks words next left)
 
   module _ (tape : List ControlProgram) (most : ℕ) (reads : List Var) where
-    -- behind the words nothing is needed
+    -- a block whose words are evaluated needs nothing
     done-asks : (moved : Moved) (to : Result Standing Cause)
         → AsksFor fixed most reads (done_by moved to)
     done-asks moved (Ok to) = tt
@@ -124,7 +125,7 @@ module _ (fixed : Fixed) (path : PathView) where
   block-asks tape purpose system words (control.Wait code) reads = tt
   block-asks tape purpose system words c reads = purpose-asks tape purpose system words c reads
 
-  -- what stands in a block asks for as many values as it names variables, at most
+  -- the body of a block asks for at most as many values as it names variables
   pub body_asks : (tape : List ControlProgram) (body : FlowBody) (c : Control) (reads : List Var)
       → AsksFor fixed (variables_of_body body) reads (effect_of_body tape fixed path body c reads)
   body_asks tape (Words words) c reads = block-asks tape words.purpose words.dialect.system words.words c reads
@@ -132,7 +133,7 @@ module _ (fixed : Fixed) (path : PathView) where
       after-asks tape (variables_in (evaluated_in (sentence_of statement.statement))) reads _
       (statement_asks fixed path tape (sentence_of statement.statement) reads)
 
--- a body with so many variables asks for no more values
+-- if the body of a block needs a variable, fewer values were read than it names variables
 pub body_most : (tape : List ControlProgram) (fixed : Fixed) (path : PathView) (body : FlowBody)
     (c : Control) (reads : List Var) (variable : ℕ)
     → effect_of_body tape fixed path body c reads ≡ Need variable
@@ -141,7 +142,7 @@ body_most tape fixed path body c reads variable is =
     (subst (λ effect. AsksFor fixed (variables_of_body body) reads effect) is
     (body_asks fixed path tape body c reads)).1
 
--- what asks for at most 32 values asks as the law says
+-- an effect that asks for at most 32 values asks as the law on blocks says
 within_room : (path : PathView) (most : ℕ) (reads : List Var) (effect : Effect) → most ≤ 32
     → AsksFor path.fixed most reads effect
     → AsksForShared path reads effect
@@ -151,7 +152,7 @@ within_room path most reads (AtWait code) few asks = tt
 within_room path most reads (AtEnd after moves) few asks = tt
 within_room path most reads (Alarm number value) few asks = tt
 
--- the block that was found, if there is one
+-- the block that was found, if there is one, asks for shared variables and at most 32 values
 found_asks : (tape : List ControlProgram) (path : PathView) (found : Option FlowBlock)
     (reads : List Var)
     → AsksForShared path reads (effect_of_block tape path found reads)
@@ -161,7 +162,7 @@ found_asks tape path (Some block) reads =
     (effect_of_body tape path.fixed path block.body block.control reads) block.few
     (body_asks path.fixed path tape block.body block.control reads)
 
--- every block
+-- every block asks for shared variables and at most 32 values
 pub block_asks : (flow : Flow) (path : PathView) (reads : List Var)
     → AsksForShared path reads (effect_of flow path reads)
 block_asks flow path reads = found_asks flow.order path (block_at flow.programs path.place) reads

@@ -1,4 +1,5 @@
--- Each block of a checked tape has a number for the one behind it.
+-- Each block of a checked tape has a number for the one behind it, since no program has more blocks
+-- than a tape may have: so control may go on from it (src/decision.rt, `PathState::block`).
 use Rattle.std.proofs.Common.{◌≡◌, ℕ, ◌≤◌, ◌==◌, Bool, true, false, List, [], ◌∷◌, length, Option, Some, None, IsSome, option_map, slice_get, ap, sym, refl, arith}
 use Rattle.std.proofs.lemmas.List.{length-append}
 use Rattle.block_order.specs.declared.control.Control.{Control}
@@ -20,7 +21,7 @@ few (p ∷ ps) n = go (p.number == n) refl (few ps n)
     go true is rest = rw is (omega (arith, length-append p.blocks (blocks_in ps)))
     go false is rest = rw is (omega (arith, length-append p.blocks (blocks_in ps)))
 
--- where a block stands, the number of the next one fits
+-- if the order has a control at the place, there is a number for the block behind it
 pub may_pass : (tape : List ControlProgram) → IsListed tape → (place : List Frame) (c : Control) → standing tape place ≡ Some c → MayPass place
 may_pass tape listed [] c e = absurd cc
 may_pass tape listed (f ∷ stack) c e =
@@ -29,7 +30,7 @@ may_pass tape listed (f ∷ stack) c e =
     let total = listed.few in
     omega arith
 
--- where there is a block there is a number for the one behind it
+-- if a block was found at the place, there is a number for the one behind it
 pub may_pass_at : {A : Type 0} → (tape : List ControlProgram) → ((place : List Frame) (c : Control) → standing tape place ≡ Some c → MayPass place)
     → (f : Frame) (stack : List Frame) (found : Option A) (block : A → ControlBlock) → option_map block found ≡ slice_get (blocks tape f.program) f.block
     → IsSome found → MayPass (f ∷ stack)

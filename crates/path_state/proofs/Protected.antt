@@ -1,4 +1,5 @@
--- Which writes are refused.
+-- Which writes are refused, and by which alarm: for the law `a_protected_variable_is_not_written`
+-- (src/refusing.rt).
 use Rattle.std.proofs.Common.{◌≡◌, ◌↔◌, ℕ, Bool, true, false, List, Option, Some, None, refl, sym, ap, ◌∙◌, arith}
 use Rattle.nc_number.specs.declared.cause.Cause.TheVariants.{Protected, VariableRange}
 use Rattle.nc_number.specs.declared.point.Point.{Point}
@@ -17,12 +18,12 @@ use Rattle.block_values.specs.Readings.{variable_in}
 use Rattle.path_state.specs.View.{Fixed, PathView}
 use Rattle.path_state.specs.Statements.{along, named, with_offset, written, written_path}
 
--- the number of the alarm, and 0 without one
+-- the number of the alarm of an outcome, or 0 if it is none
 abbrev alarm_in : {A : Type 0} → Outcome A → ℕ
 alarm_in (Alarms number value) = number
 alarm_in _ = 0
 
--- of an offset that takes a value: none, or 41
+-- the alarm of an offset that takes a value: none at a position (true), else 41
 abbrev offset_alarm : Bool → ℕ
 offset_alarm true = 0
 offset_alarm false = 41
@@ -33,7 +34,7 @@ offset_written : (path : PathView) (slot : Slot) (to : Point) (left : List Var) 
 offset_written path slot to left true e = rw e refl
 offset_written path slot to left false e = rw e refl
 
--- and neither is 31
+-- no alarm of an offset that takes a value is 31
 not_protected : (b : Bool) → offset_alarm b ≡ 31 → ⊥
 not_protected true e = omega (arith, e)
 not_protected false e = omega (arith, e)
@@ -58,12 +59,12 @@ protected fixed path (variable.Work n axis) value left =
       λ e. absurd cc,
     )
 
--- a number is alarm 30 exactly if it names no variable
+-- a search for the variable of a number is alarm 30 exactly if it finds none
 missing_by : (reads : List Var) (o : Option Variable) → (reading_none (existing o) reads ≡ alarm VariableRange) ↔ (o ≡ None)
 missing_by reads None = (λ e. refl, λ e. refl)
 missing_by reads (Some found) = (λ e. absurd cc, λ e. absurd cc)
 
--- and so is a left side with that number
+-- a left side with a number written out is alarm 30 exactly if that names no variable
 pub missing : (fixed : Fixed) (path : PathView) (number : ℕ) (reads : List Var)
     → (named fixed path (Numbered number) reads ≡ alarm VariableRange) ↔ (variable_in path.modal number ≡ None)
 missing fixed path number reads = missing_by reads (variable_in path.modal number)

@@ -1,9 +1,9 @@
 -- The codes of an assignment behind IF, parted before the last one: those of the condition and of
--- the number on the left, and that of the value.
+-- the number on the left, and that of the value. For `statement_step` (src/statements.rt).
 use Rattle.std.proofs.Common.{◌≡◌, List, [], ◌∷◌, ◌++◌, refl}
 use Rattle.macro_expr.specs.Tree.{Tree, Test, Named, IfThen, evaluated, evaluated_name, evaluated_test}
 
--- a list has one last element and one front
+-- a list is parted before its last element in one way
 only_parts : (front before : List Tree) (last end : Tree) → front ++ last ∷ [] ≡ before ++ end ∷ []
     → (front ≡ before) × (last ≡ end)
 only_parts [] [] last end same = (refl, cc)

@@ -1,5 +1,6 @@
--- What a path answers to the turn of a block.
--- two_path takes `StaysUnlessTold`, `effect_told` and `moves_of`.
+-- How the code's answers to the turn of a block (src/advance.rt) are read as effects of the block,
+-- and what holds of the moves in them.
+-- two_path takes `StaysUnlessTold`, `effect_told` and `moves_of` for its own contracts of turns.
 use Rattle.std.specs.Prelude.{◌≡◌, ◌≤◌, ℕ, List, [], length}
 use Rattle.nc_moves.specs.declared.motion.Move.{Move}
 use Rattle.nc_moves.specs.declared.motion.Moves.{Moves}
@@ -13,7 +14,7 @@ use Rattle.path_state.specs.View.{PathView}
 use Rattle.path_state.specs.StatementSteps.{write_seen}
 use Rattle.path_state.specs.Effect.{Effect, Need, Done, AtWait, AtEnd, Alarm}
 
--- an answer and its moves, with the path behind it, as an effect
+-- an answer of the code, with the moves and the path behind it, as the effect of the block
 abbrev pub effect_told : BlockAnswer → List Move → PathView → Effect
 effect_told (answer.Need variable) moves after = Need variable
 effect_told (answer.Done write) moves after = Done after (write_seen write) moves
@@ -21,7 +22,7 @@ effect_told (answer.AtWait code) moves after = AtWait code
 effect_told answer.AtEnd moves after = AtEnd after moves
 effect_told (answer.Alarm cause value) moves after = Alarm cause value
 
--- a path that must read first, that is at a wait, or that raises an alarm is as it was
+-- if the answer is a need, a wait or an alarm, the path after it is as before
 abbrev pub StaysUnlessTold : BlockAnswer → PathView → PathView → Type 0
 StaysUnlessTold (answer.Need variable) before after = after ≡ before
 StaysUnlessTold (answer.Done write) before after = Unit {0}
@@ -29,7 +30,7 @@ StaysUnlessTold (answer.AtWait code) before after = after ≡ before
 StaysUnlessTold answer.AtEnd before after = Unit {0}
 StaysUnlessTold (answer.Alarm cause value) before after = after ≡ before
 
--- an answer, and its moves put apart
+-- an answer that holds its moves, as one without them
 abbrev pub answer_of : Advance → BlockAnswer
 answer_of (advance.Need variable) = answer.Need variable
 answer_of (advance.Effect write moves) = answer.Done write
@@ -37,17 +38,17 @@ answer_of (advance.AtWait code) = answer.AtWait code
 answer_of (advance.AtEnd moves) = answer.AtEnd
 answer_of (advance.Alarm cause value) = answer.Alarm cause value
 
--- the moves of an answer; none at a need, at a wait and at an alarm
+-- the moves that an answer holds; none at a need, at a wait and at an alarm
 abbrev pub moves_apart : Advance → List Move
 moves_apart (advance.Effect write moves) = moves.list
 moves_apart (advance.AtEnd moves) = moves.list
 moves_apart _ = []
 
--- an answer, with the path behind it, as an effect
+-- an answer that holds its moves, with the path behind it, as the effect of the block
 abbrev pub effect_seen : Advance → PathView → Effect
 effect_seen advance after = effect_told (answer_of advance) (moves_apart advance) after
 
--- the same of an answer with its moves in it
+-- if an answer that holds its moves is a need, a wait or an alarm, the path after it is as before
 abbrev pub StaysUnlessDone : Advance → PathView → PathView → Type 0
 StaysUnlessDone advance before after = StaysUnlessTold (answer_of advance) before after
 
@@ -59,19 +60,21 @@ moves_of (AtWait code) = []
 moves_of (AtEnd after moves) = moves
 moves_of (Alarm number value) = []
 
--- at most seven moves, which lead to positions and have no I, K or R past the longest length
+-- what holds of the moves of every block
 pub record AreFitMoves (moves : List Move) : Type 0 where
+  -- they are at most seven
   pub few : length moves ≤ 7
+  -- they lead to positions and have no I, K or R past the longest length
   pub within : AreMovesWithin LONGEST moves
 
--- the moves of the block at this line: at most seven, which lead to positions and have no I, K or R
--- past the longest length
+-- the moves with their line are those of a block at this line: at most seven, which lead to
+-- positions and have no I, K or R past the longest length
 pub record AreMovesOf (line : ℕ) (moves : Moves) : Type 0 where
   pub here : moves.line ≡ line
   pub few : length moves.list ≤ 7
   pub within : AreMovesWithin LONGEST moves.list
 
--- the moves of an answer are those of the block at this line
+-- the moves that an answer holds, if it holds any, are those of the block at this line
 abbrev pub AreMovesAt : ℕ → Advance → Type 0
 AreMovesAt line (advance.Need variable) = Unit {0}
 AreMovesAt line (advance.Effect write moves) = AreMovesOf line moves
@@ -79,7 +82,7 @@ AreMovesAt line (advance.AtWait code) = Unit {0}
 AreMovesAt line (advance.AtEnd moves) = AreMovesOf line moves
 AreMovesAt line (advance.Alarm cause value) = Unit {0}
 
--- the path behind an effect; where nothing was done it is as before
+-- the path behind an effect; behind a need, a wait and an alarm it is as before
 abbrev pub path_after : PathView → Effect → PathView
 path_after before (Need variable) = before
 path_after before (Done after write moves) = after

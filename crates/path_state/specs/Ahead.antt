@@ -1,5 +1,6 @@
--- What a block does to the labels ahead of its path.
--- For this crate alone.
+-- What a block does to the labels ahead of its path, which are the waits and the end that it still
+-- comes to: `block_order` defines them (`ahead`).
+-- For the law `each_block_keeps_the_labels` (src/control_law.rt) alone.
 use Rattle.std.specs.Prelude.{◌≡◌, List, [], ◌∷◌, Option, Some}
 use Rattle.block_order.specs.declared.control.Control.{Control}
 use Rattle.block_order.specs.declared.control.Control.TheVariants.{Back}
@@ -11,13 +12,15 @@ use Rattle.block_order.specs.Steps.{IsPlace, place_behind, standing}
 use Rattle.path_state.specs.View.{PathView}
 use Rattle.path_state.specs.Effect.{Effect, Need, Done, AtWait, AtEnd, Alarm}
 
--- from place to place the labels stay, but at an M99 of the main program with no call open they
--- begin anew
+-- from a place to the next one the labels ahead stay; but an M99 of the main program with no call
+-- open, at which `Again` alone is ahead, leads to where they begin anew
 abbrev pub AheadOf : List ControlProgram → List Frame → Option Control → List Frame → Type 0
 AheadOf tape (f ∷ []) (Some Back) to = (ahead tape (f ∷ []) ≡ label.Again ∷ []) × (ahead tape to ≡ list tape)
 AheadOf tape place control to = ahead tape to ≡ ahead tape place
 
--- at a wait the labels begin with it, and it goes with the passing; at an end they are End alone
+-- what an effect does to the labels ahead: a block that is done keeps them; at a wait they begin
+-- with it, and passing it takes it away; at an end they are `End` alone; a need and an alarm say
+-- nothing
 abbrev pub KeepsAhead : List ControlProgram → PathView → Effect → Type 0
 KeepsAhead tape path (Need variable) = Unit {0}
 KeepsAhead tape path (Done after write moves) =

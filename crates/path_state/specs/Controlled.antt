@@ -1,6 +1,7 @@
--- Where an effect leads: the new place is a step of the order of blocks, whatever the path holds
--- and whatever was read.
--- move_list, nc_restart and five more crates take words from here.
+-- What the laws of one path's control say (src/control_law.rt): a block leads to a place that the
+-- order of blocks allows, keeps what is fixed for its path, and asks for shared variables alone.
+-- two_path builds its law on pairs on it; move_list, nc_restart, race_order, run_table, trace_list
+-- and turn_order take words from here too.
 use Rattle.std.specs.Prelude.{◌≡◌, ◌<◌, true, List, length, Some}
 use Rattle.nc_number.specs.declared.value.Var.{Var}
 use Rattle.block_order.specs.declared.control.Control.TheVariants.{Wait, End}
@@ -11,8 +12,8 @@ use Rattle.path_state.specs.View.{PathView}
 use Rattle.path_state.specs.Looks.{is_shared}
 use Rattle.path_state.specs.Effect.{Effect, Need, Done, AtWait, AtEnd, Alarm, effect_of}
 
--- a block that is done leads where the order of blocks allows; a path is at a wait or an end where
--- it stands on one
+-- the effect goes as the order of blocks allows: a block that is done leads to a place that one of
+-- its moves gives; a path is at a wait, or at an end, only if it stands on one
 abbrev pub GoesAsOrdered : List ControlProgram → PathView → Effect → Type 0
 GoesAsOrdered tape path (Need variable) = Unit {0}
 GoesAsOrdered tape path (Done after write moves) = Step tape path.place after.place
@@ -20,11 +21,12 @@ GoesAsOrdered tape path (AtWait code) = standing tape path.place ≡ Some (Wait 
 GoesAsOrdered tape path (AtEnd after moves) = (standing tape path.place ≡ Some End) × (after.place ≡ path.place)
 GoesAsOrdered tape path (Alarm number value) = Unit {0}
 
--- at every state of a path, also at one that no run comes to
+-- each block of the flow goes as its order allows, at every state of a path, also at one that no
+-- run comes to, and whatever was read
 abbrev pub IsControlled : Flow → Type 0
 IsControlled flow = (path : PathView) (reads : List Var) → GoesAsOrdered flow.order path (effect_of flow path reads)
 
--- what is fixed for the path stays
+-- the effect leaves what is fixed for the path: reference position and shared ranges
 abbrev pub KeepsFixed : PathView → Effect → Type 0
 KeepsFixed path (Need variable) = Unit {0}
 KeepsFixed path (Done after write moves) = after.fixed ≡ path.fixed
@@ -32,7 +34,7 @@ KeepsFixed path (AtWait code) = Unit {0}
 KeepsFixed path (AtEnd after moves) = after.fixed ≡ path.fixed
 KeepsFixed path (Alarm number value) = Unit {0}
 
--- what is needed is a shared variable, and a block asks for no more values than 32
+-- if the effect is a need, the variable is shared, and fewer than 32 values were read so far
 abbrev pub AsksForShared : PathView → List Var → Effect → Type 0
 AsksForShared path reads (Need variable) = (is_shared path.fixed variable ≡ true) × (length reads < 32)
 AsksForShared path reads (Done after write moves) = Unit {0}

@@ -1,6 +1,6 @@
--- What a decision of the code comes to, as an effect. The moves stand apart, in a list that was
--- lent.
--- two_path takes `MayTake` and `decided`.
+-- How a decision of the code (src/decision.rt) is read as the effect of the block, before anything
+-- of the path changes; and when it may be done. Its moves stand apart, in a list that was lent.
+-- two_path takes `MayTake` and `decided`: when it does a record again, it decides the block first.
 use Rattle.std.specs.Prelude.{ℕ, List, [], Some, None, Result, Ok, Err}
 use Rattle.nc_number.specs.declared.value.Var.{Var}
 use Rattle.code_tables.specs.declared.system.System.{System}
@@ -26,7 +26,7 @@ use Rattle.path_state.specs.Statements.{After}
 use Rattle.path_state.specs.StatementSteps.{after_step}
 use Rattle.path_state.specs.Effect.{Effect, Need, Done, AtWait, AtEnd, Alarm, Moved, acted, controlled, of_moved, with_set_offset}
 
--- the path behind the words of a block, at the same place
+-- the path behind the words of a block, control aside: modal state, offsets and position are new
 abbrev pub behind_words : PathView → WordsStep → PathView
 behind_words path step = record path {
   modal = step.modal;
@@ -34,35 +34,35 @@ behind_words path step = record path {
   position = step.position;
 }
 
--- what words do, or the number of their alarm
+-- what the words of a block do, with these moves, or the number of their alarm
 abbrev pub moved_seen : PathView → Result WordsStep ℕ → List Move → Result Moved ℕ
 moved_seen path (Ok step) moves = Ok (record { path = behind_words path step; moves = moves })
 moved_seen path (Err number) moves = Err number
 
--- the need or the alarm at which a step stopped
+-- the need or the alarm at which a step stopped, as an effect
 abbrev pub stopped : Stop → Effect
 stopped (stop.Needs variable) = Need variable
 stopped (stop.Alarms number value) = Alarm number value
 
--- a block whose words say these values, or say nothing
+-- the effect of a block whose words say these values, or stopped
 abbrev pub of_said : List ControlProgram → PathView → System → List FlowWord → Control → Result kept.Values Stop → Effect
 of_said tape path system words control (Ok values) =
     of_moved tape control (acted path.fixed path system words (values_seen values))
 of_said tape path system words control (Err stop) = stopped stop
 
--- a macro call with these arguments, or without them
+-- the effect of a macro call whose arguments are these, or stopped
 abbrev pub of_arguments_said : List ControlProgram → PathView → Control → Result (List Var) Stop → Effect
 of_arguments_said tape path control (Ok arguments) =
     controlled tape (record { path = path; moves = [] }) (Some arguments) control
 of_arguments_said tape path control (Err stop) = stopped stop
 
--- a macro call that was decided, with these arguments or without them
+-- the effect of a macro call that was decided: the call is open with these arguments, or it stopped
 abbrev pub macro_decided : PathView → ℕ → ℕ → Result (List Var) Stop → Effect
 macro_decided path program repeats (Ok arguments) =
     Done (with_standing path (route_end (standing_of path) (Some arguments) (Call program repeats))) None []
 macro_decided path program repeats (Err stop) = stopped stop
 
--- what was decided of words, with these moves, as an effect
+-- what was decided of words that call no macro, with these moves, as an effect
 abbrev pub words_decided : PathView → WordsTurn → List Move → Effect
 words_decided path (turn.Stops stop) moves = stopped stop
 words_decided path (turn.AtWait code) moves = AtWait code
@@ -70,7 +70,7 @@ words_decided path (turn.AtEnd step) moves = AtEnd (behind_words path step) move
 words_decided path (turn.Goes step route) moves =
     Done (with_standing (behind_words path step) (route_end (standing_of path) None route)) None moves
 
--- a block that is done so, with these moves
+-- the effect of a statement that is done, with these moves
 abbrev pub done_with : After → List Move → Effect
 done_with after moves = Done after.path after.write moves
 
@@ -82,12 +82,13 @@ decided path (decision.Macro program repeats arguments) moves =
     Done (with_standing path (route_end (standing_of path) (Some arguments) (Call program repeats))) None moves
 decided path (decision.Statement step) moves = done_with (after_step path step) moves
 
--- where control goes on from a block, there is a number for the one behind it
+-- what was decided of words may be done: if control goes on, the running block has a number for the
+-- one behind it
 abbrev pub MayTakeWords : PathView → WordsTurn → Type 0
 MayTakeWords path (turn.Goes step route) = MayPass path.place
 MayTakeWords path _ = Unit {0}
 
--- a decision may be done: where control goes on, there is a number for the block behind
+-- a decision may be done: if control goes on, the running block has a number for the one behind it
 abbrev pub MayTake : PathView → Decision → Type 0
 MayTake path (decision.Stops stop) = Unit {0}
 MayTake path (decision.Words turn) = MayTakeWords path turn

@@ -1,5 +1,6 @@
--- What an operator's edit sets in a path: an offset, or a common variable of its own.
--- two_path takes `edited` and `shared_write`.
+-- What an operator's edit does to a path: it sets an offset, or a common variable of the path's
+-- own, and nothing of control.
+-- two_path takes `edited` and `shared_write` for an edit of its machine.
 use Rattle.std.specs.Prelude.{◌≡◌, ℕ, List, Option, Some, None, if◌then◌else◌}
 use Rattle.nc_number.specs.declared.value.Var.{Var}
 use Rattle.common_vars.specs.Common.{with_value}
@@ -20,23 +21,23 @@ offsets_behind (Common variable to) offsets = offsets
 abbrev pub own_with : Fixed → ℕ → Var → List Var → List Var
 own_with fixed v to own = if is_shared fixed v then own else with_value v to own
 
--- and behind an edit
+-- the path's own common variables behind an edit
 abbrev pub own_behind : Fixed → Edit → List Var → List Var
 own_behind fixed (Offset slot to) own = own
 own_behind fixed (Common variable to) own = own_with fixed variable to own
 
--- the path behind it: nothing changes but its offsets and its own variables
+-- the path behind an edit: nothing changes but its offsets and its own variables
 abbrev pub edited : Edit → PathView → PathView
 edited edit path = record path { own = own_behind path.fixed edit path.own; offsets = offsets_behind edit path.offsets }
 
--- what an edit writes to a variable that both paths share
+-- what an edit writes to a variable that both paths share, if it sets one
 abbrev pub shared_write : Fixed → Edit → Option Write
 shared_write fixed (Offset slot to) = None
 shared_write fixed (Common variable to) =
     if is_shared fixed variable then Some (record { variable = variable; value = to }) else None
 
--- control goes on where it was going: place, calls, local variables, what is in force, position and
--- what is fixed stay
+-- an edit keeps control: place, calls, local variables, what is in force, position and what is
+-- fixed stay
 pub record KeepsControl (before after : PathView) : Type 0 where
   pub place : after.place ≡ before.place
   pub calls : after.calls ≡ before.calls

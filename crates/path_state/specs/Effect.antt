@@ -1,5 +1,7 @@
--- What a block does to its path: the whole, step by step.
--- move_list, named_vars and seven more crates take words from here.
+-- What a block does to its path: the whole, step by step, from the words and the statement to the
+-- moves, the new place and what is written. `effect_of` is the one definition of a block's effect.
+-- The crates above build on it: two_path, run_table, named_vars, race_order, move_list, trace_list,
+-- nc_restart, turn_order and zone_check take words from here, so a change here changes all runs.
 use Rattle.std.specs.Prelude.{ℕ, List, [], ◌∷◌, Option, Some, None, Result, Ok, Err, ℤ, pos, codes}
 use Rattle.nc_number.specs.declared.cause.Cause.{Cause}
 use Rattle.nc_number.specs.declared.cause.Cause.TheVariants.{RanOff}
@@ -39,13 +41,17 @@ use Rattle.block_values.specs.Moves.{all_moves, last_end}
 use Rattle.path_state.specs.Standing.{Standing, standing_of, with_standing, standing_behind}
 use Rattle.path_state.specs.Statements.{Write, After, statement_effect}
 
--- what a block comes to, and at most one write to a shared variable
+-- what the block at which a path stands comes to
 pub data Effect : Type 0 where
+  -- it needs the value of this shared variable first
   Need : (variable : ℕ) → Effect
+  -- it is done: the path behind it, what it wrote to a shared variable, its moves
   Done : (path : PathView) → (write : Option Write) → (moves : List Move) → Effect
+  -- the path stands at a wait of this code
   AtWait : (code : ℕ) → Effect
-  -- the path stays on the block
+  -- the path is at its end: it takes what the words of the block do, and stays on the block
   AtEnd : (path : PathView) → (moves : List Move) → Effect
+  -- it raises this alarm, whose value is 0 but for alarm 33
   Alarm : (number : ℕ) → (value : ℤ) → Effect
 
 -- the offsets after a G10 that sets this one; without a G10 they stay
@@ -53,7 +59,7 @@ abbrev pub with_set_offset : OffsetTable → Option (Slot × Point) → OffsetTa
 with_set_offset offsets None = offsets
 with_set_offset offsets (Some set) = with_point offsets set.0 set.1
 
--- the path behind the motion of a block, and all of the block's moves
+-- the path behind the words of a block, control aside, and all of the block's moves
 pub record Moved : Type 0 where
   pub path : PathView
   pub moves : List Move
@@ -77,15 +83,15 @@ abbrev pub after_motion : PathView → ModalView → System → List FlowWord �
 after_motion path modal system words values (Ok motion) = Ok (moved_by path modal system words values motion)
 after_motion path modal system words values (Err number) = Err number
 
--- the motion of a block whose modal state is known, and what it comes to
+-- what the words of a block come to whose modal state is known, or the number of an alarm
 abbrev pub motion_with : Fixed → PathView → System → List FlowWord → Values → Result ModalView ℕ → Result Moved ℕ
 motion_with fixed path system words values (Ok modal) =
     after_motion path modal system words values
     (motion_of fixed.home path.position path.offsets modal (motion_kind modal (one_shot system words)) (has (codes "L") words) values)
 motion_with fixed path system words values (Err number) = Err number
 
--- the modal state and then the motion of a block whose words are evaluated, its G codes those of
--- the system
+-- what the evaluated words of a block do, control aside: first the modal state, then the motion; or
+-- the number of the first alarm. `system` is the system of its G codes.
 abbrev pub acted : Fixed → PathView → System → List FlowWord → Values → Result Moved ℕ
 acted fixed path system words values =
     motion_with fixed path system words values (modal_after path.modal system words values)
@@ -99,12 +105,12 @@ abbrev pub done_by : Moved → Result Standing Cause → Effect
 done_by moved (Ok standing) = Done (with_standing moved.path standing) None moved.moves
 done_by moved (Err cause) = alarm_of cause
 
--- control behind the moves of a block; at the end the path stays on the block
+-- the effect of a block whose moves are known, by where control goes; at an end the path stays
 abbrev pub controlled : List ControlProgram → Moved → Option (List Var) → Control → Effect
 controlled tape moved arguments End = AtEnd moved.path moved.moves
 controlled tape moved arguments control = done_by moved (standing_behind tape (standing_of moved.path) arguments control)
 
--- behind the motion of a block control goes on, or the block raises the motion's alarm
+-- the effect of a block whose words moved the path, or raised an alarm
 abbrev pub of_moved : List ControlProgram → Control → Result Moved ℕ → Effect
 of_moved tape control (Ok moved) = controlled tape moved None control
 of_moved tape control (Err number) = Alarm number (pos 0)
@@ -117,7 +123,7 @@ of_values tape fixed path system words control (Gives values left) =
 of_values tape fixed path system words control (Needs variable) = Need variable
 of_values tape fixed path system words control (Alarms number value) = Alarm number value
 
--- a block of words that calls no macro
+-- the effect of a block of words that calls no macro
 abbrev pub words_effect : List ControlProgram → Fixed → PathView → Purpose → System → List FlowWord → Control → List Var → Effect
 words_effect tape fixed path purpose system words control reads =
     of_values tape fixed path system words control
@@ -131,18 +137,18 @@ of_arguments tape path control (Gives arguments left) =
 of_arguments tape path control (Needs variable) = Need variable
 of_arguments tape path control (Alarms number value) = Alarm number value
 
--- a block that calls a macro: its words are arguments, and nothing moves
+-- the effect of a block that calls a macro: its words are arguments, and nothing moves
 abbrev pub macro_effect : List ControlProgram → Fixed → PathView → List FlowWord → Control → List Var → Effect
 macro_effect tape fixed path words control reads =
     of_arguments tape path control (arguments_taken fixed path words all_vacant reads)
 
--- a block of words by its purpose: a macro call, or any other
+-- the effect of a block of words by its purpose: a macro call, or any other
 abbrev pub of_purpose : List ControlProgram → Fixed → PathView → Purpose → System → List FlowWord → Control → List Var → Effect
 of_purpose tape fixed path MacroCall system words control reads = macro_effect tape fixed path words control reads
 of_purpose tape fixed path purpose system words control reads =
     words_effect tape fixed path purpose system words control reads
 
--- a block of words, whose G codes are those of the system; at a wait nothing is done
+-- the effect of a block of words, whose G codes are those of the system; at a wait nothing is done
 abbrev pub block_of_words : List ControlProgram → Fixed → PathView → Purpose → System → List FlowWord → Control → List Var → Effect
 block_of_words tape fixed path purpose system words (Wait code) reads = AtWait code
 block_of_words tape fixed path purpose system words control reads =
@@ -154,15 +160,15 @@ of_after (Gives after left) = Done after.path after.write []
 of_after (Needs variable) = Need variable
 of_after (Alarms number value) = Alarm number value
 
--- a block that is a statement
+-- the effect of a block that is a statement
 abbrev pub block_of_statement : List ControlProgram → Fixed → PathView → Sentence → List Var → Effect
 block_of_statement tape fixed path sentence reads = of_after (statement_effect tape fixed path sentence reads)
 
--- past the last block of a program
+-- what a path comes to past the last block of a program: the alarm `RanOff`
 abbrev pub past_the_last : Effect
 past_the_last = alarm_of RanOff
 
--- a block that stands there, by what stands in it
+-- the effect of a block, by its body: words or a statement
 abbrev pub effect_of_body : List ControlProgram → Fixed → PathView → FlowBody → Control → List Var → Effect
 effect_of_body tape fixed path (Words words) control reads =
     block_of_words tape fixed path words.purpose words.dialect.system words.words control reads
@@ -174,7 +180,7 @@ abbrev pub effect_of_block : List ControlProgram → PathView → Option FlowBlo
 effect_of_block tape path None reads = past_the_last
 effect_of_block tape path (Some block) reads = effect_of_body tape path.fixed path block.body block.control reads
 
--- the block at which a path stands
+-- the block at which a path with these open programs stands, if there is one
 abbrev pub block_at : List FlowProgram → List Frame → Option FlowBlock
 block_at programs [] = None
 block_at programs (f ∷ stack) = flow_block programs f.program f.block

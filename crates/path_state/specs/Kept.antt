@@ -1,4 +1,5 @@
--- What a path keeps at all times.
+-- What every path keeps at all times: the invariant of `PathState` (src/path.rt), and how its
+-- fields are read as a `PathView`.
 -- For this crate alone.
 use Rattle.std.specs.Prelude.{◌≤◌, List}
 use Rattle.nc_number.specs.declared.point.Point.{Point}
@@ -14,7 +15,7 @@ use Rattle.path_state.specs.Standing.{Standing, IsMatched, standing_of}
 abbrev pub fixed_of : kept.Fixed → Fixed
 fixed_of fixed = record { home = fixed.home; shared100 = fixed.shared100; shared500 = fixed.shared500 }
 
--- a path of these parts
+-- the path that the code's fields make up
 abbrev pub path_of : Standing → List Var → ModalView → OffsetTable → Point → kept.Fixed → PathView
 path_of standing own modal offsets position fixed = record {
   place = standing.place;
@@ -27,8 +28,9 @@ path_of standing own modal offsets position fixed = record {
   fixed = fixed_of fixed;
 }
 
--- Its turret and its reference position are positions, the paths share at most 100 and 500
--- variables, and its levels are those of its calls of macros.
+-- What holds of every path: its turret and its reference position stand within the range of
+-- positions, the paths share at most 100 variables from #100 and 500 from #500, and its calls and
+-- levels match its place.
 pub record IsKept (path : PathView) : Type 0 where
   pub position : IsPosition path.position
   pub home : IsPosition path.fixed.home

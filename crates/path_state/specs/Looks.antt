@@ -1,5 +1,7 @@
--- What each variable holds as a block begins.
--- move_list, named_vars and four more crates take words from here.
+-- What each variable holds as a block begins: the table over which the block's expressions are
+-- evaluated. A shared variable holds nothing here, since each reading of it is an event of its own.
+-- named_vars, race_order and two_path go by `is_shared`, as do move_list and zone_check; trace_list
+-- takes `shift_now`.
 use Rattle.std.specs.Prelude.{ℕ, ◌+◌, ◌&&◌, ◌||◌, nat_le, nat_lt, Bool, Option, Some, None, Result, Ok, Err, ◌-ℤ◌, if◌then◌else◌}
 use Rattle.nc_number.specs.declared.value.Var.TheVariants.{Vacant, Is}
 use Rattle.nc_number.specs.declared.point.Point.{Point}
@@ -17,16 +19,18 @@ use Rattle.offset_store.specs.Offsets.{shift_of}
 use Rattle.block_values.specs.Readings.{in_units, in_millimetres, code_in_force, part, variable_in}
 use Rattle.path_state.specs.View.{Fixed, PathView}
 
--- the shift of the offsets in force
+-- the shift of the offsets in force, in 0.001 mm: programmed coordinates are machine coordinates
+-- without it
 abbrev pub shift_now : PathView → Point
 shift_now path = shift_of path.offsets (work_of path.modal) path.modal.offset
 
--- both paths share the variable: it is one of the first from #100 on, or of the first from #500 on
+-- both paths share the variable: it is one of the first `shared100` from #100 on, or of the first
+-- `shared500` from #500 on
 abbrev pub is_shared : Fixed → ℕ → Bool
 is_shared fixed v =
     (nat_le 100 v && nat_lt v (100 + fixed.shared100)) || (nat_le 500 v && nat_lt v (500 + fixed.shared500))
 
--- what a variable holds, or that each reading of it is an event of its own
+-- what a variable holds, or that it is shared; #3000 can't be read
 abbrev pub held : Fixed → PathView → Variable → Result Look VarFault
 held fixed path variable.Null = Ok (look.Is Vacant)
 held fixed path (variable.Local i) = Ok (look.Is (local i path.levels))
@@ -40,7 +44,7 @@ held fixed path (variable.Machine axis) = Ok (look.Is (in_millimetres (part axis
 held fixed path (variable.Work n axis) = Ok (look.Is (in_millimetres (part axis (offset_at path.offsets.work n))))
 held fixed path variable.Raise = Err Range
 
--- the same by number: alarm 30 if no variable has the number
+-- what the variable holds that a number names, or alarm 30 if it names none
 abbrev pub held_by : Fixed → PathView → Option Variable → Result Look VarFault
 held_by fixed path None = Err Range
 held_by fixed path (Some variable) = held fixed path variable

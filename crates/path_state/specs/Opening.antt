@@ -1,5 +1,6 @@
--- A path as its tape begins.
--- lathe_calls, move_list and seven more crates, and tests, take words from here.
+-- A path as its tape begins: what `PathState::new` (src/path.rt) makes of a flow and the settings.
+-- two_path begins its machine so. The crates that tell of whole runs take `opening_path`:
+-- lathe_calls, move_list, nc_restart, race_report, run_table, trace_list, turn_order, zone_check.
 use Rattle.std.specs.Prelude.{List, [], ◌∷◌, slice_index_or, if◌then◌else◌}
 use Rattle.nc_number.specs.declared.path.Path.{Path}
 use Rattle.nc_number.specs.declared.point.Point.{Point}
@@ -23,12 +24,12 @@ abbrev pub with_preset : Path → Preset → OffsetTable → OffsetTable
 with_preset path preset offsets =
     if is_same preset.path path then with_point offsets (preset_slot preset.kind preset.number) preset.to else offsets
 
--- the offsets with those that the settings have for the path
+-- the offsets with those that these lines of the settings have for the path
 abbrev pub with_presets : Path → List Preset → OffsetTable → OffsetTable
 with_presets path [] offsets = offsets
 with_presets path (preset ∷ presets) offsets = with_presets path presets (with_preset path preset offsets)
 
--- the point that the settings have for the path
+-- of the points of the settings, one for each path, that of this path
 abbrev pub point_of : Path → List Point → Point
 point_of path points = slice_index_or points (index_of path) origin
 

@@ -1,5 +1,6 @@
--- Which writes are refused: of a variable that is protected, and of one that does not exist.
--- For this crate alone.
+-- Which writes are refused, and by which alarm: of a variable that is protected, and of one that
+-- does not exist.
+-- For the law `a_protected_variable_is_not_written` (src/refusing.rt) alone.
 use Rattle.std.specs.Prelude.{◌≡◌, ◌↔◌, ℕ, List, None, true}
 use Rattle.nc_number.specs.declared.cause.Cause.TheVariants.{Protected, VariableRange}
 use Rattle.nc_number.specs.declared.value.Var.{Var}
@@ -11,11 +12,11 @@ use Rattle.block_values.specs.Readings.{variable_in}
 use Rattle.path_state.specs.View.{Fixed, PathView}
 use Rattle.path_state.specs.Statements.{named, written}
 
--- The writes that are refused, and by which alarm. A law for readers: no crate rests on it.
+-- The writes that are refused, and by which alarm; a law for readers, on which no crate rests
 pub record WritesAreRefused : Type 0 where
-  -- a write is alarm 31 exactly where the variable is protected
+  -- a write raises alarm 31 exactly if the variable is protected
   pub protected : (fixed : Fixed) (path : PathView) (variable : Variable) (value : Var) (left : List Var)
       → (written fixed path variable value left ≡ alarm Protected) ↔ (is_protected variable ≡ true)
-  -- and a left side is alarm 30 exactly where its number names no variable
+  -- a left side raises alarm 30 exactly if its number names no variable
   pub missing : (fixed : Fixed) (path : PathView) (number : ℕ) (reads : List Var)
       → (named fixed path (Numbered number) reads ≡ alarm VariableRange) ↔ (variable_in path.modal number ≡ None)

@@ -1,5 +1,6 @@
--- Where a block of words leads, decided before anything changes.
--- For this crate alone.
+-- Where a route of the code (src/route.rt) leads a path: control behind a block of words, decided
+-- before anything changes.
+-- For this crate alone, which proves that it is what Standing says of the block's control.
 use Rattle.std.specs.Prelude.{List, Option, Result, Ok, Err}
 use Rattle.nc_number.specs.declared.cause.Cause.{Cause}
 use Rattle.nc_number.specs.declared.value.Var.{Var}
@@ -8,12 +9,12 @@ use Rattle.path_state.specs.declared.route.Route.{Route}
 use Rattle.path_state.specs.declared.route.Route.TheVariants.{Next, Call, Back, BackTo}
 use Rattle.path_state.specs.Standing.{Standing, elsewhere, without_call, standing_of_call, standing_of_return}
 
--- where control leads, and the same place if it leads nowhere
+-- where control leads, or the place before if it leads nowhere
 abbrev pub or_stays : Standing → Result Standing Cause → Standing
 or_stays standing (Ok there) = there
 or_stays standing (Err cause) = standing
 
--- where a route leads; a call of a macro has its arguments
+-- where a route leads from here; a call with arguments is that of a macro
 abbrev pub route_end : Standing → Option (List Var) → Route → Standing
 route_end standing arguments Next = elsewhere standing (place_behind standing.place)
 route_end standing arguments (Call program repeats) =
@@ -22,7 +23,7 @@ route_end standing arguments Back = standing_of_return standing
 route_end standing arguments (BackTo block) =
     elsewhere (without_call standing) (place_at block (place_of_caller standing.place))
 
--- where a route leads, or why there is none
+-- where a route leads from here, or the cause for which there is none
 abbrev pub route_end_or_cause : Standing → Option (List Var) → Result Route Cause → Result Standing Cause
 route_end_or_cause standing arguments (Ok route) = Ok (route_end standing arguments route)
 route_end_or_cause standing arguments (Err cause) = Err cause

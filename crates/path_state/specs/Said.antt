@@ -1,5 +1,7 @@
--- What a block says, evaluated by what its path holds of each variable.
--- named_vars, run_table and two more crates take words from here.
+-- What a block says, evaluated by what its path holds of each variable: the words of block_values
+-- over the table of Looks.
+-- Effect and Statements are built on it. The proofs of named_vars, run_table, two_path and
+-- zone_check take words from here too.
 use Rattle.std.specs.Prelude.{ℕ, List}
 use Rattle.nc_number.specs.declared.value.Var.{Var}
 use Rattle.code_tables.specs.declared.system.System.{System}
@@ -16,7 +18,8 @@ use Rattle.block_values.specs.Arguments.{argument_with, arguments_with}
 use Rattle.path_state.specs.View.{Fixed, PathView}
 use Rattle.path_state.specs.Looks.{look_of}
 
--- the sense of a block: the motion code in force is that behind the block's own G codes
+-- what decides the meaning of a block's words; an arc counts if its code is in force behind the
+-- block's own G codes
 abbrev pub sense_of : PathView → Purpose → System → List FlowWord → Sense
 sense_of path purpose system words = record {
   purpose = purpose;
@@ -28,18 +31,18 @@ sense_of path purpose system words = record {
 abbrev pub evaluated : Fixed → PathView → Tree → List Var → Outcome Var
 evaluated fixed path tree reads = value_with (look_of fixed path) tree reads
 
--- the words of a block that calls no macro, one by one
+-- the values behind one word of a block that calls no macro
 abbrev pub word_taken : Fixed → PathView → Sense → ℕ → WordValue → Values → List Var → Outcome Values
 word_taken fixed path sense letter value values reads = word_with (look_of fixed path) sense letter value values reads
 
--- the words of such a block in their order, after these values
+-- the values behind the words of a block that calls no macro, in their order, after these values
 abbrev pub words_taken : Fixed → PathView → Sense → List FlowWord → Values → List Var → Outcome Values
 words_taken fixed path sense words values reads = words_with (look_of fixed path) sense words values reads
 
--- the arguments of a macro call, one by one
+-- the local variables behind one argument of a macro call
 abbrev pub argument_taken : Fixed → PathView → ℕ → WordValue → List Var → List Var → Outcome (List Var)
 argument_taken fixed path letter value arguments reads = argument_with (look_of fixed path) letter value arguments reads
 
--- the arguments of a macro call in their order, after these
+-- the local variables behind the arguments of a macro call, in their order, after these
 abbrev pub arguments_taken : Fixed → PathView → List FlowWord → List Var → List Var → Outcome (List Var)
 arguments_taken fixed path words arguments reads = arguments_with (look_of fixed path) words arguments reads

@@ -1,6 +1,8 @@
 -- Where a path stands: its place, with its calls and their levels of local variables; and where it
--- stands behind a block of words.
--- named_vars, run_table and two more crates take words from here.
+-- stands behind a block of words. block_order says where control may go; calls and levels are added
+-- here.
+-- Effect is built on it. The proofs of named_vars, run_table, two_path and zone_check take words
+-- from here too.
 use Rattle.std.specs.Prelude.{◌≡◌, ℕ, zero, suc, ◌+◌, List, [], ◌∷◌, length, Option, Some, None, Result, Ok, Err}
 use Rattle.nc_number.specs.declared.cause.Cause.{Cause}
 use Rattle.nc_number.specs.declared.value.Var.{Var}
@@ -15,10 +17,13 @@ use Rattle.local_levels.specs.declared.stack.Level.{Level}
 use Rattle.local_levels.specs.Stack.{opened, reopened, closed}
 use Rattle.path_state.specs.View.{PathView}
 
--- a place, with what belongs to its calls
+-- a place, with what belongs to its open calls
 pub record Standing : Type 0 where
+  -- the open programs, the running one first
   pub place : List Frame
+  -- for each open call, the latest first, whether it is that of a macro or of a subprogram
   pub calls : List CallKind
+  -- the levels of local variables, the running one first
   pub levels : List Level
 
 -- where a path stands
@@ -29,16 +34,16 @@ standing_of path = record { place = path.place; calls = path.calls; levels = pat
 abbrev pub with_standing : PathView → Standing → PathView
 with_standing path standing = record path { place = standing.place; calls = standing.calls; levels = standing.levels }
 
--- at another place, with the same calls
+-- a standing moved to another place, with the same calls
 abbrev pub elsewhere : Standing → List Frame → Standing
 elsewhere standing place = record standing { place = place }
 
--- at another place, or why there is none
+-- a standing moved to another place, or the cause for which there is none
 abbrev pub standing_at : Standing → Result (List Frame) Cause → Result Standing Cause
 standing_at standing (Ok place) = Ok (elsewhere standing place)
 standing_at standing (Err cause) = Err cause
 
--- a call with arguments is that of a macro, and opens a level that holds them
+-- the kind of a call: one with arguments is that of a macro
 abbrev pub kind_with : Option (List Var) → CallKind
 kind_with None = Subprogram
 kind_with (Some arguments) = Macro
@@ -48,36 +53,37 @@ abbrev pub levels_with : Option (List Var) → List Level → List Level
 levels_with None levels = levels
 levels_with (Some arguments) levels = opened arguments ∷ levels
 
--- with one call more
+-- a standing with one call more, of a macro if it has arguments; the place is as it was
 abbrev pub with_call : Option (List Var) → Standing → Standing
 with_call arguments standing =
     record standing { calls = kind_with arguments ∷ standing.calls; levels = levels_with arguments standing.levels }
 
--- without the latest call, and without its level if it is that of a macro
+-- the open calls without the latest
 abbrev pub calls_below : List CallKind → List CallKind
 calls_below [] = []
 calls_below (call ∷ calls) = calls
 
--- the levels behind the end of the latest call
+-- the levels behind the end of the latest call: one less if it is that of a macro
 abbrev pub levels_below : List CallKind → List Level → List Level
 levels_below (Macro ∷ calls) levels = closed levels
 levels_below _ levels = levels
 
--- with one call less
+-- a standing without its latest call, and without the level of that call if it is of a macro
 abbrev pub without_call : Standing → Standing
 without_call standing =
     record standing { calls = calls_below standing.calls; levels = levels_below standing.calls standing.levels }
 
--- the latest call once more: the level of a macro is opened anew with the same arguments
+-- the levels as the latest call begins once more: that of a macro is opened anew with its arguments
 abbrev pub levels_anew : List CallKind → List Level → List Level
 levels_anew (Macro ∷ calls) levels = reopened levels
 levels_anew _ levels = levels
 
--- with the latest call begun once more
+-- a standing whose latest call begins once more; the place is as it was
 abbrev pub with_repeat : Standing → Standing
 with_repeat standing = record standing { levels = levels_anew standing.calls standing.levels }
 
--- a return begins the next repeat, and where none is left takes the call away
+-- a standing behind a return with so many repeats left: the call begins once more, or is gone if
+-- none is left
 abbrev pub behind_return : ℕ → Standing → Standing
 behind_return zero standing = without_call standing
 behind_return (suc left) standing = with_repeat standing
@@ -87,7 +93,7 @@ abbrev pub repeats_left : List Frame → ℕ
 repeats_left [] = 0
 repeats_left (f ∷ stack) = f.left
 
--- in a program that is called; a macro call has its arguments
+-- where a call of a program, to run it so many times, leads; a macro call has its arguments
 abbrev pub standing_of_call : Option (List Var) → ℕ → ℕ → Standing → Result Standing Cause
 standing_of_call arguments program repeats standing =
     standing_at (with_call arguments standing) (place_of_call program repeats standing.place)
@@ -97,7 +103,7 @@ abbrev pub standing_of_return : Standing → Standing
 standing_of_return standing =
     elsewhere (behind_return (repeats_left standing.place) standing) (place_of_return standing.place)
 
--- behind a block of words of this control
+-- where a block of words of this control leads, or the cause for which it leads nowhere
 abbrev pub standing_behind : List ControlProgram → Standing → Option (List Var) → Control → Result Standing Cause
 standing_behind tape standing arguments (Call program repeats) = standing_of_call arguments program repeats standing
 standing_behind tape standing arguments Back = Ok (standing_of_return standing)
@@ -111,8 +117,8 @@ macros [] = 0
 macros (Macro ∷ calls) = suc (macros calls)
 macros (Subprogram ∷ calls) = macros calls
 
--- each frame but the main program's has its kind of call, and each call of a macro its level above
--- the base level
+-- calls and levels match the place: each frame but the main program's has its kind of call, and
+-- each call of a macro its level above the base level
 pub record IsMatched (standing : Standing) : Type 0 where
   pub calls : length standing.calls + 1 ≡ length standing.place
   pub levels : macros standing.calls + 1 ≡ length standing.levels

@@ -1,5 +1,5 @@
--- What a statement comes to, decided before anything changes, as contracts see it.
--- two_path takes `write_seen`.
+-- How what the code decided of a statement (src/writing.rt) is read as the statement's effect.
+-- For the contracts of src/statements.rt; two_path takes `write_seen`.
 use Rattle.std.specs.Prelude.{ℕ, List, [], Option, Some, None, Result, Ok, Err}
 use Rattle.nc_number.specs.declared.value.Var.{Var}
 use Rattle.block_values.specs.declared.outcome.Stop.{Stop}
@@ -18,33 +18,34 @@ use Rattle.path_state.specs.Statements.{After, after_move, written, then_next}
 use Rattle.path_state.specs.Effect.{Effect, Need, Done, Alarm}
 use Rattle.path_state.specs.Writings.{after_change}
 
--- a path with a writing done
+-- the path behind a writing of the code, and what that wrote to a shared variable
 abbrev pub after_writing : PathView → Writing → After
 after_writing path writing = after_change path writing.change
 
--- a path behind a statement: a variable took a value and the next block follows, or control goes
--- somewhere
+-- the path behind what was decided of a statement: a variable took a value and the next block
+-- follows, or control goes somewhere
 abbrev pub after_step : PathView → StatementStep → After
 after_step path (Write writing) = then_next (after_writing path writing)
 after_step path Next = after_move path (place_behind path.place)
 after_step path (To block) = after_move path (place_at block path.place)
 
--- a statement that is done; it makes no moves
+-- the effect of a statement that is done; it makes no moves
 abbrev pub done_at : After → Effect
 done_at after = Done after.path after.write []
 
--- what a statement comes to, or why it comes to nothing
+-- what was decided of a statement, or the need or alarm at which it stopped, as an effect
 abbrev pub step_seen : PathView → Result StatementStep Stop → Effect
 step_seen path (Ok step) = done_at (after_step path step)
 step_seen path (Err (Needs variable)) = Need variable
 step_seen path (Err (Alarms number value)) = Alarm number value
 
--- what was written to a shared variable, as a pair of its number and its value
+-- what was written to a shared variable, from the code's pair of its number and its value
 abbrev pub write_seen : Option (ℕ × Var) → Option statements.Write
 write_seen None = None
 write_seen (Some write) = Some (record { variable = write.0; value = write.1 })
 
--- a variable takes the value of an expression, and the next block follows
+-- an assignment whose left side is known: the variable takes the value of an expression, and the
+-- next block follows
 abbrev pub taken_next : Fixed → PathView → Variable → Tree → List Var → Outcome After
 taken_next fixed path variable tree reads =
     evaluated fixed path tree reads >>= λ value left.

@@ -1,5 +1,7 @@
--- What a statement does: an assignment, a jump, the head or the end of a loop.
--- named_vars, race_order and three more crates take words from here.
+-- What a statement does: an assignment, a jump, the head or the end of a loop. `statement_effect`
+-- is the one definition; where jumps and loops lead is defined in block_order.
+-- Effect is built on it. named_vars, race_order and two_path take `Write`; run_table and zone_check
+-- take words from here too.
 use Rattle.std.specs.Prelude.{ℕ, Bool, true, false, List, Option, Some, None, Result, Ok, Err, ℤ, pos, if◌then◌else◌}
 use Rattle.nc_number.specs.declared.cause.Cause.{Cause}
 use Rattle.nc_number.specs.declared.cause.Cause.TheVariants.{Protected, MacroAlarm}
@@ -28,9 +30,11 @@ use Rattle.path_state.specs.Looks.{is_shared, look_of}
 use Rattle.block_values.specs.Outcomes.{Outcome, Gives, Alarms, ◌>>=◌, alarm}
 use Rattle.path_state.specs.Said.{evaluated}
 
--- what is written to a shared variable
+-- a write to a variable that both paths share
 pub record Write : Type 0 where
+  -- the number of the variable
   pub variable : ℕ
+  -- its new value
   pub value : Var
 
 -- a path behind a block, and what it wrote to a shared variable
@@ -38,36 +42,37 @@ pub record After : Type 0 where
   pub path : PathView
   pub write : Option Write
 
--- a path that goes to another place
+-- a path that goes to another place and writes nothing
 abbrev pub after_move : PathView → List Frame → After
 after_move path place = record { path = record path { place = place }; write = None }
 
--- the variable on the left side: its number is computed before the value
+-- the variable on the left side of an assignment, whose number is evaluated if it is not written
+-- out
 abbrev pub named : Fixed → PathView → Named → List Var → Outcome Variable
 named fixed path name reads = variable_with (look_of fixed path) path.modal name reads
 
--- the point with this coordinate, in 0.001 mm, along one axis
+-- the point `now` with this coordinate, in 0.001 mm, along one axis
 abbrev pub along : AxisLetter → ℤ → Point → Point
 along X length now = changed_point now (To length) Keep
 along Z length now = changed_point now Keep (To length)
 
--- the path with an offset at this point, or the number of the alarm of why it can't be there
+-- the path with an offset at this point, or the number of the alarm of a point that it can't have
 abbrev pub with_offset : PathView → Slot → Result Point OffsetFault → Result PathView ℕ
 with_offset path slot (Ok to) = Ok (record path { offsets = with_point path.offsets slot to })
 with_offset path slot (Err fault) = Err fault.number
 
--- the path behind a write to its own offsets, or that alarm
+-- the outcome of a write to the path's own offsets: the path behind it, or the alarm
 abbrev pub written_path : Result PathView ℕ → List Var → Outcome After
 written_path (Ok path) left = Gives (record { path = path; write = None }) left
 written_path (Err number) left = Alarms number (pos 0)
 
--- a variable takes a value
+-- a common variable takes a value: a shared one (true) as a write, the path's own in the path
 abbrev pub with_common : Bool → PathView → ℕ → Var → After
 with_common true path v value = record { path = path; write = Some (record { variable = v; value = value }) }
 with_common false path v value = record { path = record path { own = with_value v value path.own }; write = None }
 
 -- A variable takes a value: a local one, a common one, a work offset; `#3000` raises alarm 33 with
--- the value; each other is protected, alarm 31.
+-- the value; every other one is protected, alarm 31.
 abbrev pub written : Fixed → PathView → Variable → Var → List Var → Outcome After
 written fixed path (variable.Local i) value left =
     Gives (record { path = record path { levels = with_local i value path.levels }; write = None }) left
@@ -84,37 +89,38 @@ assigned fixed path name tree reads =
     named fixed path name reads >>= λ variable behind_name.
     evaluated fixed path tree behind_name >>= λ value left. written fixed path variable value left
 
--- a condition, left and then right
+-- whether a condition holds; its left side is evaluated before its right one
 abbrev pub tested : Fixed → PathView → Test → List Var → Outcome Bool
 tested fixed path test reads = condition_with (look_of fixed path) test reads
 
--- where a jump goes
+-- the sequence number to which a jump goes
 abbrev pub aimed : Fixed → PathView → Aim → List Var → Outcome ℕ
 aimed fixed path aim reads = sequence_with (look_of fixed path) aim reads
 
--- to a place, or the alarm of why there is none
+-- the outcome of a statement that goes to a place, or the alarm of the cause for which there is
+-- none
 abbrev pub move_effect : PathView → Result (List Frame) Cause → List Var → Outcome After
 move_effect path (Ok place) left = Gives (after_move path place) left
 move_effect path (Err cause) left = alarm cause
 
--- a jump
+-- the outcome of a jump: its target is evaluated, and the path goes to where that leads
 abbrev pub jump_effect : List ControlProgram → Fixed → PathView → Aim → List Var → Outcome After
 jump_effect tape fixed path aim reads =
     aimed fixed path aim reads >>= λ n left. move_effect path (place_of_jump tape n path.place) left
 
--- the next block follows
+-- the outcome of a statement behind which the next block follows
 abbrev pub next_effect : PathView → List Var → Outcome After
 next_effect path left = Gives (after_move path (place_behind path.place)) left
 
--- an assignment, and then the next block
+-- a path behind an assignment, gone on to the next block
 abbrev pub then_next : After → After
 then_next after = record after { path = record after.path { place = place_behind after.path.place } }
 
--- an assignment, and the next block behind it
+-- the outcome of an assignment, behind which the next block follows
 abbrev pub assigned_next : Fixed → PathView → Named → Tree → List Var → Outcome After
 assigned_next fixed path name tree reads = assigned fixed path name tree reads >>= λ after left. Gives (then_next after) left
 
--- what a statement does; a target behind IF is evaluated only where the condition holds
+-- the outcome of a statement; what stands behind IF is evaluated only if the condition holds
 abbrev pub statement_effect : List ControlProgram → Fixed → PathView → Sentence → List Var → Outcome After
 statement_effect tape fixed path (Assign name tree) reads = assigned_next fixed path name tree reads
 statement_effect tape fixed path (Goto aim) reads = jump_effect tape fixed path aim reads

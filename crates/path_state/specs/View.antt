@@ -1,5 +1,6 @@
--- What contracts see of one path of the machine.
--- lathe_top, move_list and eight more crates take words from here.
+-- What contracts see of one path of the machine: the state that blocks read and change. Every
+-- definition of a block's effect is over it. two_path and nine more crates take it, so a new
+-- field here is one of every record that is made of a path.
 use Rattle.std.specs.Prelude.{ℕ, List}
 use Rattle.nc_number.specs.declared.value.Var.{Var}
 use Rattle.nc_number.specs.declared.point.Point.{Point}
@@ -12,8 +13,11 @@ use Rattle.offset_store.specs.Table.{OffsetTable}
 -- what is fixed for a path: its reference position, and how many variables from #100 and from #500
 -- on both paths share
 pub record Fixed : Type 0 where
+  -- the reference position, in machine coordinates
   pub home : Point
+  -- how many variables from #100 on both paths share
   pub shared100 : ℕ
+  -- how many variables from #500 on both paths share
   pub shared500 : ℕ
 
 -- the state of a path
@@ -27,9 +31,11 @@ pub record PathView : Type 0 where
   pub levels : List Level
   -- the common variables of its own, each at its number
   pub own : List Var
+  -- what is in force: codes, F, S, T, the cycle's end
   pub modal : ModalView
+  -- its work offsets and tool offsets
   pub offsets : OffsetTable
-  -- where its turret stands, in machine coordinates
+  -- where its turret stands, in machine coordinates (0.001 mm)
   pub position : Point
   -- what the path keeps throughout
   pub fixed : Fixed

@@ -1,5 +1,6 @@
--- Worked blocks: a block, the state before it, and what it comes to.
--- For this crate alone.
+-- Worked blocks: a block, the state before it, and what it comes to, so that a reader can check the
+-- definitions of Effect against what a control does.
+-- For the law `worked_blocks_come_to_these` (src/worked.rt) alone.
 use Rattle.std.specs.Prelude.{◌≡◌, ℕ, true, false, List, [], ◌∷◌, slice_set, ℤ, pos, negsuc, neg_ℤ}
 use Rattle.nc_number.specs.declared.point.Point.{Point}
 use Rattle.nc_number.specs.declared.value.Var.{Var}
@@ -29,7 +30,7 @@ use Rattle.path_state.specs.Effect.{Effect, Need, Done, AtEnd, Alarm, block_of_w
 abbrev pub point : ℤ → ℤ → Point
 point x z = record { x = x; z = z }
 
--- a number below zero
+-- a number, as one below zero
 abbrev pub minus : ℕ → ℤ
 minus n = neg_ℤ (pos n)
 
@@ -50,11 +51,11 @@ path_of system at = record {
   fixed = cell;
 }
 
--- the same in system A
+-- a path of system A at the first block of program 1, at this point
 abbrev pub path_at : Point → PathView
 path_at at = path_of A at
 
--- a word that is written out, in millionths, with a point or without; and one that is computed
+-- a word that is written out with a point, its value in millionths
 abbrev pub written : ℕ → ℤ → FlowWord
 written letter micro = record { letter = letter; value = Written (record { value = micro; point = true }) }
 
@@ -62,31 +63,31 @@ written letter micro = record { letter = letter; value = Written (record { value
 abbrev pub computed : ℕ → Tree → FlowWord
 computed letter tree = record { letter = letter; value = Computed false tree }
 
--- the moves of a block that is done or ends
+-- the moves of a block that is done or ends; none of any other
 abbrev pub moves_in : Effect → List Move
 moves_in (Done path write moves) = moves
 moves_in (AtEnd path moves) = moves
 moves_in other = []
 
--- what `#i` of the running level holds behind a block
+-- what `#i` of the running level holds behind a block that is done
 abbrev pub local_in : ℕ → Effect → Var
 local_in i (Done path write moves) = local i path.levels
 local_in i other = Vacant
 
--- the place behind a block
+-- the place behind a block that is done
 abbrev pub place_in : Effect → List Frame
 place_in (Done path write moves) = path.place
 place_in other = []
 
--- a block of words of system A, without a macro call
+-- what a block of words of system A comes to that calls no macro, with nothing read
 abbrev pub words_done : PathView → List FlowWord → Effect
 words_done path words = block_of_words [] cell path Other A words Next []
 
--- a block of a path of system B, from X50. Z2.
+-- what a block of words of system B comes to that calls no macro, from X50. Z2.
 abbrev pub done_in_b : List FlowWord → Effect
 done_in_b words = block_of_words [] cell (path_of B (point (pos 50000) (pos 2000))) Other B words Next []
 
--- a block that is a statement
+-- what a block comes to that is a statement, with these values read
 abbrev pub statement_done : PathView → Sentence → List Var → Effect
 statement_done path sentence reads = block_of_statement [] cell path sentence reads
 
@@ -106,7 +107,7 @@ pub record WorkedBlocks : Type 0 where
   -- S[1.5] X#500 is alarm 64 without a read
   pub range : words_done (path_at (point (pos 0) (pos 0))) (computed 83 (Number (pos 1500000)) ∷ computed 88 (Variable 500) ∷ [])
       ≡ Alarm 64 (pos 0)
-  -- #1=1/3
+  -- #1=1/3 is 0.333333
   pub third : local_in 1 (statement_done (path_at (point (pos 0) (pos 0)))
       (Assign (Numbered 1) (Joined Div (Number (pos 1000000)) (Number (pos 3000000)))) []) ≡ Is (pos 333333)
   -- #9999=1/0 is alarm 30, #4001=1/0 alarm 2, and #4001=#500 needs a read first
@@ -173,7 +174,7 @@ pub record WorkedBlocks : Type 0 where
         levels = base_level ∷ base_level ∷ [];
       }) Return A (written 77 (pos 99000000) ∷ []) Back [])
       ≡ record { program = 1; block = 5; left = 0 } ∷ []
-  -- M30 with a word beside it acts, and stays
+  -- X1. M30 from X0 Z0: the word beside M30 makes its move
   pub ends : moves_in (block_of_words [] cell (path_at (point (pos 0) (pos 0))) Other A
       (written 88 (pos 1000000) ∷ written 77 (pos 30000000) ∷ []) End []) ≡ move.Rapid (point (pos 1000) (pos 0)) ∷ []
   -- Of system B: G91 G01 X-5. Z-1. F0.2 goes so far, G77 X40. Z-20. F0.2 is the cycle that G90 is

@@ -1,4 +1,5 @@
--- What a statement writes.
+-- What a change of the code (src/writing.rt) comes to: the path behind the write of a variable, and
+-- which changes can be made.
 -- For this crate alone.
 use Rattle.std.specs.Prelude.{Bool, ◌&&◌, nat_le, Some, None}
 use Rattle.nc_number.specs.Position.{is_position}
@@ -12,14 +13,14 @@ use Rattle.path_state.specs.declared.writing.Change.TheVariants.{Local, Own, Sha
 use Rattle.path_state.specs.View.{PathView}
 use Rattle.path_state.specs.Statements.{After}
 
--- the variable exists, and an offset may be at the point
+-- a change that can be made: its variable exists, and an offset may be at its point
 abbrev pub is_possible : Change → Bool
 is_possible (Local i value) = nat_le 1 i && nat_le i 33
 is_possible (Own v value) = is_common v
 is_possible (Shared v value) = is_common v
 is_possible (Work n to) = nat_le n LAST_WORK && is_position to
 
--- the path, and nothing written to a shared variable
+-- the path behind a statement that wrote to no shared variable
 abbrev pub path_alone : PathView → After
 path_alone path = record { path = path; write = None }
 

@@ -1,6 +1,6 @@
-//! What the words of a block do: its codes, its settings, its motion and all its moves. It looks
-//! only; where control goes is in route.rt, and taking.rt makes the change.
-//! For this crate alone.
+//! What the words of a block do to its path: codes, F, S and T, motion and all moves. Nothing
+//! changes here: decision.rt asks for it, and taking.rt makes the change.
+//! For this crate alone; where control goes is in route.rt.
 ghost use Rattle.std.specs.Prelude.{◌≡◌, ◌≤◌, [], Ok, IfOk, OnErr, IfSome, length, codes};
 ghost use Rattle.nc_number.specs.Position.{IsPosition};
 ghost use Rattle.motion_track.specs.Within.{AreMovesWithin};
@@ -24,7 +24,7 @@ use motion_track::LONGEST;
 use nc_moves::MoveList;
 
 impl PathState {
-    /// The motion of a block of these words, where this is in force behind its codes and words. Its
+    /// The motion of a block of these words. `modal` is in force behind its codes and words. Its
     /// moves are put into the list, which is empty.
     fn motion(
         &self,
@@ -54,8 +54,8 @@ impl PathState {
         )
     }
 
-    /// What the words of a block do: its codes are taken, then F, S and T, then its motion. It
-    /// looks only, and puts the moves into the list.
+    /// What the words of a block do: its codes are taken, then F, S and T, then its motion. The
+    /// path does not change; the moves are put into the list.
     ///
     /// Alarms, as their numbers: 40 of T; 40 and 41 of the setting of an offset; 41, 43, 42, 44 and
     /// 56 of the motion.
@@ -83,7 +83,7 @@ impl PathState {
         }
     }
 
-    /// The step of a block whose motion is known, and its moves.
+    /// What the words of a block do whose motion is known; all its moves are put into the list.
     fn step_of(
         &self,
         modal: Modal,

@@ -1,6 +1,6 @@
 //! What a path answers to the turn of its block: with the moves of the block in it, or with these
 //! apart, in a list that was lent.
-//! two_path and tests use it.
+//! two_path goes by `BlockAnswer`; tests take `Advance`.
 ghost use Rattle.std.specs.Prelude.{◌≡◌};
 ghost use Rattle.path_state.specs.Advances.{effect_told, effect_seen, StaysUnlessTold, StaysUnlessDone, AreFitMoves, AreMovesAt};
 ghost use Rattle.path_state.specs.View.{PathView};
@@ -8,7 +8,7 @@ ghost use Rattle.path_state.specs.View.{PathView};
 use nc_moves::Moves;
 use nc_number::{Value, Var};
 
-/// What a path answers to the turn of its block.
+/// What a path answers to the turn of its block, with the moves in it.
 #[derive(Debug, Drop)]
 pub enum Advance {
     /// This shared variable must be read next; nothing changed.
@@ -31,7 +31,7 @@ pub enum Advance {
     },
 }
 
-/// The same with the moves apart: they stand in a list that was lent.
+/// What a path answers to the turn of its block, the moves apart, in a list that was lent.
 #[derive(Debug, Drop)]
 pub enum BlockAnswer {
     /// This shared variable must be read next; nothing changed.
@@ -47,7 +47,7 @@ pub enum BlockAnswer {
 }
 
 impl Advance {
-    /// The answer with the moves of its block, which those without any leave.
+    /// The answer with the moves of its block in it; an answer of no moves drops them.
     pub(crate) fn of(answer: BlockAnswer, moves: Moves) -> Advance
         ensures effect { (after : PathView) → effect_seen result after ≡ effect_told answer moves.list after }
         ensures stays { (before after : PathView) → StaysUnlessTold answer before after

@@ -1,6 +1,7 @@
-//! The law of one path's control: where its blocks lead, and what they read and write. Each law is
+//! The laws of one path's control: where its blocks lead, and what they read and write. Each law is
 //! the contract of a function that does nothing.
-//! move_list, nc_restart and three more crates, and tests, use it.
+//! two_path, run_table, turn_order, nc_restart and move_list, and tests, call them; two_path builds
+//! its law that no pair is stuck on them.
 ghost use Rattle.std.specs.Prelude.{◌≡◌, ◌≢◌, ◌<◌, ℕ, true, List, length, map, Option, Some, None};
 ghost use Rattle.nc_number.specs.declared.value.Var.{Var};
 ghost use Rattle.nc_moves.specs.declared.motion.Move.{Move};
@@ -25,7 +26,7 @@ ghost use Rattle.path_state.specs.Controlled.{IsControlled, KeepsFixed, AsksForS
 ghost use Rattle.path_state.specs.Ahead.{KeepsAhead};
 
 /// Whatever a path holds and whatever was read, a block that is done leads where the order of the
-/// flow's blocks allows, and a path is at a wait or an end where it stands on one; what is fixed
+/// flow's blocks allows, and a path is at a wait or an end only if it stands on one; what is fixed
 /// for the path stays.
 pub fn control_goes_as_the_flow_orders()
     ensures control { (flow : Flow) → IsControlled flow }
@@ -46,9 +47,9 @@ pub fn waits_and_ends_stop_a_path()
         → standing flow.order path.place ≡ None → effect_of flow path reads ≡ past_the_last }
 {}
 
-/// Where all runs of a flow come to one list of labels, a block that is done keeps the labels ahead
-/// of its path, but for an M99 of the main program with no call open; a path is at a wait only
-/// where they begin with it, and at an end where they are that end alone.
+/// If all runs of a flow come to one list of labels, a block that is done keeps the labels ahead of
+/// its path, but for an M99 of the main program with no call open; a path is at a wait only if they
+/// begin with it, and at an end only if they are that end alone.
 pub fn each_block_keeps_the_labels()
     ensures { (flow : Flow) → IsUnforked flow.order → (path : PathView) (reads : List Var)
         → IsPlace flow.order path.place → KeepsAhead flow.order path (effect_of flow path reads) }

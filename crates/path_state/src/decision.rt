@@ -1,6 +1,6 @@
 //! What a block comes to, decided before anything changes: by its kind, words, a macro call or a
 //! statement. taking.rt does what was decided.
-//! two_path uses it.
+//! two_path decides so whether a record may follow, before the record is done again.
 ghost use Rattle.std.specs.Prelude.{◌≡◌, false, List, [], None, Some, IsNone, IsSome, IfSome, IfOk};
 ghost use Rattle.nc_moves.specs.declared.motion.Move.{Move};
 ghost use Rattle.std.specs.Option.{option_copied};
@@ -37,24 +37,24 @@ use nc_number::{Cause, Var};
 use tape_flow::Flow;
 
 /// What the block at which a path stands comes to, its moves apart. [`decide`](PathState::decide)
-/// looks, and [`take`](PathState::take) does it.
+/// answers it and changes nothing, and [`take`](PathState::take) does it.
 #[derive(Drop)]
 pub enum Decision {
-    /// It must read first, or raises an alarm.
+    /// The block must read first, or raises an alarm.
     Stops(Stop),
-    /// It is words that call no macro.
+    /// The block is words that call no macro.
     Words(WordsTurn),
-    /// A macro is called so many times with these arguments.
+    /// The block calls a macro, to run it so many times with these arguments.
     Macro {
         program: u16,
         repeats: u16,
         arguments: [Var; LOCALS],
     },
-    /// A statement is done.
+    /// The block is a statement, which comes to this.
     Statement(StatementStep),
 }
 
-/// The answer of a step that stopped.
+/// The answer of a path whose block stopped: a need or an alarm.
 pub(crate) fn answer_of_stop(stop: Stop) -> BlockAnswer
     ensures { (moves : List Move) (after : PathView) → effect_told result moves after ≡ stopped stop }
 {
@@ -67,7 +67,7 @@ pub(crate) fn answer_of_stop(stop: Stop) -> BlockAnswer
     }
 }
 
-/// The answer of words of which this was decided.
+/// The answer of a path whose block is words of which this was decided.
 pub(crate) fn answer_of_words(turn: &WordsTurn) -> BlockAnswer
     ensures { (path : PathView) (moves : List Move)
         → effect_told result moves (path_after path (words_decided path turn.now moves))
@@ -81,7 +81,7 @@ pub(crate) fn answer_of_words(turn: &WordsTurn) -> BlockAnswer
     }
 }
 
-/// What a statement writes to a shared variable.
+/// What a statement writes to a shared variable, if it writes to one.
 fn shared_write(step: &StatementStep) -> Option<(u32, Var)>
     ensures { (path : PathView) → write_seen result ≡ (after_step path step.now).write }
 {
@@ -96,7 +96,7 @@ fn shared_write(step: &StatementStep) -> Option<(u32, Var)>
 }
 
 impl Decision {
-    /// What the path will answer that does it.
+    /// What the path answers that does what was decided.
     pub fn answer(&self) -> BlockAnswer
         ensures { (path : PathView) (moves : List Move)
             → effect_told result moves (path_after path (decided path self.now moves)) ≡ decided path self.now moves }
@@ -110,7 +110,7 @@ impl Decision {
     }
 }
 
-/// The program that a block of words calls as a macro, and how many times.
+/// The program that a block of words calls as a macro, if it calls one, and how many times it runs.
 #[tactic(auto, using(crate::proofs::Decided::called))]
 pub(crate) fn macro_call(words: &FlowWords, control: Control) -> Option<(u16, u16)>
     requires { control ≡ control_of_words words.now.dialect words.now.words }
@@ -144,7 +144,7 @@ impl PathState {
         self.modal.motion_after(words.rows.as_slice()).is_arc()
     }
 
-    /// What the words of a block say, or why they say nothing.
+    /// What the words of a block say, or the need or the alarm at which their evaluation stopped.
     #[tactic(auto, using(crate::proofs::Decided::words_said))]
     fn values_said(&self, words: &FlowWords, reads: &[Var]) -> Result<Values, Stop>
         requires { is_macro words.now.purpose ≡ false }
@@ -157,7 +157,7 @@ impl PathState {
         words_taken(words.words.as_slice(), &sense, self, reads).0
     }
 
-    /// The arguments of a macro call, or why there are none.
+    /// The arguments of a macro call, or the need or the alarm at which their evaluation stopped.
     fn arguments_said(&self, words: &FlowWords, reads: &[Var]) -> Result<[Var; LOCALS], Stop>
         ensures { (tape : List ControlProgram) (control : Control)
             → macro_effect tape self.now.fixed self.now words.now.words control reads.now
@@ -171,7 +171,8 @@ impl PathState {
         }
     }
 
-    /// A block that calls a macro: its words are arguments, and nothing moves.
+    /// What a block comes to that calls a macro: the arguments of the call, or the need or the
+    /// alarm at which it stopped. Nothing moves.
     #[inline(never)]
     pub(crate) fn decide_macro(
         &self,
@@ -190,7 +191,7 @@ impl PathState {
         }
     }
 
-    /// A macro is called with these arguments.
+    /// What a macro call comes to whose arguments are known: these, or the alarm of the call.
     fn decide_call(
         &self,
         order: &BlockOrder,
@@ -208,7 +209,8 @@ impl PathState {
         }
     }
 
-    /// A block of words that calls no macro, and its moves; at a wait nothing is done.
+    /// What a block of words comes to that calls no macro; its moves are put into the list. At a
+    /// wait nothing is done.
     #[tactic(auto, using(crate::proofs::Decided::unwaiting))]
     pub(crate) fn decide_words(
         &self,
@@ -235,7 +237,7 @@ impl PathState {
         }
     }
 
-    /// A block whose words say these values.
+    /// What a block comes to whose words say these values; its moves are put into the list.
     fn decide_acted(
         &self,
         order: &BlockOrder,
@@ -259,8 +261,8 @@ impl PathState {
         }
     }
 
-    /// Where control goes behind the words of a block; at an end it stays. Where it goes nowhere,
-    /// there are no moves.
+    /// What a block comes to whose words do this, by where control goes; at an end it stays. If
+    /// control leads nowhere, the block raises an alarm and the moves are dropped.
     #[tactic(auto, using(crate::proofs::Decided::goes))]
     fn decide_control(
         &self,
@@ -289,7 +291,7 @@ impl PathState {
         }
     }
 
-    /// What a block comes to, and its moves.
+    /// What a block of the path comes to; its moves are put into the list.
     fn decide_block(
         &self,
         order: &BlockOrder,
@@ -342,8 +344,8 @@ impl PathState {
     }
 
     /// What the block at which the path stands comes to, with these values of shared variables that
-    /// were read for it so far. It looks only, and puts the moves of the block into the list, which
-    /// it clears first.
+    /// were read for it so far. The path does not change; the moves of the block are put into the
+    /// list, which is cleared first.
     #[tactic(auto, using(crate::proofs::Decided::may_take))]
     pub fn decide(&self, flow: &Flow, reads: &[Var], moves: &mut MoveList) -> Decision
         ensures decided { decided self.now result moves.new ≡ effect_of flow.now self.now reads.now }

@@ -1,5 +1,6 @@
-//! What an operator corrects of a stopped path: an offset or a variable of its own. Nothing of
-//! control changes. two_path and tests call `edit`.
+//! What an operator's edit does to a stopped path: it sets an offset or a common variable of the
+//! path's own. Nothing of control changes.
+//! two_path and tests call `edit`.
 ghost use Rattle.std.specs.Prelude.{◌≡◌};
 ghost use Rattle.run_records.specs.declared.edit.Edit.{Edit};
 ghost use Rattle.path_state.specs.View.{PathView};
@@ -23,7 +24,7 @@ impl PathState {
         }
     }
 
-    /// Sets a common variable, where it is the path's own.
+    /// Sets a common variable, if it is the path's own.
     fn set_own(&mut self, v: u32, to: Var)
         requires { IsCommon v }
         ensures { self.new ≡ record self.old { own = own_with self.old.fixed v to self.old.own } }

@@ -4,7 +4,7 @@
 //! were read: its words evaluated in order, the codes and words taken, the motion, the moves,
 //! control. What its words and operands say, and what they make of what is in force, of motion and
 //! of moves, is `block_values`. A [`PathState`] is the scope of its own variables. It decides what
-//! a block comes to before anything of it changes; the layer above leans on
+//! a block comes to before anything of it changes. two_path, which runs two of them, leans on
 //! [`PathState::advance_into`], and on [`PathState::decide`] and [`PathState::take`], its two
 //! halves: the moves of a block are put into a list that the caller lends.
 #![tactic(auto)]

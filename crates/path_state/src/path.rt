@@ -1,6 +1,6 @@
 //! The state of one path, how it begins, and what may be seen of it. What its blocks do is in
 //! decision.rt and taking.rt.
-//! move_list, trace_list and two_path, and tests, use it.
+//! two_path keeps two of them in its machine; move_list and trace_list, and tests, look at them.
 ghost use Rattle.std.specs.Prelude.{◌≡◌, ◌≤◌, ◌+◌, ℕ, List, All, Some, IfOk, length};
 ghost use Rattle.nc_number.specs.Path.{is_same};
 ghost use Rattle.nc_number.specs.Position.{IsPosition};
@@ -46,11 +46,17 @@ pub(crate) struct Fixed {
 /// variables for each open call by G65.
 #[derive(Debug, Drop)]
 pub struct PathState {
+    /// Its place, its open calls and their levels of local variables.
     pub(crate) standing: Standing,
+    /// The common variables of its own.
     pub(crate) own: Own,
+    /// What is in force.
     pub(crate) modal: Modal,
+    /// Its work offsets and tool offsets.
     pub(crate) offsets: Offsets,
+    /// Where its turret stands, in machine coordinates (0.001 mm).
     pub(crate) position: Point,
+    /// What no block and no edit changes.
     pub(crate) fixed: Fixed,
 }
 
@@ -73,7 +79,7 @@ pub(crate) fn blocks_have_next(order: &BlockOrder)
     let _ = order.as_slice();
 }
 
-/// Whether the setting is the path's.
+/// Whether a line of the settings speaks of this path.
 fn is_for(path: Path, preset: &Preset) -> bool
     ensures { result ≡ is_same preset.now.path path }
 {
@@ -83,7 +89,7 @@ fn is_for(path: Path, preset: &Preset) -> bool
     )
 }
 
-/// Sets the offset that a setting speaks of, where it is the path's.
+/// Sets the offset that a line of the settings speaks of, if it speaks of this path.
 fn set_preset(path: Path, preset: &Preset, offsets: &mut Offsets)
     requires { IsPreset preset.now }
     ensures { offsets.new ≡ with_preset path preset.now offsets.old }
@@ -138,7 +144,7 @@ impl PathState {
         &self.standing
     }
 
-    /// Goes on behind a wait at which the path stands.
+    /// Goes on to the block behind a wait at which the path stands.
     pub fn pass_wait(&mut self, flow: &Flow)
         requires { (code : ℕ) × (standing flow.now.order self.old.place ≡ Some (Wait code)) }
         ensures { self.new ≡ record self.old { place = place_behind self.old.place } }
@@ -162,7 +168,7 @@ impl PathState {
         flow.line(self.standing.place())
     }
 
-    /// What is in force.
+    /// What is in force: codes, F, S, T and the cycle's end.
     pub fn modal(&self) -> &Modal
         ensures { result.now ≡ self.now.modal }
     {
@@ -200,7 +206,7 @@ impl PathState {
         self.standing.depth()
     }
 
-    /// Where it stands.
+    /// Its place: the open programs, each with its block.
     pub fn place(&self) -> &Place
         ensures { result.now ≡ self.now.place }
     {

@@ -1,4 +1,4 @@
-//! Which writes of variables are refused.
+//! The law that says which writes of variables are refused, and by which alarm.
 //! For readers: no other crate calls it.
 ghost use Rattle.path_state.specs.Protected.{WritesAreRefused};
 

@@ -1,5 +1,6 @@
-//! Where control goes behind a block of words, once it is decided. standing.rt decides and goes
-//! there. Other crates see it only within a [`Decision`](crate::Decision).
+//! Where control goes behind a block of words, as it was decided. standing.rt decides it
+//! (`Standing::route`) and goes there (`Standing::go`). Other crates see it only within a
+//! [`Decision`](crate::Decision).
 
 /// Where control goes behind a block of words that is done.
 #[derive(Clone, Copy, Debug, PartialEq, Eq)]

@@ -23,7 +23,8 @@ impl PathState {
         (v >= 100 && v < 100 + self.fixed.shared100) || (v >= 500 && v < 500 + self.fixed.shared500)
     }
 
-    /// How far programmed coordinates lie behind machine coordinates, in 0.001 mm.
+    /// The shift of the offsets in force, in 0.001 mm: what a machine coordinate has more than the
+    /// programmed one.
     fn shift_now(&self) -> Point
         ensures shift { result ≡ shift_now self.now }
         ensures range { IsWithin shift_travel result }
@@ -31,14 +32,15 @@ impl PathState {
         self.offsets.shift(self.modal.work(), self.modal.offset())
     }
 
-    /// The programmed position along an axis: that of the machine without the shift.
+    /// The programmed position along an axis, in millimetres: the machine coordinate without the
+    /// shift.
     fn programmed(&self, axis: AxisLetter) -> Var
         ensures { result ≡ in_millimetres (part axis self.now.position -ℤ part axis (shift_now self.now)) }
     {
         programmed(axis, &self.shift_now(), &self.position)
     }
 
-    /// A common variable.
+    /// What a common variable of the path's own holds, or that it is shared.
     fn common(&self, v: u32) -> Look
         requires { IsVariable (Variable.Common v) }
         ensures { held self.now.fixed self.now (Variable.Common v) ≡ Ok result }
@@ -50,7 +52,8 @@ impl PathState {
         }
     }
 
-    /// What a variable holds, or that each reading of it is an event of its own.
+    /// What a variable holds, or that it is shared, so that each reading of it is an event of its
+    /// own.
     ///
     /// Error: `#3000` can't be read.
     fn held(&self, variable: Variable) -> Result<Look, VarFault>
@@ -73,7 +76,7 @@ impl PathState {
         Ok(Look::Is(value))
     }
 
-    /// What the path holds of the variable of any number.
+    /// What the variable of any number holds, or that it is shared; an error if there is none.
     #[inline(never)]
     fn look_at(&self, variable: u32) -> Result<Look, VarFault>
         ensures { result ≡ look_of self.now.fixed self.now variable }

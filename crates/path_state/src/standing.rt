@@ -21,9 +21,11 @@ use std::marker::Model;
 /// The place of a path, for each open call how it was called, and the levels of local variables.
 #[derive(Debug, Drop)]
 pub(crate) struct Standing {
+    /// The open programs, each with its block.
     place: Place,
     /// For each open call how the program was called, the outer one first.
     calls: ArrayVec<CallKind, MOST_CALLS>,
+    /// A level of local variables for the main program, and one for each open call of a macro.
     levels: Levels,
 }
 
@@ -76,7 +78,7 @@ impl Standing {
         }
     }
 
-    /// The place alone.
+    /// The place without calls and levels.
     pub(crate) fn place(&self) -> &Place
         ensures { result.now ≡ self.now.place }
     {
@@ -140,7 +142,7 @@ impl Standing {
         }
     }
 
-    /// Goes to the next block, behind a wait too.
+    /// Goes to the next block, from a wait as from any other block.
     pub(crate) fn pass(&mut self)
         requires { MayPass self.old.place }
         ensures { self.new ≡ elsewhere self.old (place_behind self.old.place) }
@@ -155,7 +157,8 @@ impl Standing {
         self.place.to(block);
     }
 
-    /// Opens a call whose local variables are the caller's; stays where there is no room for it.
+    /// Opens a call of a subprogram, whose local variables are the caller's; stays if eight calls
+    /// are open, or if it is to run no time.
     fn call_subprogram(&mut self, program: u16, repeats: u16)
         requires { MayPass self.old.place }
         ensures { self.new ≡ route_end self.old None (Route.Call program repeats) }
@@ -165,8 +168,8 @@ impl Standing {
         }
     }
 
-    /// Goes into a macro, whose local variables begin as the arguments; stays where eight calls are
-    /// open.
+    /// Opens a call of a macro, whose local variables begin as the arguments; stays if eight calls
+    /// are open, or if the macro is to run no time.
     pub(crate) fn call_macro(&mut self, program: u16, repeats: u16, arguments: &[Var; LOCALS])
         requires { MayPass self.old.place }
         ensures { self.new ≡ route_end self.old (Some arguments.now) (Route.Call program repeats) }
@@ -177,7 +180,8 @@ impl Standing {
         }
     }
 
-    /// Goes back, as M99 leads.
+    /// Goes back, as M99 leads: to the next repeat, behind the call, or to the start of the main
+    /// program.
     fn back(&mut self)
         ensures { self.new ≡ standing_of_return self.old }
     {
@@ -198,7 +202,7 @@ impl Standing {
         close_call(&mut self.calls, &mut self.levels);
     }
 
-    /// Goes where the route leads. A call is that of a subprogram; where eight are open it stays.
+    /// Goes where the route leads. A call is that of a subprogram; if eight are open it stays.
     pub(crate) fn go(&mut self, route: Route)
         requires { MayPass self.old.place }
         ensures { self.new ≡ route_end self.old None route }

@@ -1,6 +1,6 @@
-//! What a statement does: an assignment, a jump, the head or the end of a loop. Blocks of words are
-//! in acting.rt.
-//! For this crate alone.
+//! What a statement comes to, decided before anything changes, and the doing of it: an assignment,
+//! a jump, the head or the end of a loop. Blocks of words are in acting.rt.
+//! For this crate alone: decision.rt and taking.rt call it.
 ghost use Rattle.std.specs.Prelude.{◌≡◌, ◌≤◌, ◌++◌, ◌∷◌, ℕ, [], List, length};
 ghost use Rattle.nc_number.specs.declared.value.Var.{Var};
 ghost use Rattle.common_vars.specs.Variables.{IsVariable};
@@ -27,7 +27,7 @@ use macro_expr::{Cond, Statement, Target, VarRef};
 use nc_number::{Axis, Cause, Var};
 use offset_store::{Slot, WorkNumber};
 
-/// A step to a block of the running program, or the alarm of why there is none.
+/// A step to a block of the running program, or the alarm of the cause for which there is none.
 fn step_to(block: Result<u32, Cause>) -> Result<StatementStep, Stop>
     ensures { (path : PathView) (left : List Var)
         → step_seen path result ≡ of_after (move_effect path (place_to path.place block) left) }
@@ -38,7 +38,7 @@ fn step_to(block: Result<u32, Cause>) -> Result<StatementStep, Stop>
     }
 }
 
-/// The codes but the last one, and the last one.
+/// The codes of a statement but the last one, and the last one, which is that of a value.
 fn parted(codes: &[Code]) -> (&[Code], &Code)
     requires { 1 ≤ length codes.now }
     ensures { codes.now ≡ result.0.now ++ result.1.now ∷ [] }
@@ -48,7 +48,7 @@ fn parted(codes: &[Code]) -> (&[Code], &Code)
 }
 
 impl PathState {
-    /// A common variable takes a value, its own or a shared one.
+    /// The writing by which a common variable takes a value: the path's own, or a shared one.
     fn common_written(&self, v: u32, value: &Var) -> Writing
         requires { IsVariable (Variable.Common v) }
         ensures { after_writing self.now result ≡ with_common (is_shared self.now.fixed v) self.now v value.now }
@@ -64,7 +64,7 @@ impl PathState {
         }
     }
 
-    /// A work offset takes a value along an axis, or it is alarm 41.
+    /// The writing by which a work offset takes a value along an axis; alarm 41 past the range.
     fn offset_written(&self, n: u8, axis: AxisLetter, value: &Var) -> Result<Writing, Stop>
         requires { IsVariable (Variable.Work n axis) }
         ensures { (left : List Var) → outcome_of (after_writing self.now) result left
@@ -84,7 +84,7 @@ impl PathState {
         }
     }
 
-    /// What it comes to that a variable takes a value: alarm 31 of one that is read only, 33 with
+    /// The writing by which a variable takes a value; alarm 31 of one that is read only, 33 with
     /// the value of `#3000`, 41 of an offset past the range.
     fn written(&self, variable: Variable, value: Var) -> Result<Writing, Stop>
         requires { IsVariable variable }
@@ -105,7 +105,7 @@ impl PathState {
         }
     }
 
-    /// A variable takes the value of an expression.
+    /// What an assignment comes to whose variable is known: it takes the value of the expression.
     fn takes(&self, variable: Variable, value: &Code, reads: &[Var]) -> Result<StatementStep, Stop>
         requires { IsVariable variable }
         ensures { step_seen self.now result
@@ -121,7 +121,8 @@ impl PathState {
         }
     }
 
-    /// An assignment: the number on the left, the value, and then the writing.
+    /// What an assignment comes to: the number on the left is evaluated, then the value, and then
+    /// follows the writing.
     fn assigned(
         &self,
         name: &VarRef,
@@ -140,7 +141,7 @@ impl PathState {
         }
     }
 
-    /// A jump.
+    /// What a jump comes to: the block to which its target leads.
     fn jump(
         &self,
         order: &BlockOrder,
@@ -159,7 +160,7 @@ impl PathState {
         }
     }
 
-    /// A jump behind IF, whose target is evaluated only where the condition holds.
+    /// What a jump behind IF comes to, whose target is evaluated only if the condition holds.
     fn jump_if(
         &self,
         order: &BlockOrder,
@@ -181,7 +182,7 @@ impl PathState {
         }
     }
 
-    /// An assignment behind IF, of which nothing is evaluated where the condition fails.
+    /// What an assignment behind IF comes to, of which nothing is evaluated if the condition fails.
     fn assigned_if(
         &self,
         condition: &Cond,
@@ -204,7 +205,7 @@ impl PathState {
         }
     }
 
-    /// The head of a loop: where its condition fails, the loop is left.
+    /// What the head of a loop comes to: if its condition fails, the loop is left.
     fn looped(
         &self,
         order: &BlockOrder,
@@ -224,7 +225,7 @@ impl PathState {
         }
     }
 
-    /// What the statement comes to, with these values read so far; it looks only.
+    /// What the statement comes to, with these values read so far. The path does not change.
     ///
     /// It needs the shared variable that must be read next. Alarms: those of [`evaluate`], 30 of a
     /// variable that does not exist, 31 of one that is read only, 33 with the value of `#3000`, 41

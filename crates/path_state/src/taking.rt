@@ -1,5 +1,5 @@
-//! The turn of a block: it is decided first (decision.rt), and then done here. two_path and tests
-//! call the public functions.
+//! The turn of a block: it is decided first (decision.rt), and then done here.
+//! two_path calls `advance_into` and `take`; tests call `advance` and `peek`.
 ghost use Rattle.std.specs.Prelude.{◌≡◌, false, [], List};
 ghost use Rattle.nc_moves.specs.declared.motion.Move.{Move};
 ghost use Rattle.block_order.specs.Frames.{MayPass};
@@ -42,7 +42,7 @@ impl PathState {
         self.position = position;
     }
 
-    /// Does what was decided of words.
+    /// Does what was decided of words that call no macro, and answers.
     fn take_words(&mut self, turn: WordsTurn) -> BlockAnswer
         requires fit { IsFitTurn turn }
         requires may { MayTakeWords self.old turn }
@@ -67,8 +67,8 @@ impl PathState {
     /// Does what was decided of the block at which the path stands. Its moves stand in the list
     /// that was lent to [`decide`](PathState::decide).
     ///
-    /// Where the block must read, stands at a wait or raises an alarm, nothing changes. At its end
-    /// the path takes the effects of the block, and stays on it.
+    /// If the block must read, is a wait or raises an alarm, nothing changes. At its end the path
+    /// takes the effects of the block, and stays on it.
     pub fn take(&mut self, decision: Decision) -> BlockAnswer
         requires fit { HasFitWords decision }
         requires may { MayTake self.old decision }
@@ -108,8 +108,8 @@ impl PathState {
         }
     }
 
-    /// The turn of a block. What words come to is large, and so are the arguments of a macro: each
-    /// kind of block takes a way of its own.
+    /// The turn of a block, decided and done. What words come to is large, and so are the arguments
+    /// of a macro, so each kind of block has a function of its own.
     fn take_block(
         &mut self,
         order: &BlockOrder,
@@ -138,7 +138,7 @@ impl PathState {
         }
     }
 
-    /// The turn of words that call no macro, and their moves.
+    /// The turn of words that call no macro, decided and done; the moves are put into the list.
     #[tactic(auto, using(crate::proofs::Decided::may_take_words))]
     #[inline(never)]
     fn words_turn(
@@ -163,7 +163,7 @@ impl PathState {
         self.take_words(turn)
     }
 
-    /// The turn of words that call a macro, which moves nothing.
+    /// The turn of words that call a macro, decided and done; it moves nothing.
     #[inline(never)]
     fn macro_turn(
         &mut self,
@@ -189,7 +189,7 @@ impl PathState {
         }
     }
 
-    /// The turn of a statement that comes to this, which moves nothing.
+    /// The turn of a statement of which this was decided; it moves nothing.
     fn statement_turn(&mut self, step: Result<StatementStep, Stop>) -> BlockAnswer
         requires { MayPass self.old.place }
         ensures effect { effect_told result [] self.new ≡ step_seen self.old step }

@@ -1,4 +1,5 @@
-//! What the words of a block do to its path; their moves stand in a list that was lent.
+//! What the words of a block do to its path, as acting.rt decides it and taking.rt does it; their
+//! moves stand in a list that was lent.
 //! Other crates see it only within a [`Decision`](crate::Decision).
 
 use crate::route::Route;
@@ -12,21 +13,21 @@ use offset_store::Slot;
 pub struct WordsStep {
     /// What is in force behind the block.
     pub(crate) modal: Modal,
-    /// The offset that is set, and to what.
+    /// The offset that G10 sets, and its new value.
     pub(crate) offset: Option<(Slot, Point)>,
-    /// Where the turret stands behind the block.
+    /// Where the turret stands behind the block, in machine coordinates.
     pub(crate) position: Point,
 }
 
 /// What a block of words comes to that calls no macro.
 #[derive(Drop)]
 pub enum WordsTurn {
-    /// It must read first, or raises an alarm.
+    /// The block must read first, or raises an alarm.
     Stops(Stop),
     /// The path is at a wait of this code.
     AtWait(u16),
     /// The path is at its end, behind these words.
     AtEnd(WordsStep),
-    /// They are done, and control goes on.
+    /// The words are done, and control goes on.
     Goes(WordsStep, Route),
 }

@@ -1,4 +1,4 @@
-//! Worked blocks.
+//! Worked blocks: examples that show a reader what the definitions of specs/Effect.antt come to.
 //! For readers: no other crate calls it.
 ghost use Rattle.path_state.specs.Worked.{WorkedBlocks};
 

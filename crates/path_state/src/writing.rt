@@ -1,11 +1,12 @@
-//! What a statement comes to, decided before anything changes.
+//! What a statement comes to, as statements.rt decides it before anything changes: a variable takes
+//! a value, or control goes somewhere.
 //! Other crates see it only within a [`Decision`](crate::Decision).
 ghost use Rattle.std.specs.Prelude.{IsTrue};
 ghost use Rattle.path_state.specs.Writings.{is_possible};
 
 use nc_number::{Point, Var};
 
-/// What is written, and its new value.
+/// Which variable a statement writes, and its new value.
 #[derive(Clone, Copy, Debug, PartialEq, Eq)]
 pub enum Change {
     /// A local variable of the running level, `#1` to `#33`.
@@ -21,6 +22,7 @@ pub enum Change {
 /// A change that can be made: its variable exists, and an offset may be at its point.
 #[derive(Clone, Copy, Debug)]
 pub struct Writing {
+    /// The variable and its new value.
     pub(crate) change: Change,
     ghost possible: { IsTrue (is_possible change) },
 }

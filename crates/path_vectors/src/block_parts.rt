@@ -1,4 +1,6 @@
-//! What the parts of a block come to: its modal state, its motion and its moves in their order.
+//! Tests of what block_values gives the one who runs a block, without a path: what a block leaves
+//! in force (`modal_after`), its motion (`motion_of`), and all its moves in their order
+//! (`all_moves`).
 use crate::lone_path::{put_var, units};
 use crate::move_text::put_move;
 use block_values::{MotionWords, all_moves, modal_after, motion_of};
@@ -20,7 +22,8 @@ fn moves_text(alloc: Global, moves: &MoveList) -> Result<String, AllocError> {
     Ok(out)
 }
 
-/// All moves of a block with S1200 whose motion is a rest of half a second.
+/// All moves of a block with S1200, this tool and this code of M, whose motion is a rest of half a
+/// second.
 fn rest_text(alloc: Global, tool: u16, code: u32) -> Result<String, AllocError> {
     let mut motion = MoveList::empty();
     motion.push(Move::Dwell { ms: 500 });
@@ -36,7 +39,7 @@ fn rest_text(alloc: Global, tool: u16, code: u32) -> Result<String, AllocError> 
     moves_text(alloc, &moves)
 }
 
-/// All moves of a block with G50 S1200, without a tool and a motion.
+/// All moves of a block with G50 S1200 and this code of M, without a tool and a motion.
 fn limit_text(alloc: Global, code: u32) -> Result<String, AllocError> {
     let motion = MoveList::empty();
     let speed = units(1_200);
@@ -63,7 +66,7 @@ fn a_block_gets_its_speed_its_tool_its_motion_and_its_code(rt: HostRuntime) -> R
     Ok(())
 }
 
-/// The speed, the limit and the offset of a modal state.
+/// The speed, the highest speed and the number of the tool's offset that are in force.
 fn modal_text(alloc: Global, modal: &Modal) -> Result<String, AllocError> {
     let mut out = String::new(alloc);
     put_var(&mut out, &modal.speed())?;
@@ -74,7 +77,7 @@ fn modal_text(alloc: Global, modal: &Modal) -> Result<String, AllocError> {
     Ok(out)
 }
 
-/// What a block of these codes with a speed and a tool leaves in force, or its alarm.
+/// What a block of these codes of system A with a speed and a tool leaves in force, or its alarm.
 fn text_after(alloc: Global, codes: &[Row], speed: Var, tool: u16) -> Result<String, AllocError> {
     match modal_after(
         &Modal::for_system(System::A),
@@ -88,7 +91,7 @@ fn text_after(alloc: Global, codes: &[Row], speed: Var, tool: u16) -> Result<Str
     }
 }
 
-/// What G50 with a speed and a tool leaves in force.
+/// What G50 of system A with a speed and a tool leaves in force.
 fn text_after_g50(alloc: Global, speed: Var, tool: u16) -> Result<String, AllocError> {
     match system_a().find(50) {
         Some(row) => text_after(alloc, &[row], speed, tool),
@@ -116,7 +119,8 @@ fn incremental() -> Modal {
     modal
 }
 
-/// The moves of the words X40. W-5. by a code of this kind from X50. Z2., or their alarm.
+/// The moves of the words X40. W-5. by a code of this kind from X50. Z2., without an offset and
+/// without a feed, or their alarm. `has_l`: the block has an L.
 fn motion_text(
     alloc: Global,
     modal: &Modal,

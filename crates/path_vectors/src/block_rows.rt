@@ -1,5 +1,5 @@
-//! What one block does to its path: its moves, what it changes, and where control goes, or its
-//! alarm.
+//! Tables of tests of path_state by single blocks: what one block does to its path, that is its
+//! moves, what it changes, and where control goes, or its alarm. A row is run by `lone_path`.
 use crate::lone_path::{flow_of, on_one_line, put_changes, put_turn, settings_of, state_of};
 use cell_settings::Settings;
 use nc_number::{NoMemory, Path};
@@ -15,10 +15,11 @@ const CELL: &str = "\
 place 1 X100. Z50.~home 1 X300. Z200.~work 1 54 X0 Z10.~work 1 55 X2. Z20.~\
 tool 1 1 X-20. Z-5.~wear 1 1 X0.5 Z0~";
 
-/// The blocks that run before, the block, the blocks behind it where M30 is not all, and what the
-/// block does: its readings, its moves, what it writes to a shared variable, a wait, the end or the
-/// alarm, then each part of the state that changed, and last the line to which control goes. `~`
-/// stands for the end of a line. #500 reads as 10, #501 as 11 and on.
+/// A row each: the blocks that run before, the block, the blocks behind it where M30 is not all,
+/// and what the block does: its readings, its moves, what it writes to a shared variable, a wait,
+/// the end or the alarm, then each part of the state that changed, and last the line to which
+/// control goes. Moves lead to machine coordinates. `~` stands for the end of a line. #500 reads as
+/// 10, #501 as 11 and on; from #550 on they are vacant. The tapes are of G-code system A.
 const ROWS: &str = "\
 |X1000||rapid X1.000 Z50.000~at X1.000 Z50.000~to 4
 |X1.||rapid X1.000 Z50.000~at X1.000 Z50.000~to 4
@@ -314,7 +315,7 @@ DO1~X1.|END1||to 3
 WHILE [#1 LT 2] DO1~#1=#1+1|END1||to 3
 DO1~DO2~X1.|END2|END1~M30|to 4";
 
-/// The same, in a cell whose tapes are of G-code system B.
+/// Rows of the form of `ROWS`, for a cell whose tapes are of G-code system B.
 const ROWS_B: &str = "\
 |X1.||rapid X1.000 Z50.000~at X1.000 Z50.000~to 4
 |G90 X1. Z0||rapid X1.000 Z10.000~at X1.000 Z10.000~to 4
@@ -411,7 +412,8 @@ fn run_to(alloc: Global, path: &mut PathState, flow: &Flow, line: u32) -> Result
     Ok(())
 }
 
-/// What the block of the path does, from the state before.
+/// Adds what the block of the path does, with the changes from the state before, a line for each
+/// part.
 fn put_told(
     out: &mut String,
     alloc: Global,
@@ -428,7 +430,7 @@ fn put_told(
     Ok(())
 }
 
-/// What the block of the path does.
+/// What the block of the path does, on one line as a row has it.
 fn told(alloc: Global, path: &mut PathState, flow: &Flow) -> Result<String, NoMemory> {
     let mut out = String::new(alloc);
     let before = state_of(alloc, path)?;
@@ -436,7 +438,7 @@ fn told(alloc: Global, path: &mut PathState, flow: &Flow) -> Result<String, NoMe
     Ok(on_one_line(alloc, out.as_str())?)
 }
 
-/// What the block at the line does to the path.
+/// What the block at the line does to the path, once the blocks before it have run.
 fn told_at(
     alloc: Global,
     path: &mut PathState,
@@ -451,7 +453,7 @@ fn told_at(
     }
 }
 
-/// What the block at the line does to the path of the flow.
+/// What the block at the line does to path 1, which begins the flow afresh.
 fn run(alloc: Global, flow: &Flow, settings: &Settings, line: u32) -> Result<String, NoMemory> {
     match PathState::new(alloc, flow, settings, Path::One) {
         Ok(mut path) => told_at(alloc, &mut path, flow, line),
@@ -459,7 +461,7 @@ fn run(alloc: Global, flow: &Flow, settings: &Settings, line: u32) -> Result<Str
     }
 }
 
-/// The line of a block behind those before it, the first of which stands at line 3.
+/// The line of a row's block, behind those before it, a line each from line 3 on.
 fn line_behind(before: &str) -> u32 {
     if before.is_empty() {
         return 3;
@@ -473,7 +475,8 @@ fn line_behind(before: &str) -> u32 {
     line
 }
 
-/// The tape of a block, those before it and those behind it.
+/// The tape of a block with those before it and those behind it, which are M30 where none are
+/// given.
 fn tape_text(alloc: Global, before: &str, block: &str, behind: &str) -> Result<String, AllocError> {
     let end = if before.is_empty() { "" } else { "~" };
     let behind = if behind.is_empty() { "M30" } else { behind };
@@ -488,7 +491,7 @@ fn outcome(alloc: Global, settings: &Settings, text: &str, line: u32) -> Result<
     Ok(run(alloc, &flow, settings, line)?)
 }
 
-/// Whether the block of a row does what the row says.
+/// Fails the test where the block of a row does not do what the row says.
 fn row_holds(rt: &impl Abort, alloc: Global, settings: &Settings, row: &str) -> Result<(), Fail> {
     let (before, rest) = row.split_once('|').unwrap_or((row, ""));
     let (block, rest) = rest.split_once('|').unwrap_or((rest, ""));

@@ -1,5 +1,6 @@
-//! Tables of tests of one path: what single blocks and whole tapes do to it, and the pair as a shop
-//! has it, each path alone.
+//! Tests of the crates path_state and block_values, most of them tables: what single blocks and
+//! whole tapes do to one path, and the two tapes of a shop's pair, each run by its path alone.
+//! Nothing is built from this crate and no crate uses it.
 //!
 //! The answers that are expected stem from the rules of tapes and of the control, and never from
 //! what the path answered.

@@ -1,5 +1,7 @@
-//! One path alone: its tape is compiled, its blocks run one by one, and what they do is told as
-//! text, so that a table of tests has it written out by hand.
+//! One path alone, for tables of tests: its tape is compiled by tape_flow, its blocks run one by
+//! one in path_state, and what they do is told as text, so that a table has it written out by hand.
+//! No second path runs: a wait is passed at once, and a shared variable reads as `shared_value`
+//! says. Used by `block_rows`, `path_rows` and `system_rows`; `block_parts` takes two helpers.
 ghost use Rattle.std.specs.Prelude.{◌≤◌};
 
 use crate::move_text::{put_move, put_point, put_value};
@@ -91,17 +93,17 @@ fn shared_value(v: u32) -> Var {
     units(i64::from(v) - 490)
 }
 
-/// What comes behind an answer.
+/// What a path's answer to its turn asks of the one who runs it.
 enum Then {
-    /// The block goes on, once this shared variable is read.
+    /// The block is not done: it takes its turn again, with the value of this shared variable too.
     Reads(u32),
     /// The path goes on with its next block.
     GoesOn,
-    /// The path has stopped.
+    /// The path has stopped, at its end or by an alarm.
     Stops,
 }
 
-/// What the path answers to the turn of its block. It passes a wait at once.
+/// What the path answers to the turn of its block with these readings. It passes a wait at once.
 fn answer(path: &mut PathState, flow: &Flow, reads: &[Var]) -> Advance {
     control_goes_as_the_flow_orders();
     match path.advance(flow, reads) {
@@ -113,7 +115,7 @@ fn answer(path: &mut PathState, flow: &Flow, reads: &[Var]) -> Advance {
     }
 }
 
-/// What comes behind the answer.
+/// What the answer asks for. A wait has been passed already.
 fn then_of(said: &Advance) -> Then {
     match said {
         Advance::Need(v) => Then::Reads(*v),
@@ -124,7 +126,7 @@ fn then_of(said: &Advance) -> Then {
     }
 }
 
-/// The moves of a block, and what it wrote to a shared variable.
+/// Adds the moves of a block, a line each behind `head`, and what it wrote to a shared variable.
 fn put_effect(
     out: &mut String,
     head: &str,
@@ -138,13 +140,13 @@ fn put_effect(
     }
 }
 
-/// The end of a path, and the moves of its last block.
+/// Adds the moves of a path's last block, a line each behind `head`, and then its end.
 fn put_end(out: &mut String, head: &str, moves: &MoveList) -> Result<(), AllocError> {
     put_moves(out, head, moves)?;
     out.push_str("end\n")
 }
 
-/// What a turn was.
+/// Adds what the path answered to a turn, a line for each part, the moves behind `head`.
 fn put_answer(out: &mut String, head: &str, said: &Advance) -> Result<(), AllocError> {
     match said {
         Advance::Need(v) => writeln!(out, "reads #{v}"),
@@ -155,13 +157,14 @@ fn put_answer(out: &mut String, head: &str, said: &Advance) -> Result<(), AllocE
     }
 }
 
-/// What a turn was, and what comes behind it.
+/// Adds what the path answered to a turn. What the answer asks for.
 fn put_said(out: &mut String, head: &str, said: &Advance) -> Result<Then, AllocError> {
     put_answer(out, head, said)?;
     Ok(then_of(said))
 }
 
-/// The turn of the path's block with the readings that it has so far.
+/// Lets the path's block take a turn with the readings that it has so far and adds the answer. What
+/// the answer asks for.
 fn put_part(
     out: &mut String,
     head: &str,
@@ -172,8 +175,9 @@ fn put_part(
     put_said(out, head, &answer(path, flow, reads))
 }
 
-/// The turn of the path's block with all its readings, of which there are 32 at most, each part on
-/// a line of its own, the moves behind `head`. Whether the path goes on.
+/// Runs the path's block, a turn for each of its readings, of which there are 32 at most, and one
+/// more. Adds what was answered, a line for each part, the moves behind `head`. Whether the path
+/// goes on.
 pub(crate) fn put_turn(
     out: &mut String,
     head: &str,
@@ -193,7 +197,7 @@ pub(crate) fn put_turn(
     Ok(false)
 }
 
-/// The moves, a line each, behind `head`.
+/// Adds the moves, a line each, behind `head`.
 fn put_moves(out: &mut String, head: &str, moves: &MoveList) -> Result<(), AllocError> {
     for what in moves.as_slice() {
         out.push_str(head)?;
@@ -203,7 +207,7 @@ fn put_moves(out: &mut String, head: &str, moves: &MoveList) -> Result<(), Alloc
     Ok(())
 }
 
-/// An alarm, and its value where that is not 0.
+/// Adds an alarm by its number, and its value where that is not 0.
 fn put_alarm(out: &mut String, cause: u8, value: Value) -> Result<(), AllocError> {
     write!(out, "alarm {cause}")?;
     if value != Value::zero() {
@@ -213,7 +217,7 @@ fn put_alarm(out: &mut String, cause: u8, value: Value) -> Result<(), AllocError
     out.push('\n')
 }
 
-/// What a variable holds.
+/// Adds what a variable holds, or that it is vacant.
 pub(crate) fn put_var(out: &mut String, value: &Var) -> Result<(), AllocError> {
     match value {
         Var::Vacant => out.push_str("vacant"),
@@ -221,23 +225,23 @@ pub(crate) fn put_var(out: &mut String, value: &Var) -> Result<(), AllocError> {
     }
 }
 
-/// A line with a variable's number, behind this head, and what it holds.
+/// Adds a line with a variable's number, behind this head, and what it holds.
 fn put_variable(out: &mut String, head: &str, v: u32, value: &Var) -> Result<(), AllocError> {
     write!(out, "{head}{v} ")?;
     put_var(out, value)?;
     out.push('\n')
 }
 
-/// A line with a numbered point, such as an offset.
+/// Adds a line with a numbered point, such as an offset.
 fn put_named_point(out: &mut String, head: &str, n: u8, at: Point) -> Result<(), AllocError> {
     write!(out, "{head} {n}")?;
     put_point(out, at)?;
     out.push('\n')
 }
 
-/// What a path holds, a line for each part: always the same parts in the same order. Of its tools
-/// the offsets 1, 2 and 64 are looked at, and of its own common variables #100 to #102 and #600 to
-/// #602.
+/// What a path holds, a line for each part: always the same parts in the same order, so that the
+/// lines of two states can be compared one by one. Of its tool offsets 1, 2 and 64 are looked at,
+/// and of its own common variables #100 to #102 and #600 to #602.
 pub(crate) fn state_of(alloc: Global, path: &PathState) -> Result<String, AllocError> {
     let mut out = String::new(alloc);
     put_place(&mut out, path)?;
@@ -248,7 +252,8 @@ pub(crate) fn state_of(alloc: Global, path: &PathState) -> Result<String, AllocE
     Ok(out)
 }
 
-/// Where the turret stands, how many calls are open, and the program that runs.
+/// Adds where the turret stands in machine coordinates, how many calls are open, the program that
+/// runs, and how many of its repeats are still to come.
 fn put_place(out: &mut String, path: &PathState) -> Result<(), AllocError> {
     out.push_str("at")?;
     put_point(out, path.position())?;
@@ -260,7 +265,7 @@ fn put_place(out: &mut String, path: &PathState) -> Result<(), AllocError> {
 /// The groups of codes that a modal state keeps; system A has no group 3.
 const GROUPS: &[u8] = &[1, 2, 3, 5, 6, 7, 14];
 
-/// The code in force of each group, a line each.
+/// Adds the code in force of each group, a line each.
 fn put_groups(out: &mut String, modal: &Modal) -> Result<(), AllocError> {
     for group in GROUPS {
         match modal.code(*group) {
@@ -271,14 +276,15 @@ fn put_groups(out: &mut String, modal: &Modal) -> Result<(), AllocError> {
     Ok(())
 }
 
-/// A line with a name and a value.
+/// Adds a line with a name and a value.
 fn put_named(out: &mut String, name: &str, value: &Var) -> Result<(), AllocError> {
     out.push_str(name)?;
     put_var(out, value)?;
     out.push('\n')
 }
 
-/// The codes in force, F, S and the highest speed, the tool, and the kept end of a cycle.
+/// Adds what is in force: the codes, F, S and the highest speed, the tool and the number of its
+/// offset, and the kept end of a cycle.
 fn put_modal(out: &mut String, modal: &Modal) -> Result<(), AllocError> {
     put_groups(out, modal)?;
     put_named(out, "F ", &modal.feed())?;
@@ -289,7 +295,7 @@ fn put_modal(out: &mut String, modal: &Modal) -> Result<(), AllocError> {
     put_cycle(out, modal.cycle())
 }
 
-/// The kept end of the cycle in force, if there is one.
+/// Adds the kept end of the cycle in force, or that there is none.
 fn put_cycle(out: &mut String, cycle: Option<Point>) -> Result<(), AllocError> {
     match cycle {
         Some(end) => {
@@ -301,7 +307,7 @@ fn put_cycle(out: &mut String, cycle: Option<Point>) -> Result<(), AllocError> {
     }
 }
 
-/// The offsets that are looked at.
+/// Adds the offsets that are looked at: all of the work, and of the tools 1, 2 and 64.
 fn put_offsets(out: &mut String, offsets: &Offsets) -> Result<(), AllocError> {
     for n in 0..7u8 {
         put_named_point(out, "work", n, offsets.work(n))?;
@@ -312,7 +318,7 @@ fn put_offsets(out: &mut String, offsets: &Offsets) -> Result<(), AllocError> {
     put_tool_offset(out, 64, offsets)
 }
 
-/// A tool's offset, its geometry and its wear.
+/// Adds a tool's offset: its geometry and its wear.
 fn put_tool_offset(out: &mut String, n: u8, offsets: &Offsets) -> Result<(), AllocError>
     requires { n ≤ 64 }
 {
@@ -320,7 +326,7 @@ fn put_tool_offset(out: &mut String, n: u8, offsets: &Offsets) -> Result<(), All
     put_named_point(out, "wear", n, offsets.wear(n))
 }
 
-/// The local variables of the running level.
+/// Adds the local variables of the running level, a line each.
 fn put_locals(out: &mut String, path: &PathState) -> Result<(), AllocError> {
     for i in 1..34u8 {
         put_variable(out, "#", u32::from(i), &path.local(i))?;
@@ -328,7 +334,7 @@ fn put_locals(out: &mut String, path: &PathState) -> Result<(), AllocError> {
     Ok(())
 }
 
-/// The common variables that are looked at.
+/// Adds those of the path's own common variables that are looked at, a line each.
 fn put_own(out: &mut String, path: &PathState) -> Result<(), AllocError> {
     for v in 100..103u32 {
         put_variable(out, "#", v, &path.own(v))?;
@@ -339,7 +345,8 @@ fn put_own(out: &mut String, path: &PathState) -> Result<(), AllocError> {
     Ok(())
 }
 
-/// The lines of a state that are not those of the state before it.
+/// Adds the lines of a state that are not those of the state before it at the same place. Both have
+/// as many lines.
 fn put_differences(out: &mut String, before: &str, after: &str) -> Result<(), AllocError> {
     let mut lines = after.lines();
     for old in before.lines() {
@@ -351,7 +358,7 @@ fn put_differences(out: &mut String, before: &str, after: &str) -> Result<(), Al
     Ok(())
 }
 
-/// The lines of the path's state that are not those of the state before.
+/// Adds the lines of the path's state that are not those of the state before.
 pub(crate) fn put_changes(
     out: &mut String,
     alloc: Global,

@@ -1,24 +1,25 @@
-//! Moves as text, in the notation of the report, so that a table of tests has them written out by
-//! hand.
+//! Moves as text for the tables of tests of `lone_path` and `block_parts`, in the notation of the
+//! report, so that a table has them written out by hand. It is written anew here: what the report
+//! itself prints comes from the crate move_text.
 use nc_moves::{Centre, Move};
 use nc_number::{Point, Value, length_text, text};
 use std::alloc::AllocError;
 
-/// A value, as the report prints it.
+/// Adds a value, as the report prints it.
 pub(crate) fn put_value(out: &mut String, value: Value) -> Result<(), AllocError> {
     let mut room = [0; 24];
     let length = text(value, &mut room);
     put_bytes(out, &room[..length])
 }
 
-/// A length in 0.001 mm, as the report prints it.
+/// Adds a length, which is in 0.001 mm, as the report prints it.
 fn put_length(out: &mut String, length: i64) -> Result<(), AllocError> {
     let mut room = [0; 24];
     let length = length_text(length, &mut room);
     put_bytes(out, &room[..length])
 }
 
-/// Bytes of ASCII, as text.
+/// Adds bytes of ASCII.
 fn put_bytes(out: &mut String, bytes: &[u8]) -> Result<(), AllocError> {
     for byte in bytes {
         out.push(char::from(*byte))?;
@@ -26,7 +27,7 @@ fn put_bytes(out: &mut String, bytes: &[u8]) -> Result<(), AllocError> {
     Ok(())
 }
 
-/// A point, X before Z.
+/// Adds a point, X before Z.
 pub(crate) fn put_point(out: &mut String, to: Point) -> Result<(), AllocError> {
     out.push_str(" X")?;
     put_length(out, to.x)?;
@@ -34,14 +35,14 @@ pub(crate) fn put_point(out: &mut String, to: Point) -> Result<(), AllocError> {
     put_length(out, to.z)
 }
 
-/// A feed, by the revolution or by the minute.
+/// Adds a feed, by the revolution or by the minute.
 fn put_feed(out: &mut String, feed: Value, per_rev: bool) -> Result<(), AllocError> {
     out.push_str(" F")?;
     put_value(out, feed)?;
     out.push_str(if per_rev { " rev" } else { " min" })
 }
 
-/// The centre of an arc, as I and K or as R.
+/// Adds the centre of an arc, as I and K or as R.
 fn put_centre(out: &mut String, centre: Centre) -> Result<(), AllocError> {
     match centre {
         Centre::Offset { i, k } => {
@@ -57,7 +58,7 @@ fn put_centre(out: &mut String, centre: Centre) -> Result<(), AllocError> {
     }
 }
 
-/// A straight move under this name, with its feed.
+/// Adds a straight move under this name, with its feed.
 fn put_cut(
     out: &mut String,
     name: &str,
@@ -70,7 +71,7 @@ fn put_cut(
     put_feed(out, feed, per_rev)
 }
 
-/// A move along a thread, with its lead.
+/// Adds a move along a thread, with its lead.
 fn put_thread(out: &mut String, to: Point, lead: Value) -> Result<(), AllocError> {
     out.push_str("thread")?;
     put_point(out, to)?;
@@ -78,20 +79,20 @@ fn put_thread(out: &mut String, to: Point, lead: Value) -> Result<(), AllocError
     put_value(out, lead)
 }
 
-/// An arc under this name, to its end and round its centre.
+/// Adds an arc under this name, to its end and round its centre, without its feed.
 fn put_arc(out: &mut String, name: &str, to: Point, centre: Centre) -> Result<(), AllocError> {
     out.push_str(name)?;
     put_point(out, to)?;
     put_centre(out, centre)
 }
 
-/// A rapid move.
+/// Adds a rapid move.
 fn put_rapid(out: &mut String, to: Point) -> Result<(), AllocError> {
     out.push_str("rapid")?;
     put_point(out, to)
 }
 
-/// A move that leads somewhere, or a setting of the machine.
+/// Adds a move of any kind: one that leads somewhere, a rest, or a setting of the machine.
 pub(crate) fn put_move(out: &mut String, what: &Move) -> Result<(), AllocError> {
     match *what {
         Move::Rapid { to } => put_rapid(out, to),

@@ -1,4 +1,5 @@
-//! Whole tapes, run by one path alone.
+//! Tables of tests of path_state by whole tapes of G-code system A, each run by one path alone
+//! (`lone_path`), until it ends or raises an alarm. `system_rows` takes `run`.
 use crate::lone_path::{flow_of, on_one_line, put_changes, put_turn, settings_of, state_of};
 use cell_settings::Settings;
 use nc_number::{NoMemory, Path};
@@ -13,9 +14,10 @@ const CELL: &str = "\
 place 1 X200. Z150.~place 2 X200. Z150.~home 1 X300. Z200.~home 2 X300. Z200.~\
 work 1 54 X0 Z100.~work 2 54 X0 Z100.~tool 1 1 X-20. Z-10.~tool 2 2 X-10. Z5.~";
 
-/// A tape, where `~` stands for the end of a line, and what the path does: each move behind the
-/// line of its block, waits that it passes at once, its end or its alarm, the parts of its state
-/// that are not as at the start, and the line where it stands behind so many turns.
+/// A row each: a tape, where `~` stands for the end of a line, and what the path does: each move,
+/// in machine coordinates, behind the line of its block, waits that it passes at once, its end or
+/// its alarm, the parts of its state that are not as at the start, and the line where it stands
+/// after so many blocks (a block with all its readings counts as one turn).
 const ROWS: &str = "\
 %~O1~M30~%~|end~line 3 after 1 turns
 %~O1~IF [#1 EQ 0] GOTO 90~IF [#1 GE 0] GOTO 20~N90 #3000=1~N20 G00 X#1 Z5.~#2=#1~IF [#2 EQ #0] GOTO 30~#3000=2~N30 M30~%~|6 rapid X0.000 Z5.000~end~at X0.000 Z5.000~line 10 after 6 turns
@@ -39,12 +41,13 @@ const ROWS: &str = "\
 %~O1~%~|alarm 63~line 2 after 1 turns
 %~O1~M98 P2~M30~O2~X1.~%~|6 rapid X1.000 Z0.000~alarm 63~at X1.000 Z0.000~depth 1~in O2~line 6 after 3 turns";
 
-/// The tapes of the pair, path 1's and then path 2's, in the same form.
+/// The tapes of a shop's pair, path 1's and then path 2's, as rows of the form of `ROWS`.
 const PAIR: &str = "\
 %~O0001 (UPPER TURRET)~N10 G21 G40 G97 G99~N20 G28 U0 W0~N30 G50 S2500~N40 T0101~N50 G97 S800 M03~N60 G00 X52. Z2. M08~N70 M101~N80 G90 X48. Z-30. F0.25~N90 X46.~N100 G00 X100. Z50. M09~N110 T0100~N120 M102~N130 M30~%~|4 rapid X200.000 Z150.000~4 rapid X300.000 Z200.000~5 limit S2500~6 tool T0101~7 speed G97 S800~7 aux M03~8 rapid X32.000 Z92.000~8 aux M08~wait 101~10 rapid X28.000 Z92.000~10 feed X28.000 Z60.000 F0.25 rev~10 feed X32.000 Z60.000 F0.25 rev~10 rapid X32.000 Z92.000~11 rapid X26.000 Z92.000~11 feed X26.000 Z60.000 F0.25 rev~11 feed X32.000 Z60.000 F0.25 rev~11 rapid X32.000 Z92.000~12 rapid X80.000 Z140.000~12 aux M09~13 tool T0100~wait 102~end~at X80.000 Z140.000~F 0.25~S 800~limit 2500~T0100~line 15 after 13 turns
 %~O0002 (LOWER TURRET)~N10 G21 G40 G99~N20 G28 U0 W0~N30 T0202~N40 M101~N50 G97 S600 M03~N60 G00 X54. Z-10.~N70 G01 X40. F0.1~N80 G03 X46. Z-13. R3.~N90 G04 P500~N100 G00 X60.~N110 T0200~N120 M102~N130 M30~%~|4 rapid X200.000 Z150.000~4 rapid X300.000 Z200.000~5 tool T0202~wait 101~7 speed G97 S600~7 aux M03~8 rapid X44.000 Z95.000~9 feed X30.000 Z95.000 F0.1 rev~10 ccw X36.000 Z92.000 R3.000 F0.1 rev~11 dwell 500~12 rapid X50.000 Z92.000~13 tool T0200~wait 102~end~at X50.000 Z92.000~F 0.1~S 600~T0200~line 15 after 13 turns";
 
-/// The turn of the path's block, its moves behind the line of the block. Whether the path goes on.
+/// Runs the path's block and adds what it does, its moves behind the line of the block. Whether the
+/// path goes on.
 fn put_block(
     out: &mut String,
     alloc: Global,
@@ -57,7 +60,8 @@ fn put_block(
     put_turn(out, head.as_str(), alloc, path, flow)
 }
 
-/// Lets the path run until it ends or raises an alarm. How many turns it takes.
+/// Lets the path run until it ends or raises an alarm, for a hundred blocks at most, and adds what
+/// they do. How many blocks ran.
 fn put_run(
     out: &mut String,
     alloc: Global,
@@ -72,7 +76,8 @@ fn put_run(
     Ok(100)
 }
 
-/// What the path does until it ends or raises an alarm, from the state before.
+/// Adds what the path does until it ends or raises an alarm, with the changes from the state
+/// before, a line for each part.
 fn put_told(
     out: &mut String,
     alloc: Global,
@@ -86,7 +91,7 @@ fn put_told(
     writeln!(out, "line {line} after {turns} turns")
 }
 
-/// What the path does until it ends or raises an alarm.
+/// What the path does until it ends or raises an alarm, on one line as a row has it.
 fn told(alloc: Global, path: &mut PathState, flow: &Flow) -> Result<String, NoMemory> {
     let mut out = String::new(alloc);
     let before = state_of(alloc, path)?;
@@ -113,7 +118,7 @@ fn outcome(alloc: Global, settings: &Settings, text: &str, path: Path) -> Result
     Ok(run(alloc, &flow, settings, path)?)
 }
 
-/// Whether the path does by the tape of a row what the row says.
+/// Fails the test where the path does not do by the tape of a row what the row says.
 fn row_holds(
     rt: &impl Abort,
     alloc: Global,

@@ -1,4 +1,5 @@
-//! Whole tapes in both systems of G codes: the same letters and numbers mean other things in each.
+//! A table of tests of path_state by whole tapes in both systems of G codes, where the same letter
+//! and number means another thing in each. A row is run by path 1 alone (`path_rows::run`).
 use crate::lone_path::{flow_of, refusal_of, settings_of};
 use crate::path_rows::run;
 use cell_settings::Settings;
@@ -11,10 +12,10 @@ use std::test::Fail;
 /// coordinates, with no shift. G55 shifts by X2. Z20., and T0101 by X-20. Z-5.
 const CELL: &str = "place 1 X100. Z50.~home 1 X300. Z200.~work 1 55 X2. Z20.~tool 1 1 X-20. Z-5.~";
 
-/// The system, the blocks of the tape from line 3 on, and what the path does: each move behind the
-/// line of its block, waits that it passes at once, its end or its alarm, the parts of its state
-/// that are not as at the start, and the line where it stands behind so many turns. Or the number
-/// of the refusal and its line.
+/// A row each: the system, the blocks of the tape from line 3 on, and what the path does: each
+/// move, in machine coordinates, behind the line of its block, waits that it passes at once, its
+/// end or its alarm, the parts of its state that are not as at the start, and the line where it
+/// stands after so many blocks. Or the number of the refusal and its line.
 const ROWS: &str = "\
 B|G90 G00 X50. Z2.~G77 X40. Z-20. F0.2~G91 G01 X-5. Z-1.~M30|3 rapid X50.000 Z2.000~4 rapid X40.000 Z2.000~4 feed X40.000 Z-20.000 F0.2 rev~4 feed X50.000 Z-20.000 F0.2 rev~4 rapid X50.000 Z2.000~5 feed X45.000 Z1.000 F0.2 rev~end~at X45.000 Z1.000~G01~G91~F 0.2~line 6 after 4 turns
 A|G90 G00 X50. Z2.~G77 X40. Z-20. F0.2~M30|refused 56 line 4
@@ -139,7 +140,7 @@ fn outcome_in(alloc: Global, system: &str, blocks: &str, is_refused: bool) -> Re
     outcome(alloc, &settings, text.as_str(), is_refused)
 }
 
-/// Whether the blocks of a row do what the row says.
+/// Fails the test where the blocks of a row do not do what the row says.
 fn row_holds(rt: &impl Abort, alloc: Global, row: &str) -> Result<(), Fail> {
     let (system, rest) = row.split_once('|').unwrap_or((row, ""));
     let (blocks, wanted) = rest.split_once('|').unwrap_or((rest, ""));

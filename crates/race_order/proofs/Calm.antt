@@ -1,4 +1,4 @@
--- Where both paths have finished there is no alarm.
+-- If both paths have finished there is no alarm: for Runs, which speaks of runs that finish.
 use Rattle.std.proofs.Common.{◌≡◌, ℕ, ◌==◌, ◌⊎◌, inl, inr, Bool, true, false, List, [], ◌∷◌, Option, Some, None, refl, if◌then◌else◌}
 use Rattle.nc_number.specs.declared.path.Path.{Path}
 use Rattle.nc_number.specs.declared.path.Path.TheVariants.{One, Two}
@@ -15,7 +15,7 @@ use Rattle.two_path.specs.Histories.{TurnOf, behind_event, run, turns_of}
 abbrev Leaves : MachineView → Type 0
 Leaves m = (a : Alarm) → m.alarm ≡ Some a → (m.paths.one.finished ≡ false) ⊎ (m.paths.two.finished ≡ false)
 
--- behind a turn of path 1, an alarm still means that some path has not finished,
+-- behind a turn of the path whose part is first, an alarm means that some path has not finished
 own_leaves : (b : Blocks) (path : Path) (m : MachineView) → Leaves m → Leaves (own_turn b path m).machine
 own_leaves b path m before = go m.alarm refl m.paths.one.finished refl m.paths.one.waiting
   where
@@ -43,7 +43,7 @@ own_leaves b path m before = go m.alarm refl m.paths.one.finished refl m.paths.o
     go None eo false ef (Some code) a e = before a e
     go None eo false ef None a e = block eo ef (b.effect m.paths.one.path m.paths.one.values) a e
 
--- as seen from path 2 as well,
+-- with the paths changed over, an alarm still means that some path has not finished
 swap_leaves : (m : MachineView) → Leaves m → Leaves (own_first Two m)
 swap_leaves m before a e = go (before a e)
   where
@@ -51,19 +51,19 @@ swap_leaves m before a e = go (before a e)
     go (inl x) = inr x
     go (inr x) = inl x
 
--- behind a turn of either path,
+-- behind a turn of either path, an alarm means that some path has not finished
 event_leaves : (tapes : Tapes) (path : Path) (m : MachineView) → Leaves m → Leaves (behind_event tapes (TurnOf path) m)
 event_leaves tapes One m before = own_leaves tapes.one One m before
 event_leaves tapes Two m before =
     swap_leaves (own_turn tapes.two Two (own_first Two m)).machine (own_leaves tapes.two Two (own_first Two m) (swap_leaves m before))
 
--- and behind all turns
+-- behind all turns, an alarm means that some path has not finished
 run_leaves : (tapes : Tapes) (m : MachineView) → Leaves m → (turns : List Path) → Leaves (run tapes m (turns_of turns))
 run_leaves tapes m before [] = before
 run_leaves tapes m before (path ∷ turns) =
     run_leaves tapes (behind_event tapes (TurnOf path) m) (event_leaves tapes path m before) turns
 
--- so where both paths have finished there is no alarm
+-- behind turns from the start on, if both paths have finished there is no alarm
 pub finished_calm : (tapes : Tapes) (first second : PathView) (turns : List Path)
     → (run tapes (opening first second) (turns_of turns)).paths.one.finished ≡ true → (run tapes (opening first second) (turns_of turns)).paths.two.finished ≡ true
     → (run tapes (opening first second) (turns_of turns)).alarm ≡ None

@@ -1,5 +1,5 @@
--- Two tapes: where no part of one may write what the same part of the other names, all runs that
--- finish agree.
+-- Two tapes: if no part of one may write what the same part of the other names, all runs that
+-- finish agree. For the law `race_free_runs_agree` (src/laws.rt).
 -- race_report takes `race_free_agree`.
 use Rattle.std.proofs.Common.{◌≡◌, ℕ, Bool, true, List, [], ◌∷◌, Option, Some, None, refl, ap, sym, subst, ◌∙◌}
 use Rattle.std.proofs.lemmas.Bool.{or_left}
@@ -57,12 +57,12 @@ in_its_part flow un n (f ∷ stack) reached = (f, stack, refl, stands_in_parts f
 abbrev pub Names : Flow → (ℕ → Bool) → ℕ → ℕ → Type 0
 Names flow shared n v = (shared v ≡ true) × PartNames flow n v
 
--- and what it may write
+-- what part n of a flow may write of the shared variables
 abbrev pub MayWrite : Flow → (ℕ → Bool) → ℕ → ℕ → Type 0
 MayWrite flow shared n v = (shared v ≡ true) × PartMayWrite flow n v
 
 module _ (flow : Flow) (un : IsUnforked flow.order) (shared : ℕ → Bool) (n : ℕ) (path : PathView) (vs : List Var) where
-  -- a variable that a block of part n needs is one that the part names,
+  -- a variable that a block of part n needs is one that the part names
   pub named : (v : ℕ) → IsThere flow shared n path → effect_of flow path vs ≡ effect.Need v → Names flow shared n v
   named v there is =
       let at = in_its_part flow un n path.place there.reached in (
@@ -70,7 +70,7 @@ module _ (flow : Flow) (un : IsUnforked flow.order) (shared : ℕ → Bool) (n :
         (at.0.program, at.0.block, at.3, needs_are_named flow path vs at.0 at.1 v at.2 is),
       )
 
-  -- and one that it writes is one that the part may write
+  -- a variable that a block of part n writes is one that the part may write
   pub written : (after : PathView) (w : Written) (moves : List Move) → IsThere flow shared n path
       → effect_of flow path vs ≡ effect.Done after (Some w) moves → MayWrite flow shared n w.variable
   written after w moves there is =
@@ -79,7 +79,7 @@ module _ (flow : Flow) (un : IsUnforked flow.order) (shared : ℕ → Bool) (n :
         (at.0.program, at.0.block, at.3, writes_are_marked flow path after vs at.0 at.1 w moves at.2 is),
       )
 
-  -- behind such a block the path still stands in the part
+  -- behind a block of part n that is done the path still stands in the part
   pub goes_on : (after : PathView) (w : Option Written) (moves : List Move) → IsThere flow shared n path
       → effect_of flow path vs ≡ effect.Done after w moves → IsThere flow shared n after
   goes_on after w moves there is =
@@ -113,7 +113,7 @@ begins flow shared path b = record {
   shares = b.shares;
 }
 
--- where no part has a race, all runs that finish agree
+-- if no part has a race, all runs of two flows that finish agree
 pub race_free_agree : (left right : Flow) → IsUnforked left.order → IsUnforked right.order → RaceFreeRunsAgree left right
 race_free_agree left right ul ur shared free first second here there turns others done also =
     runs_agree (blocks_of left) (blocks_of right) (known_of left ul shared) (known_of right ur shared)

@@ -1,4 +1,5 @@
--- The lemmas of this crate, each file by its subject. race_report takes `race_free_agree` of Flows.
+-- The lemmas of race_order, from a path alone to a pair of tapes: Alone, Together, Machines, Turns,
+-- Runs, Flows. race_report takes `race_free_agree` of Flows.
 mod Alone
 mod Together
 mod Stable

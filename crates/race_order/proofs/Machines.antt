@@ -1,4 +1,5 @@
--- The machine of two_path, as two paths that read and write named variables.
+-- A path of two_path's machine as one of Alone, which reads and writes named variables: its state
+-- holds its moves and what it told. For Turns and Runs.
 use Rattle.std.proofs.Common.{◌≡◌, ℕ, suc, ◌+◌, List, [], ◌∷◌, ◌++◌, Option, Some, None, refl, subst}
 use Rattle.nc_number.specs.declared.value.Var.{Var}
 use Rattle.nc_moves.specs.declared.motion.Move.{Move}
@@ -14,15 +15,23 @@ use Rattle.race_order.proofs.Alone.{PathOf}
 -- What is known of the blocks: the places behind n waits, the variables that part n names and may
 -- write.
 pub record Known (blocks : Blocks) : Type 1 where
+  -- which variables part n names
   pub names : ℕ → ℕ → Type 0
+  -- which variables part n may write
   pub may : ℕ → ℕ → Type 0
+  -- the path stands in part n
   pub In : ℕ → PathView → Type 0
+  -- a variable that a part may write is one that it names
   pub may_named : (n v : ℕ) → may n v → names n v
+  -- a block of a part needs only variables that the part names
   pub named : (n : ℕ) (path : PathView) (vs : List Var) (v : ℕ) → In n path → blocks.effect path vs ≡ effect.Need v → names n v
+  -- a block of a part writes only variables that the part may write
   pub written : (n : ℕ) (path after : PathView) (vs : List Var) (w : Written) (moves : List Move) → In n path
       → blocks.effect path vs ≡ effect.Done after (Some w) moves → may n w.variable
+  -- behind a block that is done the path stands in the same part
   pub goes : (n : ℕ) (path after : PathView) (vs : List Var) (w : Option Written) (moves : List Move) → In n path
       → blocks.effect path vs ≡ effect.Done after w moves → In n after
+  -- behind a wait of a part the path stands in the next part
   pub passes : (n code : ℕ) (path : PathView) (vs : List Var) → In n path → blocks.effect path vs ≡ effect.AtWait code
       → In (suc n) (path_behind_wait path)
 
@@ -51,7 +60,7 @@ Logged = PathView × List Moves × Told
 abbrev pub moved_on : Blocks → Logged → PathView → List Move → Told → Logged
 moved_on blocks s after moves told = (after, s.1 ++ moves_at (blocks.line s.0.place) moves ∷ [], told)
 
--- and with one record more
+-- a path behind a block that is done, with its moves and one record more told
 abbrev pub logged : Blocks → Logged → PathView → List Move → Logged
 logged blocks s after moves = moved_on blocks s after moves (one_record s.2)
 
@@ -74,7 +83,7 @@ needs_seen b k n s vs v inn (effect.AtWait code) is same = absurd cc
 needs_seen b k n s vs v inn (effect.AtEnd after moves) is same = absurd cc
 needs_seen b k n s vs v inn (effect.Alarm number value) is same = absurd cc
 
--- a block that is done leads to the same part,
+-- a block that is done and writes nothing leads to a place of the same part
 pub done_seen : (b : Blocks) (k : Known b) (n : ℕ) (s : Logged) (vs : List Var) (to : Logged) → k.In n s.0
     → (e : Effect) → b.effect s.0 vs ≡ e → seen b s e ≡ alone.Done to → k.In n to.0
 done_seen b k n s vs to inn (effect.Need u) is same = absurd cc
@@ -85,7 +94,7 @@ done_seen b k n s vs to inn (effect.AtWait code) is same = absurd cc
 done_seen b k n s vs to inn (effect.AtEnd after moves) is same = absurd cc
 done_seen b k n s vs to inn (effect.Alarm number value) is same = absurd cc
 
--- one that writes may write the variable, and leads there too,
+-- a block that writes may write the variable by its part, and leads to a place of the same part
 pub wrote_seen : (b : Blocks) (k : Known b) (n : ℕ) (s : Logged) (vs : List Var) (to : Logged) (v : ℕ) (x : Var) → k.In n s.0
     → (e : Effect) → b.effect s.0 vs ≡ e → seen b s e ≡ alone.Wrote to v x → (k.may n v) × k.In n to.0
 wrote_seen b k n s vs to v x inn (effect.Need u) is same = absurd cc
@@ -100,7 +109,7 @@ wrote_seen b k n s vs to v x inn (effect.AtWait code) is same = absurd cc
 wrote_seen b k n s vs to v x inn (effect.AtEnd after moves) is same = absurd cc
 wrote_seen b k n s vs to v x inn (effect.Alarm number value) is same = absurd cc
 
--- and a wait that is passed leads to the next part
+-- a wait that is passed leads to a place of the next part
 pub wait_seen : (b : Blocks) (k : Known b) (n : ℕ) (s : Logged) (vs : List Var) → k.In n s.0
     → (e : Effect) → b.effect s.0 vs ≡ e → seen b s e ≡ alone.AtWait → k.In (suc n) (path_behind_wait s.0)
 wait_seen b k n s vs inn (effect.Need u) is same = absurd cc
@@ -110,7 +119,7 @@ wait_seen b k n s vs inn (effect.AtWait code) is same = k.passes n code s.0 vs i
 wait_seen b k n s vs inn (effect.AtEnd after moves) is same = absurd cc
 wait_seen b k n s vs inn (effect.Alarm number value) is same = absurd cc
 
--- the path as one that reads and writes named variables
+-- a path of the machine as one that reads and writes named variables
 abbrev pub path_of : (b : Blocks) → Known b → PathOf Var
 path_of b k = record {
   S = Logged;

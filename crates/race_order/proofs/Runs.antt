@@ -1,5 +1,5 @@
--- Where no part has a race, all runs of the machine that finish have the same moves, the same paths
--- and the same values.
+-- If no part has a race, all runs of the machine that finish have the same moves, the same paths
+-- and the same values: from the pair of Together to the machine, for Flows.
 use Rattle.std.proofs.Common.{◌≡◌, ℕ, ◌+◌, Bool, true, List, [], ◌∷◌, ◌++◌, Option, Some, None, refl, ap, sym, subst, ◌∙◌, arith, append-nil, append_assoc}
 use Rattle.nc_number.specs.declared.path.Path.{Path}
 use Rattle.nc_number.specs.declared.path.Path.TheVariants.{One, Two}
@@ -26,13 +26,13 @@ use Rattle.race_order.proofs.Turns.{shown, waits, IsTold, IsFit, IsShown, own_sh
 abbrev swapped : {V : Type 0} → (p q : PathOf V) → Pair V p q → Pair V q p
 swapped p q m = pair_at q p m.second m.first m.env
 
--- a turn,
+-- a turn of a pair is one of the pair with its paths in the other order
 goes_swapped : {V : Type 0} → (p q : PathOf V) (m to : Pair V p q) → Goes p q m to → Goes q p (swapped p q m) (swapped p q to)
 goes_swapped p q m _ one = two
 goes_swapped p q m _ two = one
 goes_swapped p q m _ (meet here there) = meet there here
 
--- and a run are the same in that order
+-- a run of a pair is one of the pair with its paths in the other order
 run_swapped : {V : Type 0} → (p q : PathOf V) (m to : Pair V p q) → IsRun p q m to → IsRun q p (swapped p q m) (swapped p q to)
 run_swapped p q m _ begun = begun
 run_swapped p q m _ (gone at to before goes) =
@@ -43,13 +43,13 @@ run_on : {V : Type 0} → (p q : PathOf V) (m between to : Pair V p q) → IsRun
 run_on p q m between _ before begun = before
 run_on p q m between _ before (gone at to more goes) = gone at to (run_on p q m between at before more) goes
 
--- writes are mixed in either order,
+-- writes that are mixed of two lists are mixed of them in the other order
 mixed_swapped : (mine yours : List Written) (writes : List Write) → AreMixed mine yours writes → AreMixed yours mine writes
 mixed_swapped _ _ _ mixed.none = mixed.none
 mixed_swapped _ _ _ (mixed.one mine yours writes stamp w m) = mixed.two yours mine writes stamp w (mixed_swapped mine yours writes m)
 mixed_swapped _ _ _ (mixed.two mine yours writes stamp w m) = mixed.one yours mine writes stamp w (mixed_swapped mine yours writes m)
 
--- and so is what the machine holds of both
+-- if what both paths told is what the machine holds, so it is with the paths changed over
 told_swapped : (m : MachineView) (t u : Told) → IsTold m t u → IsTold (own_first Two m) u t
 told_swapped m t u told = record {
   count = (let all = told.count in omega arith);
@@ -99,12 +99,12 @@ turn_shown b d k l x Two m mine yours s calm =
       second = next.first;
     })
 
--- a machine with an alarm stays as it is,
+-- a turn of a machine with an alarm changes nothing
 halted : (m : MachineView) (o : Option Alarm) (a : Alarm) → o ≡ Some a → (f : Bool) (w : Option ℕ) (r : TurnResult) → (unless_idle m o f w r).machine ≡ m
 halted m (Some x) a e f w r = refl
 halted m None a e f w r = absurd cc
 
--- so it does at an event,
+-- behind a turn of either path an alarm is the same
 halted_event : (tapes : Tapes) (path : Path) (m : MachineView) (a : Alarm) → m.alarm ≡ Some a → (behind_event tapes (TurnOf path) m).alarm ≡ Some a
 halted_event tapes One m a e =
     ap (λ (x : MachineView). x.alarm) (halted m m.alarm a e m.paths.one.finished m.paths.one.waiting (block_turn tapes.one One m)) ∙ e
@@ -112,7 +112,7 @@ halted_event tapes Two m a e =
     ap (λ (x : MachineView). x.alarm)
     (halted (own_first Two m) m.alarm a e m.paths.two.finished m.paths.two.waiting (block_turn tapes.two Two (own_first Two m))) ∙ e
 
--- and at all turns
+-- behind all turns an alarm is the same
 halted_run : (tapes : Tapes) (m : MachineView) (a : Alarm) → m.alarm ≡ Some a → (turns : List Path) → (run tapes m (turns_of turns)).alarm ≡ Some a
 halted_run tapes m a e [] = e
 halted_run tapes m a e (path ∷ turns) =
@@ -126,7 +126,7 @@ calm_before tapes m turns calm = go m.alarm refl
     go (Some a) e = let on = halted_run tapes m a e turns in absurd cc
     go None e = e
 
--- so a run of the machine without an alarm is shown by a run of the pair
+-- a run of the machine without an alarm is shown by a run of the pair
 run_shown : (b d : Blocks) (k : Known b) (l : Known d) (x : Pair Var (path_of b k) (path_of d l)) (m : MachineView) (mine yours : List Moves)
     → IsShown b d k l x m mine yours → (turns : List Path) → (run (tapes_with b d) m (turns_of turns)).alarm ≡ None
     → IsShown b d k l x (run (tapes_with b d) m (turns_of turns))
@@ -145,19 +145,19 @@ run_shown b d k l x m mine yours s (path ∷ turns) calm =
     (subst (λ ys. IsShown b d k l x (run tapes to (turns_of turns)) ((mine ++ turn_moves One path t) ++ moves_by tapes One to turns) ys)
     (append_assoc yours (turn_moves Two path t) (moves_by tapes Two to turns)) more)
 
--- parts with the same path, values, wait and end are the same but for numbers of records,
+-- parts with the same path, values, wait and end are the same but for numbers of records
 same_part : (a b : Part) → a.path ≡ b.path → a.values ≡ b.values → a.waiting ≡ b.waiting → a.finished ≡ b.finished
     → unstamped a ≡ unstamped b
 same_part a b path values waiting finished =
     λ i. record { path = path i; values = values i; stamps = []; waiting = waiting i; finished = finished i; since = 0 }
 
--- and so are machines of such parts
+-- machines of parts that are the same but for numbers of records are the same but for order
 same_machine : (m n : MachineView) → unstamped m.paths.one ≡ unstamped n.paths.one → unstamped m.paths.two ≡ unstamped n.paths.two
     → m.count ≡ n.count → m.alarm ≡ n.alarm → but_for_order m ≡ but_for_order n
 same_machine m n first second count alarm =
     λ i. record { paths = record { one = first i; two = second i }; writes = []; count = count i; alarm = alarm i }
 
--- what has finished does not wait
+-- a path that has finished does not wait
 done_waits : (part : Part) → IsFit part → part.finished ≡ true → part.waiting ≡ None
 done_waits part fit done = go part.waiting refl
   where
@@ -165,7 +165,7 @@ done_waits part fit done = go part.waiting refl
     go None e = e
     go (Some code) e = let open_still = fit code e in absurd cc
 
--- what both told is all that there is
+-- if no path waits, the records of the machine are as many as both paths told
 told_count : (m : MachineView) (t u : Told) → IsTold m t u → m.paths.one.waiting ≡ None → m.paths.two.waiting ≡ None
     → m.count ≡ t.records + u.records
 told_count m t u told first second =
@@ -173,7 +173,7 @@ told_count m t u told first second =
     let two : waits m.paths.two.waiting ≡ 0 = ap waits second in
     let all = told.count in omega arith
 
--- where no part has a race, two runs that finish agree
+-- if no part has a race, two runs of the machine that finish agree
 pub runs_agree : (b d : Blocks) (k : Known b) (l : Known d) → IsFree (path_of b k) (path_of d l) → (first second : PathView)
     → k.In 0 first → l.In 0 second → (turns others : List Path)
     → AreDone (run (tapes_with b d) (opening first second) (turns_of turns)) → AreDone (run (tapes_with b d) (opening first second) (turns_of others))

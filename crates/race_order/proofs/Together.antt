@@ -1,5 +1,5 @@
--- Two paths with shared variables: where no part has a race, all runs that finish come to one
--- state.
+-- Two paths of Alone with shared variables: if no part has a race, all runs that finish come to one
+-- state, since each path goes within a part as if it were alone. For Runs.
 use Rattle.std.proofs.Common.{◌≡◌, ℕ, zero, suc, ◌<◌, ◌⊎◌, inl, inr, [], refl, ap, sym, subst, ◌∙◌, arith}
 use Rattle.std.proofs.Math.Path.{fun_ext}
 use Rattle.nc_number.proofs.Counts.{last_or_before}
@@ -11,11 +11,11 @@ pub record Pair (V : Type 0) (p q : PathOf V) : Type 0 where
   pub second : Half q.S V
   pub env : ℕ → V
 
--- a pair of these
+-- a pair of these two paths and these variables
 abbrev pub pair_at : {V : Type 0} → (p q : PathOf V) → Half p.S V → Half q.S V → (ℕ → V) → Pair V p q
 pair_at p q h g env = record { first = h; second = g; env = env }
 
--- a path behind its wait; one that does not wait stays
+-- a path behind its wait, which runs on with nothing read
 abbrev pub behind_wait : {V : Type 0} → (p : PathOf V) → Half p.S V → Half p.S V
 behind_wait p h = half_at (p.pass h.state) [] Running
 
@@ -26,7 +26,7 @@ pub data Goes {V : Type 0} (p q : PathOf V) (m : Pair V p q) : Pair V p q → Ty
   meet : m.first.mode ≡ Waiting → m.second.mode ≡ Waiting
       → Goes p q m (pair_at p q (behind_wait p m.first) (behind_wait q m.second) m.env)
 
--- a run of the pair: some turns, and meetings where both wait
+-- a run of the pair: some turns, and meetings if both wait
 pub data IsRun {V : Type 0} (p q : PathOf V) (start : Pair V p q) : Pair V p q → Type 0 where
   begun : IsRun p q start start
   gone : (m to : Pair V p q) → IsRun p q start m → Goes p q m to → IsRun p q start to
@@ -36,15 +36,16 @@ pub record IsFree {V : Type 0} (p q : PathOf V) : Type 0 where
   pub first : (n v : ℕ) → p.may n v → q.names n v → ⊥
   pub second : (n v : ℕ) → q.may n v → p.names n v → ⊥
 
--- Within part n, which it began there: this many turns alone lead to where the path is, and to the
--- values that its part names.
+-- A path within part n: from `x`, where it began the part, k turns alone lead to its state, and to
+-- the same values of the variables that the part names.
 record Side {V : Type 0} (p : PathOf V) (n : ℕ) (x : Solo p.S V) (h : Half p.S V) (env : ℕ → V) : Type 0 where
   k : ℕ
   half : h ≡ (alone p k x).half
   agree : Agree p n env (alone p k x).env
   stands : Stands p n h.mode h.state
 
--- both paths stand in part n, each as if it had run alone since the part began
+-- both paths stand in part n, each as if it had run alone since the part began (`m0`); a variable
+-- that neither may write in this part is as it was then
 record IsWithin {V : Type 0} (p q : PathOf V) (n : ℕ) (m0 m : Pair V p q) : Type 0 where
   first : Side p n (solo_at m0.first m0.env) m.first m.env
   second : Side q n (solo_at m0.second m0.env) m.second m.env
@@ -56,7 +57,7 @@ data Begins {V : Type 0} (p q : PathOf V) (start : Pair V p q) : ℕ → Pair V 
   behind : (n : ℕ) (m0 m : Pair V p q) → Begins p q start n m0 → IsWithin p q n m0 m → m.first.mode ≡ Waiting → m.second.mode ≡ Waiting
       → Begins p q start (suc n) (pair_at p q (behind_wait p m.first) (behind_wait q m.second) m.env)
 
--- a turn of the path itself
+-- a turn of the path itself is one turn more alone
 side_turns : {V : Type 0} → (p : PathOf V) (n : ℕ) (x : Solo p.S V) (h : Half p.S V) (env : ℕ → V) → Side p n x h env
     → Side p n x (turn p h env).half (turn p h env).env
 side_turns p n x h env s =
@@ -69,7 +70,7 @@ side_turns p n x h env s =
       stands = like.stands;
     }
 
--- a turn of the other one, which writes nothing that this part names
+-- a turn of the other path, which writes nothing that this part names, leaves the path as it was
 side_stays : {V : Type 0} → (p : PathOf V) (n : ℕ) (x : Solo p.S V) (h : Half p.S V) (env new : ℕ → V) → Side p n x h env
     → ((v : ℕ) → p.names n v → new v ≡ env v) → Side p n x h new
 side_stays p n x h env new s kept = record {
@@ -79,7 +80,7 @@ side_stays p n x h env new s kept = record {
   stands = s.stands;
 }
 
--- a turn of either path within the part keeps that
+-- behind a turn of either path both stand in part n, each as if it had run alone
 goes_within : {V : Type 0} → (p q : PathOf V) → IsFree p q → (n : ℕ) (m0 m : Pair V p q) → IsWithin p q n m0 m
     → IsWithin p q n m0 (pair_at p q (turn p m.first m.env).half m.second (turn p m.first m.env).env)
     × IsWithin p q n m0 (pair_at p q m.first (turn q m.second m.env).half (turn q m.second m.env).env)
@@ -100,7 +101,7 @@ goes_within p q free n m0 m w =
       },
     )
 
--- a part that begins has gone nowhere
+-- as a part begins, the path is where no turn alone leads
 begun_side : {V : Type 0} → (p : PathOf V) (n : ℕ) (h : Half p.S V) (env : ℕ → V) → Stands p n h.mode h.state → Side p n (solo_at h env) h env
 begun_side p n h env stands = record { k = 0; half = refl; agree = λ v _. refl; stands = stands }
 
@@ -111,7 +112,7 @@ record IsSomewhere {V : Type 0} (p q : PathOf V) (start m : Pair V p q) : Type 0
   begins : Begins p q start n m0
   within : IsWithin p q n m0 m
 
--- so does a turn or a meeting, in some part,
+-- behind a turn or a meeting the pair stands within some part
 goes_somewhere : {V : Type 0} → (p q : PathOf V) → IsFree p q → (start m to : Pair V p q) → IsSomewhere p q start m → Goes p q m to
     → IsSomewhere p q start to
 goes_somewhere p q free start m _ at one =
@@ -132,7 +133,7 @@ goes_somewhere p q free start m _ at (meet here there) =
       };
     }
 
--- and so each run
+-- behind each run the pair stands within some part
 run_somewhere : {V : Type 0} → (p q : PathOf V) → IsFree p q → (start m : Pair V p q) → Stands p 0 start.first.mode start.first.state
     → Stands q 0 start.second.mode start.second.state → IsRun p q start m → IsSomewhere p q start m
 run_somewhere p q free start _ here there begun = record {
@@ -148,7 +149,8 @@ run_somewhere p q free start _ here there begun = record {
 run_somewhere p q free start _ here there (gone m to before goes) =
     goes_somewhere p q free start m to (run_somewhere p q free start m here there before) goes
 
--- two sides of one part that are idle are one
+-- two states of a path in one part, in both of which it is idle, are one, and so are the values
+-- that the part names
 sides_meet : {V : Type 0} → (p : PathOf V) (n : ℕ) (x : Solo p.S V) (h g : Half p.S V) (env new : ℕ → V) → Side p n x h env → Side p n x g new
     → IsIdle h.mode → IsIdle g.mode → (h ≡ g) × ((v : ℕ) → p.names n v → env v ≡ new v)
 sides_meet p n x h g env new s t here there =
@@ -166,7 +168,7 @@ pub record AreIdle {V : Type 0} (p q : PathOf V) (m : Pair V p q) : Type 0 where
 abbrev pub IsStable : Type 0 → Type 0
 IsStable V = (a b : V) → ((a ≡ b → ⊥) → ⊥) → a ≡ b
 
--- a part leads to one idle pair
+-- one beginning of a part leads to one pair in which neither path runs
 one_pair : {V : Type 0} → IsStable V → (p q : PathOf V) (n : ℕ) (m0 m to : Pair V p q) → IsWithin p q n m0 m → IsWithin p q n m0 to → AreIdle p q m → AreIdle p q to
     → m ≡ to
 one_pair stable p q n m0 m to w u here there =
@@ -178,7 +180,7 @@ one_pair stable p q n m0 m to w u here there =
     ap (λ h. pair_at p q h m.second m.env) a.0
     ∙ (ap (λ g. pair_at p q to.first g m.env) b.0 ∙ ap (λ e. pair_at p q to.first to.second e) env)
 
--- two paths that wait don't run,
+-- if both paths wait, neither runs
 both_wait : {V : Type 0} → (p q : PathOf V) (m : Pair V p q) → m.first.mode ≡ Waiting → m.second.mode ≡ Waiting → AreIdle p q m
 both_wait p q m here there = record { first = subst IsIdle (sym here) waits; second = subst IsIdle (sym there) waits }
 
@@ -190,15 +192,15 @@ one_beginning stable p q start (suc n) _ _ (behind _ m0 m before w here there) (
     let same = one_pair stable p q n n0 m n' (subst (λ k. IsWithin p q n k m) from w) u (both_wait p q m here there) (both_wait p q n' here' there') in
     ap (λ k. pair_at p q (behind_wait p k.first) (behind_wait q k.second) k.env) same
 
--- the first path has finished
+-- both paths have finished
 abbrev pub AreFinished : {V : Type 0} → (p q : PathOf V) → Pair V p q → Type 0
 AreFinished p q m = (m.first.mode ≡ Finished) × (m.second.mode ≡ Finished)
 
--- and two that have finished don't
+-- if both paths have finished, neither runs
 finished_idle : {V : Type 0} → (p q : PathOf V) (m : Pair V p q) → AreFinished p q m → AreIdle p q m
 finished_idle p q m f = record { first = subst IsIdle (sym f.0) finished; second = subst IsIdle (sym f.1) finished }
 
--- where part n ended in waits
+-- part n ended with both paths at waits
 record IsPassed {V : Type 0} (p q : PathOf V) (start : Pair V p q) (n : ℕ) : Type 0 where
   m0 : Pair V p q
   m : Pair V p q
@@ -207,7 +209,7 @@ record IsPassed {V : Type 0} (p q : PathOf V) (start : Pair V p q) (n : ℕ) : T
   here : m.first.mode ≡ Waiting
   there : m.second.mode ≡ Waiting
 
--- before a part that begins each one ended in waits
+-- each part before one that begins ended with both paths at waits
 passed_before : {V : Type 0} → (p q : PathOf V) (start : Pair V p q) (n k : ℕ) (to : Pair V p q) → Begins p q start k to → n < k → IsPassed p q start n
 passed_before p q start n _ _ at_start h = absurd (omega arith)
 passed_before p q start n _ _ (behind k m0 m before w here there) h =
@@ -219,7 +221,7 @@ passed_before p q start n _ _ (behind k m0 m before w here there) h =
         subst (λ i. IsPassed p q start i) (sym e) all
     go (inr less) further = further less
 
--- a part does not both end in waits and end the run
+-- one part does not both end with the paths at waits and with the paths finished
 not_both : {V : Type 0} → IsStable V → (p q : PathOf V) (start : Pair V p q) (n : ℕ) (m0 m : Pair V p q) → Begins p q start n m0 → IsWithin p q n m0 m
     → AreFinished p q m → IsPassed p q start n → ⊥
 not_both stable p q start n m0 m b w f past =
@@ -232,7 +234,7 @@ not_both stable p q start n m0 m b w f past =
 less_same_more : (n k : ℕ) → (n < k) ⊎ ((n ≡ k) ⊎ (k < n))
 less_same_more n k = grind arith
 
--- so two runs that finish come to the same
+-- two runs that finish, each within some part, come to one pair
 ends_alike : {V : Type 0} → IsStable V → (p q : PathOf V) (start m to : Pair V p q) → IsSomewhere p q start m → IsSomewhere p q start to
     → AreFinished p q m → AreFinished p q to → m ≡ to
 ends_alike stable p q start m to a b fm ft = go (less_same_more a.n b.n)

@@ -1,4 +1,4 @@
--- A turn of the machine is none, one or two turns of the pair.
+-- A turn of the machine is none, one or two turns of the pair of Together: for Runs.
 use Rattle.std.proofs.Common.{◌≡◌, ◌==◌, ◌&&◌, nat_le, ℕ, ◌+◌, ◌≤◌, Bool, true, false, List, [], ◌∷◌, ◌++◌, Option, Some, None, refl, ap, sym, subst, ◌∙◌, if◌then◌else◌, arith, append-nil}
 use Rattle.std.proofs.lemmas.Bool.{le-leb}
 use Rattle.nc_number.specs.declared.path.Path.{Path}
@@ -37,11 +37,11 @@ abbrev pub waits : Option ℕ → ℕ
 waits None = 0
 waits (Some code) = 1
 
--- the values, at this record and any later one
+-- the variables hold these values now, and as long as nothing more is written
 abbrev pub Holds : MachineView → (ℕ → Var) → Type 0
 Holds m env = (v k : ℕ) → m.count ≤ k → value_after k v m.writes ≡ env v
 
--- what waits has not finished
+-- a path that waits has not finished
 abbrev pub IsFit : Part → Type 0
 IsFit part = (code : ℕ) → part.waiting ≡ Some code → part.finished ≡ false
 
@@ -56,9 +56,11 @@ pub record IsTold (m : MachineView) (t u : Told) : Type 0 where
   pub count : m.count ≡ (t.records + u.records) + (waits m.paths.one.waiting + waits m.paths.two.waiting)
   pub writes : AreMixed t.writes u.writes m.writes
 
--- the pair leads to what shows the machine
+-- a run of the pair leads from `from` to a pair that shows this machine, with these moves of both
 pub record IsShown (b d : Blocks) (k : Known b) (l : Known d) (from : Pair Var (path_of b k) (path_of d l)) (m : MachineView) (mine yours : List Moves) : Type 0 where
+  -- what the shared variables hold
   pub env : ℕ → Var
+  -- what the first path told, and what the second
   pub one_told : Told
   pub two_told : Told
   pub run : IsRun (path_of b k) (path_of d l) from (shown b d k l m mine yours one_told two_told env)
@@ -87,12 +89,12 @@ written_holds m env w holds v k late =
     go true = refl
     go false = refl
 
--- where the turn raises no alarm the pair leads there
+-- if a turn raises no alarm, a run of the pair leads to what shows the machine behind it
 abbrev pub Shows : (b d : Blocks) → Known b → Known d → MachineView → List Moves → List Moves → Told → Told → (ℕ → Var) → TurnResult → Type 0
 Shows b d k l m mine yours t u env r =
     r.machine.alarm ≡ None → IsShown b d k l (shown b d k l m mine yours t u env) r.machine (mine ++ moves_in r.turn) yours
 
--- a turn of the first path
+-- a turn of the first path that raises no alarm is shown by a run of the pair
 pub own_shown : (b d : Blocks) (k : Known b) (l : Known d) (path : Path) (m : MachineView) (mine yours : List Moves) (t u : Told)
     (env : ℕ → Var) → Holds m env → IsTold m t u → IsFit m.paths.one → IsFit m.paths.two
     → (own_turn b path m).machine.alarm ≡ None

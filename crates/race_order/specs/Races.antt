@@ -1,5 +1,6 @@
--- Races: shared variables whose values may depend on which path comes first.
--- race_report takes `HasNoRace`, `IsRace`, `PartMayWrite` and `PartNames`.
+-- What a race is: a shared variable whose value may depend on which path comes first, by the texts
+-- of both tapes alone. Part n of a path are the blocks that it may run behind n waits.
+-- race_report takes `HasNoRace`, `IsRace`, `PartMayWrite` and `PartNames`, and finds the races.
 use Rattle.std.specs.Prelude.{◌≡◌, ℕ, Bool, true}
 use Rattle.tape_flow.specs.declared.flow.Flow.{Flow}
 use Rattle.part_order.specs.Parts.{IsInPart}
@@ -22,7 +23,7 @@ pub record IsRace (shared : ℕ → Bool) (writer other : Flow) (n v : ℕ) : Ty
   pub writes : PartMayWrite writer n v
   pub names : PartNames other n v
 
--- whichever path writes, and behind however many waits
+-- the pair has no race: whichever path writes, and behind however many waits
 pub record HasNoRace (shared : ℕ → Bool) (left right : Flow) : Type 0 where
   pub first : (n v : ℕ) → IsRace shared left right n v → ⊥
   pub second : (n v : ℕ) → IsRace shared right left n v → ⊥

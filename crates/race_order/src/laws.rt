@@ -1,10 +1,10 @@
-//! What holds of every pair of tapes, for the crates above: a caller of the function has the law.
-//! These laws are for readers: no other crate calls them.
+//! The law that a pair without a race comes to one outcome, whichever path has which turn.
+//! No crate calls the function; race_report takes the lemma of its proof (proofs/Flows.antt).
 ghost use Rattle.block_order.specs.Labels.{IsUnforked};
 ghost use Rattle.tape_flow.specs.declared.flow.Flow.{Flow};
 ghost use Rattle.race_order.specs.Agreement.{RaceFreeRunsAgree};
 
-/// Where no part of one path may write what the same part of the other names, all runs that finish
+/// If no part of one path may write what the same part of the other names, all runs that finish
 /// come to the same machine, but for the order of records and their numbers, and to the same moves
 /// of each path.
 pub fn race_free_runs_agree()

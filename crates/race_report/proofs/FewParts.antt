@@ -1,4 +1,4 @@
--- An accepted pair has few parts, and equally many in both lists.
+-- An accepted pair has few parts, and equally many in both lists: for `race_of` (src/racing.rt).
 use Rattle.std.proofs.Common.{◌≡◌, ℕ, suc, ◌≤◌, Bool, true, List, [], ◌∷◌, length, Option, refl, sym, subst, arith}
 use Rattle.nc_number.specs.declared.both.Both.{Both}
 use Rattle.nc_number.specs.declared.limits.TheConstants.{MOST_LABELS}
@@ -35,7 +35,7 @@ few_parts left right pair =
 pub have_waits : (left right : Flow) → IsAcceptedPair left.order right.order → HaveWaits left right (path_waits left.order)
 have_waits left right pair = record { one = refl; two = sym (waits_agree left.order right.order pair.same) }
 
--- so each list of least lines is short
+-- the list of path 1's least lines of an accepted pair is no longer than the code allows
 pub few_lines : (left right l r : Flow) (v : ℕ) (lines : Both PathLines) → l ≡ left → IsAcceptedPair left.order right.order → ArePairLines l r v lines
     → length lines.one.writes.items ≤ 65537
 few_lines left right l r v lines at pair are =

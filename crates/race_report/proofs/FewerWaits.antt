@@ -1,4 +1,6 @@
--- A race behind more waits than the lists have is one of a round before too.
+-- A race behind more waits than the lists of labels have is one of a round before too, since at an
+-- M99 of the main program both paths begin anew. So the parts of one round are enough: for
+-- FirstRaces.
 use Rattle.std.proofs.Common.{◌≡◌, ℕ, zero, suc, ◌+◌, ◌-◌, ◌<◌, ◌≤◌, ◌⊎◌, inl, inr, Bool, refl, subst, sym, arith}
 use Rattle.nc_number.proofs.Counts.{le_or_lt}
 use Rattle.nc_number.specs.declared.path.Path.{Path}
@@ -18,12 +20,12 @@ pub record HaveWaits (left right : Flow) (waits : ℕ) : Type 0 where
   pub one : path_waits left.order ≡ waits
   pub two : path_waits right.order ≡ waits
 
--- the writer has so many waits in a round,
+-- the list of labels of the path that writes has so many waits
 waits_of_writer : (left right : Flow) (waits : ℕ) → HaveWaits left right waits → (p : Path) → path_waits (writer_of p left right).order ≡ waits
 waits_of_writer left right waits have One = have.one
 waits_of_writer left right waits have Two = have.two
 
--- and so has the other path
+-- the list of labels of the path that does not write has so many waits
 waits_of_other : (left right : Flow) (waits : ℕ) → HaveWaits left right waits → (p : Path) → path_waits (other_of p left right).order ≡ waits
 waits_of_other left right waits have One = have.two
 waits_of_other left right waits have Two = have.one
@@ -35,7 +37,7 @@ part_down flow waits n program place is some inside =
     (parts_repeat flow.order).before n program place some
     (subst (λ w. IsInPart flow.order (n + w) program place) (sym is) inside)
 
--- so a race behind one round more is a race behind one round less
+-- a race behind one round of waits more is a race of the same lines behind one round less
 one_round : (shared : ℕ → Bool) (left right : Flow) (waits n : ℕ) → HaveWaits left right waits → (race : Race) → 0 < n → race.after ≡ n + waits
     → IsRaceAt shared left right race → IsRaceAt shared left right (behind n race)
 one_round shared left right waits n have race some e is =
@@ -67,8 +69,8 @@ one_round shared left right waits n have race some e is =
       );
     }
 
--- the race stands behind no more waits than the lists have, and behind fewer where it did not
--- before
+-- the race is one of the same lines behind n waits, which are no more than the lists have, and no
+-- more than it was behind
 pub record IsDown (shared : ℕ → Bool) (left right : Flow) (waits : ℕ) (race : Race) : Type 0 where
   pub n : ℕ
   pub few : n ≤ waits
@@ -111,7 +113,7 @@ down shared left right waits (suc fuel) have race within is =
     go (inl few) again = record { n = race.after; few = few; fewer = inl refl; is = is }
     go (inr more) again = further waits refl more again
 
--- and so each race has one of the same lines behind at most as many waits as the lists have
+-- each race is one of the same lines behind at most as many waits as the lists have
 pub down_to : (shared : ℕ → Bool) (left right : Flow) (waits : ℕ) → HaveWaits left right waits → (race : Race)
     → IsRaceAt shared left right race → IsDown shared left right waits race
 down_to shared left right waits have race is = down shared left right waits race.after have race (omega arith) is

@@ -1,4 +1,5 @@
--- The first race of a variable, among the least lines of the parts.
+-- What is found among the least lines of the parts is the first race of the variable: for
+-- `first_race` and `race_of` (src/racing.rt).
 use Rattle.std.proofs.Common.{◌≡◌, ℕ, zero, suc, ◌+◌, ◌<◌, ◌≤◌, ◌⊎◌, inl, inr, Bool, true, List, [], ◌∷◌, length, Option, Some, None, is_some, false, slice_get, refl, ap, sym, subst, ◌∙◌, arith}
 use Rattle.nc_number.specs.declared.both.Both.{Both}
 use Rattle.nc_number.specs.declared.path.Path.{Path}
@@ -17,13 +18,13 @@ use Rattle.race_report.specs.Found.{race_between, or_race, race_at, first_from, 
 use Rattle.race_report.proofs.SoughtLines.{SoughtAt, line_sought, sought_is, part_writes_at, part_names_at}
 use Rattle.race_report.proofs.FewerWaits.{behind, HaveWaits, down_to}
 
--- below the length a list has what `line_at` tells
+-- a list of lines has, at each place below its length, what `line_at` tells
 at_place : (xs : List (Option ℕ)) (n : ℕ) → n < length xs → slice_get xs n ≡ Some (line_at xs n)
 at_place [] n less = absurd (omega arith)
 at_place (x ∷ xs) zero less = refl
 at_place (x ∷ xs) (suc n) less = at_place xs n (omega arith)
 
--- the least line of a part, of those that are looked for
+-- what a list of least lines has for a part is the least line of that part among those looked for
 sought_least : (flow : Flow) (sought : Sought) (v n : ℕ) (found : List (Option ℕ)) → AreLeastLines flow.order (sought_line flow sought v) found
     → n < length found → IsLeast (LineInPart flow.order (sought_line flow sought v) n) (line_at found n)
 sought_least flow sought v n found are less = are.least n (line_at found n) (at_place found n less)
@@ -40,7 +41,8 @@ least_at flow sought v n None never = λ k at. never k (sought_is flow sought v 
 least_at flow sought v n (Some line) least =
     (line_sought flow sought v n line least.0, λ k at. least.1 k (sought_is flow sought v n k at))
 
--- the least lines of the writer and of the other path
+-- of the races of one variable, one number of waits and one writer, this one has the least lines;
+-- or there is none
 abbrev IsBetween : (ℕ → Bool) → Flow → Flow → ℕ → ℕ → Path → Option Race → Type 0
 IsBetween shared left right v n writer None =
     (race : Race) → race.variable ≡ v → race.after ≡ n → race.writer ≡ writer → IsRaceAt shared left right race → ⊥
@@ -79,7 +81,7 @@ module _ (shared : ℕ → Bool) (left right : Flow) (v : ℕ) (is_shared : shar
       less : {w o : ℕ} → write ≤ w → name ≤ o → (write < w) ⊎ ((write ≡ w) × (name ≤ o))
       less one two = grind arith
 
-  -- the first race behind so many waits
+  -- of the races of the variable behind so many waits this is the first; or there is none
   abbrev IsAt : ℕ → Option Race → Type 0
   IsAt n None = (race : Race) → race.variable ≡ v → race.after ≡ n → IsRaceAt shared left right race → ⊥
   IsAt n (Some race) =
@@ -120,7 +122,7 @@ module _ (shared : ℕ → Bool) (left right : Flow) (v : ℕ) (is_shared : shar
         (between n One (line_at lines.one.writes.items n) (line_at lines.two.names.items n) one_writes two_names)
         (between n Two (line_at lines.two.writes.items n) (line_at lines.one.names.items n) two_writes one_names)
 
-    -- in the parts from one on: the first of them, and none before it
+    -- of the races of the variable in the parts from n on this is the first; or there is none
     abbrev IsFrom : ℕ → Option Race → Type 0
     IsFrom n None = (race : Race) → race.variable ≡ v → n ≤ race.after → race.after ≤ waits → IsRaceAt shared left right race → ⊥
     IsFrom n (Some race) =
@@ -152,7 +154,7 @@ module _ (shared : ℕ → Bool) (left right : Flow) (v : ℕ) (is_shared : shar
     from (suc count) n all =
         or_later n (race_at lines v n) (first_from lines v count (suc n)) (at n (omega arith)) (from count (suc n) (omega arith))
 
-    -- what is found is the answer for all numbers of waits
+    -- what is found in the parts of one round is the answer for all numbers of waits
     first_is : (o : Option Race) → IsFrom 0 o → IsAnswer shared left right v o
     first_is None never = (
       λ n is. race_never n One (part_writes_at left n v is.writes).0 (part_names_at right n v is.names).0
@@ -190,7 +192,7 @@ module _ (shared : ℕ → Bool) (left right : Flow) (v : ℕ) (is_shared : shar
         let w = have.one in
         first_is (first_from lines v (length lines.one.writes.items) 0) (from (length lines.one.writes.items) 0 (omega arith))
 
--- in the parts that are left stands the first race of all
+-- the loop over the parts: the first race in those that are left is the first of all
 pub record IsLeft (lines : Both PathLines) (v after total : ℕ) : Type 0 where
   pub count : ℕ
   pub all : after + count ≡ total
@@ -200,7 +202,7 @@ pub record IsLeft (lines : Both PathLines) (v after total : ℕ) : Type 0 where
 pub left_start : (lines : Both PathLines) (v total : ℕ) → IsLeft lines v 0 total
 left_start lines v total = record { count = total; all = omega arith; same = refl }
 
--- where a part has a race, it is the first one
+-- if the part at hand has a race, it is the first of all
 pub left_here : (lines : Both PathLines) (v after total : ℕ) → IsLeft lines v after total → after < total
     → is_some (race_at lines v after) ≡ true → race_at lines v after ≡ first_from lines v total 0
 left_here lines v after total left less some = go left.count left.all ∙ left.same
@@ -213,7 +215,7 @@ left_here lines v after total left less some = go left.count left.all ∙ left.s
     go zero all = absurd (omega arith)
     go (suc c) all = by (race_at lines v after) c refl
 
--- where it has none, the first race is in the later parts
+-- if the part at hand has none, the first race is in the later parts
 pub left_next : (lines : Both PathLines) (v after total : ℕ) → IsLeft lines v after total → after < total
     → is_some (race_at lines v after) ≡ false → IsLeft lines v (after + 1) total
 left_next lines v after total left less none = go left.count left.all left.same
@@ -233,7 +235,7 @@ left_next lines v after total left less none = go left.count left.all left.same
           same = ap (λ k. first_from lines v c k) (sym next) ∙ (sym (by (race_at lines v after) c refl) ∙ same);
         }
 
--- behind the last part there is none
+-- if no part is left, there is no race
 pub left_none : (lines : Both PathLines) (v after total : ℕ) → IsLeft lines v after total → total ≤ after → None ≡ first_from lines v total 0
 left_none lines v after total left past = go left.count left.all ∙ left.same
   where

@@ -1,4 +1,4 @@
--- The lemmas of this crate, each file by its subject.
+-- The lemmas of race_report, each file by its subject. lathe_top takes SameForms.
 mod TreeReads
 mod Slots
 mod NoMeeting

@@ -1,4 +1,5 @@
--- The list of races, as it takes one variable after another.
+-- The list of races as it takes one variable after another: for `add_race` and `races`
+-- (src/racing.rt).
 use Rattle.std.proofs.Common.{◌≡◌, ℕ, zero, suc, ◌+◌, ◌<◌, ◌≤◌, ◌⊎◌, inl, inr, Bool, true, false, List, [], ◌∷◌, ◌++◌, Some, None, sym, subst, ◌∙◌, arith}
 use Rattle.nc_number.proofs.Counts.{last_or_before}
 use Rattle.cell_settings.specs.declared.settings.Settings.{Settings}
@@ -8,42 +9,42 @@ use Rattle.race_report.specs.declared.race.Race.{Race}
 use Rattle.race_report.specs.RaceLists.{shared_by, IsFirstRace, AreFirst, AreRising, HasVariable, IsRaceList}
 use Rattle.race_report.specs.Found.{AreBelow, IsListedBelow, IsAnswer}
 
--- a race of a higher variable is added: the variables still rise,
+-- if a race of a higher variable is added, the variables of the list still rise
 rising_more : (low v : ℕ) (races : List Race) (race : Race) → low < v → race.variable ≡ v → AreRising low races → AreBelow v races
     → AreRising low (races ++ race ∷ [])
 rising_more low v [] race above is rising below = (omega arith, tt)
 rising_more low v (r ∷ races) race above is rising below =
     (rising.0, rising_more r.variable v races race below.0 is rising.1 below.1)
 
--- all of them are below the next one,
+-- if a race of the variable v is added, all variables of the list are below v + 1
 below_more : (v : ℕ) (races : List Race) (race : Race) → race.variable ≡ v → AreBelow v races → AreBelow (v + 1) (races ++ race ∷ [])
 below_more v [] race is below = (omega arith, tt)
 below_more v (r ∷ races) race is below = ((let less = below.0 in omega arith), below_more v races race is below.1)
 
--- and below any later one;
+-- variables that are below one are below each later one
 below_later : (v w : ℕ) (races : List Race) → v ≤ w → AreBelow v races → AreBelow w races
 below_later v w [] le below = tt
 below_later v w (r ∷ races) le below = ((let less = below.0 in omega arith), below_later v w races le below.1)
 
--- each is still the first of its variable,
+-- if a first race is added, each race of the list is still the first of its variable
 firsts_more : (shared : ℕ → Bool) (left right : Flow) (races : List Race) (race : Race) → AreFirst shared left right races
     → IsFirstRace shared left right race → AreFirst shared left right (races ++ race ∷ [])
 firsts_more shared left right [] race all one = (one, tt)
 firsts_more shared left right (r ∷ races) race all one = (all.0, firsts_more shared left right races race all.1 one)
 
--- the variables from before have their race,
+-- if a race is added, the variables from before still have theirs
 had_before : (v : ℕ) (races : List Race) (race : Race) → HasVariable v races → HasVariable v (races ++ race ∷ [])
 had_before v [] race has = absurd has
 had_before v (r ∷ races) race (inl e) = inl e
 had_before v (r ∷ races) race (inr has) = inr (had_before v races race has)
 
--- and so has the new one
+-- if a race is added, its variable has one
 has_now : (v : ℕ) (races : List Race) (race : Race) → race.variable ≡ v → HasVariable v (races ++ race ∷ [])
 has_now v [] race e = inl e
 has_now v (r ∷ races) race e = inr (has_now v races race e)
 
 module _ (shared : ℕ → Bool) (left right : Flow) where
-  -- a variable with a race
+  -- with the first race of the variable v added, the list is that of the variables up to v
   pub listed_one : (v : ℕ) (races : List Race) (race : Race) → 0 < v → IsListedBelow shared left right v races
       → IsAnswer shared left right v (Some race) → IsListedBelow shared left right (v + 1) (races ++ race ∷ [])
   listed_one v races race some listed is = record {
@@ -62,7 +63,7 @@ module _ (shared : ℕ → Bool) (left right : Flow) where
       two n u there (inl e) = has_now u races race (is.0 ∙ sym e)
       two n u there (inr less) = had_before u races race (listed.two n u less there)
 
-  -- a variable without one
+  -- if the variable v has no race, the list is that of the variables up to v
   pub listed_none : (v : ℕ) (races : List Race) → IsListedBelow shared left right v races
       → IsAnswer shared left right v None → IsListedBelow shared left right (v + 1) races
   listed_none v races listed is = record {
@@ -81,7 +82,7 @@ module _ (shared : ℕ → Bool) (left right : Flow) where
       two n u there (inl e) = absurd (is.1 n (subst (λ k. IsRace shared right left n k) e there))
       two n u there (inr less) = listed.two n u less there
 
-  -- variables that are not shared have no race
+  -- over variables that are not shared, which have no race, the list stays as it is
   pub listed_on : (v w : ℕ) (races : List Race) → v ≤ w → ((u : ℕ) → v ≤ u → u < w → shared u ≡ false)
       → IsListedBelow shared left right v races → IsListedBelow shared left right w races
   listed_on v w races le unshared listed = record {
@@ -134,27 +135,27 @@ module _ (shared : ℕ → Bool) (left right : Flow) where
       two n u there (inl less) = listed.two n u less there
       two n u there (inr more) = let never = unshared u more in let is = there.is_shared in absurd cc
 
--- which variables both paths share
+-- no variable below #100 is shared
 pub before_the_first : (settings : Settings) (u : ℕ) → u < 100 → shared_by settings u ≡ false
 before_the_first settings u less = grind arith
 
--- no variable between the shared ones from #100 and #500 is shared,
+-- no variable between the shared ones from #100 and those from #500 is shared
 pub between_both : (settings : Settings) (u : ℕ) → 100 + settings.shared100 ≤ u → u < 500 → shared_by settings u ≡ false
 between_both settings u more less = grind arith
 
--- and none behind those from #500
+-- no variable behind the shared ones from #500 is shared
 pub behind_the_last : (settings : Settings) (u : ℕ) → 500 + settings.shared500 ≤ u → settings.shared100 ≤ 100 → shared_by settings u ≡ false
 behind_the_last settings u more few = grind arith
 
--- those from #100 on are shared, as many as the settings say,
+-- the variables from #100 on are shared, as many as the settings say
 pub first_shared : (settings : Settings) (u : ℕ) → 100 ≤ u → u < 100 + settings.shared100 → shared_by settings u ≡ true
 first_shared settings u from less = grind arith
 
--- and so are those from #500 on
+-- the variables from #500 on are shared, as many as the settings say
 pub second_shared : (settings : Settings) (u : ℕ) → 500 ≤ u → u < 500 + settings.shared500 → shared_by settings u ≡ true
 second_shared settings u from less = grind arith
 
--- a shared variable has no number 0
+-- the number of a shared variable is above 0
 pub above_zero : (settings : Settings) (v : ℕ) → shared_by settings v ≡ true → 0 < v
 above_zero settings zero e = let none = before_the_first settings 0 (omega arith) in absurd cc
 above_zero settings (suc v) e = omega arith

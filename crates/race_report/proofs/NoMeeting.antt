@@ -1,4 +1,5 @@
--- A variable to which the paths do not both come has no race.
+-- A variable that no path may write while the other names it, in whatever parts, has no race: for
+-- `race_of` (src/racing.rt), which looks no further then.
 use Rattle.std.proofs.Common.{◌≡◌, ◌==◌, ℕ, zero, suc, ◌||◌, ◌&&◌, Bool, true, false, List, [], ◌∷◌, Some, None, slice_get, refl, ap, sym, subst, ◌∙◌}
 use Rattle.nc_number.proofs.Bools.{both_true, or_left, or_right}
 use Rattle.block_forms.specs.declared.block.FlowBlock.{FlowBlock}
@@ -14,7 +15,7 @@ use Rattle.race_report.specs.Meeting.{some_block, some_program, may_meet, may_ra
 use Rattle.race_report.specs.Found.{IsAnswer}
 use Rattle.race_report.proofs.SoughtLines.{part_writes_at, part_names_at}
 
--- a block that does what is looked for is found among the blocks of its program,
+-- a block that does what is looked for is found among the blocks of its program
 block_at : (sought : Sought) (v : ℕ) (blocks : List FlowBlock) (place : ℕ) (block : FlowBlock) → slice_get blocks place ≡ Some block
     → does sought v block ≡ true → some_block sought v blocks ≡ true
 block_at sought v [] place block at e = absurd cc
@@ -23,7 +24,7 @@ block_at sought v (b ∷ blocks) zero block at e =
 block_at sought v (b ∷ blocks) (suc place) block at e =
     or_right (does sought v b) (some_block sought v blocks) (block_at sought v blocks place block at e)
 
--- and among those of all programs
+-- a block that does what is looked for is found among the blocks of all programs
 program_at : (sought : Sought) (v : ℕ) (programs : List FlowProgram) (q place : ℕ) (block : FlowBlock)
     → flow_block programs q place ≡ Some block → does sought v block ≡ true → some_program sought v programs ≡ true
 program_at sought v [] q place block at e = absurd cc
@@ -40,13 +41,13 @@ program_at sought v (p ∷ programs) q place block at e = go (p.number == q) ref
         or_right (some_block sought v p.blocks) (some_program sought v programs)
         (rest (subst (λ f. slice_get (flow_blocks f) place ≡ Some block) found at))
 
--- what some part may write some block may write
+-- if some part of a path may write the variable, some block of its tape may
 writes_somewhere : (flow : Flow) (n v : ℕ) → PartMayWrite flow n v → some_program Writes v flow.programs ≡ true
 writes_somewhere flow n v part =
     let at = (part_writes_at flow n v part).1 in
     program_at Writes v flow.programs at.0 at.1 at.2 at.4 (subst (λ found. found_may_write found v ≡ true) at.4 at.5)
 
--- what some part names some block names
+-- if some part of a path names the variable, some block of its tape does
 names_somewhere : (flow : Flow) (n v : ℕ) → PartNames flow n v → some_program Names v flow.programs ≡ true
 names_somewhere flow n v part =
     let at = (part_names_at flow n v part).1 in
@@ -58,14 +59,15 @@ meets shared writer other n v is =
     both_true (some_program Writes v writer.programs) (some_program Names v other.programs)
     (writes_somewhere writer n v is.writes) (names_somewhere other n v is.names)
 
--- where there are no such blocks the variable has no race
+-- a variable that can't have a race by the tapes has none
 pub no_meeting : (shared : ℕ → Bool) (left right : Flow) (v : ℕ) → may_race v left right ≡ false → IsAnswer shared left right v None
 no_meeting shared left right v none = (
   λ n is. let some = or_left (may_meet v left right) (may_meet v right left) (meets shared left right n v is) in absurd cc,
   λ n is. let some = or_right (may_meet v left right) (may_meet v right left) (meets shared right left n v is) in absurd cc,
 )
 
--- the same of the flows that are at hand
+-- a variable that can't have a race by the flows that the code borrowed, which are those of the
+-- pair, has none
 pub no_meeting_of : (shared : ℕ → Bool) (left right l r : Flow) (v : ℕ) (may : Bool) → l ≡ left → r ≡ right → may ≡ may_race v l r → may ≡ false
     → IsAnswer shared left right v None
 no_meeting_of shared left right l r v may at also is none =

@@ -1,5 +1,5 @@
 -- A pair has one list of races: each entry is the first race of its variable, and the variables
--- rise.
+-- rise. For the law `a_pair_has_one_list_of_races` (src/laws.rt) and SameForms.
 use Rattle.std.proofs.Common.{◌≡◌, ℕ, ◌<◌, ◌⊎◌, inl, inr, Bool, List, [], ◌∷◌, refl, sym, subst, ◌∙◌, arith}
 use Rattle.nc_number.specs.declared.path.Path.{Path}
 use Rattle.nc_number.specs.declared.path.Path.TheVariants.{One, Two}
@@ -8,18 +8,18 @@ use Rattle.race_order.specs.Races.{IsRace}
 use Rattle.race_report.specs.declared.race.Race.{Race}
 use Rattle.race_report.specs.RaceLists.{MayWriteAt, NamesAt, writer_of, other_of, IsRaceAt, HasLessLines, WritesFirst, ComesFirst, IsFirstRace, AreFirst, AreRising, HasVariable, IsRaceList}
 
--- each of two comes before the other only where they are one
+-- two races that each have no greater lines than the other have the same lines
 same_lines : (a b : Race) → HasLessLines a b → HasLessLines b a → (a.write_line ≡ b.write_line) × (a.other_line ≡ b.other_line)
 same_lines a b (inl less) (inl more) = absurd (omega arith)
 same_lines a b (inl less) (inr (e, le)) = absurd (omega arith)
 same_lines a b (inr (e, le)) (inl more) = absurd (omega arith)
 same_lines a b (inr (e, le)) (inr (e', ge)) = (e, (let both : a.other_line ≡ b.other_line = omega arith in both))
 
--- the two paths differ
+-- path 1 is not path 2
 apart : One ≡ Two → ⊥
 apart e = absurd cc
 
--- of two races that each write first, writer and lines are the same
+-- two races that each come first by writer and lines have the same writer and lines
 same_writer : (a b : Race) → WritesFirst a b → WritesFirst b a
     → (a.writer ≡ b.writer) × (a.write_line ≡ b.write_line) × (a.other_line ≡ b.other_line)
 same_writer a b (inl (one, two)) (inl (one', two')) = absurd (apart (sym one ∙ two'))
@@ -56,7 +56,8 @@ not_before : (v : ℕ) (y : Race) (ys : List Race) → AreRising y.variable ys �
 not_before v y ys rising less (inl e) = absurd (omega arith)
 not_before v y ys rising less (inr has) = let more = above y.variable v ys rising has in absurd (omega arith)
 
--- what lists with the same first variable have behind it is among each other
+-- if the variables of one list are among those of another with the same first variable, so are
+-- those behind the first
 among_rest : (x y : Race) (xs ys : List Race) → x.variable ≡ y.variable → AreRising x.variable xs
     → AreAmong (x ∷ xs) (y ∷ ys) → AreAmong xs ys
 among_rest x y xs ys e rising among v has = go (among v (inr has))

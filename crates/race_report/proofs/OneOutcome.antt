@@ -1,4 +1,5 @@
--- A pair whose list of races is empty has none, and so one outcome.
+-- A pair whose list of races is empty has no race, and so one outcome: for the law
+-- `a_pair_without_races_has_one_outcome` (src/laws.rt).
 use Rattle.std.proofs.Common.{[], refl}
 use Rattle.nc_number.specs.declared.path.Path.TheVariants.{One, Two}
 use Rattle.cell_settings.specs.declared.settings.Settings.{Settings}
@@ -14,7 +15,8 @@ use Rattle.race_report.specs.Outcomes.{HasOneOutcome}
 none : (settings : Settings) (left right : Flow) → IsRaceList (shared_by settings) left right [] → HasNoRace (shared_by settings) left right
 none settings left right list = record { first = λ n v is. list.one n v is; second = λ n v is. list.two n v is }
 
--- so any two orders of turns after which both paths have finished come to the same
+-- of an accepted pair with an empty list any two orders of turns after which both paths have
+-- finished come to the same
 pub one_outcome : (settings : Settings) (left right : Flow) → IsAcceptedPair left.order right.order
     → IsRaceList (shared_by settings) left right [] → HasOneOutcome settings left right
 one_outcome settings left right pair list turns others done also =

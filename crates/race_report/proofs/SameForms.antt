@@ -1,4 +1,5 @@
--- The races of a pair depend on what its tapes say, and not on where that lies in memory.
+-- The races of a pair depend on what its tapes say (the forms of their blocks), and not on where
+-- that lies in memory.
 -- lathe_top takes `same_list`.
 use Rattle.std.proofs.Common.{◌≡◌, ◌==◌, ℕ, zero, suc, Bool, true, false, find, List, [], ◌∷◌, map, Option, Some, None, slice_get, refl, ap, sym, subst, ◌∙◌}
 use Rattle.std.specs.Option.{option_map}
@@ -23,42 +24,42 @@ use Rattle.race_report.specs.RaceLists.{MayWriteAt, NamesAt, writer_of, other_of
 use Rattle.race_report.proofs.SoughtLines.{part_writes_at, part_names_at}
 use Rattle.race_report.proofs.OneList.{one_list}
 
--- what a block names and may write, by its form
+-- the form of a block names the variable
 abbrev form_names : Form → ℕ → Bool
 form_names (OfWords dialect words) v = words_name words v
 form_names (OfSentence sentence) v = sentence_names sentence v
 
--- the statement may write the variable, as its form says
+-- a block of this form may write the variable
 abbrev form_may_write : Form → ℕ → Bool
 form_may_write (OfWords dialect words) v = false
 form_may_write (OfSentence sentence) v = sentence_may_write sentence v
 
--- what a block names
+-- a block names the variables that its form names
 names_by_form : (body : FlowBody) (v : ℕ) → body_names body v ≡ form_names (form_of body) v
 names_by_form (Words words) v = refl
 names_by_form (Statement statement) v = refl
 
--- and may write is what its form does
+-- a block may write the variables that its form may write
 writes_by_form : (body : FlowBody) (v : ℕ) → body_may_write body v ≡ form_may_write (form_of body) v
 writes_by_form (Words words) v = refl
 writes_by_form (Statement statement) v = refl
 
--- the form of a block of a program, by the forms of the programs
+-- the forms of the blocks of a program, and none of no program
 abbrev form_blocks : Option ProgramForm → List BlockForm
 form_blocks None = []
 form_blocks (Some program) = program.blocks
 
--- the form of the block at a place
+-- the form of the block at a place of the program with this O number
 abbrev form_at : List ProgramForm → ℕ → ℕ → Option BlockForm
 form_at programs q place = slice_get (form_blocks (find (λ program. program.number == q) programs)) place
 
--- the form of the block at a place of one program
+-- the form of the block at a place of a list is that of the list of forms
 get_mapped : (blocks : List FlowBlock) (place : ℕ) → option_map block_form (slice_get blocks place) ≡ slice_get (map block_form blocks) place
 get_mapped [] place = refl
 get_mapped (b ∷ blocks) zero = refl
 get_mapped (b ∷ blocks) (suc place) = get_mapped blocks place
 
--- and of the whole tape
+-- the form of the block at a place of a flow is that of the forms of its programs
 at_forms : (programs : List FlowProgram) (q place : ℕ) → option_map block_form (flow_block programs q place) ≡ form_at (map program_form programs) q place
 at_forms [] q place = refl
 at_forms (p ∷ programs) q place = go (p.number == q) refl (at_forms programs q place)

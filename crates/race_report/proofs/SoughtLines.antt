@@ -1,4 +1,5 @@
--- The lines that are looked for are those of the blocks that name or may write the variable.
+-- The lines that part_lines finds among those looked for are the lines of the blocks that name or
+-- may write the variable, part by part. FirstRaces, NoMeeting and SameForms build on it.
 use Rattle.std.proofs.Common.{◌≡◌, ℕ, Bool, true, false, List, map, Option, Some, None, slice_get, refl, ap, sym, subst, ◌∙◌}
 use Rattle.std.specs.Option.{option_map}
 use Rattle.block_order.specs.Order.{blocks, blocks_of, control_of, control_at}
@@ -35,7 +36,7 @@ in_order : (flow : Flow) (number place : ℕ) (block : FlowBlock) → flow_block
     → control_at (blocks flow.order number) place ≡ Some block.control
 in_order flow number place block is = rw (flow.agrees) (control_there flow.programs number place block is)
 
--- a block that is found does it at its line
+-- there is a block, it does what is looked for, and its line is k
 abbrev DoesAt : Sought → ℕ → Option FlowBlock → ℕ → Type 0
 DoesAt sought v found k = (block : FlowBlock) × (found ≡ Some block) × (does sought v block ≡ true) × (block.line ≡ k)
 
@@ -48,16 +49,16 @@ line_does sought v (Some block) k is = go (does sought v block) refl is
     go false e is = absurd cc
     go true e is = let same : block.line ≡ k = cc in (block, refl, e, same)
 
--- and each such block has its line found
+-- each block that does what is looked for has its line found
 does_line : (sought : Sought) (v : ℕ) (found : Option FlowBlock) (k : ℕ) → DoesAt sought v found k → block_line sought v found ≡ Some k
 does_line sought v found k (block, is, e, line) = rw (is, e) (ap Some line)
 
--- part n of the path has a block of this line that does it
+-- part n of the path has a block of this line that does what is looked for
 abbrev pub SoughtAt : Flow → Sought → ℕ → ℕ → ℕ → Type 0
 SoughtAt flow Writes v n k = MayWriteAt flow n v k
 SoughtAt flow Names v n k = NamesAt flow n v k
 
--- the lines found in a part are those that are looked for
+-- a line that is found in a part is that of a block of the part which does what is looked for
 pub line_sought : (flow : Flow) (sought : Sought) (v n k : ℕ) → LineInPart flow.order (sought_line flow sought v) n k → SoughtAt flow sought v n k
 line_sought flow Writes v n k (program, place, c, inside, is, e) =
     let at = line_does Writes v (flow_block flow.programs program place) k e in
@@ -66,7 +67,7 @@ line_sought flow Names v n k (program, place, c, inside, is, e) =
     let at = line_does Names v (flow_block flow.programs program place) k e in
     (program, place, at.0, inside, at.1, subst (λ found. found_names found v ≡ true) (sym at.1) at.2, at.3)
 
--- and the other way round
+-- the line of a block of a part that does what is looked for is found in the part
 pub sought_is : (flow : Flow) (sought : Sought) (v n k : ℕ) → SoughtAt flow sought v n k → LineInPart flow.order (sought_line flow sought v) n k
 sought_is flow Writes v n k (program, place, block, inside, at, writes, line) = (
   program,
@@ -85,7 +86,7 @@ sought_is flow Names v n k (program, place, block, inside, at, names, line) = (
   does_line Names v (flow_block flow.programs program place) k (block, at, subst (λ found. found_names found v ≡ true) at names, line),
 )
 
--- a part that may write the variable does so at some line
+-- a place at which a variable may be written has a block
 writes_there : (found : Option FlowBlock) (v : ℕ) → found_may_write found v ≡ true → (block : FlowBlock) × (found ≡ Some block)
 writes_there None v e = absurd cc
 writes_there (Some block) v e = (block, refl)
@@ -101,7 +102,7 @@ part_writes_at flow n v (program, place, inside, e) =
     let there = writes_there (flow_block flow.programs program place) v e in
     (there.0.line, (program, place, there.0, inside, there.1, e, refl))
 
--- a part that names it has a line at which a block names it
+-- a part that names the variable has a line at which a block names it
 pub part_names_at : (flow : Flow) (n v : ℕ) → PartNames flow n v → (k : ℕ) × NamesAt flow n v k
 part_names_at flow n v (program, place, inside, e) =
     let there = names_there (flow_block flow.programs program place) v e in

@@ -1,4 +1,5 @@
--- A table of lines, as it takes one program after another.
+-- A table of lines, as it takes one program after another, tells all lines of a flow together with
+-- the programs that are left: for `add_program` and `table_of` (src/table.rt).
 use Rattle.std.proofs.Common.{◌≡◌, ◌==◌, ℕ, zero, suc, ◌+◌, ◌<◌, ◌≤◌, ◌⊎◌, inl, inr, true, false, List, [], ◌∷◌, length, drop, get_or, Option, Some, None, is_some, slice_get, refl, ap, sym, subst, ◌∙◌, arith}
 use Rattle.std.proofs.lemmas.Bool.{eq-eqb, ne_eqb}
 use Rattle.std.proofs.Math.Seq.{drop-cons}
@@ -13,23 +14,23 @@ use Rattle.race_report.specs.declared.table.ProgramLines.{ProgramLines}
 use Rattle.race_report.specs.Lines.{block_line, sought_line}
 use Rattle.race_report.specs.Tables.{kept_lines, line_at, program_line, table_line, lines_of, told_or, IsToldWith}
 
--- the empty table tells all with the programs, none of which it has
+-- an empty table and all programs of the flow tell all lines
 pub told_start : (flow : Flow) (sought : Sought) (v : ℕ) (table : LineTable) → ((q : ℕ) → kept_lines table q ≡ None)
     → IsToldWith flow sought v table flow.programs
 told_start flow sought v table none q place = rw (none q) refl
 
--- the lines of a program have that of each block at its place
+-- the lines of a program have at each place that of its block, if it does what is looked for
 lines_at : (sought : Sought) (v : ℕ) (blocks : List FlowBlock) (place : ℕ)
     → line_at (lines_of sought v blocks) place ≡ block_line sought v (slice_get blocks place)
 lines_at sought v [] place = refl
 lines_at sought v (b ∷ blocks) zero = refl
 lines_at sought v (b ∷ blocks) (suc place) = lines_at sought v blocks place
 
--- a program of another O number is not the first one,
+-- a search for another O number than the first program's passes it
 other_program : (p : FlowProgram) (rest : List FlowProgram) (q : ℕ) → (q ≡ p.number → ⊥) → flow_program (p ∷ rest) q ≡ flow_program rest q
 other_program p rest q other = let apart : (p.number == q) ≡ false = ne_eqb p.number q (λ e. other (sym e)) in rw apart refl
 
--- and one of its O number is
+-- a search for the first program's O number finds it
 same_program : (p : FlowProgram) (rest : List FlowProgram) → flow_program (p ∷ rest) p.number ≡ Some p
 same_program p rest = let same : (p.number == p.number) ≡ true = eq-eqb p.number p.number refl in rw same refl
 
@@ -37,7 +38,7 @@ same_program p rest = let same : (p.number == p.number) ≡ true = eq-eqb p.numb
 same_or_not : (m n : ℕ) → (m ≡ n) ⊎ (m ≡ n → ⊥)
 same_or_not m n = grind arith
 
--- a program of which something is told already is passed
+-- if the table has lines of this O number already, the table and the rest tell all lines
 pub told_again : (flow : Flow) (sought : Sought) (v : ℕ) (table : LineTable) (p : FlowProgram) (rest : List FlowProgram)
     → is_some (kept_lines table p.number) ≡ true → IsToldWith flow sought v table (p ∷ rest) → IsToldWith flow sought v table rest
 told_again flow sought v table p rest known so q place = go (kept_lines table q) refl (so q place)
@@ -52,7 +53,7 @@ told_again flow sought v table p rest known so q place = go (kept_lines table q)
         let none : is_some (kept_lines table q) ≡ false = ap is_some e in absurd cc) in
         subst (λ f. told_or sought v (kept_lines table q) f place ≡ sought_line flow sought v q place) (other_program p rest q other) before
 
--- a program more is told
+-- if the lines of a program are kept, the table and the rest tell all lines
 pub told_more : (flow : Flow) (sought : Sought) (v : ℕ) (old new : LineTable) (p : FlowProgram) (rest : List FlowProgram) (lines : ProgramLines)
     → is_some (kept_lines old p.number) ≡ false → lines.lines.items ≡ lines_of sought v p.blocks
     → kept_lines new p.number ≡ Some lines
@@ -87,7 +88,7 @@ told_all flow sought v table so q place = go (kept_lines table q) refl ∙ so q 
     go (Some lines) e = rw e refl
     go None e = rw e refl
 
--- what stands for a program where there is none
+-- the programs that are left from place i on begin with the one at that place
 pub told_at : (flow : Flow) (sought : Sought) (v : ℕ) (table : LineTable) (programs : List FlowProgram) (i : ℕ) (d : FlowProgram)
     → i < length programs → IsToldWith flow sought v table (drop i programs)
     → IsToldWith flow sought v table (get_or programs i d ∷ drop (i + 1) programs)
@@ -95,12 +96,12 @@ told_at flow sought v table programs i d within so =
     let next : suc i ≡ i + 1 = omega arith in
     subst (IsToldWith flow sought v table) (drop-cons programs i d within ∙ ap (λ k. get_or programs i d ∷ drop k programs) next) so
 
--- past the last program none is needed
+-- past the last program the table alone tells all lines
 pub told_past : (flow : Flow) (sought : Sought) (v : ℕ) (table : LineTable) (programs : List FlowProgram) (i : ℕ)
     → length programs ≤ i → IsToldWith flow sought v table (drop i programs) → IsToldWith flow sought v table []
 told_past flow sought v table programs i past so = subst (IsToldWith flow sought v table) (drop_of_length-le programs past) so
 
--- the programs that are left begin with the one at hand
+-- the programs that are left begin with the one that the loop has at hand
 pub told_item : (flow : Flow) (sought : Sought) (v : ℕ) (table : LineTable) (items : List FlowProgram) (i : ℕ) (p : FlowProgram)
     → items ≡ flow.programs → p ≡ get_or items i p → i < length items → IsToldWith flow sought v table (drop i flow.programs)
     → IsToldWith flow sought v table (p ∷ drop (i + 1) flow.programs)

@@ -1,4 +1,5 @@
--- The code of an expression reads the variables that the expression names.
+-- The code of an expression reads the variables that the expression names: for `names`
+-- (src/naming.rt), which looks through codes.
 use Rattle.std.proofs.Common.{◌≡◌, ℕ, ◌||◌, Bool, true, false, List, [], ◌∷◌, refl, ap, ◌∙◌}
 use Rattle.nc_number.proofs.Bools.{or_true, or_false}
 use Rattle.macro_expr.specs.Tree.{Tree, Number, Variable, VariableOf, Signed, Applied, Joined}
@@ -8,12 +9,13 @@ use Rattle.macro_eval.specs.Postfix.{code_before, postfix}
 use Rattle.named_vars.specs.Names.{names}
 use Rattle.race_report.specs.Reads.{some_read}
 
--- three choices are one, however they are joined
+-- of three answers, whether one is yes may be asked in either bracketing
 or_assoc : (a b c : Bool) → (a || (b || c)) ≡ ((a || b) || c)
 or_assoc true b c = refl
 or_assoc false b c = refl
 
--- what stands before a code reads what the expression names, and the code the rest
+-- the code of an expression before another code reads what the expression names or the other code
+-- reads
 read_before : (t : Tree) (code : List Instr) (v : ℕ) → some_read (code_before t code) v ≡ (names t v || some_read code v)
 read_before (Number z) code v = refl
 read_before (Variable n) code v = refl

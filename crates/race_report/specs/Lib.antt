@@ -1,5 +1,6 @@
--- What a list of races is (RaceLists), how it is printed (Texts), what an empty one says
--- (Outcomes); the others say how it is found.
+-- The words of the contracts of race_report: what a list of races is (RaceLists), how it is printed
+-- (Texts), what an empty one says (Outcomes); the others say how it is found. lathe_calls cites the
+-- first two.
 pub mod RaceLists
 pub mod Texts
 pub mod Reads

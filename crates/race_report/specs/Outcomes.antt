@@ -1,5 +1,5 @@
--- What a pair without a race comes to.
--- For this crate alone.
+-- What it means that a pair comes to one outcome, whichever path has which turn.
+-- For the law `a_pair_without_races_has_one_outcome` (src/laws.rt) alone.
 use Rattle.std.specs.Prelude.{List}
 use Rattle.nc_number.specs.declared.path.Path.{Path}
 use Rattle.nc_number.specs.declared.path.Path.TheVariants.{One, Two}

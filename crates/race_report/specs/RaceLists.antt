@@ -1,5 +1,7 @@
--- The list of the races of a pair: for each shared variable that has a race, the earliest one.
--- lathe_calls takes `IsRaceList` and `shared_by` and lathe_top `shared_by`.
+-- The list of the races of a pair: for each shared variable that has a race, the earliest one. What
+-- a race is, race_order defines; here are its lines and which race comes first.
+-- lathe_calls takes `IsRaceList` and `shared_by` to say what is due to `races`, lathe_top
+-- `shared_by`.
 use Rattle.std.specs.Prelude.{◌≡◌, ℕ, ◌<◌, ◌≤◌, ◌⊎◌, Bool, true, List, [], ◌∷◌, ◌||◌, ◌&&◌, ◌+◌, nat_le, nat_lt, Some}
 use Rattle.nc_number.specs.declared.path.Path.{Path}
 use Rattle.nc_number.specs.declared.path.Path.TheVariants.{One, Two}
@@ -29,45 +31,48 @@ NamesAt flow n v line =
     (program place : ℕ) × (block : FlowBlock) × IsInPart flow.order n program place
     × (flow_block flow.programs program place ≡ Some block) × (block_names flow program place v ≡ true) × (block.line ≡ line)
 
--- the path that writes, and the other one
+-- of two flows that of the path that writes
 abbrev pub writer_of : Path → Flow → Flow → Flow
 writer_of One left right = left
 writer_of Two left right = right
 
--- and the path that does not
+-- of two flows that of the path that does not write
 abbrev pub other_of : Path → Flow → Flow → Flow
 other_of One left right = right
 other_of Two left right = left
 
--- it is a race of the pair, at these lines
+-- it is a race of the pair: both paths share its variable, and behind its waits the writer has a
+-- block of its line that may write it, and the other path a block of its line that names it
 pub record IsRaceAt (shared : ℕ → Bool) (left right : Flow) (race : Race) : Type 0 where
   pub is_shared : shared race.variable ≡ true
   pub writes : MayWriteAt (writer_of race.writer left right) race.after race.variable race.write_line
   pub names : NamesAt (other_of race.writer left right) race.after race.variable race.other_line
 
--- the lesser line of the writer, then the lesser one of the other path
+-- race a has the lesser line of the writer, or the same and no greater line of the other path
 abbrev pub HasLessLines : Race → Race → Type 0
 HasLessLines a b = (a.write_line < b.write_line) ⊎ ((a.write_line ≡ b.write_line) × (a.other_line ≤ b.other_line))
 
--- path 1 writes before path 2 does
+-- in race a path 1 writes and in race b path 2 does; or the same path writes, and a has lesser
+-- lines
 abbrev pub WritesFirst : Race → Race → Type 0
 WritesFirst a b = ((a.writer ≡ One) × (b.writer ≡ Two)) ⊎ ((a.writer ≡ b.writer) × HasLessLines a b)
 
--- fewer waits first
+-- race a comes before race b, or is equal: behind fewer waits; else by the writer, else by the
+-- lines
 abbrev pub ComesFirst : Race → Race → Type 0
 ComesFirst a b = (a.after < b.after) ⊎ ((a.after ≡ b.after) × WritesFirst a b)
 
--- it is a race, and the first one of its variable
+-- it is a race of the pair, and the first one of its variable
 pub record IsFirstRace (shared : ℕ → Bool) (left right : Flow) (race : Race) : Type 0 where
   pub is : IsRaceAt shared left right race
   pub first : (other : Race) → other.variable ≡ race.variable → IsRaceAt shared left right other → ComesFirst race other
 
--- each is the first race of its variable
+-- each race of the list is the first of its variable
 abbrev pub AreFirst : (ℕ → Bool) → Flow → Flow → List Race → Type 0
 AreFirst shared left right [] = Unit {0}
 AreFirst shared left right (race ∷ races) = IsFirstRace shared left right race × AreFirst shared left right races
 
--- each variable is above the one before it, and the first above this one
+-- the variables of the list rise: each is above the one before it, and the first above `low`
 abbrev pub AreRising : ℕ → List Race → Type 0
 AreRising low [] = Unit {0}
 AreRising low (race ∷ races) = (low < race.variable) × AreRising race.variable races
@@ -77,10 +82,12 @@ abbrev pub HasVariable : ℕ → List Race → Type 0
 HasVariable v [] = ⊥
 HasVariable v (race ∷ races) = (race.variable ≡ v) ⊎ HasVariable v races
 
--- The list of a pair: variables that rise, the first race of each, and no variable with a race is
--- left out.
+-- The list of the races of a pair.
 pub record IsRaceList (shared : ℕ → Bool) (left right : Flow) (races : List Race) : Type 0 where
+  -- its variables rise
   pub rising : AreRising 0 races
+  -- each race is the first of its variable
   pub firsts : AreFirst shared left right races
+  -- no variable with a race is left out, whichever path writes
   pub one : (n v : ℕ) → IsRace shared left right n v → HasVariable v races
   pub two : (n v : ℕ) → IsRace shared right left n v → HasVariable v races

@@ -1,4 +1,5 @@
--- The lines that were found, by programs and by parts.
+-- The lines that were found: those of each program in a table (src/table.rt), and the least ones of
+-- each part of a path (src/racing.rt).
 -- For this crate alone.
 use Rattle.std.specs.Prelude.{◌≡◌, ℕ, List, map, Option, Some, None, slice_get}
 use Rattle.nc_number.specs.declared.both.Both.{Both}
@@ -14,16 +15,16 @@ use Rattle.race_report.specs.declared.table.LineTable.{LineTable}
 use Rattle.race_report.specs.declared.table.ProgramLines.{ProgramLines}
 use Rattle.race_report.specs.Lines.{does, line_if, block_line, sought_line}
 
--- what is there twice over, once
+-- an option of an option as one option
 abbrev pub flat : {A : Type 0} → Option (Option A) → Option A
 flat None = None
 flat (Some found) = found
 
--- the line at a place
+-- the line that a list of lines has at a place, if it has one
 abbrev pub line_at : List (Option ℕ) → ℕ → Option ℕ
 line_at lines place = flat (slice_get lines place)
 
--- the line at a place of a program, if its lines are kept
+-- the line at a place of a program, if the program's lines are kept and have one there
 abbrev pub program_line : Option ProgramLines → ℕ → Option ℕ
 program_line None place = None
 program_line (Some program) place = line_at program.lines.items place
@@ -36,26 +37,27 @@ kept_lines table program = flat (slice_get table.programs.items program)
 abbrev pub table_line : LineTable → ℕ → ℕ → Option ℕ
 table_line table program place = program_line (kept_lines table program) place
 
--- the lines of the blocks of a program
+-- for each block of a program its line, if it does what is looked for
 abbrev pub lines_of : Sought → ℕ → List FlowBlock → List (Option ℕ)
 lines_of sought v blocks = map (λ block. line_if (does sought v block) block.line) blocks
 
--- what is told of a program, or else what it has
+-- the line at a place of a program: by its lines if they are kept, else by the program itself
 abbrev pub told_or : Sought → ℕ → Option ProgramLines → Option FlowProgram → ℕ → Option ℕ
 told_or sought v (Some program) found place = line_at program.lines.items place
 told_or sought v None found place = block_line sought v (slice_get (flow_blocks found) place)
 
--- with the programs that are left the table tells all lines
+-- the table and the programs that are not in it yet together tell all lines of the flow
 abbrev pub IsToldWith : Flow → Sought → ℕ → LineTable → List FlowProgram → Type 0
 IsToldWith flow sought v table rest =
     (q place : ℕ) → told_or sought v (kept_lines table q) (flow_program rest q) place ≡ sought_line flow sought v q place
 
--- the least lines of the parts of a path, for one variable
+-- these are the least lines of the parts of a path, for one variable: among the blocks that may
+-- write it, and among those that name it
 pub record ArePathLines (flow : Flow) (v : ℕ) (lines : PathLines) : Type 0 where
   pub writes : AreLeastLines flow.order (sought_line flow Writes v) lines.writes.items
   pub names : AreLeastLines flow.order (sought_line flow Names v) lines.names.items
 
--- the same of both paths
+-- these are the least lines of the parts of both paths, for one variable
 pub record ArePairLines (left right : Flow) (v : ℕ) (lines : Both PathLines) : Type 0 where
   pub one : ArePathLines left v lines.one
   pub two : ArePathLines right v lines.two

@@ -1,5 +1,6 @@
-//! What a list of races says: a caller of the function has the law.
-//! These laws are for readers: no other crate calls them.
+//! What a list of races says: there is one, and an empty one means one outcome. Each law is the
+//! contract of a function that does nothing.
+//! They are for readers: no other crate calls them.
 ghost use Rattle.std.specs.Prelude.{◌≡◌, ℕ, Bool, [], List};
 ghost use Rattle.cell_settings.specs.declared.settings.Settings.{Settings};
 ghost use Rattle.tape_flow.specs.declared.flow.Flow.{Flow};
@@ -14,7 +15,7 @@ pub fn a_pair_without_races_has_one_outcome()
         → IsRaceList (shared_by settings) left right [] → HasOneOutcome settings left right }
 {}
 
-/// A pair has one list of races.
+/// A pair has one list of races at most.
 pub fn a_pair_has_one_list_of_races()
     ensures { (shared : ℕ → Bool) (left right : Flow) (one two : List Race) → IsRaceList shared left right one
         → IsRaceList shared left right two → one ≡ two }

@@ -1,8 +1,8 @@
 //! The races of a pair: shared variables whose values may depend on which path comes first.
 //!
 //! [`races`] lists, for each shared variable that has a race, the earliest one, and [`write_races`]
-//! prints the list. Where it is empty, all runs that finish come to the same:
-//! [`a_pair_without_races_has_one_outcome`].
+//! prints the list. If it is empty, all runs that finish come to the same:
+//! [`a_pair_without_races_has_one_outcome`]. lathe_calls answers `races` with them.
 #![tactic(auto)]
 
 mod laws;

@@ -1,5 +1,5 @@
-//! The list of the races of a pair, as a type: it can't hold any other list.
-//! lathe_calls and tests use it.
+//! The list of races that `races` answers; only racing.rt makes one.
+//! lathe_calls and tests take it.
 ghost use Rattle.std.specs.Prelude.{◌≡◌, ◌↔◌, [], IsTrue};
 
 use crate::race::Race;
@@ -8,6 +8,7 @@ use std::marker::Model;
 /// The races of a pair. Contracts see them as a list.
 #[derive(Debug, Drop)]
 pub struct RaceList {
+    /// The races, by their variables.
     races: Vec<Race>,
 }
 

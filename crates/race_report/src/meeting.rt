@@ -1,5 +1,6 @@
-//! Whether both paths come to a variable at all, in whatever part.
-//! For this crate alone.
+//! Whether a variable can have a race at all: one tape has a block that may write it, and the other
+//! one that names it, in whatever parts.
+//! racing.rt asks this before it looks through the parts.
 ghost use Rattle.std.specs.Prelude.{◌≡◌};
 ghost use Rattle.race_report.specs.Meeting.{some_block, some_program, may_meet, may_race};
 
@@ -32,7 +33,8 @@ fn some_program(sought: Sought, variable: u32, programs: &[FlowProgram]) -> bool
     false
 }
 
-/// Whether the one path has a block that may write the variable, and the other one that names it.
+/// Whether the tape of the one path has a block that may write the variable, and that of the other
+/// path one that names it.
 fn may_meet(variable: u32, writer: &Flow, other: &Flow) -> bool
     ensures { result ≡ may_meet variable writer.now other.now }
 {

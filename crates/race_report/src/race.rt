@@ -1,6 +1,6 @@
-//! A race: a shared variable, the path that may write it, and the first lines at which both come to
-//! it.
-//! lathe_calls and lathe_top use it.
+//! A race: a shared variable, behind how many waits, the path that may write it, and the first
+//! lines at which both paths come to it.
+//! writing.rt prints it; contracts of lathe_calls and lathe_top name it.
 use nc_number::Path;
 
 /// A race: one path may write the variable while the other names it.
@@ -8,12 +8,12 @@ use nc_number::Path;
 pub struct Race {
     /// The number of the shared variable.
     pub variable: u32,
-    /// Behind how many meetings both may come to it.
+    /// Behind how many meetings both paths may come to it.
     pub after: u32,
     /// The path that may write it.
     pub writer: Path,
-    /// The line of a block by which it may write it.
+    /// The least line of a block by which the writer may write it there, from 1.
     pub write_line: u32,
-    /// The line of a block of the other path that names it.
+    /// The least line of a block of the other path that names it there, from 1.
     pub other_line: u32,
 }

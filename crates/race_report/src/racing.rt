@@ -1,6 +1,6 @@
 //! How the races of a pair are found: for each shared variable, the first among the least lines of
 //! the parts (part_lines).
-//! lathe_calls and tests use it.
+//! lathe_calls and tests call `races`.
 ghost use Rattle.std.specs.Prelude.{◌≡◌, ◌≤◌, ◌+◌, IfOk, OnOk, length, true};
 ghost use Rattle.part_lines.specs.PartLines.{AreLeastLines};
 ghost use Rattle.race_report.specs.Lines.{sought_line};
@@ -19,7 +19,7 @@ use part_lines::least_lines;
 use std::alloc::Global;
 use tape_flow::Flow;
 
-/// The most parts that a path may have: one more than labels.
+/// The most parts that an accepted path may have: one more than it may have labels.
 const MOST_PARTS: usize = 65_537;
 
 /// The least lines of the parts of a path, for one variable.
@@ -44,7 +44,7 @@ fn lines_in(
     least_lines(alloc, &flow.order, &table)
 }
 
-/// The least lines of a path, for one variable.
+/// The least lines of the parts of a path, for one variable.
 fn path_lines(alloc: Global, variable: u32, flow: &Flow) -> Result<PathLines, NoMemory>
     ensures { IfOk result (ArePathLines flow.now variable) }
 {
@@ -54,7 +54,7 @@ fn path_lines(alloc: Global, variable: u32, flow: &Flow) -> Result<PathLines, No
     })
 }
 
-/// The least lines of both paths, for one variable.
+/// The least lines of the parts of both paths, for one variable.
 fn pair_lines(
     alloc: Global,
     variable: u32,
@@ -69,7 +69,7 @@ fn pair_lines(
     })
 }
 
-/// A race after so many waits, where the writer has the one line and the other path has the other.
+/// The race behind so many waits, if the writer has the one line and the other path has the other.
 fn race_between(
     variable: u32,
     after: u32,
@@ -91,7 +91,8 @@ fn race_between(
     }
 }
 
-/// The first race of the variable after so many waits, path 1 as the writer before path 2.
+/// The first race of the variable behind so many waits, if there is one, path 1 as the writer
+/// before path 2.
 fn race_at(lines: &Both<PathLines>, variable: u32, after: u32) -> Option<Race>
     ensures { result ≡ race_at lines.now variable after }
 {
@@ -115,7 +116,7 @@ fn race_at(lines: &Both<PathLines>, variable: u32, after: u32) -> Option<Race>
     )
 }
 
-/// The first race of the variable.
+/// The first race of the variable among these least lines, if there is one.
 fn first_race(lines: &Both<PathLines>, variable: u32) -> Option<Race>
     requires { length lines.now.one.writes.items ≤ MOST_PARTS }
     ensures { result ≡ first_from lines.now variable (length lines.now.one.writes.items) 0 }
@@ -129,7 +130,7 @@ fn first_race(lines: &Both<PathLines>, variable: u32) -> Option<Race>
     None
 }
 
-/// The first race of a variable that both paths share.
+/// The first race of a variable that both paths share, if it has one.
 fn race_of(alloc: Global, verified: &Verified, variable: u32) -> Result<Option<Race>, NoMemory>
     requires { shared_by verified.now.settings variable ≡ true }
     ensures { IfOk result (IsAnswer (shared_by verified.now.settings) verified.now.left verified.now.right variable) }
@@ -143,7 +144,7 @@ fn race_of(alloc: Global, verified: &Verified, variable: u32) -> Result<Option<R
     Ok(first_race(&lines, variable))
 }
 
-/// Adds the first race of a variable, where there is one.
+/// Adds the first race of a variable to the list, if it has one.
 fn add_race(
     alloc: Global,
     verified: &Verified,

@@ -1,5 +1,6 @@
-//! The lines of the blocks of a path that do what is looked for.
-//! For this crate alone.
+//! The lines of the blocks of a path that do what is looked for, as a table by O numbers, which
+//! part_lines reads to find the least line of each part.
+//! racing.rt calls `table_of` for each path, variable and thing that is looked for.
 ghost use Rattle.std.specs.Prelude.{◌≡◌, ◌≢◌, ◌<◌, ◌∷◌, ℕ, Some, None, List, IfOk, OnOk, length, map};
 ghost use Rattle.std.specs.Option.{option_copied};
 ghost use Rattle.tape_flow.specs.declared.flow.Flow.{Flow};
@@ -15,9 +16,10 @@ use part_lines::BlockLines;
 use std::alloc::Global;
 use tape_flow::{Flow, FlowProgram};
 
-/// The lines of the programs that were looked through. Those of a program stand at its O number.
+/// The lines of the programs that were looked through.
 #[derive(Drop)]
 pub(crate) struct LineTable {
+    /// The lines of each program, at its O number.
     programs: Vec<Option<ProgramLines>>,
 }
 
@@ -47,10 +49,11 @@ pub(crate) fn line_at(lines: &[Option<u32>], place: usize) -> Option<u32>
 /// The lines of one program.
 #[derive(Debug, Drop)]
 pub(crate) struct ProgramLines {
+    /// For each block its line, if it does what is looked for.
     pub(crate) lines: Vec<Option<u32>>,
 }
 
-/// The line of a block that does what is looked for.
+/// The line of a block, if it does what is looked for.
 fn block_line(sought: Sought, variable: u32, block: &FlowBlock) -> Option<u32>
     ensures { result ≡ line_if (does sought variable block.now) block.now.line }
 {
@@ -61,7 +64,7 @@ fn block_line(sought: Sought, variable: u32, block: &FlowBlock) -> Option<u32>
     }
 }
 
-/// The lines of the blocks of a program, in their order.
+/// For each block of a program, in their order, its line, if it does what is looked for.
 fn program_lines(
     alloc: Global,
     sought: Sought,
@@ -79,7 +82,7 @@ fn program_lines(
 }
 
 impl LineTable {
-    /// Without a program.
+    /// A table without a program.
     fn new(alloc: Global) -> Self
         ensures { (q : ℕ) → kept_lines result q ≡ None }
     {
@@ -139,7 +142,7 @@ fn add_program(
     Ok(())
 }
 
-/// The lines of the blocks of a path that do what is looked for.
+/// The table of the lines of all blocks of a path that do what is looked for.
 pub(crate) fn table_of(
     alloc: Global,
     sought: Sought,

@@ -1,4 +1,5 @@
--- A tape that is accepted has no refused block and no fault of its order, so it is not refused.
+-- A tape that is accepted has no refused block and no fault of its order, so it is not refused: for
+-- the law `an_accepted_tape_is_not_refused`.
 -- wait_verify takes `no_fault`, flow_laws takes `nothing_found`.
 use Rattle.std.proofs.Common.{◌≡◌, ℕ, List, [], ◌∷◌, refl, subst, Option, None, Result, Ok, Err, All}
 use Rattle.std.proofs.lemmas.List.Elements.{All-nil, All-cons, All-contains}
@@ -16,11 +17,11 @@ use Rattle.tape_flow.specs.Controls.{controls}
 use Rattle.tape_flow.specs.Exact.{IsAccepted, IsRefused, block as by_block, order as by_order}
 use Rattle.tape_flow.proofs.FirstRefused.{refusal_or, first_refusal, Tells, programs_tell}
 
--- the block reads
+-- the block is not refused
 abbrev IsRead : Dialect → Block → Type 0
 IsRead dialect block = (number : ℕ) → block_or_refusal dialect block ≡ Err number → ⊥
 
--- a block that is not refused reads, and the others too,
+-- if neither this block nor one behind it is refused, it reads, as those behind it do
 read_at : (dialect : Dialect) (block : Block) (blocks : List Block) (read : Result BlockForm ℕ)
     → block_or_refusal dialect block ≡ read → refusal_or (at_line block.line read) (first_refusal dialect blocks) ≡ None
     → (first_refusal dialect blocks ≡ None → All (IsRead dialect) blocks) → All (IsRead dialect) (block ∷ blocks)
@@ -28,7 +29,7 @@ read_at dialect block blocks (Ok form) is clear rest =
     All-cons (IsRead dialect) block blocks (λ number refusal. cc) (rest clear)
 read_at dialect block blocks (Err own) is clear rest = cc
 
--- so all blocks read, if none is refused
+-- if there is no first refusal, all blocks read
 all_read : (dialect : Dialect) (blocks : List Block) → first_refusal dialect blocks ≡ None → All (IsRead dialect) blocks
 all_read dialect [] clear = All-nil (IsRead dialect)
 all_read dialect (block ∷ blocks) clear =

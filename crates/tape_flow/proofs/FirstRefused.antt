@@ -1,6 +1,6 @@
--- Where reading a tape ends at a block, that block is the first one that is refused, and every
--- other one stands behind it.
--- open_order and flow_laws take the lemmas on readings.
+-- If the reading of a tape ends at a block, that block is the first one that is refused, and every
+-- other one stands behind it. `compile` (src/flow.rt) tells the tape's refusal by these lemmas.
+-- open_order and flow_laws take those on readings and on rising lines.
 use Rattle.std.proofs.Common.{◌≡◌, ℕ, ◌≤◌, List, [], ◌∷◌, ◌++◌, map, refl, ap, arith, Option, Some, None, Result, Ok, Err, All, Contains}
 use Rattle.std.proofs.lemmas.List.Elements.{All-nil, All-cons, All-weaker, All-contains, Contains-append_left, Contains-append_right, Contains-push}
 use Rattle.nc_number.specs.Results.{◌>>=◌}
@@ -40,7 +40,7 @@ pub block_tells : {A B : Type 0} (read : Result A FlowFault) (go : A → Result 
 block_tells (Ok form) go rest more behind = behind form
 block_tells (Err fault) go rest more behind = refl
 
--- so does a list of blocks
+-- reading a list of blocks comes to its first refusal, or hands over to what follows it
 blocks_tell : (dialect : Dialect) (blocks more : List Block) (done : List BlockForm)
     → Tells (blocks_from dialect done blocks) (first_refusal dialect (blocks ++ more)) (first_refusal dialect more)
 blocks_tell dialect [] more done = refl
@@ -56,7 +56,7 @@ pub program_tells : {A B C : Type 0} (read : Result A FlowFault) (make : A → B
 program_tells (Ok blocks) make go first rest more told behind = rw told (behind (make blocks))
 program_tells (Err fault) make go first rest more told behind = told
 
--- a tape that reads has no refused block, else its first one
+-- reading a tape comes to the refusal of its first block that has one, or no block has one
 pub programs_tell : (dialect : Dialect) (tape : List Program) (done : List ProgramForm)
     → Tells (programs_from dialect done tape) (first_refusal dialect (blocks_in tape)) None
 programs_tell dialect [] done = refl
@@ -68,12 +68,12 @@ programs_tell dialect (program ∷ programs) done =
     (blocks_tell dialect program.blocks (blocks_in programs) [])
     (λ form. programs_tell dialect programs (done ++ form ∷ []))
 
--- rising lines rise from a lower bound too
+-- lines that rise from a bound rise from every lower one
 lower : (ns : List ℕ) (low high : ℕ) → low ≤ high → RiseFrom high ns → RiseFrom low ns
 lower [] low high below rise = tt
 lower (n ∷ ns) low high below rise = (omega (arith, rise.0), rise.1)
 
--- without its O number's line a program's lines still rise
+-- the lines of blocks rise if those of the blocks, the O numbers between them counted, do
 thinned : (blocks : List Block) (programs : List Program) (low : ℕ)
     → ((from : ℕ) → RiseFrom from (lines_in programs) → RiseFrom from (map (λ block. block.line) (blocks_in programs)))
     → RiseFrom low (map (λ block. block.line) blocks ++ lines_in programs)
@@ -81,7 +81,7 @@ thinned : (blocks : List Block) (programs : List Program) (low : ℕ)
 thinned [] programs low behind rise = behind low rise
 thinned (block ∷ blocks) programs low behind rise = (rise.0, thinned blocks programs block.line behind rise.1)
 
--- the lines of blocks rise where those of blocks and O numbers do
+-- the lines of the blocks of a tape rise if those of its blocks and O numbers do
 pub block_lines_rise : (tape : List Program) (low : ℕ) → RiseFrom low (lines_in tape)
     → RiseFrom low (map (λ block. block.line) (blocks_in tape))
 block_lines_rise [] low rise = tt
@@ -98,11 +98,12 @@ all_behind (block ∷ blocks) low rise =
     (All-weaker (λ other. block.line ≤ other.line) (λ other. low ≤ other.line)
     (λ other behind. omega (arith, rise.0, behind)) blocks (all_behind blocks block.line rise.1))
 
--- where a block is refused, its line is no less
+-- if this block is refused, its line is not before that of the fault
 abbrev IsNoEarlier : Dialect → FlowFault → Block → Type 0
 IsNoEarlier dialect fault block = (number : ℕ) → block_or_refusal dialect block ≡ Err number → fault.line ≤ block.line
 
--- the first refusal is no later than that of this block,
+-- no refusal among a block and those behind it is earlier than the first one, if that holds of
+-- those behind it
 least_at : (dialect : Dialect) (block : Block) (blocks : List Block) (fault : FlowFault) (read : Result BlockForm ℕ)
     → block_or_refusal dialect block ≡ read → refusal_or (at_line block.line read) (first_refusal dialect blocks) ≡ Some fault
     → All (λ other. block.line ≤ other.line) blocks
@@ -120,7 +121,7 @@ least_at dialect block blocks fault (Err own) is first behind rest =
     line_in None = 0
     line_in (Some found) = found.line
 
--- nor than that of any block
+-- of blocks on rising lines none is refused at an earlier line than the first refusal
 least : (dialect : Dialect) (blocks : List Block) (low : ℕ) (fault : FlowFault) → first_refusal dialect blocks ≡ Some fault
     → RiseFrom low (map (λ block. block.line) blocks) → All (IsNoEarlier dialect fault) blocks
 least dialect [] low fault first rise = All-nil (IsNoEarlier dialect fault)
@@ -128,13 +129,13 @@ least dialect (block ∷ blocks) low fault first rise =
     least_at dialect block blocks fault (block_or_refusal dialect block) refl first (all_behind blocks block.line rise.1)
     (λ rest. least dialect blocks block.line fault rest rise.1)
 
--- a block of the list is refused so
+-- a block of the list is refused with the line and the number of this fault
 abbrev IsThere : Dialect → List Block → FlowFault → Type 0
 IsThere dialect blocks fault =
     (block : Block) × Contains blocks block × (block.line ≡ fault.line)
     × (block_or_refusal dialect block ≡ Err fault.number)
 
--- a refusal found in the list stands there with this block more
+-- the first refusal is that of this block, or of one behind it
 there_at : (dialect : Dialect) (block : Block) (blocks : List Block) (fault : FlowFault) (read : Result BlockForm ℕ)
     → block_or_refusal dialect block ≡ read → refusal_or (at_line block.line read) (first_refusal dialect blocks) ≡ Some fault
     → (first_refusal dialect blocks ≡ Some fault → IsThere dialect blocks fault) → IsThere dialect (block ∷ blocks) fault

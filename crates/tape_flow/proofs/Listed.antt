@@ -1,5 +1,5 @@
 -- The programs of a tape that was read stand in the text as the tape does: as many, on the same
--- lines, of as many blocks.
+-- lines, of as many blocks. So the check of their order may be called on them (src/flow.rt).
 -- open_order takes `bound` and `text_lines`.
 use Rattle.std.proofs.Common.{◌≡◌, ℕ, ◌+◌, List, [], ◌∷◌, ◌++◌, length, map, refl, ap, sym, ◌∙◌, arith, Result, Ok, Err, IfOk, append_assoc, length-append, subst}
 use Rattle.std.proofs.lemmas.List.{map-append, length-map, append-nil}
@@ -24,12 +24,12 @@ pub bound : {A B E : Type 0} (read : Result A E) (go : A → Result B E) (P : A 
 bound (Ok x) go P Q holds step = step x holds
 bound (Err e) go P Q holds step = tt
 
--- what a block says stands at its line,
+-- the form of a block, if it is not refused, has the line of the block
 line_kept_at : (block : Block) (read : Result Form ℕ) → IfOk (at_line block.line (block_at block read)) (λ form. form.line ≡ block.line)
 line_kept_at block (Ok form) = refl
 line_kept_at block (Err number) = tt
 
--- as it reads
+-- a block that is read has the line of the block of the text
 line_kept : (dialect : Dialect) (block : Block) → IfOk (block_read dialect block) (λ form. form.line ≡ block.line)
 line_kept dialect block = line_kept_at block (form_or_refusal dialect block.body)
 
@@ -41,7 +41,7 @@ form_lines forms = map (λ form. form.line) forms
 abbrev pub text_lines : List Block → List ℕ
 text_lines blocks = map (λ block. block.line) blocks
 
--- one block more moves its line from those ahead to those read
+-- if one block more is read, its line goes from those ahead to those read
 one_line_more : (done : List BlockForm) (form : BlockForm) (block : Block) (blocks : List Block) (whole : List ℕ)
     → form.line ≡ block.line → form_lines done ++ text_lines (block ∷ blocks) ≡ whole
     → form_lines (done ++ form ∷ []) ++ text_lines blocks ≡ whole
@@ -66,10 +66,10 @@ blocks_kept dialect (block ∷ blocks) done whole is =
 record IsLike (program : Program) (form : ProgramForm) : Type 0 where
   -- the O number is on the same line
   line : form.line ≡ program.line
-  -- and each block
+  -- the blocks are on the same lines
   lines : form_lines form.blocks ≡ text_lines program.blocks
 
--- a program that is read is like it
+-- a program that is read stands in the text as the program does
 program_kept : (dialect : Dialect) (program : Program) → IfOk (program_read dialect program) (IsLike program)
 program_kept dialect program =
     bound (blocks_from dialect [] program.blocks)
@@ -78,7 +78,7 @@ program_kept dialect program =
     (blocks_kept dialect program.blocks [] (text_lines program.blocks) refl)
     (λ forms same. record { line = refl; lines = same })
 
--- so it has the same lines
+-- the control of a program that is read has the lines of the program of the text
 lines_like : (program : Program) (form : ProgramForm) → IsLike program form
     → order.lines_of_program (control_program form) ≡ tape.lines_of_program program
 lines_like program form like =
@@ -86,7 +86,7 @@ lines_like program form like =
     map-map (λ block. block.line) control_block form.blocks in
     rw (e, like.lines, like.line) refl
 
--- and as many blocks
+-- the control of a program that is read has as many blocks as the program of the text
 count_like : (program : Program) (form : ProgramForm) → IsLike program form
     → length (map control_block form.blocks) ≡ length program.blocks
 count_like program form like =
@@ -100,10 +100,10 @@ record IsSplit (done : List ProgramForm) (rest : List Program) (lines : List ℕ
   lines_are : order.lines_in (controls done) ++ tape.lines_in rest ≡ lines
   -- there are so many blocks
   blocks_are : length (order.blocks_in (controls done)) + length (tape.blocks_in rest) ≡ blocks
-  -- and so many programs
+  -- there are so many programs
   programs_are : length done + length rest ≡ programs
 
--- one program more is read
+-- if one program more is read, lines, blocks and programs stay as many together
 split_more : (done : List ProgramForm) (form : ProgramForm) (program : Program) (rest : List Program) (lines : List ℕ)
     (blocks programs : ℕ) → IsLike program form → IsSplit done (program ∷ rest) lines blocks programs
     → IsSplit (done ++ form ∷ []) rest lines blocks programs
@@ -136,7 +136,7 @@ split_more done form program rest lines blocks programs like split =
       programs_are = rw (length-append done (form ∷ [])) (omega (arith, split.programs_are));
     }
 
--- all are read
+-- programs that are read to the end have all lines, blocks and programs of the tape
 programs_kept : (dialect : Dialect) (rest : List Program) (done : List ProgramForm) (lines : List ℕ) (blocks programs : ℕ)
     → IsSplit done rest lines blocks programs
     → IfOk (programs_from dialect done rest) (λ forms. IsSplit forms [] lines blocks programs)

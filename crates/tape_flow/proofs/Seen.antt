@@ -1,4 +1,5 @@
--- The programs and blocks of a flow, seen as far as the order of blocks goes.
+-- A flow's programs and its order list the same programs and blocks, so what is found in the one by
+-- an O number and a place is found in the other: for `Flow::block` (src/lending.rt).
 -- path_state and race_report take `block_seen` and `program_seen`.
 use Rattle.std.proofs.Common.{◌≡◌, ℕ, zero, suc, ◌+◌, Bool, true, false, ◌==◌, List, [], ◌∷◌, map, Option, Some, None, slice_get, refl, ap, sym, ◌∙◌, arith, if◌then◌else◌, Bor}
 use Rattle.std.specs.Option.{option_map, option_copied}
@@ -12,7 +13,7 @@ use Rattle.tape_flow.specs.Forms.{program_form}
 use Rattle.tape_flow.specs.Controls.{control_block, control_program, controls}
 use Rattle.tape_flow.specs.Places.{flow_program, flow_blocks, flow_block}
 
--- a block of the flow, seen as one of the order
+-- the block at a place of a list of blocks is, as one of the order, that of the list so seen
 pub block_seen : (blocks : List FlowBlock) (k : ℕ)
     → option_map (λ block. control_block (block_form block)) (slice_get blocks k)
     ≡ slice_get (map control_block (map block_form blocks)) k
@@ -20,7 +21,7 @@ block_seen [] k = refl
 block_seen (block ∷ blocks) zero = refl
 block_seen (block ∷ blocks) (suc k) = block_seen blocks k
 
--- the first program or one of the rest, so seen
+-- seeing the one of two programs that a search takes is taking one of the two as they are seen
 one_seen : (is : Bool) (program : FlowProgram) (rest : Option FlowProgram)
     → option_map (λ p. control_program (program_form p)) (if is then Some program else rest)
     ≡ (if is then Some (control_program (program_form program))
@@ -28,7 +29,8 @@ one_seen : (is : Bool) (program : FlowProgram) (rest : Option FlowProgram)
 one_seen true program rest = refl
 one_seen false program rest = refl
 
--- a program that an O number finds, so seen
+-- the program that an O number finds in the flow is, as one of the order, what it finds in the
+-- order
 pub program_seen : (programs : List FlowProgram) (number : ℕ)
     → option_map (λ p. control_program (program_form p)) (flow_program programs number)
     ≡ program_of (controls (map program_form programs)) number
@@ -44,8 +46,9 @@ lent_seen view (Some lent) = refl
 
 -- a program of the flow stands at the place that the order keeps of its number
 record IsThere (programs : List FlowProgram) (from number place : ℕ) : Type 0 where
-  -- how many programs stand before it, from the given place on
+  -- how many programs of this list stand before it
   behind : ℕ
+  -- the list begins at the place `from` of the order
   at : place ≡ from + behind
   is : slice_get programs behind ≡ flow_program programs number
 
@@ -65,7 +68,7 @@ there (program ∷ programs) from number place e = go (λ h. there programs (suc
         let found = rest (rw named at e) in
         record { behind = suc found.behind; at = (let at = found.at in omega arith); is = rw named found.is }
 
--- a place of the order is that of the flow's program
+-- the place that the order keeps of an O number is the place of the flow's program of that number
 pub program_there : (programs : List FlowProgram) (number place : ℕ)
     → Some place ≡ place_of (controls (map program_form programs)) number → slice_get programs place ≡ flow_program programs number
 program_there programs number place e =
@@ -74,7 +77,7 @@ program_there programs number place e =
     let same : place ≡ found.behind = omega arith in
     ap (λ k. slice_get programs k) same ∙ found.is
 
--- a number that has no place
+-- an O number that no place of the order has, from `from` on, has no program in this list
 not_there : (programs : List FlowProgram) (from number : ℕ)
     → place_from (controls (map program_form programs)) from number ≡ None → flow_program programs number ≡ None
 not_there [] from number e = refl

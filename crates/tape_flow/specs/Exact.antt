@@ -1,5 +1,7 @@
--- Which tapes are accepted, and the one refusal of every other tape.
--- nc_verify, wait_verify, open_order, path_state and flow_laws cite this.
+-- Which tapes are accepted, and the one refusal of every other tape: what `compile` (src/flow.rt)
+-- promises.
+-- nc_verify builds its verdict on a pair from it; flow_laws, open_order, path_state and wait_verify
+-- cite it too.
 use Rattle.std.specs.Prelude.{◌≡◌, ℕ, ◌≤◌, List, Ok, Err, Contains}
 use Rattle.nc_number.specs.declared.cause.Cause.{Cause}
 use Rattle.nc_number.specs.Causes.{cause_number}
@@ -14,25 +16,25 @@ use Rattle.block_order.specs.Faults.{IsSound, IsFirst}
 use Rattle.tape_flow.specs.Forms.{ProgramForm, programs_read}
 use Rattle.tape_flow.specs.Controls.{controls}
 
--- how the tapes of the cell are read
+-- how the settings say that tapes are read: the wait codes, how P names paths, the code system
 abbrev pub dialect_of : Settings → Dialect
 dialect_of settings =
     record { low = settings.wait_low; high = settings.wait_high; bits = settings.bits; system = settings.system }
 
--- a block of the tape at this line is refused by this number
+-- a block of the tape stands at this line and is refused by this number
 abbrev pub HasBlockFault : Dialect → List Program → ℕ → ℕ → Type 0
 HasBlockFault dialect tape line number =
     (block : Block) × Contains (blocks_in tape) block × (block.line ≡ line) × (block_or_refusal dialect block ≡ Err number)
 
--- the first fault of the order of blocks, by its number
+-- the first fault of the order of blocks is at this line and has this number
 abbrev pub IsOrderFault : List ControlProgram → ℕ → ℕ → Type 0
 IsOrderFault order line number = (cause : Cause) × IsFirst order line cause × (number ≡ cause_number cause)
 
--- all blocks read so, and nothing is wrong with their order
+-- the tape is accepted, and its blocks say this
 pub record IsAccepted (dialect : Dialect) (tape : List Program) (programs : List ProgramForm) : Type 0 where
-  -- all blocks read so
+  -- no block is refused, and all say this
   pub reads : programs_read dialect tape ≡ Ok programs
-  -- and nothing is wrong with their order
+  -- nothing is wrong with the order of the blocks
   pub sound : IsSound (controls programs)
 
 -- The refusal of a tape: the first block that is refused, or, where all blocks read, the first

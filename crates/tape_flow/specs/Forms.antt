@@ -1,6 +1,7 @@
 -- The blocks of a tape as they read one by one, or the first of them that is refused.
 -- What one block says, and its refusal, is defined in block_forms.
--- The layers above cite this.
+-- `ProgramForm` is how every crate above writes what a checked tape says: nc_verify, wait_verify,
+-- path_state, nc_restart, run_table and five more cite it.
 use Rattle.std.specs.Prelude.{ℕ, List, [], ◌∷◌, ◌++◌, map, Result, Ok, Err}
 use Rattle.nc_number.specs.Results.{◌>>=◌}
 use Rattle.nc_text.specs.declared.tape.Block.{Block}
@@ -11,16 +12,16 @@ use Rattle.block_forms.specs.Blocks.{block_form}
 use Rattle.tape_flow.specs.declared.fault.FlowFault.{FlowFault}
 use Rattle.tape_flow.specs.declared.program.FlowProgram.{FlowProgram}
 
--- a program, and what its blocks say
+-- a program of a tape that was read
 pub record ProgramForm : Type 0 where
   -- the O number
   pub number : ℕ
   -- the line of the O number, from 1
   pub line : ℕ
-  -- what its blocks say
+  -- what its blocks say, in the order of the text
   pub blocks : List BlockForm
 
--- the form of a program of the flow
+-- what contracts see of a program of the code's flow
 abbrev pub program_form : FlowProgram → ProgramForm
 program_form program = record { number = program.number; line = program.line; blocks = map block_form program.blocks }
 
@@ -33,7 +34,7 @@ at_line line (Err number) = Err (record { number = number; line = line })
 abbrev pub block_read : Dialect → Block → Result BlockForm FlowFault
 block_read dialect block = at_line block.line (block_or_refusal dialect block)
 
--- the blocks behind those that are read, or the first refusal
+-- the blocks that are read, and then these ones, or the first refusal among these
 abbrev pub blocks_from : Dialect → List BlockForm → List Block → Result (List BlockForm) FlowFault
 blocks_from dialect done [] = Ok done
 blocks_from dialect done (block ∷ blocks) = do
@@ -46,7 +47,7 @@ program_read dialect program = do
   blocks ← blocks_from dialect [] program.blocks
   Ok (record { number = program.number; line = program.line; blocks = blocks })
 
--- the programs behind those that are read, or the first refusal
+-- the programs that are read, and then these ones, or the first refusal among these
 abbrev pub programs_from : Dialect → List ProgramForm → List Program → Result (List ProgramForm) FlowFault
 programs_from dialect done [] = Ok done
 programs_from dialect done (program ∷ programs) = do

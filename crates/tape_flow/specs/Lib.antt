@@ -1,4 +1,5 @@
--- The words in which contracts speak of a checked tape. All of them are for the layers above.
+-- The words in which contracts speak of a checked tape: what its blocks say, their order, when it
+-- is accepted, what it lends of a place. The layers above cite all four files.
 pub mod Forms
 pub mod Controls
 pub mod Exact

@@ -1,6 +1,7 @@
 -- What a flow tells of a place: its block, its line, the label that a path comes to there, and the
 -- mark of a block.
--- label_list, path_state, two_path and the crates of races cite this.
+-- path_state, two_path and run_table cite it to say where a path stands; label_list, named_vars,
+-- nc_restart, race_order and race_report cite it too.
 use Rattle.std.specs.Prelude.{ℕ, ◌-◌, ◌==◌, ◌||◌, List, [], ◌∷◌, length, find, Option, Some, None, slice_get, if◌then◌else◌}
 use Rattle.block_order.specs.declared.control.Control.{Control}
 use Rattle.block_order.specs.declared.control.Control.TheVariants.{Wait, End, Back}
@@ -30,7 +31,7 @@ flow_blocks (Some program) = program.blocks
 abbrev pub flow_block : List FlowProgram → ℕ → ℕ → Option FlowBlock
 flow_block programs number block = slice_get (flow_blocks (flow_program programs number)) block
 
--- the block's line, or this one where there is no block
+-- the line of the block, or `line` if there is no block
 abbrev pub line_or : Option ControlBlock → ℕ → ℕ
 line_or None line = line
 line_or (Some block) line = block.line
@@ -39,12 +40,12 @@ line_or (Some block) line = block.line
 abbrev pub last_line : ControlProgram → ℕ
 last_line program = line_or (slice_get program.blocks (length program.blocks - 1)) program.line
 
--- the line of a block of the program; past its last block the last line
+-- the line of a block of the program; past its last block `last_line`, and 0 if there is no program
 abbrev pub line_in : Option ControlProgram → ℕ → ℕ
 line_in None block = 0
 line_in (Some program) block = line_or (slice_get program.blocks block) (last_line program)
 
--- the line at which a path stands
+-- the line at which a path with these open programs stands, the running program first
 abbrev pub line_at : List ControlProgram → List Frame → ℕ
 line_at tape [] = 0
 line_at tape (f ∷ stack) = line_in (program_of tape f.program) f.block
@@ -58,22 +59,24 @@ label_of caller (Some End) = Some label.End
 label_of None (Some Back) = Some label.Again
 label_of caller (Some other) = None
 
--- the label that a path comes to at a place
+-- the label that a path comes to at a place, if it comes to one there
 abbrev pub label_at : List ControlProgram → List Frame → Option Label
 label_at tape place = label_of (slice_get place 1) (standing tape place)
 
--- the only mark of a block, if it has one
+-- the first mark of a list; a block has at most one
 abbrev pub only : List Mark → Option Mark
 only [] = None
 only (mark ∷ marks) = Some mark
 
--- the mark of a block of a program that counts: the main program, or a loud one
+-- the mark of a block of this control. Only the main program and loud programs, which reach a wait
+-- or an end, have marks.
 abbrev pub mark_of_block : List ControlProgram → ℕ → Option Control → Option Mark
 mark_of_block tape number None = None
 mark_of_block tape number (Some control) =
     if (number == main_number tape) || loud tape number then only (mark_of (loud tape) control) else None
 
--- the mark at a place of a program, which is Past behind the last block
+-- the mark at a place of a program, which is `Past` behind its last block; none if there is no
+-- program
 abbrev pub mark_in : List ControlProgram → ℕ → Option ControlProgram → ℕ → Option Mark
 mark_in tape number None block = None
 mark_in tape number (Some program) block =

@@ -1,5 +1,6 @@
-//! A refusal of a tape, by its block or by its order. docs/ERRORS.md explains each number.
-//! open_order answers the same faults.
+//! A refusal of a tape, of one of its blocks or of their order. docs/ERRORS.md explains each
+//! number. `compile` answers it; open_order, which reads tapes for their waits alone, answers the
+//! same type.
 use thiserror::Error;
 
 /// A refusal of a tape: its number, and the line that it is about, counted from 1.

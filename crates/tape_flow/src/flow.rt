@@ -1,5 +1,6 @@
-//! A tape, checked.
-//! What it lends of its places is in lending.rt. path_state and label_list go by it.
+//! The flow of a tape: the blocks of a checked tape and their order; and `compile`, which makes it
+//! or answers the tape's refusal. What a flow lends of its places is in lending.rt.
+//! nc_verify compiles the two tapes of a pair; path_state and label_list go by the flow.
 ghost use Rattle.std.specs.Prelude.{◌≡◌, map, IfOk, IfErr};
 ghost use Rattle.block_order.specs.Answers.{IfFault};
 ghost use Rattle.tape_flow.specs.Forms.{program_form};
@@ -27,7 +28,7 @@ pub struct Flow {
     ghost agrees: { order ≡ controls (map program_form programs) },
 }
 
-/// The flow of a tape.
+/// The flow of a tape, or its one refusal.
 ///
 /// The tape is refused where one of its blocks is: by 5, 20 to 25, 54, 56 to 59, 61, 62 or 64; else
 /// by 60 of an O number given twice and 52 of loops that don't fit together; else by 50, 51 and 53

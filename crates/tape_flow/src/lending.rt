@@ -1,5 +1,7 @@
-//! What a flow lends to the layers above: its blocks, and what a place of it is.
-//! path_state, two_path and label_list ask for these; label_list takes `last_line` too.
+//! What a flow lends of a place: its block, its line, the label that a path comes to there, and the
+//! mark of a block.
+//! path_state asks for blocks and lines, two_path and run_table for labels; label_list takes
+//! `last_line`. The definitions are in specs/Places.antt.
 ghost use Rattle.std.specs.Prelude.{◌≡◌, ◌==◌, Some, length, slice_get};
 ghost use Rattle.std.specs.Option.{option_copied, option_map};
 ghost use Rattle.block_forms.specs.Blocks.{block_form};
@@ -15,8 +17,7 @@ use crate::program::FlowProgram;
 use block_forms::FlowBlock;
 use block_order::{BlockOrder, Control, ControlProgram, Frame, Label, Mark, Place};
 
-/// The program at a place of the tape, which comes from the order: its programs stand as the flow's
-/// do.
+/// The program at a place of the list. The order finds the place, since it lists the same programs.
 fn get_program(programs: &[FlowProgram], place: usize) -> Option<&FlowProgram>
     ensures { option_copied result ≡ slice_get programs.now place }
 {
@@ -30,7 +31,7 @@ fn get_block(blocks: &[FlowBlock], place: usize) -> Option<&FlowBlock>
     blocks.get(place)
 }
 
-/// The block of a program, if there is one.
+/// The block at a place of a program; none without a program, or past its last block.
 fn block_of(program: Option<&FlowProgram>, block: u32) -> Option<&FlowBlock>
     ensures { option_copied result ≡ slice_get (flow_blocks (option_copied program.entry)) block }
 {
@@ -51,7 +52,8 @@ pub fn last_line(program: &ControlProgram) -> u32
     }
 }
 
-/// The line of a block. A path that ran past the last block of a program stands at its last line.
+/// The line of a block. A path that ran past the last block of a program stands at that block's
+/// line.
 fn line_in(program: &ControlProgram, block: u32) -> u32
     ensures { result ≡ line_in (Some program.now) block }
 {
@@ -68,7 +70,8 @@ fn is_past(program: &ControlProgram, block: u32) -> bool
     block as usize == program.blocks.as_slice().len()
 }
 
-/// The label of a block: without a caller it is one of the main program.
+/// The label of a block of this control, if it has one; without a caller the block is one of the
+/// main program, where M99 is `Again`.
 fn label_of(caller: Option<Frame>, control: Option<Control>) -> Option<Label>
     ensures { result ≡ label_of caller control }
 {
@@ -81,8 +84,8 @@ fn label_of(caller: Option<Frame>, control: Option<Control>) -> Option<Label>
     }
 }
 
-/// The mark of a block, if it is one. A call is marked only if its program reaches a wait or an
-/// end.
+/// The mark of a block of this control, if it has one. A call has a mark only if its program
+/// reaches a wait or an end.
 fn mark_of(order: &BlockOrder, control: Control) -> Option<Mark>
     ensures { result ≡ only (mark_of (loud order.now) control) }
 {
@@ -133,7 +136,7 @@ impl Flow {
         block_of(self.program(program), block)
     }
 
-    /// What the block does to the order, as the order keeps it.
+    /// What a block of a program does to the order, if there is such a block.
     fn control(&self, program: u16, block: u32) -> Option<Control>
         ensures { result ≡ control_at (blocks self.now.order program) block }
     {
@@ -172,7 +175,8 @@ impl Flow {
         label_of(at.caller(), self.control(running.program, running.block))
     }
 
-    /// The mark of a block of this program. A program that reaches no wait and no end has no marks.
+    /// The mark of a block of this program. A program that reaches no wait and no end has no marks,
+    /// unless it is the main program.
     fn mark_of_block(&self, program: u16, control: Option<Control>) -> Option<Mark>
         ensures { result ≡ mark_of_block self.now.order program control }
     {

@@ -1,7 +1,6 @@
-//! The programs of a flow, as far as the order of their blocks goes.
-//! The check of the order is in block_order and wait_order. The only other error is that memory
-//! runs out.
-//! For flow.rt.
+//! From the programs of a flow to the order of their blocks: each block's line, sequence number and
+//! control are handed to the check in wait_order, whose fault is answered by its number.
+//! `compile` (flow.rt) calls `order_of` once all blocks read.
 ghost use Rattle.std.specs.Prelude.{◌≡◌, map, IfOk, IfErr};
 ghost use Rattle.block_order.specs.Answers.{IfFault};
 ghost use Rattle.block_order.specs.Faults.{IsSound};
@@ -19,7 +18,7 @@ use nc_number::{Failing, NoMemory};
 use std::alloc::Global;
 use wait_order::check_order;
 
-/// A block without what it says: its line, its number and its control.
+/// A block as the check of the order takes it: its line, its sequence number and its control.
 pub(crate) fn control_of(block: &FlowBlock) -> ControlBlock
     ensures { result ≡ control_block (block_form block.now) }
 {
@@ -69,7 +68,7 @@ fn control_programs(
     Ok(controls)
 }
 
-/// The order of the blocks of all programs, or its first fault.
+/// The order of the blocks of all programs, or its first fault, or that memory ran out.
 pub(crate) fn order_of(
     alloc: Global,
     programs: &[FlowProgram],

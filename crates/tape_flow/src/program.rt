@@ -1,6 +1,7 @@
-//! The programs of a flow.
-//! What a block says is in block_forms.
-//! turret_run, race_report and move_list look at them.
+//! The programs of a flow: a checked tape as a list of programs, each a list of blocks. What a
+//! block says is in block_forms.
+//! race_report looks for the variables that the blocks name, move_list counts the blocks, and
+//! turret_run needs the types to cross to its threads.
 use block_forms::FlowBlock;
 use nc_number::ListOf;
 
@@ -12,7 +13,7 @@ pub type FlowBlockList = ListOf<FlowBlock>;
 pub struct FlowProgram {
     /// The O number, 1 to 9,999.
     pub number: u16,
-    /// The line of the O number.
+    /// The line of the O number, from 1.
     pub line: u32,
     /// Its blocks, with what they say.
     pub blocks: FlowBlockList,

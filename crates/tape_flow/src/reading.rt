@@ -1,6 +1,6 @@
-//! The blocks of a tape, each read by itself.
-//! What a block says, and when it is refused, is in block_forms.
-//! For flow.rt.
+//! The blocks of a tape, each read by itself, up to the first that is refused. What a block says,
+//! and when it is refused, is in block_forms.
+//! `compile` (flow.rt) calls `read_tape` before it asks for the order of the blocks.
 ghost use Rattle.std.specs.Prelude.{◌≤◌, [], map};
 ghost use Rattle.nc_number.specs.Answers.{Gives};
 ghost use Rattle.nc_text.specs.Shape.{IsTapeShape};

@@ -1,4 +1,5 @@
--- A turn and its moves, put apart and joined again.
+-- A turn and its moves, put apart and joined again: for `Machine::turn` and `turn_into`
+-- (src/machine.rt), whose answers differ only in that.
 -- run_table uses these lemmas.
 use Rattle.std.proofs.Common.{◌≡◌, ℕ, ◌==◌, Bool, true, false, List, Option, Some, None, refl, sym, ap, ◌∙◌}
 use Rattle.nc_number.specs.declared.path.Path.{Path}
@@ -12,7 +13,7 @@ use Rattle.two_path.specs.Machine.{MachineView}
 use Rattle.two_path.specs.Turns.{result_at_wait, result_by}
 use Rattle.two_path.specs.Made.{answer_of, moves_of_turn, turn_with}
 
--- with its moves in it again, it is the turn
+-- the answer of a turn without its moves, and these put in again, is the turn
 pub rejoined : (t : Turn) → turn_with (answer_of t) (moves_of_turn t) ≡ t
 rejoined (turn.Did moves) = refl
 rejoined (turn.Ended moves) = refl
@@ -29,7 +30,7 @@ rejoined turn.Edited = refl
 pub is_joined : (t : Turn) (answer : TurnAnswer) (moves : List Move) → answer ≡ answer_of t → moves ≡ moves_of_turn t → turn_with answer moves ≡ t
 is_joined t answer moves is are = (λ i. turn_with (is i) (are i)) ∙ rejoined t
 
--- and these moves are the moves of the turn that they are put in
+-- if an answer and moves are a turn's, these are the moves of the turn that they are put in
 pub still_apart : (t : Turn) (answer : TurnAnswer) (moves : List Move) → answer ≡ answer_of t → moves ≡ moves_of_turn t
     → moves_of_turn (turn_with answer moves) ≡ moves
 still_apart t answer moves is are = ap moves_of_turn (is_joined t answer moves is are) ∙ sym are

@@ -1,4 +1,5 @@
--- No legal history leads to paths that can't go on, where no run does.
+-- No legal history leads to paths that can't go on, if no run does: for the law
+-- `no_legal_history_is_stuck` (src/laws.rt).
 use Rattle.std.proofs.Common.{◌≡◌, List, None, refl, sym, ap, subst, ◌∙◌}
 use Rattle.nc_number.specs.declared.path.Path.{Path}
 use Rattle.nc_number.specs.declared.path.Path.TheVariants.{One, Two}

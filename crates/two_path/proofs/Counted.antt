@@ -1,4 +1,5 @@
--- What the fold of a legal history counts, in words of the history alone.
+-- What the fold of a legal history counts, in words of the history alone; and with it the law
+-- `histories_are_runs` (src/laws.rt). Kept takes `grows` and `legal_take`.
 use Rattle.std.proofs.Common.{◌≡◌, ℕ, zero, suc, ◌+◌, ◌≤◌, Bool, true, false, ◌==◌, List, [], ◌∷◌, ◌++◌, length, take, Option, Some, None, inl, inr, refl, sym, ap, subst, ◌∙◌, arith, if◌then◌else◌}
 use Rattle.nc_number.specs.declared.path.Path.{Path}
 use Rattle.nc_number.specs.declared.path.Path.TheVariants.{One, Two}
@@ -31,15 +32,18 @@ use Rattle.two_path.proofs.Scheduled.{run_of, lawful_of}
 abbrev pub since_after : Bool → ℕ → ℕ → ℕ
 since_after b count since = if b then count + 1 else since
 
--- one record more: the count, when each path came to its block, and what was written
+-- the machine `to` is behind one record more than `n`
 pub record Grows (n to : MachineView) (mine theirs : Bool) : Type 0 where
+  -- the record counts one
   pub count : to.count ≡ n.count + 1
+  -- each path came to its block by this record (true), or when it came before
   pub first : to.paths.one.since ≡ since_after mine n.count n.paths.one.since
   pub second : to.paths.two.since ≡ since_after theirs n.count n.paths.two.since
   pub write : Option Written
   pub writes : to.writes ≡ with_write (n.count + 1) write n.writes
 
--- the same of a first path at a wait,
+-- a turn of a first path that comes to a wait, if it makes a record, grows the machine as `Grows`
+-- says
 grows_wait : (path : Path) (line : ℕ) (n : MachineView) (rs : List Var) (ks : List ℕ) (code : ℕ) (o : Option ℕ) (k : EntryKind)
     → kind_of (result_at_wait path line (with_values rs ks n) code o).turn ≡ Some k
     → Grows n (without_reads (result_at_wait path line (with_values rs ks n) code o).machine) (is_coming One k One) (is_coming One k Two)
@@ -52,7 +56,8 @@ grows_wait path line n rs ks code (Some there) k e = go (code == there) refl e
     go true i e = rw (i, ← some_is e) (record { count = refl; first = refl; second = refl; write = None; writes = refl })
     go false i e = rw (i, ← some_is e) (record { count = refl; first = refl; second = refl; write = None; writes = refl })
 
--- of a first path whose block comes to this effect,
+-- a turn of a first path whose block comes to this effect, if it makes a record, grows the machine
+-- as `Grows` says
 grows_by : (path : Path) (line : ℕ) (n : MachineView) (rs : List Var) (ks : List ℕ) (e : Effect) (k : EntryKind)
     → kind_of (result_by path line (with_values rs ks n) e).turn ≡ Some k
     → Grows n (without_reads (result_by path line (with_values rs ks n) e).machine) (is_coming One k One) (is_coming One k Two)
@@ -62,7 +67,7 @@ grows_by path line n rs ks (AtWait code) k e = grows_wait path line n rs ks code
 grows_by path line n rs ks (AtEnd to moves) k e = rw (← some_is e) (record { count = refl; first = refl; second = refl; write = None; writes = refl })
 grows_by path line n rs ks (effect.Alarm number value) k e = rw (← some_is e) (record { count = refl; first = refl; second = refl; write = None; writes = refl })
 
--- of a step of the first path,
+-- a step of the first path grows the machine as `Grows` says
 grows_first : (blocks : Blocks) (path : Path) (n : MachineView) (k : EntryKind) (ks : List ℕ) → IsStep blocks path n k ks
     → Grows n (behind_step blocks path ks n) (is_coming One k One) (is_coming One k Two)
 grows_first blocks path n k ks i =
@@ -79,7 +84,7 @@ same_coming Ended = (refl, refl)
 same_coming Alarmed = (refl, refl)
 same_coming (Edited edit) = (refl, refl)
 
--- the same of a step of either path,
+-- a step of either path grows the machine as `Grows` says
 grows_step : (tapes : Tapes) (n : MachineView) (p : Path) (k : EntryKind) (ks : List ℕ) → IsStep (of_path tapes p) p (own_first p n) k ks
     → Grows n (own_first p (behind_step (of_path tapes p) p ks (own_first p n))) (is_coming p k One) (is_coming p k Two)
 grows_step tapes n One k ks i = grows_first tapes.one One n k ks i
@@ -94,12 +99,12 @@ grows_step tapes n Two k ks i =
       writes = g.writes;
     }
 
--- of an edit, after which both paths begin their blocks anew,
+-- an edit, after which both paths' blocks read anew, grows the machine as `Grows` says
 grows_edit : (n : MachineView) (p : Path) (edit : Edit) → Grows n (behind_edit_of p edit n) true true
 grows_edit n One edit = record { count = refl; first = refl; second = refl; write = shared_write n.paths.one.path.fixed edit; writes = refl }
 grows_edit n Two edit = record { count = refl; first = refl; second = refl; write = shared_write n.paths.two.path.fixed edit; writes = refl }
 
--- and of each legal record
+-- each legal record grows the machine by one, and brings the paths to their blocks as its kind says
 pub grows : (tapes : Tapes) (n : MachineView) (e : Entry) → IsNext tapes n e → Grows n (behind_entry tapes e n) (is_coming e.path e.kind One) (is_coming e.path e.kind Two)
 grows tapes n e (inl i) =
     let step = step_no_edit (of_path tapes e.path) e.path (own_first e.path n) e.kind e.stamps i in
@@ -117,7 +122,7 @@ count_of tapes m (e ∷ es) legal =
     let rest = count_of tapes (behind_entry tapes e m) es legal.1 in
     omega (arith, g.count, rest)
 
--- when the first path came to its block is read off the history alone,
+-- when the first path came to its block is read off the history alone
 first_of_history : (tapes : Tapes) (m : MachineView) (rs : List Entry) → IsLegal tapes m rs
     → (fold tapes m rs).paths.one.since ≡ came_from m.paths.one.since m.count One rs
 first_of_history tapes m [] legal = refl
@@ -125,7 +130,7 @@ first_of_history tapes m (e ∷ es) legal =
     let g = grows tapes m e legal.0 in
     first_of_history tapes (behind_entry tapes e m) es legal.1 ∙ rw (g.count, g.first) refl
 
--- and so it is of the second path
+-- when the second path came to its block is read off the history alone
 second_of_history : (tapes : Tapes) (m : MachineView) (rs : List Entry) → IsLegal tapes m rs
     → (fold tapes m rs).paths.two.since ≡ came_from m.paths.two.since m.count Two rs
 second_of_history tapes m [] legal = refl
@@ -154,7 +159,7 @@ values_of tapes m before after v none legal =
     let same : (fold tapes m before).count ≡ length before = omega (arith, count_of tapes m before l.0, none) in
     rw (fold_parts tapes m before after, same) (at_later tapes (fold tapes m before) after (length before) v l.1 (omega (arith, same)))
 
--- all these facts of a legal history
+-- the fold of a legal history counts its records, its comings and its values as the history says
 counts_of : (tapes : Tapes) (first second : PathView) (rs : List Entry) → IsLegal tapes (opening first second) rs → Counts tapes (opening first second) rs
 counts_of tapes first second rs legal = record {
   count = omega (arith, count_of tapes (opening first second) rs legal);

@@ -1,4 +1,5 @@
--- A block is taken where its record is due, and else the path stays as it was.
+-- A block that is taken at once, and whose record is not due, left its path as it was: for
+-- `take_at_once` (src/again.rt).
 use Rattle.std.proofs.Common.{◌≡◌, ℕ, Bool, true, false, List, Option, Some, None, refl, sym, ap, subst, ◌∙◌}
 use Rattle.nc_moves.specs.declared.motion.Move.{Move}
 use Rattle.block_order.specs.declared.control.Control.{Control}
@@ -21,17 +22,17 @@ use Rattle.two_path.specs.Turns.{Blocks}
 use Rattle.two_path.specs.Joined.{HasTaken}
 use Rattle.two_path.specs.Again.{is_did, is_ended, changes_only_by, kind_of_effect, kind_of_block}
 
--- a kind that tests as a done block is one,
+-- a kind that tests as that of a done block is that kind
 did_is : (k : EntryKind) → is_did k ≡ true → k ≡ kind.Did
 did_is kind.Did is = refl
 did_is _ is = absurd cc
 
--- and a kind that tests as an end is one
+-- a kind that tests as that of an end is that kind
 ended_is : (k : EntryKind) → is_ended k ≡ true → k ≡ kind.Ended
 ended_is kind.Ended is = refl
 ended_is _ is = absurd cc
 
--- a block that is done stands at no wait, and at no end
+-- at no wait and no end the only record that changes the path is that of a done block
 did_at : (caller : Option Frame) (s : Option Control) (k : EntryKind) → changes_only_by (label_of caller s) k ≡ true
     → ((code : ℕ) → s ≡ Some (Wait code) → ⊥) → (s ≡ Some End → ⊥) → k ≡ kind.Did
 did_at caller None k is wait end = did_is k is

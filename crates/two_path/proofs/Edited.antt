@@ -1,4 +1,5 @@
--- Records that are edits, and records that are steps: which a record is, and what is behind it.
+-- Records that are edits, and records that are steps: which a record is, what is behind it, and
+-- what an edit leaves as it was.
 -- nc_restart, run_table and trace_list use these lemmas.
 use Rattle.std.proofs.Common.{◌≡◌, ℕ, ◌+◌, true, List, [], Option, Some, None, is_some, refl, sym, ap, ◌∙◌, inl, inr}
 use Rattle.nc_number.specs.declared.path.Path.{Path}
@@ -24,7 +25,7 @@ use Rattle.two_path.specs.Again.{turn_by, turn_of_entry, IsDoneAgain, IsRefused}
 abbrev pub entry : Path → EntryKind → List ℕ → Entry
 entry p k ks = record { path = p; kind = k; stamps = ks }
 
--- without an alarm an edit is done
+-- of two answers, that for a machine without an alarm holds if there is none
 pub calmly : {A : Type 0} (a : Option Alarm) (still rest : A) → a ≡ None → unless_alarm a still rest ≡ rest
 calmly None still rest calm = refl
 calmly (Some alarm) still rest calm = absurd cc
@@ -57,12 +58,12 @@ pub behind_edit_entry : (tapes : Tapes) (m : MachineView) (e : Entry) (edit : Ed
     → behind_entry tapes e m ≡ behind_edit_of e.path edit m
 behind_edit_entry tapes m e edit is = ap (λ (x : Entry). behind_entry tapes x m) is
 
--- what the turn of a step answers,
+-- what the record of a step answers as it is done again
 pub turn_of_step : (tapes : Tapes) (m : MachineView) (e : Entry) → edit_of e.kind ≡ None
     → turn_of_entry tapes e m ≡ (own_turn (of_path tapes e.path) e.path (with_reads (of_path tapes e.path) e.stamps (own_first e.path m))).turn
 turn_of_step tapes m e step = ap (λ o. turn_by (of_path tapes e.path) e.path o e.stamps (own_first e.path m)) step
 
--- and that of an edit
+-- what the record of an edit answers as it is done again
 pub turn_of_edit : (tapes : Tapes) (m : MachineView) (e : Entry) (edit : Edit) → edit_of e.kind ≡ Some edit → turn_of_entry tapes e m ≡ turn.Edited
 turn_of_edit tapes m e edit is = ap (λ o. turn_by (of_path tapes e.path) e.path o e.stamps (own_first e.path m)) is
 
@@ -77,7 +78,7 @@ entry_bare tapes e m = go e.path (edit_of e.kind)
     go One (Some edit) = refl
     go Two (Some edit) = refl
 
--- an edit moves no path and lets none go on: of one path it leaves this as it was,
+-- one path stays where it was: place, position, what is in force, what is fixed, wait and end
 pub record StaysPart (before after : Part) : Type 0 where
   pub place : after.path.place ≡ before.path.place
   pub position : after.path.position ≡ before.path.position
@@ -86,30 +87,30 @@ pub record StaysPart (before after : Part) : Type 0 where
   pub waiting : after.waiting ≡ before.waiting
   pub finished : after.finished ≡ before.finished
 
--- and of both paths, with the alarm
+-- both paths stay where they were, and so does the alarm
 pub record StayPaths (before after : MachineView) : Type 0 where
   pub first : StaysPart before.paths.one after.paths.one
   pub second : StaysPart before.paths.two after.paths.two
   pub alarm : after.alarm ≡ before.alarm
 
--- the path that isn't edited stays so,
+-- the path that is not edited stays where it was; its block reads anew
 stays_part : (p : Part) (since : ℕ) → StaysPart p (part_at p.path since p)
 stays_part p since = record { place = refl; position = refl; modal = refl; fixed = refl; waiting = refl; finished = refl }
 
--- and so does the one that is,
+-- the path that is edited stays where it was
 edited_part : (edit : Edit) (p : Part) (since : ℕ) → StaysPart p (part_at (edited edit p.path) since p)
 edited_part edit p since = record { place = refl; position = refl; modal = refl; fixed = refl; waiting = refl; finished = refl }
 
--- so an edit leaves both
+-- an edit of either path leaves both where they were
 pub edit_stays : (p : Path) (edit : Edit) (m : MachineView) → StayPaths m (behind_edit_of p edit m)
 edit_stays One edit m = record { first = edited_part edit m.paths.one (m.count + 1); second = stays_part m.paths.two (m.count + 1); alarm = refl }
 edit_stays Two edit m = record { first = stays_part m.paths.one (m.count + 1); second = edited_part edit m.paths.two (m.count + 1); alarm = refl }
 
--- a step of the machine is a legal record,
+-- the record of a step that the machine can make is legal
 pub next_of_step : (tapes : Tapes) (m : MachineView) (e : Entry) → IsStep (of_path tapes e.path) e.path (own_first e.path m) e.kind e.stamps → IsNext tapes m e
 next_of_step tapes m e i = inl i
 
--- and a legal record that is no edit is a step
+-- a legal record that is no edit is a step that the machine can make
 pub step_of_next : (tapes : Tapes) (m : MachineView) (e : Entry) → edit_of e.kind ≡ None → IsNext tapes m e
     → IsStep (of_path tapes e.path) e.path (own_first e.path m) e.kind e.stamps
 step_of_next tapes m e step (inl i) = i
@@ -120,7 +121,7 @@ step_of_next tapes m e step (inr i) =
 pub edit_is : (e : Entry) (edit : Edit) → edit_of e.kind ≡ Some edit → e.stamps ≡ [] → e ≡ edit_entry e.path edit
 edit_is e edit is bare = let same : e.kind ≡ kind.Edited edit = edited_kind e.kind edit is in λ i. record { path = e.path; kind = same i; stamps = bare i }
 
--- a record of an edit is done again if there is no alarm,
+-- the record of an edit is done again if there is no alarm
 pub edit_done : (tapes : Tapes) (e : Entry) (edit : Edit) (before after : MachineView) → edit_of e.kind ≡ Some edit → e.stamps ≡ []
     → before.alarm ≡ None → after ≡ behind_edit_of e.path edit before → IsDoneAgain tapes e before after turn.Edited
 edit_done tapes e edit before after kind bare calm is =
@@ -131,7 +132,7 @@ edit_done tapes e edit before after kind bare calm is =
       answer = sym (turn_of_edit tapes before e edit kind);
     }
 
--- and refused if there is one
+-- the record of an edit is refused if there is an alarm
 pub edit_refused : (tapes : Tapes) (e : Entry) (edit : Edit) (before after : MachineView) → edit_of e.kind ≡ Some edit
     → is_some before.alarm ≡ true → after ≡ before → IsRefused tapes e before after
 edit_refused tapes e edit before after kind halted is = record { illegal = illegal; unchanged = is }

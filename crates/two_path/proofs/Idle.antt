@@ -1,4 +1,6 @@
--- What a turn is where something may happen, and where nothing may.
+-- What a turn is if something may happen, and if nothing may: a path is still once there is an
+-- alarm, once it has ended, and while it waits. Counted, Lawful, Paired, Recorded, Redone,
+-- Scheduled and Steady take these lemmas.
 use Rattle.std.proofs.Common.{◌≡◌, ℕ, Bool, true, false, ◌||◌, Option, Some, None, is_some, refl}
 use Rattle.nc_number.specs.declared.path.Path.{Path}
 use Rattle.nc_moves.specs.declared.alarm.Alarm.{Alarm}
@@ -45,7 +47,7 @@ awake_of blocks path m kind e = go (is_still m) refl
     go true i = absurd (let none : kind_of (own_turn blocks path m).turn ≡ None = (own_still blocks path m i).1 in cc)
     go false i = refl
 
--- if neither of the two holds, the second doesn't
+-- if there is neither an alarm nor `f`, there is not `f`
 pub awake_part : (a : Option Alarm) (f : Bool) → (is_some a || f) ≡ false → f ≡ false
 awake_part (Some x) f e = absurd cc
 awake_part None f e = e

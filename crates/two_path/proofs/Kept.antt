@@ -1,5 +1,6 @@
--- What a machine beside its history keeps: over each event, each record that is done again, and
--- each restart.
+-- A machine beside its history stays the fold of it, over each event, each record that is done
+-- again, and each restart: for the laws `each_event_keeps_the_history` and
+-- `restarts_keep_the_history` (src/laws.rt).
 use Rattle.std.proofs.Common.{◌≡◌, ℕ, ◌+◌, ◌≤◌, Bool, true, false, List, [], ◌∷◌, ◌++◌, take, refl, sym, ap, subst, append-nil, arith}
 use Rattle.nc_number.specs.declared.path.Path.TheVariants.{One, Two}
 use Rattle.run_records.specs.Entries.{Entry}
@@ -39,7 +40,7 @@ entry_none : (tapes : Tapes) (e : Entry) (m : MachineView)
     × ((behind_entry tapes e m).paths.two ≡ part_without_reads (behind_entry tapes e m).paths.two)
 entry_none tapes e m = let is = entry_bare tapes e m in (ap (λ (n : MachineView). n.paths.one) (sym is), ap (λ (n : MachineView). n.paths.two) (sym is))
 
--- one record more, done again, keeps it
+-- one record more that is done again keeps that the machine is the fold of its records
 entry_kept : (tapes : Tapes) (m : MachineView) (rs : List Entry) (now : MachineView) (e : Entry) → IsKept tapes m rs now → IsNext tapes (without_reads now) e
     → IsKept tapes m (rs ++ e ∷ []) (behind_entry tapes e (without_reads now))
 entry_kept tapes m rs now e k next =
@@ -57,11 +58,11 @@ entry_kept tapes m rs now e k next =
       };
     }
 
--- it holds before the first turn, with no records
+-- before the first turn the machine is the fold of no records
 opening_kept : (tapes : Tapes) (first second : PathView) → IsKept tapes (opening first second) [] (opening first second)
 opening_kept tapes first second = record { legal = tt; folds = refl; lawful = opening_sound tapes first second }
 
--- so it holds at the opening and is kept
+-- the machine is the fold of its records at the opening, and stays so
 pub keeps : (tapes : Tapes) (first second : PathView) → Keeps tapes (opening first second)
 keeps tapes first second = record {
   opening = opening_kept tapes first second;
@@ -82,21 +83,21 @@ fold_kept tapes first second =
     rw (fold_push tapes m rs e) (subst (λ n. IsKept tapes m (rs ++ e ∷ []) (behind_entry tapes e n)) is
     (entry_kept tapes m rs (fold tapes m rs) e (rest l.0) (rw is l.1))))
 
--- one event or one restart keeps it,
+-- one event or one restart keeps that the machine is the fold of its records
 episode_kept : (tapes : Tapes) (first second : PathView) (e : Episode) (now : Recorded) → IsKept tapes (opening first second) now.history now.machine
     → IsKept tapes (opening first second) (behind_episode tapes (opening first second) e now).history (behind_episode tapes (opening first second) e now).machine
 episode_kept tapes first second (Happens e) now k = event_kept tapes (opening first second) now.history now.machine e k
 episode_kept tapes first second (Restarts n) now k =
     fold_kept tapes first second (take n now.history) (legal_take tapes (opening first second) n now.history k.legal)
 
--- and so does each list of them,
+-- each list of events and restarts keeps that the machine is the fold of its records
 episodes_kept : (tapes : Tapes) (first second : PathView) (es : List Episode) (now : Recorded) → IsKept tapes (opening first second) now.history now.machine
     → IsKept tapes (opening first second) (behind_episodes tapes (opening first second) es now).history (behind_episodes tapes (opening first second) es now).machine
 episodes_kept tapes first second [] now k = k
 episodes_kept tapes first second (e ∷ es) now k =
     episodes_kept tapes first second es (behind_episode tapes (opening first second) e now) (episode_kept tapes first second e now k)
 
--- from the opening of a pair on
+-- from the opening of a pair on, each list of events and restarts leaves one legal history
 pub kept_over_restarts : (tapes : Tapes) (first second : PathView) → IsKeptOverRestarts tapes (opening first second)
 kept_over_restarts tapes first second es =
     episodes_kept tapes first second es (record { machine = opening first second; history = [] }) (opening_kept tapes first second)

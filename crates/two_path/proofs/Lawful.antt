@@ -1,5 +1,5 @@
--- Whatever happens, what blocks have read is lawful. Lawful: what the block asked for, at stamps
--- in order, and the values that these stamps stand for.
+-- Whatever happens, what blocks have read is lawful: what the block asked for, at stamps in order,
+-- and the values that these stamps stand for. Kept, Recorded and Scheduled build on it.
 use Rattle.std.proofs.Common.{◌≡◌, ℕ, ◌+◌, ◌≤◌, ◌<◌, Bool, true, false, ◌==◌, List, [], ◌∷◌, ◌++◌, Option, Some, None, refl, sym, ap, ◌∙◌, arith}
 use Rattle.std.proofs.lemmas.Bool.Decides.{nat_tests}
 use Rattle.nc_number.specs.declared.path.Path.{Path}
@@ -24,7 +24,7 @@ use Rattle.two_path.proofs.Idle.{is_still, own_awake, own_still, awake_part}
 passes_over : (k v : ℕ) (w : Write) → k < w.stamp → is_write_of k v w ≡ false
 passes_over k v w later = grind (arith, nat_tests)
 
--- so a later write at the end changes no value of then
+-- a write of a later record, added at the end, changes no value that a variable held before
 value_push : (writes : List Write) (w : Write) (k v : ℕ) → k < w.stamp → value_after k v (writes ++ w ∷ []) ≡ value_after k v writes
 value_push writes w k v later = seen_from_its_stamp writes w k v ∙ rw (passes_over k v w later) refl
 
@@ -33,7 +33,7 @@ pub value_written : (o : Option Written) (writes : List Write) (c k v : ℕ) →
 value_written None writes c k v h = refl
 value_written (Some w) writes c k v h = value_push writes (record { stamp = c + 1; variable = w.variable; value = w.value }) k v (omega arith)
 
--- the same of the value that a block asks for,
+-- the value that a block asks for early is the same when one record more has written
 asked_written : (e : Effect) (o : Option Written) (writes : List Write) (c k : ℕ) → k ≤ c
     → value_asked e k (with_write (c + 1) o writes) ≡ value_asked e k writes
 asked_written (Need v) o writes c k h = value_written o writes c k v h
@@ -42,19 +42,19 @@ asked_written (AtWait code) o writes c k h = refl
 asked_written (AtEnd path moves) o writes c k h = refl
 asked_written (effect.Alarm number value) o writes c k h = refl
 
--- of the values with the next one,
+-- the values with the next one are the same when one record more has written
 pub next_written : (blocks : Blocks) (path : PathView) (o : Option Written) (writes : List Write) (c k : ℕ) (values : List Var) → k ≤ c
     → and_next blocks path (with_write (c + 1) o writes) k values ≡ and_next blocks path writes k values
 next_written blocks path o writes c k values h = ap (λ v. values ++ v ∷ []) (asked_written (blocks.effect path values) o writes c k h)
 
--- of all values that stamps stand for,
+-- all values that stamps stand for are the same when one record more has written
 pub values_written : (blocks : Blocks) (path : PathView) (o : Option Written) (writes : List Write) (c low : ℕ) (values : List Var) (ks : List ℕ)
     → AreInOrder low c ks → values_from blocks path (with_write (c + 1) o writes) values ks ≡ values_from blocks path writes values ks
 values_written blocks path o writes c low values [] i = refl
 values_written blocks path o writes c low values (k ∷ ks) i =
     rw (next_written blocks path o writes c k values i.1) (values_written blocks path o writes c k (and_next blocks path writes k values) ks i.2)
 
--- and of whether the block asks for each of them
+-- a block that asks for a variable at each stamp does so when one record more has written
 asks_written : (blocks : Blocks) (path : PathView) (o : Option Written) (writes : List Write) (c low : ℕ) (values : List Var) (ks : List ℕ)
     → AreInOrder low c ks → AsksFrom blocks path writes values ks → AsksFrom blocks path (with_write (c + 1) o writes) values ks
 asks_written blocks path o writes c low values [] i a = tt
@@ -77,7 +77,7 @@ pub values_push : (blocks : Blocks) (path : PathView) (writes : List Write) (val
 values_push blocks path writes values [] k = refl
 values_push blocks path writes values (j ∷ ks) k = values_push blocks path writes (and_next blocks path writes j values) ks k
 
--- and the block asks for it, if that is the variable that it needs
+-- with one stamp more the block asks at each of them, if it needs a variable behind those before
 asks_push : (blocks : Blocks) (path : PathView) (writes : List Write) (values : List Var) (ks : List ℕ) (k v : ℕ)
     → AsksFrom blocks path writes values ks → blocks.effect path (values_from blocks path writes values ks) ≡ Need v
     → AsksFrom blocks path writes values (ks ++ k ∷ [])
@@ -110,18 +110,18 @@ lawful_none blocks m e' e c = record {
 abbrev pub Sound : Blocks → Blocks → MachineView → Type 0
 Sound mine theirs m = AreLawful (record { one = mine; two = theirs }) m
 
--- it holds with the paths changed over,
+-- what both blocks have read is lawful with the paths changed over
 sound_swap : (mine theirs : Blocks) (m : MachineView) → Sound mine theirs m → Sound theirs mine (own_first Two m)
 sound_swap mine theirs m s = record { first = s.second; second = s.first }
 
--- after an alarm,
+-- after an alarm what both blocks have read is lawful
 alarm_sound : (mine theirs : Blocks) (alarm : Alarm) (m : MachineView) → Sound mine theirs m → Sound mine theirs (with_alarm alarm m)
 alarm_sound mine theirs alarm m s = record {
   first = lawful_none mine (with_alarm alarm m) refl refl (omega (arith, s.first.came));
   second = later theirs (own_first Two m) (part_without_reads m.paths.one) None (Some alarm) s.second;
 }
 
--- after a turn at a wait,
+-- after a turn at a wait what both blocks have read is lawful
 wait_sound : (mine theirs : Blocks) (path : Path) (line : ℕ) (m : MachineView) (code : ℕ) (o : Option ℕ) → Sound mine theirs m
     → Sound mine theirs (result_at_wait path line m code o).machine
 wait_sound mine theirs path line m code None s = record {
@@ -137,7 +137,7 @@ wait_sound mine theirs path line m code (Some there) s = go (code == there) refl
     })
     go false e = rw e (alarm_sound mine theirs (crossed_waits path line) m s)
 
--- after a turn by what the block comes to,
+-- after a turn by what the block comes to what both blocks have read is lawful
 by_sound : (mine theirs : Blocks) (path : Path) (line : ℕ) (m : MachineView) (e : Effect) → Sound mine theirs m → is_still m ≡ false
     → mine.effect m.paths.one.path m.paths.one.values ≡ e → Sound mine theirs (result_by path line m e).machine
 by_sound mine theirs path line m (Need v) s awake e = record {
@@ -163,7 +163,7 @@ by_sound mine theirs path line m (AtEnd to moves) s awake e = record {
 }
 by_sound mine theirs path line m (effect.Alarm number value) s awake e = alarm_sound mine theirs (alarm_at path line number value) m s
 
--- and after each turn of the first path
+-- after each turn of the first path what both blocks have read is lawful
 turn_sound : (mine theirs : Blocks) (path : Path) (m : MachineView) → Sound mine theirs m → Sound mine theirs (own_turn mine path m).machine
 turn_sound mine theirs path m s = go (is_still m) refl
   where

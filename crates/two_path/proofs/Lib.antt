@@ -1,4 +1,4 @@
--- The lemmas of this crate, each file by its subject. Other crates use Folds, Edited, NoCrossing,
+-- The lemmas of two_path, each file by its subject. Other crates use Folds, Edited, NoCrossing,
 -- Apart, DoneAgain and Replays.
 mod Idle
 pub mod Folds

@@ -1,4 +1,5 @@
--- Where control goes raises no alarm of waits that differ.
+-- No move of control raises the alarm of waits that differ: for NoCrossingStatements and
+-- NoCrossingBlocks. `Another alarm` here is each one but that.
 use Rattle.std.proofs.Common.{ℕ, ◌-◌, ◌==◌, ◌||◌, nat_lt, List, [], ◌∷◌, length, Option, Some, None, Result, Ok, Err, refl}
 use Rattle.nc_number.specs.declared.cause.Cause.{Cause}
 use Rattle.nc_number.specs.declared.cause.Cause.TheVariants.{TooDeep, IntoLoop}
@@ -13,17 +14,17 @@ use Rattle.block_order.specs.Moves.{place_to, place_by, place_of_jump, behind_en
 use Rattle.path_state.specs.Standing.{Standing, standing_at, with_call, without_call, standing_behind}
 use Rattle.two_path.proofs.NoCrossing.{IsOtherCause, either}
 
--- none of these raises the alarm of waits that differ: a jump that isn't permitted,
+-- a jump that is not permitted raises another alarm
 permitted_other : (bs : List ControlBlock) (block : ℕ) (target : Option ℕ) → IsOtherCause (permitted_target bs block target)
 permitted_other bs block None = refl
 permitted_other bs block (Some target) =
     either (λ (r : Result ℕ Cause). IsOtherCause r) (permits bs block target) (Ok target) (Err IntoLoop) tt refl
 
--- the target of a sequence number,
+-- the target of a sequence number raises another alarm, if any
 target_other : (bs : List ControlBlock) (block n : ℕ) → IsOtherCause (target_of bs block n)
 target_other bs block n = permitted_other bs block (seek bs block n)
 
--- a place that a target gives,
+-- a place that a target gives raises another alarm, if any, if each target does
 place_by_other : (target : Frame → Result ℕ Cause) → ((f : Frame) → IsOtherCause (target f)) → (place : List Frame)
     → IsOtherCause (place_by target place)
 place_by_other target others [] = tt
@@ -33,46 +34,46 @@ place_by_other target others (f ∷ stack) = go (target f) (others f)
     go (Ok block) other = tt
     go (Err cause) other = other
 
--- a jump,
+-- a jump raises another alarm, if any
 pub jump_other : (tape : List ControlProgram) (n : ℕ) (place : List Frame) → IsOtherCause (place_of_jump tape n place)
 jump_other tape n place =
     place_by_other (λ f. target_of (blocks tape f.program) f.block n)
     (λ f. target_other (blocks tape f.program) f.block n) place
 
--- the block behind a loop's end,
+-- the search for the block behind a loop's end raises another alarm, if any
 behind_end_other : (end : Option ℕ) → IsOtherCause (behind_end end)
 behind_end_other None = refl
 behind_end_other (Some close) = tt
 
--- the way out of a loop,
+-- the way out of a loop raises another alarm, if any
 pub exit_other : (tape : List ControlProgram) (place : List Frame) → IsOtherCause (place_behind_loop tape place)
 exit_other tape place =
     place_by_other (λ f. behind_end (end_of_loop (blocks tape f.program) f.block))
     (λ f. behind_end_other (end_of_loop (blocks tape f.program) f.block)) place
 
--- a loop's head,
+-- the search for a loop's head raises another alarm, if any
 at_head_other : (head : Option ℕ) → IsOtherCause (at_head head)
 at_head_other None = refl
 at_head_other (Some head) = tt
 
--- the way back to it,
+-- the way back to a loop's head raises another alarm, if any
 pub head_other : (tape : List ControlProgram) (place : List Frame) → IsOtherCause (place_of_head tape place)
 head_other tape place =
     place_by_other (λ f. at_head (head_of_loop (blocks tape f.program) f.block))
     (λ f. at_head_other (head_of_loop (blocks tape f.program) f.block)) place
 
--- a call,
+-- a call raises another alarm, if any
 call_other : (program repeats : ℕ) (place : List Frame) → IsOtherCause (place_of_call program repeats place)
 call_other program repeats place =
     either (λ (r : Result (List Frame) Cause). IsOtherCause r) (repeats == 0 || nat_lt 8 (length place)) (Err TooDeep)
     (Ok (place_in program (repeats - 1) place)) refl tt
 
--- or a place behind a block of words
+-- a standing moved to another place raises another alarm, if any, if the place does
 standing_at_other : (s : Standing) (to : Result (List Frame) Cause) → IsOtherCause to → IsOtherCause (standing_at s to)
 standing_at_other s (Ok there) other = tt
 standing_at_other s (Err cause) other = other
 
--- behind a block of words
+-- where control goes behind a block of words raises another alarm, if any
 pub behind_other : (tape : List ControlProgram) (s : Standing) (arguments : Option (List Var)) (c : Control)
     → IsOtherCause (standing_behind tape s arguments c)
 behind_other tape s arguments (control.Call program repeats) =

@@ -1,4 +1,5 @@
--- No statement raises the alarm of waits that differ.
+-- No statement raises the alarm of waits that differ: for NoCrossingBlocks. `Another alarm` here is
+-- each one but that.
 use Rattle.std.proofs.Common.{ℕ, List, Option, Some, None, Result, Ok, Err, ℤ, pos, negsuc, refl, if◌then◌else◌}
 use Rattle.nc_number.specs.declared.cause.Cause.{Cause}
 use Rattle.nc_number.specs.declared.cause.Cause.TheVariants.{PositionRange}
@@ -36,24 +37,24 @@ pub in_range_other : (to : Point) → IsOtherError offset_alarm (in_range to)
 in_range_other to =
     either (λ (r : Result Point OffsetFault). IsOtherError offset_alarm r) (is_position to) (Ok to) (Err (fault PositionRange)) tt refl
 
--- none of these raises the alarm of waits that differ: a variable that doesn't exist,
+-- a variable that does not exist raises another alarm
 existing_other : (v : Option Variable) → IsOtherCause (existing v)
 existing_other None = refl
 existing_other (Some v) = tt
 
--- a computed number of a variable,
+-- a computed number of a variable raises another alarm, if any
 number_named_other : (modal : ModalView) (n : Result ℕ Cause) → IsOtherCause n → IsOtherCause (number_named modal n)
 number_named_other modal (Ok n) other = existing_other (variable_in modal n)
 number_named_other modal (Err cause) other = other
 
--- a computed sequence number
+-- a computed sequence number raises another alarm, if any
 sequence_other : (n : Result ℤ Cause) → IsOtherCause n → IsOtherCause (sequence_number n)
 sequence_other (Ok (pos n)) other = tt
 sequence_other (Ok (negsuc n)) other = refl
 sequence_other (Err cause) other = other
 
 module _ (fixed : Fixed) (path : PathView) where
-  -- a variable by its name or by its number,
+  -- the variable on a left side, by its number, raises another alarm, if any
   named_other : (name : Named) (reads : List Var) → IsOtherAlarm (named fixed path name reads)
   named_other (Numbered n) reads =
       none_other (existing (variable_in path.modal n)) (existing_other (variable_in path.modal n)) reads
@@ -62,13 +63,13 @@ module _ (fixed : Fixed) (path : PathView) where
       (λ value left. none_other (number_named path.modal (variable_number value))
       (number_named_other path.modal (variable_number value) (variable_number_other value)) left)
 
-  -- a write to an offset,
+  -- a write to an offset raises another alarm, if any
   offset_other : (slot : Slot) (to : Result Point OffsetFault) → IsOtherError offset_alarm to → (left : List Var)
       → IsOtherAlarm (written_path (with_offset path slot to) left)
   offset_other slot (Ok to) other left = tt
   offset_other slot (Err f) other left = other
 
-  -- a write to a variable,
+  -- a write to a variable raises another alarm, if any
   written_other : (v : Variable) (value : Var) (left : List Var) → IsOtherAlarm (written fixed path v value left)
   written_other (variable.Local i) value left = tt
   written_other (variable.Common v) value left = tt
@@ -78,27 +79,27 @@ module _ (fixed : Fixed) (path : PathView) where
   written_other variable.Raise value left = refl
   written_other _ value left = refl
 
-  -- an assignment,
+  -- an assignment raises another alarm, if any
   assigned_other : (name : Named) (tree : Tree) (reads : List Var) → IsOtherAlarm (assigned fixed path name tree reads)
   assigned_other name tree reads =
       alarm_behind (named fixed path name reads) _ (named_other name reads)
       (λ v behind_name. alarm_behind (evaluated fixed path tree behind_name) _ (tree_other fixed path tree behind_name)
       (λ value left. written_other v value left))
 
-  -- an assignment whose right side is read first,
+  -- an assignment behind which the next block follows raises another alarm, if any
   assigned_next_other : (name : Named) (tree : Tree) (reads : List Var)
       → IsOtherAlarm (assigned_next fixed path name tree reads)
   assigned_next_other name tree reads =
       alarm_behind (assigned fixed path name tree reads) _ (assigned_other name tree reads) (λ after left. tt)
 
-  -- a condition,
+  -- a condition raises another alarm, if any
   tested_other : (test : Test) (reads : List Var) → IsOtherAlarm (tested fixed path test reads)
   tested_other test reads =
       alarm_behind (evaluated fixed path test.left reads) _ (tree_other fixed path test.left reads)
       (λ left behind_left. alarm_behind (evaluated fixed path test.right behind_left) _
       (tree_other fixed path test.right behind_left) (λ right rest. tt))
 
-  -- the sequence number of a GOTO,
+  -- the sequence number of a GOTO raises another alarm, if any
   aimed_other : (aim : Aim) (reads : List Var) → IsOtherAlarm (aimed fixed path aim reads)
   aimed_other (ToNumber n) reads = tt
   aimed_other (ToNumberOf tree) reads =
@@ -106,19 +107,19 @@ module _ (fixed : Fixed) (path : PathView) where
       (λ value left. none_other (sequence_number (whole_number value))
       (sequence_other (whole_number value) (whole_number_other value)) left)
 
-  -- a move to another place,
+  -- a statement that goes to another place raises another alarm, if any, if the place does
   move_other : (to : Result (List Frame) Cause) → IsOtherCause to → (left : List Var) → IsOtherAlarm (move_effect path to left)
   move_other (Ok to) other left = tt
   move_other (Err cause) other left = other
 
-  -- or a jump
+  -- a jump raises another alarm, if any
   jump_effect_other : (tape : List ControlProgram) (aim : Aim) (reads : List Var)
       → IsOtherAlarm (jump_effect tape fixed path aim reads)
   jump_effect_other tape aim reads =
       alarm_behind (aimed fixed path aim reads) _ (aimed_other aim reads)
       (λ n left. move_other (place_of_jump tape n path.place) (jump_other tape n path.place) left)
 
-  -- so does a statement that goes on by what a condition comes to
+  -- a statement that goes on by what a condition comes to raises another alarm, if any
   test_other : (test : Test) (reads : List Var) (one other : List Var → Outcome After)
       → ((left : List Var) → IsOtherAlarm (one left)) → ((left : List Var) → IsOtherAlarm (other left))
       → IsOtherAlarm (tested fixed path test reads >>= λ holds left. if holds then one left else other left)
@@ -126,7 +127,7 @@ module _ (fixed : Fixed) (path : PathView) where
       alarm_behind (tested fixed path test reads) _ (tested_other test reads)
       (λ holds left. either (λ (step : Outcome After). IsOtherAlarm step) holds (one left) (other left) (first left) (second left))
 
-  -- so no statement raises the alarm of waits that differ
+  -- every statement raises another alarm, if any
   pub statement_other : (tape : List ControlProgram) (sentence : Sentence) (reads : List Var)
       → IsOtherAlarm (statement_effect tape fixed path sentence reads)
   statement_other tape (Assign name tree) reads = assigned_next_other name tree reads

@@ -1,4 +1,5 @@
--- A turn without a move reaches nowhere. For the clauses of turns that bound their moves.
+-- A turn without a move reaches nowhere: for `edit_again` (src/machine.rt) and `idle`
+-- (src/turning.rt), whose contracts bound the moves of each turn.
 use Rattle.std.proofs.Common.{[]}
 use Rattle.std.proofs.lemmas.List.Elements.{All-nil}
 use Rattle.motion_track.specs.declared.targets.TheConstants.{LONGEST}

@@ -1,5 +1,5 @@
 -- Two paths over tapes whose lists of labels agree: an invariant of both, which each turn keeps,
--- and under which they go on.
+-- and under which they go on. For the law `no_pair_is_stuck` (src/laws.rt).
 use Rattle.std.proofs.Common.{◌≡◌, ◌≢◌, ℕ, ◌⊎◌, inl, inr, Bool, true, false, ◌==◌, ◌||◌, List, [], ◌∷◌, Option, Some, None, is_some, ℤ, refl, ap, sym, subst, ◌∙◌, arith}
 use Rattle.std.proofs.lemmas.Bool.Decides.{nat_tests}
 use Rattle.nc_number.specs.declared.cause.Cause.TheVariants.{WaitDiffers}
@@ -34,7 +34,8 @@ use Rattle.two_path.proofs.Idle.{is_still, own_awake, own_still}
 abbrev pub AreLed : List ControlProgram → Blocks → Type 0
 AreLed tape blocks = (path : PathView) (values : List Var) → GoesAsOrdered tape path (blocks.effect path values)
 
--- a path's place, and what its marks say of it
+-- one path's side of the invariant: it stands at a place of its tape, on a wait if it waits, and on
+-- an end if it has ended
 record IsSide (tape : List ControlProgram) (p : Part) : Type 0 where
   place : IsPlace tape p.path.place
   waits : (code : ℕ) → p.waiting ≡ Some code → standing tape p.path.place ≡ Some (control.Wait code)
@@ -47,8 +48,8 @@ record IsSound (left right : List ControlProgram) (all : List Label) (m : Machin
   agree : Agree all (ahead left m.paths.one.path.place) (ahead right m.paths.two.path.place)
   one : (m.paths.one.waiting ≡ None) ⊎ (m.paths.two.waiting ≡ None)
 
--- without an alarm the state is sound, and an alarm is another than that of paths that wait at
--- different codes
+-- the invariant: without an alarm the state is sound, and an alarm is another than that of paths
+-- that wait at different codes
 record IsPaired (left right : List ControlProgram) (all : List Label) (m : MachineView) : Type 0 where
   sound : m.alarm ≡ None → IsSound left right all m
   never : (alarm : Alarm) → m.alarm ≡ Some alarm → alarm.cause ≢ cause_number WaitDiffers
@@ -58,7 +59,7 @@ one_swap : {A B : Type 0} → A ⊎ B → B ⊎ A
 one_swap (inl a) = inr a
 one_swap (inr b) = inl b
 
--- the invariant holds with the paths changed over,
+-- a sound state is sound with the paths changed over
 sound_swap : (left right : List ControlProgram) (all : List Label) (m : MachineView) → IsSound left right all m → IsSound right left all (own_first Two m)
 sound_swap left right all m s = record {
   first = s.second;
@@ -67,7 +68,7 @@ sound_swap left right all m s = record {
   one = one_swap s.one;
 }
 
--- and so it does beside an alarm
+-- the invariant holds with the paths changed over
 paired_swap : (left right : List ControlProgram) (all : List Label) (m : MachineView) → IsPaired left right all m
     → IsPaired right left all (own_first Two m)
 paired_swap left right all m k = record { sound = λ e. sound_swap left right all m (k.sound e); never = k.never }
@@ -80,7 +81,7 @@ no_alarm e d = absurd cc
 calmly : (left right : List ControlProgram) (all : List Label) (m : MachineView) → m.alarm ≡ None → IsSound left right all m → IsPaired left right all m
 calmly left right all m calm s = record { sound = λ _. s; never = λ alarm e. no_alarm calm e }
 
--- a block that is done keeps the invariant,
+-- a block that is done keeps the state sound
 done_sound : (left right : List ControlProgram) → KeepsLabels left → (path : Path) (line : ℕ) (m : MachineView) (to : PathView) (write : Option Written) (moves : List Move)
     → IsSound left right (list left) m → m.paths.one.waiting ≡ None → m.paths.one.finished ≡ false → Step left m.paths.one.path.place to.place
     → IsSound left right (list left) (result_by path line m (Done to write moves)).machine
@@ -93,7 +94,7 @@ done_sound left right law path line m to write moves s awake going step =
       one = inl awake;
     }
 
--- and so does the end of a path
+-- the end of a path keeps the state sound
 end_sound : (left right : List ControlProgram) (path : Path) (line : ℕ) (m : MachineView) (to : PathView) (moves : List Move)
     → IsSound left right (list left) m → m.paths.one.waiting ≡ None → standing left m.paths.one.path.place ≡ Some control.End → to.place ≡ m.paths.one.path.place
     → IsSound left right (list left) (result_by path line m (AtEnd to moves)).machine
@@ -113,7 +114,7 @@ meeting left right here_law there_law m s code there is waits =
     let other = (there_law.wait m.paths.two.path.place there s.second.place (s.second.waits there waits)).1 in
     agree_waits (list left) (ahead left (place_behind m.paths.one.path.place)) (ahead right (place_behind m.paths.two.path.place)) code there (rw (← here, ← other) (s.agree))
 
--- a turn at a wait keeps it, and never raises the alarm of waits that differ
+-- a turn at a wait keeps the invariant, and never raises the alarm of waits that differ
 wait_paired : (left right : List ControlProgram) → KeepsLabels left → KeepsLabels right → (path : Path) (line : ℕ) (m : MachineView) → m.alarm ≡ None
     → IsSound left right (list left) m → m.paths.one.finished ≡ false → (code : ℕ) → standing left m.paths.one.path.place ≡ Some (control.Wait code)
     → (o : Option ℕ) → m.paths.two.waiting ≡ o → IsPaired left right (list left) (result_at_wait path line m code o).machine
@@ -145,7 +146,7 @@ wait_paired left right law law' path line m calm s going code is (Some there) e 
       never = λ alarm e. no_alarm calm e;
     })
 
--- an alarm of a block is one that it raises
+-- an alarm that a block raises keeps the invariant, since no block raises that of waits that differ
 alarm_paired : (left right : List ControlProgram) (a : Blocks) → RaisesNoCrossing a → (all : List Label) (path : Path) (line : ℕ) (m : MachineView) (number : ℕ) (value : ℤ) (x : PathView) (values : List Var)
     → a.effect x values ≡ effect.Alarm number value → IsPaired left right all (result_by path line m (effect.Alarm number value)).machine
 alarm_paired left right a raises all path line m number value x values is = record {
@@ -159,7 +160,7 @@ alarm_paired left right a raises all path line m number value x values is = reco
     cause_in None = 0
     cause_in (Some alarm) = alarm.cause
 
--- so does a turn by what the block comes to
+-- a turn by what the block comes to keeps the invariant
 by_paired : (left right : List ControlProgram) (a : Blocks) → RaisesNoCrossing a → KeepsLabels left → KeepsLabels right → (path : Path) (line : ℕ) (m : MachineView) → m.alarm ≡ None
     → IsSound left right (list left) m → m.paths.one.waiting ≡ None → m.paths.one.finished ≡ false → (e : Effect) → GoesAsOrdered left m.paths.one.path e
     → a.effect m.paths.one.path m.paths.one.values ≡ e → IsPaired left right (list left) (result_by path line m e).machine
@@ -200,8 +201,8 @@ turn_paired left right a raises law law' led path m k = go (is_still m) refl
         rw (own_awake a path m e) (by_paired left right a raises law law' path (a.line m.paths.one.path.place) m all.0 (k.sound all.0) all.2 all.1
         (a.effect m.paths.one.path m.paths.one.values) (led m.paths.one.path m.paths.one.values) refl)
 
--- the laws of both tapes, that their lists are equal, and that no block raises the alarm of waits
--- that differ
+-- what the invariant needs of a pair: the laws of both tapes, that their lists are equal, and that
+-- no block raises the alarm of waits that differ
 pub record IsLawfulPair (left right : List ControlProgram) (tapes : Tapes) : Type 0 where
   pub first : KeepsLabels left
   pub second : KeepsLabels right
@@ -211,7 +212,7 @@ pub record IsLawfulPair (left right : List ControlProgram) (tapes : Tapes) : Typ
   pub second_raises : RaisesNoCrossing tapes.two
   pub equal : list left ≡ list right
 
--- an edit leaves places and what the marks say of them
+-- an edit keeps the invariant, since places, waits and ends stay
 edit_paired : (left right : List ControlProgram) (all : List Label) (m : MachineView) (edit : Edit) → IsPaired left right all m
     → (p : Path) → IsPaired left right all (behind_edit_of p edit m)
 edit_paired left right all m edit k One = record {
@@ -233,7 +234,7 @@ edit_paired left right all m edit k Two = record {
   never = k.never;
 }
 
--- so does each event,
+-- each event keeps the invariant
 event_paired : (left right : List ControlProgram) (tapes : Tapes) → IsLawfulPair left right tapes → (e : Event) (m : MachineView)
     → IsPaired left right (list left) m → IsPaired left right (list left) (behind_event tapes e m)
 event_paired left right tapes pair (TurnOf One) m k = turn_paired left right tapes.one pair.first_raises pair.first pair.second pair.first_led One m k
@@ -251,7 +252,7 @@ event_paired left right tapes pair (EditOf p edit) m k = go m.alarm
     go (Some alarm) = k
     go None = edit_paired left right (list left) m edit k p
 
--- and each list of events
+-- each list of events keeps the invariant
 run_paired : (left right : List ControlProgram) (tapes : Tapes) → IsLawfulPair left right tapes → (es : List Event) (m : MachineView)
     → IsPaired left right (list left) m → IsPaired left right (list left) (run tapes m es)
 run_paired left right tapes pair [] m k = k
@@ -270,7 +271,7 @@ opening_paired left right tapes pair first second at at' =
       one = inl refl;
     })
 
--- an unfinished path that waits, and another that waits or is finished
+-- in a sound state it can't be that an unfinished path waits while the other waits or has ended
 waiting_stuck : (left right : List ControlProgram) → KeepsLabels left → KeepsLabels right → (all : List Label) (m : MachineView) → IsSound left right all m
     → (f : Bool) → m.paths.one.finished ≡ f → (o : Option ℕ) → m.paths.one.waiting ≡ o → f ≡ false → (f || is_some o) ≡ true
     → (f' : Bool) → m.paths.two.finished ≡ f' → (o' : Option ℕ) → m.paths.two.waiting ≡ o' → (f' || is_some o') ≡ true → ⊥
@@ -286,13 +287,13 @@ waiting_stuck left right law law' all m s false fe (Some code) oe un i false fe'
     go (inl e) = absurd cc
     go (inr e) = absurd cc
 
--- an unfinished first path isn't stuck while both are idle,
+-- in a sound state an unfinished first path is not idle beside an idle other one
 first_stuck : (left right : List ControlProgram) → KeepsLabels left → KeepsLabels right → (all : List Label) (m : MachineView) → IsSound left right all m
     → m.paths.one.finished ≡ false → is_idle m.paths.one ≡ true → is_idle m.paths.two ≡ true → ⊥
 first_stuck left right law law' all m s un i i' =
     waiting_stuck left right law law' all m s m.paths.one.finished refl m.paths.one.waiting refl un i m.paths.two.finished refl m.paths.two.waiting refl i'
 
--- so the machine isn't,
+-- a machine whose state is sound is not stuck
 not_stuck : (left right : List ControlProgram) → KeepsLabels left → KeepsLabels right → (all : List Label) (m : MachineView)
     → (m.alarm ≡ None → IsSound left right all m) → IsStuck m → ⊥
 not_stuck left right law law' all m sound stuck = go stuck.unfinished
@@ -301,14 +302,14 @@ not_stuck left right law law' all m sound stuck = go stuck.unfinished
     go (inl un) = first_stuck left right law law' all m (sound stuck.calm) un stuck.first stuck.second
     go (inr un) = first_stuck right left law' law all (own_first Two m) (sound_swap left right all m (sound stuck.calm)) un stuck.second stuck.first
 
--- and no path comes to a wait while the other waits at another
+-- in a sound state the first path comes to no wait while the other waits at another
 not_crossed : (left right : List ControlProgram) (a : Blocks) → KeepsLabels left → KeepsLabels right → AreLed left a → (m : MachineView)
     → (m.alarm ≡ None → IsSound left right (list left) m) → IsCrossed a m → ⊥
 not_crossed left right a law law' led m sound x =
     let goes : GoesAsOrdered left m.paths.one.path (AtWait x.code) = subst (GoesAsOrdered left m.paths.one.path) x.comes (led m.paths.one.path m.paths.one.values) in
     x.differs (meeting left right law law' m (sound x.calm) x.code x.there goes x.waits).0
 
--- all three together of a machine with the invariant
+-- a machine with the invariant is free: not stuck, no waits crossed, no alarm of waits that differ
 free : (left right : List ControlProgram) (tapes : Tapes) → IsLawfulPair left right tapes → (m : MachineView)
     → IsPaired left right (list left) m → IsFree tapes m
 free left right tapes pair m k = record {
@@ -322,7 +323,7 @@ free left right tapes pair m k = record {
     crossed Two x = not_crossed right left tapes.two pair.second pair.first pair.second_led (own_first Two m)
         (λ e. subst (λ all. IsSound right left all (own_first Two m)) pair.equal (sound_swap left right (list left) m (k.sound e))) x
 
--- so neither path is ever stuck, whatever the order of events
+-- behind every list of events from the start of both main programs the machine is free
 pub run_free : (left right : List ControlProgram) (tapes : Tapes) → IsLawfulPair left right tapes → (first second : PathView)
     → first.place ≡ start left → second.place ≡ start right → (es : List Event) → IsFree tapes (run tapes (opening first second) es)
 run_free left right tapes pair first second at at' es =

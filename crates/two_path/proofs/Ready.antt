@@ -1,4 +1,5 @@
--- What a machine keeps over each record that is done again, in the parts that the code keeps.
+-- What a machine keeps over each record that is done again, in the parts that the code keeps: for
+-- `step_again` (src/machine.rt).
 use Rattle.std.proofs.Common.{◌≡◌, List, None, Result, Ok, Err, IfOk, OnErr, refl, sym, ap, subst, ◌∙◌}
 use Rattle.nc_number.specs.declared.path.Path.{Path}
 use Rattle.nc_number.specs.declared.path.Path.TheVariants.{One, Two}
@@ -12,7 +13,7 @@ use Rattle.two_path.specs.Joined.{JointView, machine_of, AreShared, AreAtTheirWa
 use Rattle.two_path.specs.Again.{AreReady, IsStepDone, IsStepRefused, IsDoneAgain, IsRefused}
 use Rattle.two_path.proofs.Edited.{behind_step_entry, turn_of_step, next_of_step, step_of_next}
 
--- parts that share the joint part, wait on waits and have read nothing are ready,
+-- parts that share the joint part, wait on waits and have read nothing are ready
 pub ready_of : (tape other_tape : List ControlProgram) (me other : Part) (joint : JointView) → AreShared me joint → AreShared other joint
     → AreAtTheirWaits tape other_tape (machine_of me other joint) → without_reads (machine_of me other joint) ≡ machine_of me other joint
     → AreReady tape other_tape me other joint
@@ -25,7 +26,7 @@ ready_of tape other_tape me other joint mine theirs waits bare = record {
   other_reads = ap (λ (m : MachineView). m.paths.two) bare;
 }
 
--- also with the paths changed over
+-- ready parts are ready with the paths changed over
 pub swap : (tape other_tape : List ControlProgram) (me other : Part) (joint : JointView) → AreReady tape other_tape me other joint → AreReady other_tape tape other me joint
 swap tape other_tape me other joint r = record {
   my_shared = r.other_shared;
@@ -36,12 +37,12 @@ swap tape other_tape me other joint r = record {
   other_reads = r.my_reads;
 }
 
--- each waiting path of ready parts stands on a wait of its tape,
+-- each waiting path of ready parts stands on a wait of its tape
 pub waits_of : (tape other_tape : List ControlProgram) (me other : Part) (joint : JointView) → AreReady tape other_tape me other joint
     → AreAtTheirWaits tape other_tape (machine_of me other joint)
 waits_of tape other_tape me other joint r = record { first = r.my_wait; second = r.other_wait }
 
--- and no block of theirs has read anything
+-- no block of ready parts has read anything
 pub bare_of : (tape other_tape : List ControlProgram) (me other : Part) (joint : JointView) → AreReady tape other_tape me other joint
     → without_reads (machine_of me other joint) ≡ machine_of me other joint
 bare_of tape other_tape me other joint r = λ i. machine_of (r.my_reads i) (r.other_reads i) joint
@@ -51,7 +52,7 @@ twice : (p : Path) (m : MachineView) → own_first p (own_first p m) ≡ m
 twice One m = refl
 twice Two m = refl
 
--- the record of a step, done again in its path's own machine, is done again
+-- a step that is done again in the machine with its path first is a record that is done again
 done_by : (tapes : Tapes) (e : Entry) (before after : MachineView) (turn : Turn) → edit_of e.kind ≡ None
     → IsStepDone (of_path tapes e.path) e.path e.kind e.stamps (own_first e.path before) (own_first e.path after) turn
     → IsDoneAgain tapes e before after turn
@@ -61,7 +62,7 @@ done_by tapes e before after turn step s = record {
   answer = s.answer ∙ sym (turn_of_step tapes before e step);
 }
 
--- a step that is refused in its path's own machine is refused
+-- a step that is refused in the machine with its path first is a record that is refused
 refused_by : (tapes : Tapes) (e : Entry) (before after : MachineView) → edit_of e.kind ≡ None
     → IsStepRefused (of_path tapes e.path) e.path e.kind e.stamps (own_first e.path before) (own_first e.path after)
     → IsRefused tapes e before after
@@ -70,7 +71,7 @@ refused_by tapes e before after step s = record {
   unchanged = sym (twice e.path after) ∙ ap (own_first e.path) s.unchanged ∙ twice e.path before;
 }
 
--- the same two of a call, over the path whose record it is: what it did is done again,
+-- if a call over the machine with the record's path first did the step, the record is done again
 pub done_in : {A E : Type 0} (result : Result A E) (turn_for : A → Turn) (tapes : Tapes) (p : Path) (entry : Entry) (before after : MachineView)
     → entry.path ≡ p → edit_of entry.kind ≡ None
     → IfOk result (λ a. IsStepDone (of_path tapes p) entry.path entry.kind entry.stamps (own_first p before) (own_first p after) (turn_for a))
@@ -80,7 +81,7 @@ done_in (Ok a) turn_for tapes p entry before after e step s =
     (subst (λ q. IsStepDone (of_path tapes q) entry.path entry.kind entry.stamps (own_first q before) (own_first q after) (turn_for a)) (sym e) s)
 done_in (Err error) turn_for tapes p entry before after e step s = tt
 
--- and what it refused is refused
+-- if a call over the machine with the record's path first refused the step, the record is refused
 pub refused_in : {A E : Type 0} (result : Result A E) (tapes : Tapes) (p : Path) (entry : Entry) (before after : MachineView) → entry.path ≡ p
     → edit_of entry.kind ≡ None
     → OnErr result (IsStepRefused (of_path tapes p) entry.path entry.kind entry.stamps (own_first p before) (own_first p after))

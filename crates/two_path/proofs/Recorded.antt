@@ -1,4 +1,5 @@
--- Whatever happens, the records are a legal history, whose fold is the machine but for block reads.
+-- Whatever happens, the records are a legal history, whose fold is the machine but for block reads:
+-- the first half of the law `histories_are_runs` (src/laws.rt).
 use Rattle.std.proofs.Common.{◌≡◌, ℕ, Bool, true, false, ◌==◌, List, [], ◌∷◌, ◌++◌, Option, Some, None, inl, inr, refl, sym, ap, ◌∙◌, if◌then◌else◌}
 use Rattle.nc_number.specs.declared.path.Path.{Path}
 use Rattle.nc_number.specs.declared.path.Path.TheVariants.{One, Two}
@@ -20,7 +21,8 @@ use Rattle.two_path.proofs.Lawful.{event_sound}
 abbrev alone : MachineView → MachineView
 alone m = with_values m.paths.one.values m.paths.one.stamps (without_reads m)
 
--- two turns that answer the same and lead to the same machine but for block reads
+-- a turn answers the same, and leads to the same machine but for block reads, whether the other
+-- path's block has read or not
 abbrev Alike : Path → ℕ → MachineView → Effect → Type 0
 Alike path line m e =
     ((result_by path line (alone m) e).turn ≡ (result_by path line m e).turn)
@@ -99,14 +101,14 @@ Makes tapes b to path None stamps = to ≡ b
 Makes tapes b to path (Some kind) stamps =
     IsNext tapes b (entry path kind stamps) × (behind_entry tapes (entry path kind stamps) b ≡ to)
 
--- that of the first path is so,
+-- what a turn of the first path makes is what a turn of either path makes
 makes_first : (tapes : Tapes) (b to : MachineView) (k : Option EntryKind) (ks : List ℕ) → MakesFirst tapes.one One b to k ks → Makes tapes b to One k ks
 unfolding Makes
 makes_first tapes b to None ks h = h
 makes_first tapes b to (Some k) ks h =
     (inl h.0, behind_step_entry tapes b (entry One k ks) (step_no_edit tapes.one One b k ks h.0) ∙ h.1)
 
--- and that of the second
+-- what a turn of the second path makes, seen with that path first, is what a turn of either makes
 makes_second : (tapes : Tapes) (b to : MachineView) (k : Option EntryKind) (ks : List ℕ) → MakesFirst tapes.two Two (own_first Two b) to k ks → Makes tapes b (own_first Two to) Two k ks
 unfolding Makes
 makes_second tapes b to None ks h = ap (own_first Two) h
@@ -123,7 +125,7 @@ unfolding Makes
 joins tapes b to end p None ks rs may legal folds = rw (← may) (legal, folds)
 joins tapes b to end p (Some k) ks rs may legal folds = ((may.0, rw may.1 legal), rw may.1 folds)
 
--- the same of any event of lawful paths
+-- what an event of lawful paths makes, and a legal history behind it, are a legal history together
 pub joins_event : (tapes : Tapes) (m end : MachineView) (e : Event) (rs : List Entry) → AreLawful tapes m
     → IsLegal tapes (without_reads (behind_event tapes e m)) rs → fold tapes (without_reads (behind_event tapes e m)) rs ≡ end
     → IsLegal tapes (without_reads m) (records_of tapes e m ++ rs) × (fold tapes (without_reads m) (records_of tapes e m ++ rs) ≡ end)

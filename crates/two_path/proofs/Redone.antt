@@ -1,4 +1,4 @@
--- What a record that is done again comes to, and when it is legal.
+-- What a record that is done again comes to, and when it is legal: for the clauses of src/again.rt.
 use Rattle.std.proofs.Common.{◌≡◌, ℕ, ◌+◌, ◌≤◌, ◌<◌, Bool, true, false, IsTrue, ◌==◌, List, [], ◌∷◌, length, drop, slice_index_or, Option, Some, None, Result, Ok, Err, OnOk, OnErr, refl, sym, ap, subst, ◌∙◌, arith}
 use Rattle.std.proofs.lemmas.List.{drop_more, drop_all}
 use Rattle.nc_number.specs.declared.path.Path.{Path}
@@ -79,12 +79,12 @@ shared_still blocks start now joint low all left k shared = record {
   upper = shared.upper ∙ ap (λ (p : Part). p.path.fixed.shared500) (sym (k.part));
 }
 
--- what holds anyway holds of an error,
+-- what holds anyway holds if a result is an error
 pub on_err : {A E : Type 0} (r : Result A E) {P : Type 0} → P → OnErr r P
 on_err (Ok x) p = tt
 on_err (Err e) p = p
 
--- and of a success
+-- what holds anyway holds if a result is a success
 pub on_ok : {A E : Type 0} (r : Result A E) {P : Type 0} → P → OnOk r P
 on_ok (Ok x) p = p
 on_ok (Err e) p = tt
@@ -106,7 +106,7 @@ kind_by path line m (AtWait code) = kind_at path line m code m.paths.two.waiting
 kind_by path line m (AtEnd to moves) = refl
 kind_by path line m (effect.Alarm number value) = refl
 
--- the same of the turn of a path that has read again
+-- the kind of the record of a path that has read again, by what its block comes to
 kind_read : (blocks : Blocks) (path : Path) (stamps : List ℕ) (start now other : Part) (joint : JointView)
     → is_still (machine_of start other joint) ≡ false → now ≡ read_part blocks start joint stamps
     → kind_of (own_turn blocks path (with_reads blocks stamps (machine_of start other joint))).turn
@@ -137,12 +137,12 @@ unfit_still blocks entry start other joint still none = record {
   rest = none;
 }
 
--- a record isn't legal whose block may not have read so,
+-- a record is not legal if its block may not have read with its stamps
 pub unfit_reads : (blocks : Blocks) (entry : Entry) (start now other : Part) (joint : JointView) → MayNotRead blocks joint entry.stamps start now
     → IsUnfit blocks entry other joint start now
 unfit_reads blocks entry start now other joint may = record { illegal = λ step. may.illegal other (step.reads); rest = may.rest }
 
--- or whose kind is another
+-- a record is not legal if the path's block makes a record of another kind
 pub unfit_kind : (blocks : Blocks) (entry : Entry) (start now other : Part) (joint : JointView) → is_still (machine_of start other joint) ≡ false
     → part_without_reads start ≡ start → HasRead blocks joint entry.stamps start now
     → (kind_of_effect (blocks.effect now.path now.values) other.waiting ≡ Some entry.kind → ⊥) → IsUnfit blocks entry other joint start now
@@ -162,7 +162,7 @@ wait_bare path line m code (Some there) none = go (code == there) refl
     go true e = rw e refl
     go false e = rw e (ap (λ (p : Part). record (with_alarm (crossed_waits path line) m) { paths = record (with_alarm (crossed_waits path line) m).paths { two = p } }) none)
 
--- a block that makes a record leaves no reads, where the other's block had none
+-- a block that makes a record leaves no reads, if the other's block had none
 by_bare : (path : Path) (line : ℕ) (m : MachineView) (e : Effect) (k : EntryKind) → kind_of (result_by path line m e).turn ≡ Some k
     → part_without_reads m.paths.two ≡ m.paths.two → without_reads (result_by path line m e).machine ≡ (result_by path line m e).machine
 by_bare path line m (Need v) k is none = absurd cc
@@ -171,7 +171,7 @@ by_bare path line m (AtWait code) k is none = wait_bare path line m code m.paths
 by_bare path line m (AtEnd to moves) k is none = ap (λ (p : Part). record (with_end to m) { paths = record (with_end to m).paths { two = p } }) none
 by_bare path line m (effect.Alarm number value) k is none = ap (λ (p : Part). record (with_alarm (alarm_at path line number value) m) { paths = record (with_alarm (alarm_at path line number value) m).paths { two = p } }) none
 
--- the block runs, and the record is done again
+-- if a record fits and its path's block runs, the record is done again
 pub done : (blocks : Blocks) (entry : Entry) (start now other : Part) (joint : JointView) (after : MachineView) (turn : Turn)
     → IsFit blocks entry other joint start now → part_without_reads other ≡ other
     → after ≡ (block_turn blocks entry.path (machine_of now other joint)).machine
@@ -197,11 +197,11 @@ refused blocks entry start now after other joint unfit is = record {
   unchanged = ap (λ (p : Part). machine_of p other joint) (is ∙ unfit.rest);
 }
 
--- a joint part lasts as it is: nothing changes, and no room is lost
+-- a joint part that does not change keeps what is shared, and its room
 pub lasts : (joint : JointView) → IsLasting joint joint
 lasts joint = record { hundreds = refl; upper = refl; room = omega arith }
 
--- and the parts stay ready for another record
+-- behind a record that is refused the parts stay ready for another
 pub still_ready : (tape other_tape : List ControlProgram) (start now after other : Part) (joint : JointView) (blocks : Blocks) (entry : Entry)
     → AreReady tape other_tape start other joint → IsUnfit blocks entry other joint start now → after ≡ part_without_reads now
     → AreReady tape other_tape after other joint
@@ -214,7 +214,7 @@ pub fit_shared : (blocks : Blocks) (entry : Entry) (start now other : Part) (joi
 fit_shared blocks entry start now other joint fit shared =
     subst (λ (p : Part). AreShared p joint) (sym (fit.part)) (record { hundreds = shared.hundreds; upper = shared.upper })
 
--- behind a record the next can be done again
+-- behind a record that was done again the parts are ready for another
 pub ready_behind : (tape other_tape : List ControlProgram) (blocks : Blocks) → ((at : PathView) (values : List Var) → GoesAsOrdered tape at (blocks.effect at values))
     → ((at : PathView) (values : List Var) → KeepsFixed at (blocks.effect at values)) → (path : Path) (kind : EntryKind) (stamps : List ℕ)
     → (me other me' other' : Part) (joint joint' : JointView) (turn : Turn)

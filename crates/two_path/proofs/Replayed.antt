@@ -1,4 +1,6 @@
--- What is read so far, and what the stamps that are left stand for, is what all stamps stand for.
+-- The loop in which a block reads again what the stamps of a record stand for: what is read so far,
+-- with what the stamps that are left stand for, is what all stamps stand for. For `read_all_again`
+-- (src/again.rt) by way of Redone.
 use Rattle.std.proofs.Common.{◌≡◌, ℕ, ◌≤◌, Bool, true, false, ◌&&◌, nat_le, List, [], ◌∷◌, ◌++◌, Option, Some, None, IfSome, refl, sym, ap, subst, ◌∙◌, append_assoc, append-nil, arith, if◌then◌else◌}
 use Rattle.std.proofs.lemmas.Bool.Decides.{nat_tests}
 use Rattle.nc_number.specs.declared.value.Var.{Var}
@@ -27,12 +29,12 @@ pub record IsReplaying (blocks : Blocks) (start now : Part) (writes : List Write
   -- the stamps read and those left are all stamps
   pub stamps : now.stamps ++ left ≡ all
   pub values : values_from blocks start.path writes now.values left ≡ values_at blocks start.path writes all
-  -- if the rest may be read so, all of it may,
+  -- if the block may read with the stamps that are left, it may read with all
   pub forth : Reads blocks start.path writes low count now.values left → Reads blocks start.path writes start.since count [] all
-  -- and the other way round
+  -- if the block may read with all stamps, it may read with those that are left
   pub back : Reads blocks start.path writes start.since count [] all → Reads blocks start.path writes low count now.values left
 
--- before the first stamp
+-- before the first stamp the loop says so
 pub begins : (blocks : Blocks) (start : Part) (writes : List Write) (count : ℕ) (all : List ℕ) → part_without_reads start ≡ start
     → IsReplaying blocks start start writes count start.since all all
 begins blocks start writes count all bare =
@@ -46,7 +48,7 @@ begins blocks start writes count all bare =
       back = λ r. (r.0, subst (λ vs. AsksFrom blocks start.path writes vs all) values r.1);
     }
 
--- a read that is due is in order, and the block asks for it;
+-- a read that is due is in order, and the block asks for it
 pub due_some : (low count stamp : ℕ) (e : Effect) (v : ℕ) → variable_due low count stamp e ≡ Some v → (low ≤ stamp) × (stamp ≤ count) × (e ≡ Need v)
 due_some low count stamp e v is = go (nat_le low stamp) refl (nat_le stamp count) refl is
   where
@@ -60,7 +62,7 @@ due_some low count stamp e v is = go (nat_le low stamp) refl (nat_le stamp count
     go true a false b is = absurd cc
     go false a y b is = absurd cc
 
--- if none is due, a stamp in order is one that the block doesn't ask for
+-- if no read is due with a stamp that is in order, the block asks for no variable
 pub due_none : (low count stamp : ℕ) (e : Effect) (v : ℕ) → variable_due low count stamp e ≡ None → low ≤ stamp → stamp ≤ count → e ≡ Need v → ⊥
 due_none low count stamp e v is a b need =
     let x : nat_le low stamp ≡ true = grind (arith, nat_tests) in
@@ -69,7 +71,7 @@ due_none low count stamp e v is a b need =
     let there : variable_asked (Need v) ≡ None = subst (λ x. variable_asked x ≡ None) need asked in
     cc there
 
--- one stamp more is read
+-- if one stamp more is read, the loop goes on
 pub goes_on : (blocks : Blocks) (start now : Part) (writes : List Write) (count low stamp v : ℕ) (all left : List ℕ)
     → IsReplaying blocks start now writes count low all (stamp ∷ left) → variable_due low count stamp (blocks.effect now.path now.values) ≡ Some v
     → IsReplaying blocks start (record now { values = now.values ++ value_after stamp v writes ∷ []; stamps = now.stamps ++ stamp ∷ [] }) writes count stamp all left
@@ -102,26 +104,26 @@ pub rests : (blocks : Blocks) (start now : Part) (writes : List Write) (count lo
     → IsReplaying blocks start now writes count low all left → part_without_reads now ≡ start
 rests blocks start now writes count low all left bare k = ap part_without_reads (k.part) ∙ bare
 
--- once no stamp is left, the block may have read with all of them,
+-- once no stamp is left, the block may have read with all of them
 pub may_read : (blocks : Blocks) (start now other : Part) (joint : JointView) (low : ℕ) (all : List ℕ)
     → IsReplaying blocks start now joint.shared.writes joint.count low all [] → MayRead blocks (machine_of start other joint) all
 may_read blocks start now other joint low all k = let r = k.forth (tt, tt) in record { order = r.0; asks = r.1 }
 
--- and has read what they stand for
+-- once no stamp is left, the block has read what all of them stand for
 pub has_read : (blocks : Blocks) (start now : Part) (writes : List Write) (count low : ℕ) (all : List ℕ) → IsReplaying blocks start now writes count low all []
     → now ≡ record start { values = values_at blocks start.path writes all; stamps = all }
 has_read blocks start now writes count low all k =
     k.part ∙ ap (λ vs. record start { values = vs; stamps = now.stamps }) (k.values)
     ∙ ap (λ ks. record start { values = values_at blocks start.path writes all; stamps = ks }) (sym (append-nil now.stamps) ∙ k.stamps)
 
--- a variable that a block needs and that its path shares is one that both share,
+-- a variable that its path shares is one that the joint part holds
 pub needs_shared : (part : Part) (joint : JointView) (v : ℕ) → AreShared part joint → is_shared part.path.fixed v ≡ true → IsShared joint.shared.shared100 joint.shared.shared500 v
 needs_shared part joint v shared e = rw (shared.hundreds, shared.upper) (of_fixed part.path.fixed v e)
   where
     of_fixed : (fixed : Fixed) (v : ℕ) → is_shared fixed v ≡ true → IsShared fixed.shared100 fixed.shared500 v
     of_fixed fixed v e = grind (arith, nat_tests)
 
--- and so is one that it writes
+-- a variable that a block writes for both paths is one that the joint part holds
 pub writes_shared : (part : Part) (joint : JointView) (e : Effect) (after : PathView) (write : Option (ℕ × Var)) (moves : List Move) → AreShared part joint
     → ((to : PathView) (w : Written) (ms : List Move) → e ≡ Done to (Some w) ms → is_shared part.path.fixed w.variable ≡ true)
     → Done after (write_seen write) moves ≡ e → IfSome write (λ w. IsShared joint.shared.shared100 joint.shared.shared500 w.0)

@@ -1,4 +1,5 @@
--- A history that is done again record by record.
+-- A history that is done again record by record: what machine and which moves are there behind each
+-- record. The loops that walk over histories rest on it.
 -- lathe_calls, move_list, run_table, trace_list and zone_check use these lemmas.
 use Rattle.std.proofs.Common.{◌≡◌, ℕ, ◌+◌, ◌<◌, ◌≤◌, List, [], ◌∷◌, ◌++◌, length, take, drop, get_or, append_assoc, append-nil, length-take-le, sym, subst, ◌∙◌, ap, Option, Some, None}
 use Rattle.std.proofs.lemmas.List.{at_drop_all, take_more, drop_more}
@@ -20,17 +21,18 @@ use Rattle.two_path.specs.Made.{PathTurn, made_by, moves_in, turns_from}
 abbrev pub turn_at : Tapes → MachineView → Entry → PathTurn
 turn_at tapes m e = record { path = e.path; turn = turn_of_entry tapes e m }
 
--- the records from one on are that record and those behind it,
+-- the records from one on are that record and those behind it
 pub records_from : (entries : List Entry) (i : ℕ) (e : Entry) → i < length entries → e ≡ get_or entries i e
     → drop i entries ≡ e ∷ drop (i + 1) entries
 records_from entries i e within is = drop_more entries i e within ∙ ap (λ x. x ∷ drop (i + 1) entries) (sym is)
 
--- and those up to it are those before and it
+-- the records up to and with one are those before it, and it
 pub records_to : (entries : List Entry) (i : ℕ) (e : Entry) → i < length entries → e ≡ get_or entries i e
     → take (i + 1) entries ≡ take i entries ++ e ∷ []
 records_to entries i e within is = take_more entries i e within ∙ ap (λ x. take i entries ++ x ∷ []) (sym is)
 
--- the moves so far, those of one record, and those of the records behind it
+-- the moves so far, those of one record and those of the records behind it are all moves, if the
+-- moves so far and those of the records from it on are
 pub moves_go_on : (tapes : Tapes) (path : Path) (m : MachineView) (made all : List LinedMove) (left rest : List Entry) (e : Entry)
     → left ≡ e ∷ rest → made ++ moves_in path (turns_from tapes m left) ≡ all
     → (made ++ made_by path (turn_at tapes m e)) ++ moves_in path (turns_from tapes (behind_entry tapes e m) rest) ≡ all
@@ -47,18 +49,18 @@ moves_at_end tapes path m made all entries i le so_far =
     sym (append-nil made)
     ∙ (ap (λ (ms : List LinedMove). made ++ ms) (sym (at_drop_all (λ es. moves_in path (turns_from tapes m es)) entries i le)) ∙ so_far)
 
--- the next record is legal there, and those behind it
+-- of a legal history that is left, the next record is legal, and so are those behind it
 pub next_is_legal : (tapes : Tapes) (m : MachineView) (left rest : List Entry) (e : Entry) → left ≡ e ∷ rest
     → IsLegal tapes m left → IsNext tapes m e × IsLegal tapes (behind_entry tapes e m) rest
 next_is_legal tapes m left rest e is legal = subst (IsLegal tapes m) is legal
 
--- the machine behind one record more
+-- if the machine is the fold of the records so far, behind one more it is the fold of those and it
 pub fold_more : (tapes : Tapes) (start m : MachineView) (front more : List Entry) (e : Entry) → more ≡ front ++ e ∷ []
     → m ≡ fold tapes start front → behind_entry tapes e m ≡ fold tapes start more
 fold_more tapes start m front more e is so_far =
     ap (behind_entry tapes e) so_far ∙ sym (fold_push tapes start front e) ∙ ap (fold tapes start) (sym is)
 
--- how many records there are behind the first so many
+-- the machine behind the first so many records of a legal history counts so many
 pub counted : (tapes : Tapes) (start m : MachineView) (entries : List Entry) (i : ℕ) → HistoriesAreRuns tapes start
     → IsLegal tapes start entries → i ≤ length entries → m ≡ fold tapes start (take i entries) → m.count ≡ i
 counted tapes start m entries i law legal within so_far =
@@ -72,7 +74,8 @@ none_waits left right first second = record {
   second = λ code waits. absurd (let e : ◌≡◌ {A = Option ℕ} None (Some code) = waits in cc);
 }
 
--- the moves so far, where a record was done again and its moves were added
+-- if a record was done again and its moves were added to those so far, these and the moves of the
+-- records that are left are all moves
 pub moves_on : (tapes : Tapes) (path : Path) (m after : MachineView) (made more all : List LinedMove) (left rest : List Entry) (e : Entry) (turn : Turn)
     → left ≡ e ∷ rest → after ≡ behind_entry tapes e m → turn ≡ turn_of_entry tapes e m
     → more ≡ made ++ made_by path (record { path = e.path; turn = turn })

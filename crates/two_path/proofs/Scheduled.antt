@@ -1,5 +1,6 @@
 -- Each legal history is recorded by some list of events: the reads of each record are taken as soon
--- as there are as many records as their stamps say.
+-- as there are as many records as their stamps say. The second half of the law `histories_are_runs`
+-- (src/laws.rt).
 use Rattle.std.proofs.Common.{◌≡◌, ℕ, ◌+◌, ◌≤◌, ◌<◌, Bool, true, false, ◌==◌, ◌||◌, ◌⊎◌, inl, inr, List, [], ◌∷◌, ◌++◌, Option, Some, None, is_some, refl, sym, ap, subst, ◌∙◌, append_assoc, append-nil, arith}
 use Rattle.std.proofs.lemmas.Bool.Decides.{nat_tests}
 use Rattle.nc_number.specs.declared.path.Path.{Path}
@@ -30,17 +31,17 @@ pub from_end : {X : Type 0} (P : List X → Type 0) → P [] → ((xs : List X) 
 from_end P none more [] = none
 from_end P none more (x ∷ xs) = from_end (λ ys. P (x ∷ ys)) (more [] x none) (λ ys y p. more (x ∷ ys) y p) xs
 
--- the records before the last, and the last
+-- of a legal history the records before the last are legal, and the last is legal behind them
 pub legal_front : (tapes : Tapes) (m : MachineView) (rs : List Entry) (e : Entry) → IsLegal tapes m (rs ++ e ∷ []) → IsLegal tapes m rs × IsNext tapes (fold tapes m rs) e
 legal_front tapes m [] e legal = (tt, legal.0)
 legal_front tapes m (r ∷ rs) e legal = let rest = legal_front tapes (behind_entry tapes r m) rs e legal.1 in ((legal.0, rest.0), rest.1)
 
--- one event more at the end: its machine is that behind it,
+-- the machine behind events with one more at the end is that behind this one
 run_push : (tapes : Tapes) (m : MachineView) (es : List Event) (e : Event) → run tapes m (es ++ e ∷ []) ≡ behind_event tapes e (run tapes m es)
 run_push tapes m [] e = refl
 run_push tapes m (f ∷ es) e = run_push tapes (behind_event tapes f m) es e
 
--- its records are added at the end
+-- the records of events with one more at the end are theirs, and then its own
 history_push : (tapes : Tapes) (m : MachineView) (es : List Event) (e : Event)
     → history tapes m (es ++ e ∷ []) ≡ history tapes m es ++ records_of tapes e (run tapes m es)
 history_push tapes m [] e = append-nil (records_of tapes e m)
@@ -48,7 +49,7 @@ history_push tapes m (f ∷ es) e =
     ap (λ rs. records_of tapes f m ++ rs) (history_push tapes (behind_event tapes f m) es e)
     ∙ sym (append_assoc (records_of tapes f m) (history tapes (behind_event tapes f m) es) (records_of tapes e (run tapes m (f ∷ es))))
 
--- with these stamps the first path's block may have read, and where the path is still it has not
+-- with these stamps the first path's block may have read; a path that is still has read nothing
 record Ready (blocks : Blocks) (m : MachineView) (ks : List ℕ) : Type 0 where
   may : MayRead blocks m ks
   idle : is_still m ≡ true → ks ≡ []
@@ -115,11 +116,12 @@ order_none c high (k ∷ ks) i b = absurd (omega (arith, i.0, b.0))
 -- from n a record of the first path leads to this machine, whatever the other has read: what either
 -- path may have read since, and before
 record StepsTo (a b : Blocks) (n to : MachineView) (from_reads : List Var → List ℕ → MachineView) : Type 0 where
-  -- a record counts one,
+  -- the record counts one
   count : to.count ≡ n.count + 1
-  -- the path that made it has read nothing of before,
+  -- behind it the path that made it has no reads from before it
   mine : (ks : List ℕ) → Ready a to ks → Below (n.count + 1) ks → ks ≡ []
-  -- and the other path may have read so before it too, with the same turn
+  -- reads of the other path with stamps from before the record, which it may have behind the
+  -- record, it may have before it; with them the turn leads to this machine with the same reads
   theirs : (ko : List ℕ) → Ready b (own_first Two to) ko → Below (n.count + 1) ko
       → Ready b (own_first Two n) ko
       × (from_reads (values_at b n.paths.two.path n.writes ko) ko ≡ both [] [] (values_at b to.paths.two.path to.writes ko) ko to)
@@ -128,7 +130,8 @@ record StepsTo (a b : Blocks) (n to : MachineView) (from_reads : List Var → Li
 ready_none : (blocks : Blocks) (m : MachineView) → Ready blocks m []
 ready_none blocks m = record { may = record { order = tt; asks = tt }; idle = λ _. refl }
 
--- what the other path reads before a record of this one
+-- what the other path may have read at stamps before a record of this one, it may have read before
+-- that record, with the same values
 before : (b : Blocks) (n : MachineView) (x : Part) (o : Option Written) (al : Option Alarm) (ko : List ℕ) → is_still n ≡ false
     → Ready b (record { paths = record { one = part_without_reads n.paths.two; two = x }; writes = with_write (n.count + 1) o n.writes; count = n.count + 1; alarm = al }) ko → Below (n.count + 1) ko
     → Ready b (own_first Two n) ko × (values_at b n.paths.two.path n.writes ko ≡ values_at b n.paths.two.path (with_write (n.count + 1) o n.writes) ko)
@@ -145,7 +148,7 @@ before b n x o al ko awake r below =
     calm (Some t) f g e i = absurd cc
     calm None f g e i = i
 
--- what a turn at a wait leads to,
+-- a turn at a wait leads on so, whatever the other path has read
 stepped_wait : (a b : Blocks) (path : Path) (line : ℕ) (n : MachineView) (rs : List Var) (ks : List ℕ) (code : ℕ) (o : Option ℕ) → is_still n ≡ false
     → StepsTo a b n (without_reads (result_at_wait path line (with_values rs ks n) code o).machine) (λ ro ko. (result_at_wait path line (both rs ks ro ko n) code o).machine)
 stepped_wait a b path line n rs ks code None awake = record {
@@ -170,7 +173,7 @@ stepped_wait a b path line n rs ks code (Some there) awake = go (code == there) 
       theirs = λ ko r below. rw (order_none (n.count + 1) (n.count + 1) ko r.may.order below) (ready_none b (own_first Two n), refl);
     })
 
--- and a turn by what the block comes to
+-- a turn by what the block comes to, if it makes a record, leads on so
 stepped : (a b : Blocks) (path : Path) (line : ℕ) (n : MachineView) (rs : List Var) (ks : List ℕ) (e : Effect) (k : EntryKind) → is_still n ≡ false
     → kind_of (result_by path line (with_values rs ks n) e).turn ≡ Some k
     → StepsTo a b n (without_reads (result_by path line (with_values rs ks n) e).machine) (λ ro ko. (result_by path line (both rs ks ro ko n) e).machine)
@@ -196,18 +199,18 @@ stepped a b path line n rs ks (effect.Alarm number value) k awake e = record {
       let p = before b n (part_without_reads n.paths.one) None (result_by path line n (effect.Alarm number value)).machine.alarm ko awake r below in (p.0, refl);
 }
 
--- a turn that reads makes no record,
+-- a turn that reads makes no record
 read_kind : (a b : Blocks) (path : Path) (n : MachineView) (ks ko : List ℕ) (v : ℕ) → is_still n ≡ false → a.effect n.paths.one.path (values_at a n.paths.one.path n.writes ks) ≡ Need v
     → kind_of (own_turn a path (loaded a b ks ko n)).turn ≡ None
 read_kind a b path n ks ko v awake e = rw (own_awake a path (loaded a b ks ko n) awake, e) refl
 
--- and adds the present number of records to the stamps
+-- a turn that reads adds the present number of records to the stamps
 read_turn : (a b : Blocks) (path : Path) (n : MachineView) (ks ko : List ℕ) (v : ℕ) → is_still n ≡ false → a.effect n.paths.one.path (values_at a n.paths.one.path n.writes ks) ≡ Need v
     → (own_turn a path (loaded a b ks ko n)).machine ≡ loaded a b (ks ++ n.count ∷ []) ko n
 read_turn a b path n ks ko v awake e =
     rw (own_awake a path (loaded a b ks ko n) awake, values_push a n.paths.one.path n.writes [] ks n.count, e) refl
 
--- the kind of a record does not hang on what the other has read
+-- the kind of the record of a turn at a wait does not depend on what the other path has read
 wait_kind : (path : Path) (line : ℕ) (m n : MachineView) (code : ℕ) (o : Option ℕ)
     → kind_of (result_at_wait path line m code o).turn ≡ kind_of (result_at_wait path line n code o).turn
 wait_kind path line m n code None = refl
@@ -218,7 +221,8 @@ wait_kind path line m n code (Some there) = go (code == there) refl
     go true e = rw e refl
     go false e = rw e refl
 
--- the same of a turn by what the block comes to
+-- the kind of the record of a turn by what the block comes to depends, of the other path, on its
+-- wait alone
 kind_alike : (path : Path) (line : ℕ) (m n : MachineView) (e : Effect) → m.paths.two.waiting ≡ n.paths.two.waiting
     → kind_of (result_by path line m e).turn ≡ kind_of (result_by path line n e).turn
 kind_alike path line m n (Need v) w = refl
@@ -243,7 +247,7 @@ step_kind a b path n k ks ko i =
     ∙ sym (ap (λ r. kind_of r.turn) (own_awake a path (with_reads a ks n) awake))
     ∙ i.is
 
--- a whole step leads on like that, whatever the other path has read
+-- a step of the first path leads on so, whatever the other path has read
 applied_steps : (a b : Blocks) (path : Path) (n : MachineView) (k : EntryKind) (ks : List ℕ) → IsStep a path n k ks
     → StepsTo a b n (behind_step a path ks n) (λ ro ko. (own_turn a path (both (values_at a n.paths.one.path n.writes ks) ks ro ko n)).machine)
 applied_steps a b path n k ks i =
@@ -266,7 +270,7 @@ not_none : (ks : List ℕ) (k : ℕ) → ks ++ k ∷ [] ≡ [] → ⊥
 not_none [] k e = cc
 not_none (j ∷ ks) k e = cc
 
--- who may read with one stamp more may read without it,
+-- a block that may have read with one stamp more may have read without it
 ready_front : (blocks : Blocks) (m : MachineView) (ks : List ℕ) (k : ℕ) → Ready blocks m (ks ++ k ∷ []) → Ready blocks m ks
 ready_front blocks m ks k r = record {
   may = record {
@@ -276,7 +280,7 @@ ready_front blocks m ks k r = record {
   idle = λ i. absurd (not_none ks k (r.idle i));
 }
 
--- and isn't still
+-- a path whose block may have read with a last stamp is not still
 ready_awake : (blocks : Blocks) (m : MachineView) (ks : List ℕ) (k : ℕ) → Ready blocks m (ks ++ k ∷ []) → is_still m ≡ false
 ready_awake blocks m ks k r = go (is_still m) refl
   where
@@ -298,7 +302,7 @@ more_none : (tapes : Tapes) (m n to : MachineView) (rs : List Entry) (e : Event)
     → behind_event tapes e n ≡ to → IsReached tapes m rs to
 more_none tapes m n to rs e x new is = subst (λ es. IsReached tapes m es to) (append-nil rs) (more tapes m n to rs e [] x new is)
 
--- one more read of the first path,
+-- a machine with one read more of the first path is reached too, if the block may have read so
 read_first : (tapes : Tapes) (m n : MachineView) (rs : List Entry) (ks ko : List ℕ) → Ready tapes.one n (ks ++ n.count ∷ [])
     → IsReached tapes m rs (loaded tapes.one tapes.two ks ko n)
     → IsReached tapes m rs (loaded tapes.one tapes.two (ks ++ n.count ∷ []) ko n)
@@ -310,7 +314,7 @@ read_first tapes m n rs ks ko r x =
     (rw (read_kind tapes.one tapes.two One n ks ko need.0 awake need.1) refl)
     (read_turn tapes.one tapes.two One n ks ko need.0 awake need.1)
 
--- and of the second
+-- a machine with one read more of the second path is reached too, if the block may have read so
 read_second : (tapes : Tapes) (m n : MachineView) (rs : List Entry) (ks ko : List ℕ) → Ready tapes.two (own_first Two n) (ko ++ n.count ∷ [])
     → IsReached tapes m rs (loaded tapes.one tapes.two ks ko n)
     → IsReached tapes m rs (loaded tapes.one tapes.two ks (ko ++ n.count ∷ []) n)
@@ -328,7 +332,7 @@ Claim tapes m rs n =
     (ks ko : List ℕ) → Ready tapes.one n ks → Ready tapes.two (own_first Two n) ko
     → IsReached tapes m rs (loaded tapes.one tapes.two ks ko n)
 
--- the same where no read has been made since the last record
+-- each machine that is the fold of the history but for reads from before the last record is reached
 abbrev Base : Tapes → MachineView → List Entry → MachineView → Type 0
 Base tapes m rs n =
     (ks ko : List ℕ) → Ready tapes.one n ks → Ready tapes.two (own_first Two n) ko → Below n.count ks → Below n.count ko
@@ -342,7 +346,7 @@ below_or k c h = go (k == c) refl
     go true e = inl (grind (arith, nat_tests))
     go false e = inr (grind (arith, nat_tests))
 
--- what the second path may have read can be read now,
+-- from reads before the last record on, what the second path may have read since can be read now
 extend_second : (tapes : Tapes) (m n : MachineView) (rs : List Entry) → Base tapes m rs n → (ks : List ℕ) → Ready tapes.one n ks → Below n.count ks
     → (ko : List ℕ) → Ready tapes.two (own_first Two n) ko → IsReached tapes m rs (loaded tapes.one tapes.two ks ko n)
 extend_second tapes m n rs base ks r b =
@@ -355,7 +359,7 @@ extend_second tapes m n rs base ks r b =
     go ko k x s (inl e) = rw e (read_second tapes m n rs ks ko (rw e at s) x)
     go ko k x s (inr lt) = base ks (ko ++ k ∷ []) r s b (below_push n.paths.two.since n.count n.count ko k s.may.order lt)
 
--- and then what the first may have read
+-- from reads before the last record on, all that both paths may have read since can be read now
 extend_first : (tapes : Tapes) (m n : MachineView) (rs : List Entry) → Base tapes m rs n → Claim tapes m rs n
 extend_first tapes m n rs base ks ko r s = from_end
     (λ ks. Ready tapes.one n ks → IsReached tapes m rs (loaded tapes.one tapes.two ks ko n))
@@ -372,7 +376,7 @@ extend_first tapes m n rs base ks ko r s = from_end
 step_ready : (blocks : Blocks) (path : Path) (m : MachineView) (k : EntryKind) (ks : List ℕ) → IsStep blocks path m k ks → Ready blocks m ks
 step_ready blocks path m k ks i = record { may = i.reads; idle = λ e. absurd (let awake : is_still m ≡ false = step_awake blocks path m k ks i in cc) }
 
--- a step of the first path leads to the machine behind its record,
+-- behind the record of a step of the first path each machine with reads from before it is reached
 turned_first : (tapes : Tapes) (m n : MachineView) (rs : List Entry) (k : EntryKind) (ks : List ℕ) → Claim tapes m rs n → IsStep tapes.one One n k ks
     → Base tapes m (rs ++ entry One k ks ∷ []) (behind_step tapes.one One ks n)
 turned_first tapes m n rs k ks claim i ks' ko r s b b' =
@@ -385,7 +389,7 @@ turned_first tapes m n rs k ks claim i ks' ko r s b b' =
     (claim ks ko (step_ready a One n k ks i) th.0)
     (rw (step_kind a c One n k ks ko i) refl) th.1)
 
--- one of the second does too,
+-- behind the record of a step of the second path each machine with reads from before it is reached
 turned_second : (tapes : Tapes) (m n : MachineView) (rs : List Entry) (k : EntryKind) (ks : List ℕ) → Claim tapes m rs n → IsStep tapes.two Two (own_first Two n) k ks
     → Base tapes m (rs ++ entry Two k ks ∷ []) (own_first Two (behind_step tapes.two Two ks (own_first Two n)))
 turned_second tapes m n rs k ks claim i ko ks' s r b' b =
@@ -398,7 +402,7 @@ turned_second tapes m n rs k ks claim i ko ks' s r b' b =
     (claim ko ks th.0 (step_ready a Two (own_first Two n) k ks i))
     (rw (step_kind a c Two (own_first Two n) k ks ko i) refl) (ap (own_first Two) th.1))
 
--- and so one of either
+-- behind the record of a step of either path each machine with reads from before it is reached
 turned : (tapes : Tapes) (m n : MachineView) (rs : List Entry) (p : Path) (k : EntryKind) (ks : List ℕ) → Claim tapes m rs n
     → IsStep (of_path tapes p) p (own_first p n) k ks
     → Base tapes m (rs ++ entry p k ks ∷ []) (own_first p (behind_step (of_path tapes p) p ks (own_first p n)))
@@ -429,7 +433,7 @@ edited_base tapes m n rs p edit claim calm ks ko r s b b' =
     same One = refl
     same Two = refl
 
--- the same of each legal record
+-- behind each legal record each machine with reads from before it is reached
 base_of : (tapes : Tapes) (m n : MachineView) (rs : List Entry) (e : Entry) → Claim tapes m rs n → IsNext tapes n e
     → Base tapes m (rs ++ e ∷ []) (behind_entry tapes e n)
 base_of tapes m n rs e claim (inl i) =
@@ -462,7 +466,7 @@ pub fold_bare : (tapes : Tapes) (m : MachineView) (rs : List Entry) → without_
 fold_bare tapes m [] h = h
 fold_bare tapes m (e ∷ es) h = fold_bare tapes (behind_entry tapes e m) es (entry_bare tapes e m)
 
--- some events make these records and lead to their fold but for block reads,
+-- some events make the records of a legal history, and lead to its fold but for block reads
 pub run_of : (tapes : Tapes) (first second : PathView) (rs : List Entry) → IsLegal tapes (opening first second) rs
     → IsRun tapes (opening first second) rs (fold tapes (opening first second) rs)
 run_of tapes first second rs legal =
@@ -470,7 +474,8 @@ run_of tapes first second rs legal =
     let x = reached tapes first second rs legal [] [] (ready_none tapes.one n) (ready_none tapes.two (own_first Two n)) in
     record { events = x.events; records = x.records; reaches = rw x.reaches (fold_bare tapes (opening first second) rs refl) }
 
--- and to each machine with lawful reads whose fold it is
+-- some events make the records of a legal history, and lead to each machine without an alarm that
+-- is its fold but for lawful reads
 pub lawful_of : (tapes : Tapes) (first second : PathView) (rs : List Entry) (to : MachineView) → IsLegal tapes (opening first second) rs
     → fold tapes (opening first second) rs ≡ without_reads to → to.alarm ≡ None → AreLawful tapes to → IsReached tapes (opening first second) rs to
 lawful_of tapes first second rs to legal folds calm l =

@@ -1,4 +1,5 @@
--- What a turn comes to, from the answer of a path that has taken its block.
+-- What a turn comes to, from the answer of a path that has taken its block: for `settle`
+-- (src/turning.rt).
 use Rattle.std.proofs.Common.{◌≡◌, ℕ, ◌<◌, true, List, length, Option, Some, sym, ap, subst, ◌∙◌}
 use Rattle.nc_number.specs.declared.path.Path.{Path}
 use Rattle.nc_moves.specs.declared.motion.Move.{Move}
@@ -18,7 +19,7 @@ use Rattle.two_path.specs.Turns.{Blocks, TurnResult, result_by, block_turn, kind
 use Rattle.two_path.specs.Joined.{JointView, machine_of, HasTaken}
 use Rattle.two_path.proofs.Stays.{stays, else_same}
 
--- what the answer comes to is the turn of the block, where the path went on
+-- what the answer comes to, with the path's old state put back, is the turn of the block
 pub went : (blocks : Blocks) (path : Path) (line : ℕ) (before now other : Part) (joint : JointView) (told : BlockAnswer) (moves : List Move)
     → blocks.line before.path.place ≡ line → HasTaken blocks before now told moves
     → result_by path line (machine_of (record now { path = before.path }) other joint) (effect_told told moves now.path)
@@ -28,7 +29,7 @@ went blocks path line before now other joint told moves here taken =
     ∙ ap (λ e. result_by path line (machine_of before other joint) e) taken.effect
     ∙ ap (λ n. result_by path n (machine_of before other joint) (blocks.effect before.path before.values)) (sym here)
 
--- and if it stands where it stood, it is that turn too
+-- if the path's state did not change, what the answer comes to is the turn of the block
 pub stood : (blocks : Blocks) (path : Path) (line : ℕ) (before now other : Part) (joint : JointView) (told : BlockAnswer) (moves : List Move)
     → blocks.line before.path.place ≡ line → HasTaken blocks before now told moves → now.path ≡ before.path
     → result_by path line (machine_of now other joint) (effect_told told moves now.path) ≡ block_turn blocks path (machine_of before other joint)
@@ -42,7 +43,8 @@ pub same_stamps : (blocks : Blocks) (before now : Part) (told : BlockAnswer) (mo
     → now.stamps ≡ before.stamps
 same_stamps blocks before now told moves taken = ap (λ (p : Part). p.stamps) taken.rest
 
--- the record of such a turn is that of the turn of the block
+-- a record with the stamps of the path and the kind of what the answer comes to is that of the turn
+-- of the block
 pub entry_of_block : (path : Path) (before now : Part) (entry : Option Entry) (kind : Option EntryKind) (came : TurnResult) (of_block : TurnResult)
     → now.stamps ≡ before.stamps → came ≡ of_block → kind_of came.turn ≡ kind → entry ≡ entry_with path now.stamps kind
     → entry ≡ entry_with path before.stamps (kind_of of_block.turn)

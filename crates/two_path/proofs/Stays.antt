@@ -1,15 +1,16 @@
--- What a turn comes to, over the parts that the code keeps.
+-- A path that changed nothing but its state, and a turn at a wait while the other path waits at
+-- another code: for Settled and `came_to_wait` (src/turning.rt).
 use Rattle.std.proofs.Common.{◌≡◌, ℕ, ◌==◌, false, Option, Some, refl, ap, ◌∙◌}
 use Rattle.nc_number.specs.declared.path.Path.{Path}
 use Rattle.path_state.specs.View.{PathView}
 use Rattle.two_path.specs.Machine.{Part, MachineView}
 use Rattle.two_path.specs.Turns.{crossed_waits, with_alarm, result_at_wait}
 
--- a path that changed nothing but its state, and not that, is as it was
+-- a part that changed nothing but its path's state, and whose state did not change, is as it was
 pub stays : (me now : Part) → now ≡ record me { path = now.path } → now.path ≡ me.path → now ≡ me
 stays me now rest e = rest ∙ ap (λ (q : PathView). record me { path = q }) e
 
--- a path that changed nothing but its state is as it was but for that
+-- a part that changed nothing but its path's state is, with the old state put back, as it was
 pub else_same : (me now : Part) → now ≡ record me { path = now.path } → record now { path = me.path } ≡ me
 else_same me now rest = ap (λ (p : Part). record p { path = me.path }) rest
 

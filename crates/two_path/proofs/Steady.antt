@@ -1,5 +1,5 @@
 -- What each turn leaves as it is: what is fixed for both paths, and that a path that waits stands
--- on a wait.
+-- on a wait. For `turn_into` (src/machine.rt), and by way of Redone for records done again.
 use Rattle.std.proofs.Common.{◌≡◌, ℕ, Bool, true, false, ◌==◌, ◌||◌, List, Option, Some, None, is_some, refl, sym, ap, ◌∙◌}
 use Rattle.nc_number.specs.declared.path.Path.{Path}
 use Rattle.nc_number.specs.declared.path.Path.TheVariants.{Two}
@@ -24,7 +24,7 @@ pub record IsFixed (before after : MachineView) : Type 0 where
   pub first : after.paths.one.path.fixed ≡ before.paths.one.path.fixed
   pub second : after.paths.two.path.fixed ≡ before.paths.two.path.fixed
 
--- a turn at a wait leaves it,
+-- a turn at a wait leaves what is fixed for both paths
 wait_fixed : (path : Path) (line : ℕ) (m : MachineView) (code : ℕ) (o : Option ℕ) → IsFixed m (result_at_wait path line m code o).machine
 wait_fixed path line m code None = record { first = refl; second = refl }
 wait_fixed path line m code (Some there) = go (code == there) refl
@@ -33,7 +33,7 @@ wait_fixed path line m code (Some there) = go (code == there) refl
     go true e = rw e (record { first = refl; second = refl })
     go false e = rw e (record { first = refl; second = refl })
 
--- a turn by what the block comes to does,
+-- a turn by what the block comes to leaves what is fixed for both paths
 by_fixed : (path : Path) (line : ℕ) (m : MachineView) (e : Effect) → KeepsFixed m.paths.one.path e → IsFixed m (result_by path line m e).machine
 by_fixed path line m (Need v) k = record { first = refl; second = refl }
 by_fixed path line m (Done to write moves) k = record { first = k; second = refl }
@@ -41,7 +41,7 @@ by_fixed path line m (AtWait code) k = wait_fixed path line m code m.paths.two.w
 by_fixed path line m (AtEnd to moves) k = record { first = k; second = refl }
 by_fixed path line m (effect.Alarm number value) k = record { first = refl; second = refl }
 
--- and so each turn of the path whose part is first
+-- each turn of the path whose part is first leaves what is fixed for both paths
 pub own_fixed : (blocks : Blocks) → ((at : PathView) (values : List Var) → KeepsFixed at (blocks.effect at values)) → (path : Path) (m : MachineView)
     → IsFixed m (own_turn blocks path m).machine
 own_fixed blocks keeps path m = go (is_still m) refl
@@ -62,7 +62,7 @@ still_shared before after joint left fixed lasting shared = record {
 none_waits : {A : Type 0} {o : Option ℕ} {code : ℕ} → o ≡ None → o ≡ Some code → A
 none_waits e w = absurd cc
 
--- after a turn at a wait each waiting path stands on a wait,
+-- after a turn at a wait each waiting path stands on a wait
 wait_waits : (left right : List ControlProgram) (path : Path) (line : ℕ) (m : MachineView) (code : ℕ) → m.paths.one.waiting ≡ None
     → standing left m.paths.one.path.place ≡ Some (Wait code) → AreAtTheirWaits left right m → (o : Option ℕ)
     → AreAtTheirWaits left right (result_at_wait path line m code o).machine
@@ -76,7 +76,7 @@ wait_waits left right path line m code none is k (Some there) = go (code == ther
     go true e = rw e (record { first = λ c same. absurd cc; second = λ c same. absurd cc })
     go false e = rw e (record { first = λ c same. none_waits none same; second = k.second })
 
--- and so it does after a turn by what the block comes to
+-- after a turn by what the block comes to each waiting path stands on a wait
 by_waits : (left right : List ControlProgram) (path : Path) (line : ℕ) (m : MachineView) (e : Effect) → m.paths.one.waiting ≡ None → GoesAsOrdered left m.paths.one.path e
     → AreAtTheirWaits left right m → AreAtTheirWaits left right (result_by path line m e).machine
 by_waits left right path line m (Need v) none goes k = record { first = λ c same. none_waits none same; second = k.second }
@@ -103,11 +103,11 @@ own_waits left right blocks led path m k = go (is_still m) refl
         (by_waits left right path (blocks.line m.paths.one.path.place) m (blocks.effect m.paths.one.path m.paths.one.values)
         (not_waiting m.alarm m.paths.one.finished m.paths.one.waiting e) (led m.paths.one.path m.paths.one.values) k)
 
--- it is so with the paths changed over
+-- each waiting path stands on a wait with the paths changed over too
 pub swapped : (left right : List ControlProgram) (m : MachineView) → AreAtTheirWaits left right m → AreAtTheirWaits right left (own_first Two m)
 swapped left right m k = record { first = k.second; second = k.first }
 
--- the same of the parts that the code keeps
+-- behind a turn that the code has made both parts share the variables of the joint part
 pub shared_behind : (blocks : Blocks) → ((at : PathView) (values : List Var) → KeepsFixed at (blocks.effect at values)) → (path : Path)
     → (me other me' other' : Part) (joint joint' : JointView) → machine_of me' other' joint' ≡ (own_turn blocks path (machine_of me other joint)).machine
     → IsLasting joint joint' → AreShared me joint → AreShared other joint → AreShared me' joint' × AreShared other' joint'
@@ -117,12 +117,12 @@ shared_behind blocks keeps path me other me' other' joint joint' is lasting mine
       still_shared other other' joint joint' (ap (λ (m : MachineView). m.paths.two.path.fixed) is ∙ fixed.second) lasting theirs,
     )
 
--- the same of a turn that the code has made
+-- behind a turn that the code has made each waiting path stands on a wait
 pub waits_behind : (left right : List ControlProgram) (blocks : Blocks) → ((at : PathView) (values : List Var) → GoesAsOrdered left at (blocks.effect at values))
     → (path : Path) (m to : MachineView) → to ≡ (own_turn blocks path m).machine → AreAtTheirWaits left right m → AreAtTheirWaits left right to
 waits_behind left right blocks led path m to is k = rw is (own_waits left right blocks led path m k)
 
--- the same of a record that is done again, and of one that is refused
+-- behind a record that is done again both parts share the variables of the joint part
 pub step_shared : (blocks : Blocks) → ((at : PathView) (values : List Var) → KeepsFixed at (blocks.effect at values)) → (path : Path) (stamps : List ℕ)
     → (me other me' other' : Part) (joint joint' : JointView) → machine_of me' other' joint' ≡ behind_step blocks path stamps (machine_of me other joint)
     → IsLasting joint joint' → AreShared me joint → AreShared other joint → AreShared me' joint' × AreShared other' joint'
@@ -132,7 +132,8 @@ step_shared blocks keeps path stamps me other me' other' joint joint' is lasting
       still_shared other other' joint joint' (ap (λ (m : MachineView). m.paths.two.path.fixed) is ∙ fixed.second) lasting theirs,
     )
 
--- parts of the same machine share the same variables
+-- behind a record that is refused, which leaves the machine, both parts share the variables of the
+-- joint part
 pub same_shared : (me other me' other' : Part) (joint joint' : JointView) → machine_of me' other' joint' ≡ machine_of me other joint
     → IsLasting joint joint' → AreShared me joint → AreShared other joint → AreShared me' joint' × AreShared other' joint'
 same_shared me other me' other' joint joint' is lasting mine theirs = (

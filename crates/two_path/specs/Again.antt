@@ -1,6 +1,8 @@
--- A record that is done again. What makes a record legal is in Histories, and what a turn does in
--- Turns.
--- lathe_top, nc_restart, run_table, trace_list and zone_check use these words.
+-- What it means that a record of a history is done again, or refused with nothing changed: the
+-- contracts of src/again.rt and of `Machine::apply`. What makes a record legal is in Histories, and
+-- what a turn does in Turns.
+-- run_table, nc_restart, trace_list and zone_check, which go over histories, and lathe_top use
+-- these words.
 use Rattle.std.specs.Prelude.{◌≡◌, Bool, true, false, ℕ, ◌==◌, ◌&&◌, nat_le, List, [], ◌∷◌, ◌++◌, Option, Some, None, if◌then◌else◌}
 use Rattle.run_records.specs.Entries.{Entry, edit_of}
 use Rattle.run_records.specs.declared.edit.Edit.{Edit}
@@ -23,13 +25,15 @@ use Rattle.two_path.specs.Turns.{Blocks, Tapes, own_turn}
 use Rattle.two_path.specs.Histories.{MayRead, with_reads, IsStep, behind_step, IsNext, behind_entry}
 use Rattle.two_path.specs.Joined.{JointView, machine_of, read_part, AreItsMoves, AreShared, HasTaken, IsAtItsWait}
 
--- Two paths of which records can be done again: both share the same variables, a path that waits
--- stands on a wait, and no block has read anything.
+-- Two paths of which a record can be done again: that of the record and the other one.
 pub record AreReady (tape other_tape : List ControlProgram) (me other : Part) (joint : JointView) : Type 0 where
+  -- both share the variables of the joint part
   pub my_shared : AreShared me joint
   pub other_shared : AreShared other joint
+  -- each stands on a wait if it waits
   pub my_wait : IsAtItsWait tape me
   pub other_wait : IsAtItsWait other_tape other
+  -- neither block has read anything
   pub my_reads : part_without_reads me ≡ me
   pub other_reads : part_without_reads other ≡ other
 
@@ -38,19 +42,19 @@ abbrev pub variable_asked : Effect → Option ℕ
 variable_asked (Need variable) = Some variable
 variable_asked _ = None
 
--- the variable that the block reads with this stamp, where it asks for one and the stamp is in
--- order
+-- the variable that the block reads with this stamp, if it asks for one and the stamp is in order
 abbrev pub variable_due : ℕ → ℕ → ℕ → Effect → Option ℕ
 variable_due lowest highest stamp effect =
     if nat_le lowest stamp && nat_le stamp highest then variable_asked effect else None
 
--- the kind of the record of a path at a wait, where the other waits at this code, or not
+-- the kind of the record of a path that comes to a wait of this code, by the code at which the
+-- other path waits, if it waits
 abbrev pub kind_at_wait : ℕ → Option ℕ → EntryKind
 kind_at_wait code None = kind.Arrived
 kind_at_wait code (Some there) = if code == there then kind.Met else kind.Alarmed
 
--- the kind of the record of a block that comes to this, where the other path waits at this code, or
--- not
+-- the kind of the record of a block of this effect, if it makes one, by the code at which the other
+-- path waits, if it waits
 abbrev pub kind_of_effect : Effect → Option ℕ → Option EntryKind
 kind_of_effect (Need variable) other = None
 kind_of_effect (Done path write moves) other = Some kind.Did
@@ -72,7 +76,7 @@ abbrev pub is_ended : EntryKind → Bool
 is_ended kind.Ended = true
 is_ended _ = false
 
--- the block of a path at this label changes the path only where it makes a record of this kind
+-- whether the block of a path at this label changes the path only if it makes a record of this kind
 abbrev pub changes_only_by : Option Label → EntryKind → Bool
 changes_only_by (Some (label.Wait code)) kind = true
 changes_only_by (Some label.End) kind = is_ended kind
@@ -83,8 +87,11 @@ changes_only_by None kind = is_did kind
 -- the path's block makes a record of this kind, and the path took it and answered so, with these
 -- moves
 pub record IsTaken (blocks : Blocks) (kind : EntryKind) (other before now : Part) (answer : BlockAnswer) (moves : List Move) : Type 0 where
+  -- the block makes a record of this kind
   pub due : kind_of_block blocks before other ≡ Some kind
+  -- the path did what the block comes to, and answered so
   pub taken : HasTaken blocks before now answer moves
+  -- these are the moves of the block
   pub are : AreItsMoves blocks before moves
 
 -- the path's block makes no record of this kind, and the path is as it was
@@ -92,7 +99,7 @@ pub record IsNotDue (blocks : Blocks) (kind : EntryKind) (other before now : Par
   pub differs : kind_of_block blocks before other ≡ Some kind → ⊥
   pub stays : now ≡ before
 
--- the block read once more, with this stamp
+-- the block read one variable more, with this stamp
 pub record IsReadAgain (blocks : Blocks) (joint : JointView) (lowest stamp : ℕ) (before after : Part) : Type 0 where
   -- the variable that was read
   pub variable : ℕ
@@ -107,7 +114,7 @@ pub record IsUnread (blocks : Blocks) (joint : JointView) (lowest stamp : ℕ) (
   pub due : variable_due lowest joint.count stamp (blocks.effect before.path before.values) ≡ None
   pub unchanged : after ≡ before
 
--- the block may have read with these stamps, and has read what they stand for
+-- the block may have read with these stamps, and has now read what they stand for
 pub record HasRead (blocks : Blocks) (joint : JointView) (stamps : List ℕ) (before after : Part) : Type 0 where
   pub legal : (other : Part) → MayRead blocks (machine_of before other joint) stamps
   pub part : after ≡ read_part blocks before joint stamps
@@ -117,45 +124,49 @@ pub record MayNotRead (blocks : Blocks) (joint : JointView) (stamps : List ℕ) 
   pub illegal : (other : Part) → MayRead blocks (machine_of before other joint) stamps → ⊥
   pub rest : part_without_reads after ≡ before
 
--- the record is legal there, and the block has read what its stamps stand for
+-- the record is legal behind the machine of these parts, and its block has now read what the
+-- record's stamps stand for
 pub record IsFit (blocks : Blocks) (entry : Entry) (other : Part) (joint : JointView) (before after : Part) : Type 0 where
   pub legal : IsStep blocks entry.path (machine_of before other joint) entry.kind entry.stamps
   pub part : after ≡ read_part blocks before joint entry.stamps
 
--- the record is not legal there; but for what its block read now, the path is as it was
+-- the record is not legal behind the machine of these parts; but for what its block read now, the
+-- path is as it was
 pub record IsUnfit (blocks : Blocks) (entry : Entry) (other : Part) (joint : JointView) (before after : Part) : Type 0 where
   pub illegal : IsStep blocks entry.path (machine_of before other joint) entry.kind entry.stamps → ⊥
   pub rest : part_without_reads after ≡ before
 
--- what a record of the first path answers that is done again, which is an edit or has these stamps
+-- what the turn of a record of the first path answers as it is done again: a record of an edit, or
+-- of a step with these stamps
 abbrev pub turn_by : Blocks → Path → Option Edit → List ℕ → MachineView → Turn
 turn_by blocks path (Some edit) stamps m = turn.Edited
 turn_by blocks path None stamps m = (own_turn blocks path (with_reads blocks stamps m)).turn
 
--- what the turn of a record answers
+-- what the turn of a record of either path answers as it is done again
 abbrev pub turn_of_entry : Tapes → Entry → MachineView → Turn
 turn_of_entry tapes entry m =
     turn_by (of_path tapes entry.path) entry.path (edit_of entry.kind) entry.stamps (own_first entry.path m)
 
--- the record is legal there, and was done: the turn's answer, and the machine behind it
+-- the record is legal behind the machine, and was done again: its turn's answer, and the machine
+-- behind it
 pub record IsDoneAgain (tapes : Tapes) (entry : Entry) (before after : MachineView) (turn : Turn) : Type 0 where
   pub legal : IsNext tapes before entry
   pub machine : after ≡ behind_entry tapes entry before
   pub answer : turn ≡ turn_of_entry tapes entry before
 
--- the record is not legal there, and nothing changed
+-- the record is not legal behind the machine, and nothing changed
 pub record IsRefused (tapes : Tapes) (entry : Entry) (before after : MachineView) : Type 0 where
   pub illegal : IsNext tapes before entry → ⊥
   pub unchanged : after ≡ before
 
--- A record of the path whose part is the first is legal there and was done: the turn's answer, and
--- the machine behind it.
+-- A step of the path whose part is the first is legal behind the machine, and was done again: its
+-- turn's answer, and the machine behind it.
 pub record IsStepDone (blocks : Blocks) (path : Path) (kind : EntryKind) (stamps : List ℕ) (before after : MachineView) (turn : Turn) : Type 0 where
   pub legal : IsStep blocks path before kind stamps
   pub machine : after ≡ behind_step blocks path stamps before
   pub answer : turn ≡ (own_turn blocks path (with_reads blocks stamps before)).turn
 
--- a record of the path whose part is the first is not legal there, and nothing changed
+-- a step of the path whose part is the first is not legal behind the machine, and nothing changed
 pub record IsStepRefused (blocks : Blocks) (path : Path) (kind : EntryKind) (stamps : List ℕ) (before after : MachineView) : Type 0 where
   pub illegal : IsStep blocks path before kind stamps → ⊥
   pub unchanged : after ≡ before

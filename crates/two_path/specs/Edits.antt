@@ -1,4 +1,5 @@
--- An operator's edit of a path, and its record. What an edit does to one path is in path_state.
+-- What an operator's edit of a path does to the machine, and its record: the contract of
+-- `Machine::edit`. What an edit does to one path is in path_state.
 -- run_edits uses these words.
 use Rattle.std.specs.Prelude.{◌+◌, [], Option, Some, None}
 use Rattle.nc_number.specs.declared.path.Path.{Path}
@@ -31,7 +32,7 @@ behind_edit_of path edit m = own_first path (behind_edit edit (own_first path m)
 abbrev pub edit_entry : Path → Edit → Entry
 edit_entry path edit = record { path = path; kind = kind.Edited edit; stamps = [] }
 
--- the first answer once there is an alarm, which stops all; else the second
+-- of two answers the one for a machine that an alarm has stopped, or that for a machine without one
 abbrev pub unless_alarm : {A : Type 0} → Option Alarm → A → A → A
 unless_alarm (Some alarm) still rest = still
 unless_alarm None still rest = rest

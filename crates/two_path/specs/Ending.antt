@@ -1,10 +1,12 @@
--- How a machine ends its run. Full journals and spent budgets are causes of a table: run_table.
+-- Why the run of a machine has ended: by an alarm, or by the ends of both paths. Full journals and
+-- spent budgets are causes of a table: run_table.
 -- lathe_calls, lathe_top, run_table, turn_order and turret_run use these words.
 use Rattle.std.specs.Prelude.{◌&&◌, Option}
 use Rattle.nc_outside.specs.declared.reason.Reason.{Reason}
 use Rattle.nc_outside.specs.Reasons.{end_by}
 use Rattle.two_path.specs.Machine.{MachineView}
 
--- an alarm ends a run, and else the ends of both paths do
+-- the reason for which the run of this machine has ended, if it has: an alarm before the ends of
+-- both paths
 abbrev pub end_of : MachineView → Option Reason
 end_of m = end_by m.alarm (m.paths.one.finished && m.paths.two.finished)

@@ -1,6 +1,8 @@
--- Runs and histories: any list of events, the records of it, and which lists of records are legal.
--- lathe_calls, lathe_top, move_list, nc_restart, race_order, race_report, run_edits, run_table,
--- trace_list, turn_order, turret_run and zone_check use these words.
+-- Runs and histories: any list of events, its records, and which lists of records are legal. On the
+-- legal lists, and their fold, rest the journal and each restart from it.
+-- run_table, nc_restart, run_edits, turn_order and turret_run say by these words what a run keeps;
+-- lathe_calls, lathe_top, move_list, race_order, race_report, trace_list and zone_check use them
+-- too.
 use Rattle.std.specs.Prelude.{◌≡◌, ℕ, ◌+◌, ◌≤◌, ◌⊎◌, Bool, true, false, ◌||◌, List, [], ◌∷◌, ◌++◌, length, take, map, Option, Some, None, is_some, if◌then◌else◌}
 use Rattle.nc_number.specs.declared.path.Path.{Path}
 use Rattle.nc_number.specs.declared.path.Path.TheVariants.{One, Two}
@@ -20,9 +22,11 @@ use Rattle.two_path.specs.Machine.{Part, MachineView, own_first, without_reads}
 use Rattle.two_path.specs.Turns.{Blocks, Tapes, own_turn, turn_of, kind_of, entry_of}
 use Rattle.two_path.specs.Edits.{behind_edit, behind_edit_of, edit_entry, unless_alarm}
 
--- an event: a turn of a path, or an operator's edit of one
+-- an event of the machine
 pub data Event : Type 0 where
+  -- a turn of a path
   TurnOf : (path : Path) → Event
+  -- an operator's edit of a path
   EditOf : (path : Path) (edit : Edit) → Event
 
 -- the turns of these paths, in order
@@ -54,33 +58,34 @@ abbrev pub history : Tapes → MachineView → List Event → List Entry
 history tapes m [] = []
 history tapes m (e ∷ events) = records_of tapes e m ++ history tapes (behind_event tapes e m) events
 
--- what the block asks for, after so many records
+-- the value after so many records of the variable that the effect needs, or vacant if it needs none
 abbrev pub value_asked : Effect → ℕ → List Write → Var
 value_asked (Need variable) stamp writes = value_after stamp variable writes
 value_asked other stamp writes = Vacant
 
--- with one value more: of the variable that the block asks for when it has those before
+-- the values with one more: that of the variable that the block asks for when it has these, after
+-- so many records
 abbrev pub and_next : Blocks → PathView → List Write → ℕ → List Var → List Var
 and_next blocks path writes stamp values = values ++ value_asked (blocks.effect path values) stamp writes ∷ []
 
--- the values that these stamps stand for, behind those before
+-- the values that the block has when it reads at these stamps, behind those that it has already
 abbrev pub values_from : Blocks → PathView → List Write → List Var → List ℕ → List Var
 values_from blocks path writes values [] = values
 values_from blocks path writes values (stamp ∷ stamps) =
     values_from blocks path writes (and_next blocks path writes stamp values) stamps
 
--- the values that these stamps stand for, from the first on
+-- the values that the block has when it has read at just these stamps
 abbrev pub values_at : Blocks → PathView → List Write → List ℕ → List Var
 values_at blocks path writes stamps = values_from blocks path writes [] stamps
 
--- the block asks for each of these reads when it has those before
+-- the block asks for a variable at each of these stamps, when it has the values before
 abbrev pub AsksFrom : Blocks → PathView → List Write → List Var → List ℕ → Type 0
 AsksFrom blocks path writes values [] = Unit {0}
 AsksFrom blocks path writes values (stamp ∷ stamps) =
     ((variable : ℕ) × (blocks.effect path values ≡ Need variable))
     × AsksFrom blocks path writes (and_next blocks path writes stamp values) stamps
 
--- they do not fall, none is below the lowest, and none is above the highest
+-- the stamps do not fall, none is below the lowest, and none is above the highest
 abbrev pub AreInOrder : ℕ → ℕ → List ℕ → Type 0
 AreInOrder lowest highest [] = Unit {0}
 AreInOrder lowest highest (stamp ∷ stamps) = (lowest ≤ stamp) × (stamp ≤ highest) × AreInOrder stamp highest stamps
@@ -88,10 +93,12 @@ AreInOrder lowest highest (stamp ∷ stamps) = (lowest ≤ stamp) × (stamp ≤ 
 -- With these stamps the first path's block may have read up to now: none is from before the path
 -- came to the block or from before an edit, and none is later than the last record.
 pub record MayRead (blocks : Blocks) (m : MachineView) (stamps : List ℕ) : Type 0 where
+  -- they do not fall, from when the path came to its block up to the last record
   pub order : AreInOrder m.paths.one.since m.count stamps
+  -- the block asks for a variable at each of them
   pub asks : AsksFrom blocks m.paths.one.path m.writes [] stamps
 
--- the machine in which the first path's block has read just these
+-- the machine in which the first path's block has read just these values, at these stamps
 abbrev pub with_values : List Var → List ℕ → MachineView → MachineView
 with_values values stamps m = record m { paths = record m.paths { one = record m.paths.one { values = values; stamps = stamps } } }
 
@@ -99,16 +106,17 @@ with_values values stamps m = record m { paths = record m.paths { one = record m
 abbrev pub with_reads : Blocks → List ℕ → MachineView → MachineView
 with_reads blocks stamps m = with_values (values_at blocks m.paths.one.path m.writes stamps) stamps m
 
--- the first path's turn with exactly these reads makes a record of this kind
+-- A step of the first path, of this kind and with these stamps, is legal behind the machine: its
+-- block may have read so, and its turn with exactly these reads makes a record of this kind.
 pub record IsStep (blocks : Blocks) (path : Path) (m : MachineView) (kind : EntryKind) (stamps : List ℕ) : Type 0 where
   pub reads : MayRead blocks m stamps
   pub is : kind_of (own_turn blocks path (with_reads blocks stamps m)).turn ≡ Some kind
 
--- behind a record of the first path with these stamps
+-- the machine behind a step of the first path with these stamps
 abbrev pub behind_step : Blocks → Path → List ℕ → MachineView → MachineView
 behind_step blocks path stamps m = without_reads (own_turn blocks path (with_reads blocks stamps m)).machine
 
--- behind a record of the first path, which is an edit or has these stamps
+-- the machine behind a record of the first path, which is an edit, or a step with these stamps
 abbrev pub behind_own : Blocks → Path → Option Edit → List ℕ → MachineView → MachineView
 behind_own blocks path (Some edit) stamps m = behind_edit edit m
 behind_own blocks path None stamps m = behind_step blocks path stamps m
@@ -118,23 +126,24 @@ abbrev pub behind_entry : Tapes → Entry → MachineView → MachineView
 behind_entry tapes entry m =
     own_first entry.path (behind_own (of_path tapes entry.path) entry.path (edit_of entry.kind) entry.stamps (own_first entry.path m))
 
--- the record is an edit, which is legal wherever there is no alarm
+-- the record is an edit, and no alarm has stopped the machine: then it is legal
 pub record IsEdit (m : MachineView) (entry : Entry) : Type 0 where
   pub edit : Edit
   pub is : entry ≡ edit_entry entry.path edit
   pub calm : m.alarm ≡ None
 
--- the record is legal there: it is the machine's step with exactly its reads, or an edit
+-- the record is legal behind the machine: it is a step that the machine can make with just the
+-- record's reads, or an edit
 abbrev pub IsNext : Tapes → MachineView → Entry → Type 0
 IsNext tapes m entry =
     IsStep (of_path tapes entry.path) entry.path (own_first entry.path m) entry.kind entry.stamps ⊎ IsEdit m entry
 
--- the machine behind a history
+-- the machine behind a history, each of whose records is done again
 abbrev pub fold : Tapes → MachineView → List Entry → MachineView
 fold tapes m [] = m
 fold tapes m (e ∷ entries) = fold tapes (behind_entry tapes e m) entries
 
--- each record is legal at its place
+-- the history is legal from this machine on: each record is legal behind those before it
 abbrev pub IsLegal : Tapes → MachineView → List Entry → Type 0
 IsLegal tapes m [] = Unit {0}
 IsLegal tapes m (e ∷ entries) = IsNext tapes m e × IsLegal tapes (behind_entry tapes e m) entries
@@ -147,8 +156,11 @@ is_idle part = part.finished || is_some part.waiting
 -- that of its stamp, a path that waits or has ended has no reads, and the path came to its block by
 -- a record that was made.
 pub record IsLawful (blocks : Blocks) (m : MachineView) : Type 0 where
+  -- it may have read with these stamps
   pub may : MayRead blocks m m.paths.one.stamps
+  -- its values are those that the stamps stand for
   pub values : m.paths.one.values ≡ values_at blocks m.paths.one.path m.writes m.paths.one.stamps
+  -- a path that waits or has ended has no reads
   pub none : is_idle m.paths.one ≡ true → m.paths.one.stamps ≡ []
   -- the path came to its block by a record that exists
   pub came : m.paths.one.since ≤ m.count
@@ -176,8 +188,8 @@ pub record IsRun (tapes : Tapes) (m : MachineView) (entries : List Entry) (to : 
   pub records : history tapes m events ≡ entries
   pub reaches : without_reads (run tapes m events) ≡ to
 
--- a record of this path and kind brings that path to its next block, or back to its block, which
--- then reads anew
+-- whether a record of this path and kind brings the path `to` to its next block, or lets its block
+-- read anew
 abbrev pub is_coming : Path → EntryKind → Path → Bool
 is_coming path Did to = is_same path to
 is_coming path Arrived to = false
@@ -219,7 +231,8 @@ pub record IsKept (tapes : Tapes) (m : MachineView) (entries : List Entry) (now 
   pub folds : fold tapes m entries ≡ without_reads now
   pub lawful : AreLawful tapes now
 
--- it stays so with each event more, and with each record that is done again
+-- from the opening on, a machine beside its history stays the fold of it, with each event more and
+-- with each record that is done again
 pub record Keeps (tapes : Tapes) (m : MachineView) : Type 0 where
   pub opening : IsKept tapes m [] m
   pub event : (entries : List Entry) (now : MachineView) (e : Event) → IsKept tapes m entries now
@@ -227,7 +240,7 @@ pub record Keeps (tapes : Tapes) (m : MachineView) : Type 0 where
   pub entry : (entries : List Entry) (now : MachineView) (e : Entry) → IsKept tapes m entries now
       → IsNext tapes (without_reads now) e → IsKept tapes m (entries ++ e ∷ []) (behind_entry tapes e (without_reads now))
 
--- an event, or a restart that finds the first so many records
+-- an event of the machine, or a restart
 pub data Episode : Type 0 where
   -- a turn or an edit
   Happens : (event : Event) → Episode

@@ -1,7 +1,8 @@
--- The machine in the parts that the code keeps. Each path has a part, and what both share is the
--- joint part.
--- lathe_calls, move_list, nc_restart, run_edits, run_table, trace_list, turn_order and zone_check
--- use these words.
+-- The machine in the parts that the code keeps: each path has a part (src/part.rt), and what both
+-- share is the joint part (src/joint.rt). `Machine` is specified by `RoomyMachine` and
+-- `AreAtTheirWaits`.
+-- nc_restart, run_edits and run_table take `RoomyMachine`; lathe_calls, move_list, nc_restart,
+-- run_table, trace_list, turn_order and zone_check take `AreAtTheirWaits`.
 use Rattle.std.specs.Prelude.{◌≡◌, ℕ, ◌+◌, ◌≤◌, List, Option, Some}
 use Rattle.nc_moves.specs.declared.alarm.Alarm.{Alarm}
 use Rattle.common_vars.specs.Writes.{Writes}
@@ -20,7 +21,7 @@ use Rattle.two_path.specs.Machine.{Part, MachineView}
 use Rattle.two_path.specs.Turns.{Blocks}
 use Rattle.two_path.specs.Histories.{values_at}
 
--- what both paths have in common
+-- what contracts see of the joint part
 pub record JointView : Type 0 where
   -- the writes to shared variables, and room for more
   pub shared : Writes
@@ -29,10 +30,11 @@ pub record JointView : Type 0 where
   -- the alarm that stopped both paths
   pub alarm : Option Alarm
 
--- a machine, and for how many turns it has room
+-- what contracts see of the code's `Machine`
 pub record RoomyMachine : Type 0 where
+  -- the machine
   pub machine : MachineView
-  -- in turns
+  -- for how many more records it has memory
   pub room : ℕ
 
 -- the machine of these parts
@@ -51,12 +53,13 @@ read_part blocks part joint stamps = record part {
   stamps = stamps;
 }
 
--- the path shares just the variables that the joint part holds
+-- the variables that the path shares are just those that the joint part holds
 pub record AreShared (part : Part) (joint : JointView) : Type 0 where
   pub hundreds : joint.shared.shared100 ≡ part.path.fixed.shared100
   pub upper : joint.shared.shared500 ≡ part.path.fixed.shared500
 
--- what a turn leaves: which variables are shared, and the room but for its record
+-- what a turn or an edit leaves of the joint part: which variables are shared, and the room but for
+-- its record
 pub record IsLasting (before after : JointView) : Type 0 where
   pub hundreds : after.shared.shared100 ≡ before.shared.shared100
   pub upper : after.shared.shared500 ≡ before.shared.shared500

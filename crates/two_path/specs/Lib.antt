@@ -1,4 +1,6 @@
--- The words in which contracts speak of the machine of two paths. Other crates cite all of these.
+-- The words in which contracts speak of the machine of two paths: its state, its turns and edits,
+-- the histories of its records, and when it is stuck. The crates that run a pair, restart a run or
+-- tell of one cite all of these.
 pub mod Machine
 pub mod Start
 pub mod Ending

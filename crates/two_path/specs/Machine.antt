@@ -1,7 +1,7 @@
--- The machine: two paths, and what they share. What a turn does to it is in Turns, and an edit in
--- Edits.
--- lathe_calls, lathe_looks, lathe_top, move_list, nc_restart, race_order, race_report, run_edits,
--- run_table, trace_list, turn_order, turret_run and zone_check use these words.
+-- The state of the machine: two paths, and what they share. What a turn does to it is in Turns, and
+-- an edit in Edits.
+-- All crates that run a pair or tell of a run take `MachineView`, thirteen of them: a new field is
+-- one of each definition of a turn, an edit and a fold.
 use Rattle.std.specs.Prelude.{ℕ, Bool, false, List, [], Option, None}
 use Rattle.nc_number.specs.declared.both.Both.{Both}
 use Rattle.nc_number.specs.declared.path.Path.{Path}
@@ -17,10 +17,11 @@ use Rattle.path_state.specs.View.{PathView}
 pub record Part : Type 0 where
   -- its state as its block begins
   pub path : PathView
-  -- what its block has read, and how many records there were at each read
+  -- the values of shared variables that its block has read so far
   pub values : List Var
+  -- how many records there were at each of these reads
   pub stamps : List ℕ
-  -- the code of the wait at which it waits
+  -- the code of the wait at which it waits, if it waits
   pub waiting : Option ℕ
   -- whether the path has ended
   pub finished : Bool
@@ -30,12 +31,13 @@ pub record Part : Type 0 where
 
 -- the machine of two paths
 pub record MachineView : Type 0 where
+  -- each path in the machine
   pub paths : Both Part
   -- the writes to shared variables
   pub writes : List Write
   -- how many records there are
   pub count : ℕ
-  -- the alarm that stopped both paths
+  -- the alarm that stopped both paths, if one did
   pub alarm : Option Alarm
 
 -- the machine with this path's part first

@@ -1,5 +1,6 @@
--- The moves of a history: of each of its records the turn, and of a turn its moves.
--- lathe_top, move_list, nc_restart, run_table, trace_list and zone_check use these words.
+-- Which moves a history made: of each of its records the turn, and of a turn its moves, each with
+-- the line of its block. What the turrets get is said by these words.
+-- lathe_top, move_list, nc_restart, run_table, trace_list and zone_check use them.
 use Rattle.std.specs.Prelude.{if◌then◌else◌, List, [], ◌∷◌}
 use Rattle.std.specs.List.{flat_map}
 use Rattle.nc_number.specs.Path.{is_same}
@@ -30,7 +31,7 @@ moves_of_turn (Alarm alarm) = []
 moves_of_turn (Halted alarm) = []
 moves_of_turn Edited = []
 
--- a turn, its moves put apart
+-- the answer of a turn without its moves
 abbrev pub answer_of : Turn → TurnAnswer
 answer_of (Did moves) = answer.Did moves.line
 answer_of (Ended moves) = answer.Ended moves.line
@@ -43,7 +44,7 @@ answer_of (Alarm alarm) = answer.Alarm alarm
 answer_of (Halted alarm) = answer.Halted alarm
 answer_of Edited = answer.Edited
 
--- a turn, its moves put in it again
+-- a turn, from its answer without moves and these moves; an answer of no moves drops them
 abbrev pub turn_with : TurnAnswer → List Move → Turn
 turn_with (answer.Did line) moves = Did (moves_at line moves)
 turn_with (answer.Ended line) moves = Ended (moves_at line moves)
@@ -69,18 +70,18 @@ made_in (Alarm alarm) = []
 made_in (Halted alarm) = []
 made_in Edited = []
 
--- a turn, and whose it was
+-- a turn of a history, and whose it was
 pub record PathTurn : Type 0 where
   pub path : Path
   pub turn : Turn
 
--- the turns that the records of a history did, from a machine on
+-- the turns of the records of a history, in order, from a machine on
 unfoldable pub turns_from : Tapes → MachineView → List Entry → List PathTurn
 turns_from tapes m [] = []
 turns_from tapes m (e ∷ entries) =
     record { path = e.path; turn = turn_of_entry tapes e m } ∷ turns_from tapes (behind_entry tapes e m) entries
 
--- of a turn of the path its moves, and of the other path's none
+-- the moves that a turn adds to those of this path: none if it was the other path's
 abbrev pub made_by : Path → PathTurn → List LinedMove
 made_by path t = if is_same path t.path then made_in t.turn else []
 

@@ -1,5 +1,6 @@
--- When two paths can't go on, and the pairs of tapes over which that never happens.
--- lathe_top, nc_restart, run_table, trace_list and turn_order use these words.
+-- When two paths can't go on, and the pairs of tapes over which that never happens: the words of
+-- the laws `no_pair_is_stuck` and `no_legal_history_is_stuck` (src/laws.rt).
+-- lathe_top, nc_restart, run_table, trace_list and turn_order use them.
 use Rattle.std.specs.Prelude.{◌≡◌, ◌≢◌, ℕ, ◌⊎◌, true, false, List, Some, None, ℤ}
 use Rattle.nc_number.specs.declared.cause.Cause.TheVariants.{WaitDiffers}
 use Rattle.nc_number.specs.declared.path.Path.{Path}
@@ -20,18 +21,21 @@ use Rattle.two_path.specs.Machine.{MachineView, own_first, opening}
 use Rattle.two_path.specs.Turns.{Blocks, Tapes, tapes_of}
 use Rattle.two_path.specs.Histories.{Event, run, fold, IsLegal, is_idle}
 
--- some path has not ended, there is no alarm, and each path waits or has ended
+-- the machine is stuck: no path can go on, and they have not both ended
 pub record IsStuck (m : MachineView) : Type 0 where
+  -- there is no alarm
   pub calm : m.alarm ≡ None
+  -- some path has not ended
   pub unfinished : (m.paths.one.finished ≡ false) ⊎ (m.paths.two.finished ≡ false)
+  -- each path waits or has ended
   pub first : is_idle m.paths.one ≡ true
   pub second : is_idle m.paths.two ≡ true
 
 -- the first path comes to a wait while the other waits at another
 pub record IsCrossed (blocks : Blocks) (m : MachineView) : Type 0 where
-  -- the code to which the first path comes,
+  -- the code of the wait to which the first path comes
   pub code : ℕ
-  -- and that at which the other waits
+  -- the code at which the other path waits
   pub there : ℕ
   pub calm : m.alarm ≡ None
   pub comes : blocks.effect m.paths.one.path m.paths.one.values ≡ AtWait code
@@ -46,18 +50,19 @@ RaisesNoCrossing blocks = (path : PathView) (values : List Var) (value : ℤ)
 -- the paths are not stuck, no wait meets another, and no alarm is that of paths that wait at
 -- different codes
 pub record IsFree (tapes : Tapes) (m : MachineView) : Type 0 where
-  -- the machine is not stuck,
+  -- the machine is not stuck
   pub stuck : IsStuck m → ⊥
-  -- no path comes to another wait than the other,
+  -- no path comes to a wait while the other waits at another
   pub crossed : (path : Path) → IsCrossed (of_path tapes path) (own_first path m) → ⊥
-  -- and no alarm is that of different waits
+  -- no alarm is that of paths that wait at different codes
   pub alarm : (alarm : Alarm) → m.alarm ≡ Some alarm → alarm.cause ≢ cause_number WaitDiffers
 
--- Flows whose blocks go as their order allows: each has one list of labels, whatever the variables
--- hold, and these are equal.
+-- Two flows over which no paths get stuck.
 pub record IsPair (left right : Flow) : Type 0 where
+  -- the blocks of each go as its order allows
   pub left_controlled : IsControlled left
   pub right_controlled : IsControlled right
+  -- each has one list of labels, whatever the variables hold, and the two lists are equal
   pub accepted : IsOrderedPair left.order right.order
 
 -- both paths begin their main programs
@@ -70,7 +75,8 @@ abbrev pub IsNeverStuck : Flow → Flow → Type 0
 IsNeverStuck left right = (first second : PathView) → AreAtStart left.order right.order first second
     → (events : List Event) → IsFree (tapes_of left right) (run (tapes_of left right) (opening first second) events)
 
--- the same behind each legal history, whoever made the records and wherever they were cut off
+-- behind each legal history from the start of both main programs the paths can go on, whoever made
+-- the records and wherever they were cut off
 abbrev pub IsNeverStuckBehindRecords : Flow → Flow → Type 0
 IsNeverStuckBehindRecords left right = (first second : PathView) → AreAtStart left.order right.order first second
     → (entries : List Entry) → IsLegal (tapes_of left right) (opening first second) entries

@@ -1,6 +1,7 @@
--- A turn of a path: what it answers, what it does, and its record.
--- lathe_calls, lathe_top, move_list, nc_restart, race_order, race_report, run_edits, run_table,
--- trace_list, turn_order and zone_check use these words.
+-- A turn of a path: what it answers, what it does to the machine, and its record. `turn_of` is the
+-- one definition of a turn, over the effects that path_state defines.
+-- Histories builds on it. run_table, nc_restart, race_order, turn_order and seven more crates use
+-- these words.
 use Rattle.std.specs.Prelude.{ℕ, ◌+◌, ◌==◌, Bool, true, false, List, [], ◌∷◌, ◌++◌, Option, Some, None, ℤ, pos, if◌then◌else◌}
 use Rattle.nc_number.specs.declared.cause.Cause.TheVariants.{WaitDiffers}
 use Rattle.nc_number.specs.declared.both.Both.{Both}
@@ -28,10 +29,11 @@ use Rattle.two_path.specs.declared.turn.Turn.{Turn}
 use Rattle.two_path.specs.declared.turn.Turn.TheVariants as turn
 use Rattle.two_path.specs.Machine.{Part, MachineView, own_first, part_without_reads}
 
--- The blocks of a tape: what the block at which a path stands comes to, with these values read so
--- far, and the line of the block at a place.
+-- The blocks of a tape, as far as the machine needs them.
 pub record Blocks : Type 0 where
+  -- what the block at which a path stands comes to, with these values read so far
   pub effect : PathView → List Var → Effect
+  -- the line of the block at a place
   pub line : List Frame → ℕ
 
 -- the tapes of both paths
@@ -51,11 +53,12 @@ pub record TurnResult : Type 0 where
   pub turn : Turn
   pub machine : MachineView
 
--- this turn, with this machine behind it
+-- a turn with this answer, and this machine behind it
 abbrev pub result : Turn → MachineView → TurnResult
 result answer m = record { turn = answer; machine = m }
 
--- with one read more by the first path: the variable's value now, at the present number of records
+-- the machine with one read more by the first path: the variable's value now, at the present number
+-- of records
 abbrev pub with_read : ℕ → MachineView → MachineView
 with_read variable m = record m {
   paths = record m.paths {
@@ -66,11 +69,11 @@ with_read variable m = record m {
   };
 }
 
--- a path at a block to which it comes by the last of so many records
+-- a path at the block to which it comes by the last of so many records, with nothing read
 abbrev pub part_at : PathView → ℕ → Part → Part
 part_at path since part = record part { path = path; values = []; stamps = []; since = since }
 
--- the writes with one more, by the last of so many records
+-- the writes with one more, if there is one, by the last of so many records
 abbrev pub with_write : ℕ → Option Written → List Write → List Write
 with_write stamp None writes = writes
 with_write stamp (Some write) writes = writes ++ record { stamp = stamp; variable = write.variable; value = write.value } ∷ []
@@ -87,7 +90,7 @@ behind_block path write m = record m {
 abbrev pub path_behind_wait : PathView → PathView
 path_behind_wait path = record path { place = place_behind path.place }
 
--- a path behind the wait at which it was
+-- a path behind the wait at which it was, by the last of so many records
 abbrev pub part_behind_wait : ℕ → Part → Part
 part_behind_wait since part = record (part_at (path_behind_wait part.path) since part) { waiting = None }
 
@@ -132,8 +135,8 @@ crossed_waits path line = alarm_at path line (cause_number WaitDiffers) (pos 0)
 abbrev pub alarm_result : Alarm → MachineView → TurnResult
 alarm_result alarm m = result (turn.Alarm alarm) (with_alarm alarm m)
 
--- The first path is at a wait of this code. The other waits at that code, at another, or not at
--- all.
+-- A turn in which the first path is at a wait of this code: if the other waits at that code, both
+-- go on; if it waits at another, there is an alarm; if it does not wait, the first path waits.
 abbrev pub result_at_wait : Path → ℕ → MachineView → ℕ → Option ℕ → TurnResult
 result_at_wait path line m code (Some there) =
     if code == there then result (turn.Met code) (behind_meeting m) else alarm_result (crossed_waits path line) m
@@ -147,7 +150,7 @@ result_by path line m (effect.AtWait code) = result_at_wait path line m code m.p
 result_by path line m (effect.AtEnd after moves) = result (turn.Ended (moves_at line moves)) (with_end after m)
 result_by path line m (effect.Alarm number value) = alarm_result (alarm_at path line number value) m
 
--- nothing happens once there is an alarm, once the path has ended, and while it waits
+-- the turn `rest`, unless there is an alarm, the path has ended or it waits: then nothing happens
 abbrev pub unless_idle : MachineView → Option Alarm → Bool → Option ℕ → TurnResult → TurnResult
 unless_idle m (Some alarm) finished waiting rest = result (turn.Halted alarm) m
 unless_idle m None true waiting rest = result turn.Finished m
@@ -158,11 +161,11 @@ unless_idle m None false None rest = rest
 abbrev pub block_turn : Blocks → Path → MachineView → TurnResult
 block_turn blocks path m = result_by path (blocks.line m.paths.one.path.place) m (blocks.effect m.paths.one.path m.paths.one.values)
 
--- a turn of the path whose part is the first: the first case that applies
+-- a turn of the path whose part is the first, which `path` names
 abbrev pub own_turn : Blocks → Path → MachineView → TurnResult
 own_turn blocks path m = unless_idle m m.alarm m.paths.one.finished m.paths.one.waiting (block_turn blocks path m)
 
--- a turn of a path
+-- a turn of either path
 abbrev pub turn_of : Tapes → Path → MachineView → TurnResult
 turn_of tapes path m =
     let own = own_turn (of_path tapes path) path (own_first path m) in
@@ -181,7 +184,7 @@ kind_of (turn.Alarm alarm) = Some kind.Alarmed
 kind_of (turn.Halted alarm) = None
 kind_of turn.Edited = None
 
--- a record of this path, these stamps and this kind, if there is one
+-- a record of this path, these stamps and this kind, if there is a kind
 abbrev pub entry_with : Path → List ℕ → Option EntryKind → Option Entry
 entry_with path stamps None = None
 entry_with path stamps (Some kind) = Some (record { path = path; kind = kind; stamps = stamps })

@@ -1,6 +1,6 @@
-//! A record that is done again, over the path's own part, the other's, and what both have in
-//! common.
-//! nc_restart uses what it exports.
+//! A record of a path's step that is done again, over the path's own part, the other's, and what
+//! both have in common: its block reads what the stamps stand for, and is taken if the record fits.
+//! machine.rt calls `do_again`; nc_restart takes the error `Illegal`.
 ghost use Rattle.std.specs.Prelude.{◌≡◌, ◌≤◌, ◌<◌, ◌||◌, true, false, List, [], Some, None, is_some, IsTrue, OnOk, OnErr, IfOk};
 ghost use Rattle.nc_number.specs.declared.limits.TheConstants.{MOST_RECORDS};
 ghost use Rattle.motion_track.specs.Within.{AreMovesWithin};
@@ -38,7 +38,7 @@ use thiserror::Error;
 #[error("not legal")]
 pub struct Illegal;
 
-/// The variable that a block reads next whose path will answer this.
+/// The variable that a block reads next, if its path will answer that it needs one.
 fn variable_asked(answer: BlockAnswer) -> Option<u32>
     ensures { (moves : List Move) (after : PathView) → result ≡ variable_asked (effect_told answer moves after) }
 {
@@ -51,8 +51,7 @@ fn variable_asked(answer: BlockAnswer) -> Option<u32>
     }
 }
 
-/// The variable that the block reads with this stamp, where it asks for one and the stamp is in
-/// order.
+/// The variable that the block reads with this stamp, if it asks for one and the stamp is in order.
 fn variable_due(
     me: &Part,
     flow: &Flow,
@@ -69,7 +68,8 @@ fn variable_due(
     variable_asked(me.decide(flow, moves).answer())
 }
 
-/// The block reads once more: what the variable that it asks for was after so many records.
+/// Lets the block read one variable more: the value after so many records of the one that it asks
+/// for. It is illegal if the block asks for none, or if the stamp is out of order.
 fn read_again(
     me: &mut Part,
     joint: &Joint,
@@ -90,7 +90,7 @@ fn read_again(
     Ok(())
 }
 
-/// The block reads again what these stamps stand for, up to the first that is not legal.
+/// Lets the block read again what these stamps stand for, up to the first that is not legal.
 fn read_all_again(
     me: &mut Part,
     joint: &Joint,
@@ -111,7 +111,8 @@ fn read_all_again(
     Ok(())
 }
 
-/// The kind of the record of a path at a wait, where the other waits at this code, or not.
+/// The kind of the record of a path that comes to a wait of this code, by the code at which the
+/// other path waits, if it waits.
 fn kind_at_wait(code: u16, other: Option<u16>) -> EntryKind
     ensures { result ≡ kind_at_wait code other }
 {
@@ -125,7 +126,7 @@ fn kind_at_wait(code: u16, other: Option<u16>) -> EntryKind
     }
 }
 
-/// The kind of the record that a block makes whose path answers this.
+/// The kind of the record that a block makes, if it makes one, whose path answers this.
 fn kind_due(answer: &BlockAnswer, other: &Part) -> Option<EntryKind>
     ensures { (moves : List Move) (path : PathView)
         → result ≡ kind_of_effect (effect_told answer.now moves path) other.now.waiting }
@@ -157,7 +158,7 @@ fn is_still(me: &Part, joint: &Joint) -> bool
     joint.alarm().is_some() || me.finished() || me.waiting().is_some()
 }
 
-/// Whether a turn of a path at this label changes it only where it makes a record of this kind.
+/// Whether a turn of a path at this label changes the path only if it makes a record of this kind.
 fn changes_only_by(label: Option<Label>, kind: &EntryKind) -> bool
     ensures { result ≡ changes_only_by label kind.now }
 {
@@ -168,7 +169,7 @@ fn changes_only_by(label: Option<Label>, kind: &EntryKind) -> bool
     }
 }
 
-/// The block is decided before anything changes, and is taken where its record is of this kind.
+/// Takes the block if its record is of this kind. The block is decided before anything changes.
 #[inline(never)]
 fn take_decided(
     me: &mut Part,
@@ -189,7 +190,7 @@ fn take_decided(
     }
 }
 
-/// The block is taken at once, of a path that changes only by a record of this kind.
+/// Takes the block of a path that changes only by a record of this kind; it is not decided first.
 fn take_at_once(
     me: &mut Part,
     other: &Part,
@@ -212,8 +213,8 @@ fn take_at_once(
     }
 }
 
-/// The block is taken where its record is of this kind, and else nothing changes. What was decided
-/// of a block is large: where it can be taken at once it is not decided first.
+/// Takes the block if its record is of this kind, and else changes nothing. What was decided of a
+/// block is large, so a block that can be taken at once is not decided first.
 fn take_due(
     me: &mut Part,
     other: &Part,
@@ -232,7 +233,8 @@ fn take_due(
     }
 }
 
-/// The path can go on, and its block reads again what the record's stamps stand for.
+/// Lets the block of a path that can go on read again what the record's stamps stand for. It is
+/// illegal if the path can't go on, or may not have read so.
 fn read_due(
     me: &mut Part,
     joint: &Joint,
@@ -254,7 +256,8 @@ fn read_due(
     Ok(())
 }
 
-/// The record is not legal: the block forgets what it has read, and the list is cleared.
+/// Goes back to before a record that is not legal: the block forgets what it has read, and the list
+/// is cleared.
 fn refuse(me: &mut Part, moves: &mut MoveList)
     ensures part { me.new ≡ part_without_reads me.old }
     ensures moves { moves.new ≡ [] }
@@ -264,7 +267,8 @@ fn refuse(me: &mut Part, moves: &mut MoveList)
 }
 
 /// Does the record of a step again: the path's block reads what its stamps stand for, and is taken.
-/// Its moves are put into the list, which is empty where the record is not legal.
+/// Its moves are put into the list, which is empty if the record is not legal; then nothing
+/// changes.
 pub(crate) fn do_again(
     me: &mut Part,
     other: &mut Part,

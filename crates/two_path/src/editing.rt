@@ -1,5 +1,6 @@
-//! An operator's edit of a path, over its own part, the other's, and what both have in common.
-//! For this crate alone: machine.rt uses it.
+//! An operator's edit of a path, over its own part, the other's, and what both have in common. What
+//! an edit does to one path is in path_state.
+//! For this crate alone: machine.rt calls `set`, for an edit and for its record.
 ghost use Rattle.std.specs.Prelude.{◌≡◌, ◌≤◌, ◌<◌, IfSome};
 ghost use Rattle.nc_number.specs.declared.limits.TheConstants.{MOST_RECORDS};
 ghost use Rattle.common_vars.specs.Writes.{IsShared};
@@ -14,7 +15,7 @@ use crate::part::Part;
 use nc_number::Var;
 use run_records::Edit;
 
-/// What an edit writes to a variable that both paths share.
+/// What an edit writes to a variable that both paths share, if it sets one.
 fn shared_write(joint: &Joint, what: &Edit) -> Option<(u32, Var)>
     ensures write { (part : Machine.Part) → AreShared part joint.now
         → write_seen result ≡ shared_write part.path.fixed what.now }

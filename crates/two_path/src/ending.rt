@@ -1,5 +1,6 @@
-//! How a machine ends its run. run_table and turn_order ask for it after each step. By an alarm or
-//! by the ends of both paths; other causes are run_table's.
+//! Why the run of a machine has ended: by an alarm, or by the ends of both paths. Other causes are
+//! run_table's.
+//! run_table and turn_order ask for it after each step.
 ghost use Rattle.std.specs.Prelude.{◌≡◌};
 ghost use Rattle.two_path.specs.Ending.{end_of};
 

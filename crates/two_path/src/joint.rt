@@ -1,5 +1,5 @@
-//! What both paths have in common. The shared variables' writes, the number of records, and the
-//! alarm.
+//! What both paths have in common: the writes to shared variables, the number of records, and the
+//! alarm that stopped both.
 //! For this crate alone: again.rt, editing.rt, machine.rt and turning.rt use it.
 ghost use Rattle.std.specs.Prelude.{◌≡◌, ◌≤◌, ◌<◌, ◌+◌, ◌↔◌, IsTrue, [], Some, None, IfOk, OnOk, IfSome};
 ghost use Rattle.nc_number.specs.declared.limits.TheConstants.{MOST_RECORDS};
@@ -97,7 +97,7 @@ impl Joint {
         self.shared.at(stamp, v)
     }
 
-    /// One record more, which may have written a shared variable.
+    /// Counts one record more, and keeps what it wrote to a shared variable, if it wrote to one.
     pub(crate) fn add(&mut self, write: Option<(u32, Var)>)
         requires room { 0 < self.old.shared.room }
         requires few { self.old.count ≤ MOST_RECORDS }
@@ -113,7 +113,7 @@ impl Joint {
         }
     }
 
-    /// One record more, which is an alarm.
+    /// Counts one record more, which is this alarm.
     pub(crate) fn raise(&mut self, alarm: Alarm)
         requires few { self.old.count ≤ MOST_RECORDS }
         ensures writes { self.new.shared ≡ self.old.shared }

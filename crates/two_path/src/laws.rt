@@ -1,6 +1,7 @@
-//! What holds of every machine, for the crates above. Each law is the contract of a function that
-//! does nothing: who calls it has the law.
-//! lathe_calls, move_list, nc_restart, run_table, trace_list, turn_order and zone_check use them.
+//! What holds of every machine: its records are a legal history, a restart goes on with one
+//! history, and over an accepted pair the paths never get stuck. Each law is the contract of a
+//! function that does nothing: who calls it has the law.
+//! lathe_calls, move_list, nc_restart, run_table, trace_list, turn_order and zone_check call them.
 ghost use Rattle.std.specs.Prelude.{List};
 ghost use Rattle.block_order.specs.declared.program.ControlProgram.{ControlProgram};
 ghost use Rattle.tape_flow.specs.declared.flow.Flow.{Flow};
@@ -26,12 +27,14 @@ pub fn histories_are_runs()
     ensures { (tapes : Tapes) (first second : PathView) → HistoriesAreRuns tapes (opening first second) }
 {}
 
-/// A machine that is the fold of a legal history, with lawful block reads, stays so.
+/// A machine that is the fold of a legal history, with lawful block reads, stays so, with each
+/// event more and with each record that is done again.
 pub fn each_event_keeps_the_history()
     ensures { (tapes : Tapes) (first second : PathView) → Keeps tapes (opening first second) }
 {}
 
-/// Over any events and restarts the records are one legal history.
+/// Over any events and restarts the records are one legal history, and the machine is its fold but
+/// for lawful reads.
 pub fn restarts_keep_the_history()
     ensures { (tapes : Tapes) (first second : PathView) → IsKeptOverRestarts tapes (opening first second) }
 {}
@@ -50,7 +53,8 @@ pub fn no_pair_is_stuck()
     no_block_says_that_waits_differ();
 }
 
-/// Nor does a legal history, whoever made it and wherever it was cut off.
+/// Over a pair whose lists of labels are equal, no legal history leads to paths that can't go on,
+/// whoever made it and wherever it was cut off.
 pub fn no_legal_history_is_stuck()
     ensures { (left right : Flow) → IsPair left right → IsNeverStuckBehindRecords left right }
 {

@@ -5,8 +5,9 @@
 //! of some events: its fold, each record done again, is their machine but for what unfinished
 //! blocks have read. A record that can't follow those before it is illegal, and changes nothing.
 //! Over a pair of tapes whose lists of labels agree no order of events ends where neither path can
-//! go on. The layer above leans on [`Machine::turn_into`], which puts the moves of a turn into a
-//! list that the caller lends, on [`Machine::edit`] and [`Machine::apply`], and on the laws.
+//! go on. run_table, run_edits, nc_restart, turn_order and the crates that tell of runs lean on
+//! [`Machine::turn_into`], which puts the moves of a turn into a list that the caller lends, on
+//! [`Machine::edit`] and [`Machine::apply`], and on the laws.
 #![tactic(auto)]
 
 mod again;

@@ -1,7 +1,8 @@
-//! The machine of two paths. Its public calls; the turns themselves are in turning.rt, again.rt
-//! and editing.rt.
-//! lathe_calls, lathe_looks, move_list, nc_restart, run_edits, run_table, trace_list, turn_order,
-//! turret_run and zone_check use what it exports.
+//! The machine of two paths, by its public calls: a turn, an edit, a record done again, and what
+//! may be seen of it. The turns themselves are in turning.rt, again.rt and editing.rt.
+//! run_table and turn_order take turns, run_edits makes edits, nc_restart does records again; the
+//! crates that tell of runs, lathe_calls, lathe_looks, move_list, trace_list, turret_run and
+//! zone_check, look at it.
 ghost use Rattle.std.specs.Prelude.{◌≡◌, ◌≤◌, ◌<◌, ◌+◌, ◌↔◌, IsTrue, List, [], Some, None, IfOk, OnOk, OnErr};
 ghost use Rattle.nc_number.specs.declared.limits.TheConstants.{MOST_RECORDS};
 ghost use Rattle.nc_number.specs.Both.{of_path};
@@ -39,7 +40,9 @@ use tape_flow::Flow;
 /// path 2.
 #[derive(Debug, Drop)]
 pub struct Machine {
+    /// Each path in the machine.
     paths: Both<Part>,
+    /// What both paths have in common.
     joint: Joint,
 }
 
@@ -85,9 +88,9 @@ impl Machine {
         self.joint.reserve(n)
     }
 
-    /// One turn of the path, with its record where it makes one. Its moves are put into the list,
-    /// which is cleared first: they are those of the [`turn`](Machine::turn), whose answer has them
-    /// apart. It takes no memory.
+    /// One turn of the path, and its record if it makes one. Its moves are put into the list, which
+    /// is cleared first: they are those that the answer of [`turn`](Machine::turn) would hold. It
+    /// takes no memory.
     ///
     /// It asks for what [`turn`](Machine::turn) asks for.
     pub fn turn_into(
@@ -116,8 +119,8 @@ impl Machine {
         }
     }
 
-    /// One turn of the path, with its record where it makes one. It takes no memory. Its moves lead
-    /// to positions, and no I, K or R of theirs is longer than the longest length.
+    /// One turn of the path, and its record if it makes one. It takes no memory. Its moves lead to
+    /// positions, and no I, K or R of theirs is longer than the longest length.
     ///
     /// It asks for room for a record, and for fewer than 4,000,000 records.
     #[tactic(auto, using(crate::proofs::Apart::rejoined))]
@@ -177,7 +180,7 @@ impl Machine {
     }
 
     /// Does the record again, and answers what its turn answered, or that it was an edit. Its moves
-    /// are put into the list, which is cleared first and is empty where the record is illegal. It
+    /// are put into the list, which is cleared first and is empty if the record is illegal. It
     /// takes no memory.
     ///
     /// It asks for what [`apply`](Machine::apply) asks for.
@@ -236,7 +239,7 @@ impl Machine {
         }
     }
 
-    /// Does the record of an edit again. It is illegal where an alarm has stopped both paths.
+    /// Does the record of an edit again. It is illegal if an alarm has stopped both paths.
     #[tactic(auto, using(crate::proofs::NoMoves::none_within))]
     fn edit_again(
         &mut self,
@@ -267,7 +270,8 @@ impl Machine {
         Ok(TurnAnswer::Edited)
     }
 
-    /// Does the record of a path's step again.
+    /// Does the record of a path's step again. Its moves are put into the list, which is empty if
+    /// the record is illegal.
     fn step_again(
         &mut self,
         left: &Flow,
@@ -312,7 +316,7 @@ impl Machine {
         self.part(path).path()
     }
 
-    /// The code of the wait at which the path waits.
+    /// The code of the wait at which the path waits, if it waits.
     pub fn waiting(&self, path: Path) -> Option<u16>
         ensures { result ≡ (of_path self.now.machine.paths path).waiting }
     {
@@ -326,7 +330,7 @@ impl Machine {
         self.part(path).finished()
     }
 
-    /// The alarm that stopped both paths.
+    /// The alarm that stopped both paths, if one did.
     pub fn alarm(&self) -> Option<Alarm>
         ensures { result ≡ self.now.machine.alarm }
     {

@@ -1,5 +1,4 @@
-//! One path in the machine. A path's state, what its block has read, and whether it waits or has
-//! ended.
+//! One path in the machine: its state, what its block has read, and whether it waits or has ended.
 //! For this crate alone: again.rt, editing.rt, machine.rt and turning.rt use it.
 ghost use Rattle.std.specs.Prelude.{◌≡◌, ◌<◌, ℕ, List, [], ◌∷◌, ◌++◌, Some, None, true, length};
 ghost use Rattle.block_order.specs.declared.control.Control.TheVariants.{Wait};
@@ -111,8 +110,8 @@ impl Part {
         self.path.line(flow)
     }
 
-    /// What its block comes to with what it has read, and the moves of the block. Its state is then
-    /// behind the block.
+    /// Does its block with what it has read, and answers what that came to; the moves of the block
+    /// are put into the list.
     pub(crate) fn advance(&mut self, flow: &Flow, moves: &mut MoveList) -> BlockAnswer
         ensures taken { HasTaken (blocks_of flow.now) self.old self.new result moves.new }
         ensures moves { AreItsMoves (blocks_of flow.now) self.old moves.new }
@@ -120,7 +119,8 @@ impl Part {
         self.path.advance_into(flow, self.values.as_slice(), moves)
     }
 
-    /// What its block comes to with what it has read, and the moves of the block. It looks only.
+    /// What its block comes to with what it has read; the moves of the block are put into the list.
+    /// Nothing of the path changes.
     pub(crate) fn decide(&self, flow: &Flow, moves: &mut MoveList) -> Decision
         ensures effect { decided self.now.path result moves.new ≡ effect_of flow.now self.now.path self.now.values }
         ensures fit { HasFitWords result }
@@ -140,7 +140,7 @@ impl Part {
         self.path.take(decision)
     }
 
-    /// One read more of its block: a value, and how many records there were.
+    /// Keeps one read more of its block: the value, and how many records there were.
     pub(crate) fn read(&mut self, value: Var, stamp: u32)
         requires { length self.old.values < 32 }
         ensures { self.new ≡ record self.old {
@@ -152,7 +152,7 @@ impl Part {
         self.stamps.push(stamp);
     }
 
-    /// Forgets what its block has read.
+    /// Forgets what its block has read, and answers the stamps of these reads.
     pub(crate) fn forget(&mut self) -> StampList
         ensures stamps { result ≡ self.old.stamps }
         ensures path { self.new ≡ part_without_reads self.old }
@@ -170,28 +170,28 @@ impl Part {
         Entry::of_step(path, kind, self.forget())
     }
 
-    /// It has come to its block by the last of so many records.
+    /// Keeps that it came to its block by the last of so many records.
     pub(crate) fn come(&mut self, since: u32)
         ensures { self.new ≡ record self.old { since = since } }
     {
         self.since = since;
     }
 
-    /// It waits at this code.
+    /// Keeps that it waits at this code.
     pub(crate) fn wait(&mut self, code: u16)
         ensures { self.new ≡ record self.old { waiting = Some code } }
     {
         self.waiting = Some(code);
     }
 
-    /// It has ended.
+    /// Keeps that it has ended.
     pub(crate) fn end(&mut self)
         ensures { self.new ≡ record self.old { finished = true } }
     {
         self.finished = true;
     }
 
-    /// It goes on behind its wait, by the last of so many records.
+    /// Goes on behind its wait, by the last of so many records.
     pub(crate) fn pass(&mut self, flow: &Flow, since: u32)
         requires { (code : ℕ) × (standing flow.now.order self.old.path.place ≡ Some (Wait code)) }
         ensures { self.new ≡ part_behind_wait since self.old }
@@ -201,7 +201,7 @@ impl Part {
         self.waiting = None;
     }
 
-    /// An operator's edit of the path, the last of so many records. Its block reads anew.
+    /// Does an operator's edit of the path, the last of so many records. Its block reads anew.
     pub(crate) fn edit(&mut self, what: &Edit, since: u32)
         ensures { self.new ≡ part_at (edited what.now self.old.path) since self.old }
     {
@@ -209,7 +209,7 @@ impl Part {
         self.read_anew(since);
     }
 
-    /// Its block reads anew, from the last of so many records on.
+    /// Lets its block read anew, from the last of so many records on.
     pub(crate) fn read_anew(&mut self, since: u32)
         ensures { self.new ≡ part_at self.old.path since self.old }
     {

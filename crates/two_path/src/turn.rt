@@ -1,6 +1,7 @@
 //! What a turn of a path answers: with its moves in it, or with these apart, in a list that was
 //! lent.
-//! lathe_calls, move_list, run_table, trace_list, turn_order and zone_check use what it exports.
+//! run_table and turn_order take `Answered`; lathe_calls, move_list, trace_list and zone_check read
+//! a `Turn`. A new variant is one more case in each of them.
 ghost use Rattle.std.specs.Prelude.{◌≡◌};
 ghost use Rattle.two_path.specs.Made.{turn_with};
 
@@ -35,7 +36,9 @@ pub enum Turn {
 /// A turn, and its record if it makes one.
 #[derive(Debug, Drop)]
 pub struct Turned {
+    /// What the turn came to, with its moves in it.
     pub turn: Turn,
+    /// The record of the turn, if it makes one.
     pub entry: Option<Entry>,
 }
 
@@ -68,12 +71,14 @@ pub enum TurnAnswer {
 /// A turn whose moves are apart, and its record if it makes one.
 #[derive(Debug, Drop)]
 pub struct Answered {
+    /// What the turn came to, its moves apart.
     pub answer: TurnAnswer,
+    /// The record of the turn, if it makes one.
     pub entry: Option<Entry>,
 }
 
 impl Turn {
-    /// The turn with its moves in it. A turn that has none leaves them.
+    /// The turn with its moves in it; a turn that has none drops them.
     pub fn of(answer: TurnAnswer, list: MoveList) -> Turn
         ensures { result ≡ turn_with answer list }
     {

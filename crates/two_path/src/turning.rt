@@ -1,5 +1,6 @@
-//! A turn of a path, over its own part, the other's, and what both have in common.
-//! For this crate alone: again.rt and machine.rt use it.
+//! A turn of a path, over its own part, the other's, and what both have in common; one function for
+//! each case of specs/Turns.antt.
+//! For this crate alone: machine.rt calls `take_turn`, again.rt calls `settle`.
 ghost use Rattle.std.specs.Prelude.{◌≡◌, ◌≤◌, ◌<◌, ℕ, List, [], Some, None, length, IfSome};
 ghost use Rattle.nc_number.specs.declared.limits.TheConstants.{MOST_RECORDS};
 ghost use Rattle.nc_moves.specs.declared.motion.Move.{Move};
@@ -31,7 +32,7 @@ use path_state::{
 use run_records::EntryKind;
 use tape_flow::Flow;
 
-/// A turn in which the path's block reads a shared variable. It makes no record.
+/// The turn in which the path's block reads a shared variable. It makes no record.
 fn read(me: &mut Part, joint: &Joint, variable: u32) -> Answered
     requires few { length me.old.values < 32 }
     requires shared { IsShared joint.now.shared.shared100 joint.now.shared.shared500 variable }
@@ -50,7 +51,7 @@ fn read(me: &mut Part, joint: &Joint, variable: u32) -> Answered
     }
 }
 
-/// A turn in which the path's block, of this line, is done. The path stands behind it.
+/// The turn in which the path's block, of this line, is done. The path stands behind it already.
 fn did(
     me: &mut Part,
     joint: &mut Joint,
@@ -78,7 +79,7 @@ fn did(
     }
 }
 
-/// A turn in which the path ends, with its block of this line.
+/// The turn in which the path ends, with its block of this line.
 fn ended(me: &mut Part, joint: &mut Joint, path: Path, line: u32) -> Answered
     requires room { 0 < joint.old.shared.room }
     requires few { joint.old.count ≤ MOST_RECORDS }
@@ -99,7 +100,7 @@ fn ended(me: &mut Part, joint: &mut Joint, path: Path, line: u32) -> Answered
     }
 }
 
-/// A turn in which the path raises an alarm, which stops both paths.
+/// The turn in which the path raises an alarm, which stops both paths.
 fn alarmed(me: &mut Part, joint: &mut Joint, alarm: &Alarm) -> Answered
     requires few { joint.old.count ≤ MOST_RECORDS }
     ensures answer { result.answer ≡ Answer.Alarm alarm.now }
@@ -116,7 +117,7 @@ fn alarmed(me: &mut Part, joint: &mut Joint, alarm: &Alarm) -> Answered
     }
 }
 
-/// A turn in which the path arrives at a wait. It waits there.
+/// The turn in which the path arrives at a wait, and waits there.
 fn arrived(me: &mut Part, joint: &mut Joint, path: Path, code: u16) -> Answered
     requires room { 0 < joint.old.shared.room }
     requires few { joint.old.count ≤ MOST_RECORDS }
@@ -135,7 +136,7 @@ fn arrived(me: &mut Part, joint: &mut Joint, path: Path, code: u16) -> Answered
     }
 }
 
-/// A turn in which the path meets the other, which waits at the same code. Both go on.
+/// The turn in which the path meets the other, which waits at the same code. Both go on.
 fn met(
     me: &mut Part,
     other: &mut Part,
@@ -164,8 +165,8 @@ fn met(
     }
 }
 
-/// A turn of a path at a wait of this code, at this line. The other path waits at the same code,
-/// at another, or not at all.
+/// The turn of a path at a wait of this code, at this line: both go on if the other waits at the
+/// same code; there is an alarm if it waits at another; the path waits if it does not wait.
 fn came_to_wait(
     me: &mut Part,
     other: &mut Part,
@@ -204,7 +205,8 @@ fn came_to_wait(
     }
 }
 
-/// Its block, of this line, was taken with what it had read before, and this is the path's answer.
+/// The turn of a path whose block, of this line, was taken with what it had read before, by the
+/// path's answer.
 #[inline(always)]
 pub(crate) fn settle(
     me: &mut Part,
@@ -256,7 +258,7 @@ pub(crate) fn settle(
     }
 }
 
-/// Its block runs, with what it has read so far.
+/// The turn in which the path's block runs, with what it has read so far.
 pub(crate) fn run_block(
     me: &mut Part,
     other: &mut Part,
@@ -286,8 +288,8 @@ pub(crate) fn run_block(
     settle(me, other, joint, flow, other_flow, path, line, answer)
 }
 
-/// A turn of the path: nothing once there is an alarm, once it has ended, and while it waits; else
-/// its block runs. Its moves are put into the list, which is cleared first.
+/// A turn of the path: nothing happens once there is an alarm, once it has ended, and while it
+/// waits; else its block runs. Its moves are put into the list, which is cleared first.
 pub(crate) fn take_turn(
     me: &mut Part,
     other: &mut Part,
@@ -324,7 +326,7 @@ pub(crate) fn take_turn(
     run_block(me, other, joint, flow, other_flow, path, moves)
 }
 
-/// A turn in which nothing happens.
+/// The turn in which nothing happens, with this answer.
 #[tactic(auto, using(crate::proofs::NoMoves::none_within))]
 fn idle(answer: TurnAnswer, moves: &mut MoveList) -> Answered
     ensures answer { result.answer ≡ answer }

@@ -1,6 +1,6 @@
-//! The walk over a history: its records, each of which is legal where it stands, are done again one
-//! by one.
-//! move_list and zone_check use what it exports.
+//! One step of the walk over a history that is known to be legal: the next record is done again,
+//! and can't be refused.
+//! move_list and zone_check walk over histories with it.
 ghost use Rattle.std.specs.Prelude.{◌≡◌, ◌≤◌, ◌<◌, ◌+◌};
 ghost use Rattle.nc_number.specs.declared.limits.TheConstants.{MOST_RECORDS};
 ghost use Rattle.motion_track.specs.Within.{AreMovesWithin};
@@ -17,7 +17,8 @@ use motion_track::LONGEST;
 use run_records::Entry;
 use tape_flow::Flow;
 
-/// Does a record again that is legal there, and answers what its turn answered. It takes no memory.
+/// Does a record again that is legal behind the machine, and answers what its turn answered. It
+/// takes no memory.
 ///
 /// It asks for what [`apply`](Machine::apply) asks for. Its moves are as far as those of a turn.
 pub fn done_again(machine: &mut Machine, left: &Flow, right: &Flow, entry: &Entry) -> Turn

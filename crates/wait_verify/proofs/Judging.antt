@@ -1,4 +1,4 @@
--- What is answered of three texts, by the answers to their parts.
+-- What is answered of three texts, by the answers to their parts: for `verdict` (src/verifying.rt).
 use Rattle.std.proofs.Common.{◌≡◌, ℕ, List, Ok, subst, sym}
 use Rattle.nc_number.specs.declared.fault.Failing.{Failing}
 use Rattle.nc_number.specs.declared.path.Path.{Path}
@@ -19,12 +19,12 @@ use Rattle.wait_verify.specs.Asked.{Asked}
 use Rattle.wait_verify.specs.Verdict.{premises_of, IsOrderOf, IsTapeRefusal, Judged, AreOrders, IsRefusalOf, IsTold}
 use Rattle.wait_verify.specs.Verdict.IsRefusalOf.{left, right, pair}
 
--- The premises that the code made are those of the cell.
+-- The premises that the code made are those of the question under the settings of this cell.
 pub record IsPremises (asked : Asked) (cell : Cell) (premises : Premises) : Type 0 where
   pub dialect : premises.dialect ≡ dialect_in cell
   pub outside : premises.outside ≡ asked.outside
 
--- They are the premises of the question.
+-- Premises whose two fields are those of the question are the premises of the question.
 same : (asked : Asked) (cell : Cell) (premises : Premises) → IsPremises asked cell premises → premises ≡ premises_of asked cell
 same asked cell premises is = λ i. record { dialect = is.dialect i; outside = is.outside i }
 
@@ -63,7 +63,7 @@ right_refused asked cell premises first skips tape own error read is switches or
     (λ told fault. right cell tape own read (order_is asked cell premises first One asked.texts.left tape own is switches ordered)
     (refusal_is asked cell premises skips Two asked.texts.right told is others fault)) refused
 
--- Both tapes have orders.
+-- If the settings are allowed and each tape has an order by the code's premises, both have orders.
 pub orders_are : (asked : Asked) (judged : Judged) (premises : Premises) (first second : ℕ)
     → settings_of asked.texts.settings ≡ Ok judged.cell → IsPremises asked judged.cell premises → first ≡ skips_of One judged.cell
     → second ≡ skips_of Two judged.cell → IsOrderOf premises first asked.texts.left judged.left_tape judged.left

@@ -1,4 +1,5 @@
--- No pair is both accepted and refused. lathe_top takes lemmas of this file.
+-- No pair is both accepted and refused for its waits: for the law `accepted_pairs_are_not_refused`
+-- (src/laws.rt). lathe_top takes lemmas of this file.
 use Rattle.std.proofs.Common.{◌≡◌, ℕ, List, Result, Ok, Err, Option, Some, None, sym, subst, ◌∙◌}
 use Rattle.nc_number.specs.declared.path.Path.{Path}
 use Rattle.nc_number.specs.declared.path.Path.TheVariants.{One, Two}
@@ -24,11 +25,11 @@ use Rattle.wait_verify.specs.Verdict.{premises_of, IsOrderOf, IsTapeRefusal, IsL
 use Rattle.wait_verify.specs.Verdict.IsTapeRefusal.{reading as tape_reading, order as tape_order}
 use Rattle.wait_verify.specs.Verdict.IsRefusalOf.{settings, left, right, pair}
 
--- One reading has one order.
+-- A reading of a tape gives one order at most.
 pub one_order : (a b : List ControlProgram) (r : Result (List ControlProgram) FlowFault) → r ≡ Ok a → r ≡ Ok b → a ≡ b
 one_order a b r p q = let e : ◌≡◌ {A = Result (List ControlProgram) FlowFault} (Ok a) (Ok b) = sym p ∙ q in cc
 
--- No tape has an order and is refused.
+-- No tape both has an order and is refused.
 pub not_both_order : (premises : Premises) (programs : List Program) (own : List ControlProgram) (line number : ℕ)
     → IsOrdered premises programs own → IsRefused premises programs line number → ⊥
 not_both_order premises programs own line number x (block failed) =
@@ -43,19 +44,19 @@ not_both_order premises programs own line number x (contour other reads sound fa
     let here = subst (λ o. contour_fault o programs ≡ Some (refusal line number)) same fault in
     absurd (let e : ◌≡◌ {A = Option FlowFault} None (Some (refusal line number)) = sym x.contours ∙ here in cc)
 
--- A text has one tape.
+-- A text reads as one tape at most.
 pub same_programs : (premises : Premises) (skips : ℕ) (text : List ℕ) (a b : List Program) (oa ob : List ControlProgram)
     → IsOrderOf premises skips text a oa → IsOrderOf premises skips text b ob → a ≡ b
 same_programs premises skips text a b oa ob x y = one_tape a b (tape_of skips (opened text)) x.reads y.reads
 
--- A text has one order of its blocks.
+-- A text has one order of its blocks at most.
 pub same_order : (premises : Premises) (skips : ℕ) (text : List ℕ) (a b : List Program) (oa ob : List ControlProgram)
     → IsOrderOf premises skips text a oa → IsOrderOf premises skips text b ob → oa ≡ ob
 same_order premises skips text a b oa ob x y =
     let same : a ≡ b = same_programs premises skips text a b oa ob x y in
     one_order oa ob (programs_read premises b) (subst (λ t. programs_read premises t ≡ Ok oa) same x.ordered.reads) y.ordered.reads
 
--- No text has an order and is refused.
+-- No text both has an order and is refused.
 pub not_both_tape : (premises : Premises) (skips : ℕ) (path : Path) (text : List ℕ) (programs : List Program)
     (own : List ControlProgram) (told : Refusal) → IsOrderOf premises skips text programs own
     → IsTapeRefusal premises skips path text told → ⊥

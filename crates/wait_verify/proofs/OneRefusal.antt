@@ -1,4 +1,5 @@
--- A pair has one refusal at most: first the tape of a path, then the pair.
+-- A pair has one refusal at most: first the tape of a path, then the pair. For the law
+-- `pairs_have_one_refusal` (src/laws.rt).
 use Rattle.std.proofs.Common.{◌≡◌, ℕ, List, Option, Some, Result, Ok, Err, ap, sym, subst, ◌∙◌}
 use Rattle.nc_number.specs.Causes.{cause_number}
 use Rattle.nc_number.specs.declared.path.Path.{Path}
@@ -31,20 +32,20 @@ use Rattle.wait_verify.proofs.NotBoth.{one_order, same_order, not_both_tape}
 
 -- The tape of a path.
 
--- Faults that are the same have the same line and number.
+-- Refusals that are equal have the same line and number.
 same_fault : (line number other_line other : ℕ) → ◌≡◌ {A = FlowFault} (refusal line number) (refusal other_line other)
     → (line ≡ other_line) × (number ≡ other)
 same_fault line number other_line other e = (ap (λ (f : FlowFault). f.line) e, ap (λ (f : FlowFault). f.number) e)
 
--- One reading has one error.
+-- A reading of a tape has one error at most.
 same_error : (r : Result (List ControlProgram) FlowFault) (a b : FlowFault) → r ≡ Err a → r ≡ Err b → a ≡ b
 same_error r a b p q = let e : ◌≡◌ {A = Result (List ControlProgram) FlowFault} (Err a) (Err b) = sym p ∙ q in cc
 
--- One answer has one fault.
+-- An answer holds one fault at most.
 same_some : (o : Option FlowFault) (a b : FlowFault) → o ≡ Some a → o ≡ Some b → a ≡ b
 same_some o a b p q = let e : ◌≡◌ {A = Option FlowFault} (Some a) (Some b) = sym p ∙ q in cc
 
--- No reading is both an order and an error.
+-- No reading of a tape is both an order and an error.
 read_or_not : (r : Result (List ControlProgram) FlowFault) (own : List ControlProgram) (fault : FlowFault) → r ≡ Ok own
     → r ≡ Err fault → ⊥
 read_or_not r own fault p q =

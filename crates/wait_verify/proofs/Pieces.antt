@@ -1,4 +1,5 @@
--- Texts that are made of pieces, one after another.
+-- Texts that are made of pieces, one after another: for `push_waits` and `push_meetings`
+-- (src/printing.rt).
 use Rattle.std.proofs.Common.{◌≡◌, ℕ, zero, suc, ◌≤◌, min, List, [], ◌∷◌, ◌++◌, length, drop, Result, Ok, Err, OnOk, refl, ap, ◌∙◌, arith, append_assoc}
 use Rattle.label_list.specs.declared.labelled.Labelled.{Labelled}
 use Rattle.wait_verify.specs.Printed.{meetings_text}
@@ -7,13 +8,14 @@ use Rattle.wait_verify.specs.Printed.{meetings_text}
 two : (old a b x y : List ℕ) → x ≡ old ++ a → y ≡ x ++ b → y ≡ old ++ (a ++ b)
 two old a b x y first second = second ∙ ap (λ (l : List ℕ). l ++ b) first ∙ append_assoc old a b
 
--- The same of three pieces, of which the last may fail.
+-- Three pieces that are added one after another, of which adding the last may fail, are added as
+-- one.
 pub three : {T E : Type 0} (result : Result T E) (old a b c x y z : List ℕ) → x ≡ old ++ a → y ≡ x ++ b
     → OnOk result (z ≡ y ++ c) → OnOk result (z ≡ old ++ ((a ++ b) ++ c))
 three (Ok done) old a b c x y z first second third = two old (a ++ b) c y z (two old a b x y first second) third
 three (Err fault) old a b c x y z first second third = tt
 
--- After the shorter list of labels no line follows.
+-- Behind the last label of the shorter list no line follows.
 pub no_more : (left right : List Labelled) (n : ℕ) → min (length left) (length right) ≤ n
     → meetings_text (drop n left) (drop n right) ≡ []
 no_more [] right zero over = refl

@@ -1,4 +1,5 @@
--- What follows for a path's tape if a part of it is refused.
+-- A text that does not read, or an order that is refused, is the refusal of the path's tape: for
+-- `tape_of_path` and `order_of_path` (src/tape.rt).
 use Rattle.std.proofs.Common.{◌≡◌, ℕ, List, Ok, subst}
 use Rattle.nc_number.specs.declared.fault.Failing.{Failing}
 use Rattle.nc_number.specs.declared.fault.Failing.TheVariants.{Fault, NoMemory}
@@ -16,14 +17,14 @@ use Rattle.wait_verify.specs.Asked.{opened}
 use Rattle.open_order.specs.Exact.{IsRefused}
 use Rattle.wait_verify.specs.Verdict.{IsTapeRefusal, reading as by_reading, order as by_tape}
 
--- The tape is refused as it is read.
+-- A text that does not read is the refusal of the path's tape.
 pub tape_refused : (premises : Premises) (skips : ℕ) (path : Path) (text : List ℕ) (error : Failing TextFault) (fault : TextFault)
     (refusal : Refusal) → error ≡ Fault fault → Fails error (tape_of skips (opened text))
     → refusal ≡ at_line path fault.line fault.number → IsTapeRefusal premises skips path text refusal
 tape_refused premises skips path text error fault refusal is fails told =
     by_reading fault (subst (λ e. Fails e (tape_of skips (opened text))) is fails) told
 
--- The order of the tape's blocks is refused.
+-- A tape that reads, and whose block or order is refused, is the refusal of the path's tape.
 pub order_refused : (premises : Premises) (skips : ℕ) (path : Path) (text : List ℕ) (tape : List Program) (error : Failing FlowFault)
     (fault : FlowFault) (refusal : Refusal) → error ≡ Fault fault → tape_of skips (opened text) ≡ Ok tape
     → IfFault error (λ f. IsRefused premises tape f.line f.number) → refusal ≡ at_line path fault.line fault.number

@@ -1,5 +1,6 @@
 -- No pair is neither accepted nor refused: first the tape of a path, then the pair. `CantBothFail`
--- says that it can't be that neither of the two holds.
+-- says that it can't be that neither of the two holds. For the law `no_pair_is_without_an_answer`
+-- (src/laws.rt).
 use Rattle.std.proofs.Common.{◌≡◌, ℕ, List, Option, Some, None, Result, Ok, Err, refl}
 use Rattle.nc_number.specs.Causes.{cause_number}
 use Rattle.nc_number.specs.declared.path.Path.{Path}
@@ -28,7 +29,7 @@ use Rattle.wait_verify.specs.Verdict.IsRefusalOf.{settings, left, right, pair}
 
 -- The tape of a path.
 
--- A tape of a sound order is ordered, or a contour of it is refused.
+-- A tape whose blocks read to a sound order is ordered, or refused for a contour.
 contours_answer : (premises : Premises) (programs : List Program) (own : List ControlProgram) → programs_read premises programs ≡ Ok own
     → IsSound own → CantBothFail (IsOrdered premises programs own)
     ((line : ℕ) × (number : ℕ) × IsRefused premises programs line number)

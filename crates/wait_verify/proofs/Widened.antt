@@ -1,5 +1,5 @@
--- A pair that the verdict on a run (`verify`) accepts is accepted for its waits: from a block to a
--- program, a tape, and a pair.
+-- A pair that `verify` accepts is accepted for its waits too: from a block to a program, a tape,
+-- and a pair. For the law `what_a_run_accepts_is_accepted` (src/laws.rt).
 use Rattle.std.proofs.Common.{◌≡◌, ℕ, suc, ◌*◌, Bool, true, false, not, ◌&&◌, ◌||◌, cond, codes, List, [], ◌∷◌, ◌++◌, map, Option, Some, None, Result, Ok, Err, refl, ap, sym, ◌∙◌, subst, All, ℤ, pos}
 use Rattle.std.specs.List.{list_any, filter_map}
 use Rattle.std.proofs.lemmas.List.{map-append}
@@ -58,7 +58,7 @@ use Rattle.open_order.specs.Reading.{Basis, settled, at_line, block_read, blocks
 abbrev pub BlockLaw : Type 0
 BlockLaw = (dialect : Dialect) (block : Block) (form : BlockForm) → IsWidenedBlock dialect block form
 
--- The statements of each tape are as the reader leaves them.
+-- The law of open_forms that the statements of each tape are as its reader leaves them.
 abbrev pub CleanLaw : Type 0
 CleanLaw = (skips : ℕ) (text : List ℕ) (tape : List Program) → tape_of skips text ≡ Ok tape → IsCleanTape tape
 
@@ -72,7 +72,7 @@ form_is block (Ok own) form e =
     let same : form_at block.line block.sequence own (control_of_form own) ≡ form = cc in
     (sym (ap (λ (f : BlockForm). f.line) same), sym (ap (λ (f : BlockForm). f.sequence) same))
 
--- If no program is outside, a control stays as it is.
+-- If the tape may lack no program, the control of a block stays as it is.
 none_gone : (c : Control) → settled (λ _. false) c ≡ c
 none_gone control.Next = refl
 none_gone (control.Goto n) = refl
@@ -85,7 +85,7 @@ none_gone (control.Call program repeats) = refl
 none_gone control.Back = refl
 none_gone (control.BackTo n) = refl
 
--- The tape is read without programs outside.
+-- What a block is read over if the tape may lack no program.
 abbrev basis_of : Dialect → List Program → Basis
 basis_of dialect tape = record { premises = record { dialect = dialect; outside = None }; tape = tape }
 
@@ -119,14 +119,15 @@ back_of : {X : Type 0} (P : X → Type 0) (xs ys : List X) → All P (xs ++ ys) 
 back_of P [] ys all = all
 back_of P (x ∷ xs) ys all = back_of P xs ys (All-tail P x (xs ++ ys) all)
 
--- One step of reading in full, and the one for waits beside it.
+-- If each step of a reading for waits answers what the step of the full reading does, seen by
+-- `see`, two steps of it do.
 step_widened : {A B C D : Type 0} (read : Result A FlowFault) (own : Result B FlowFault) (go : A → Result C FlowFault) (go' : B → Result D FlowFault)
     (see : A → B) (end : C) (end' : D) → ((x : A) → read ≡ Ok x → own ≡ Ok (see x)) → ((x : A) → go x ≡ Ok end → go' (see x) ≡ Ok end')
     → read >>= go ≡ Ok end → own >>= go' ≡ Ok end'
 step_widened (Ok x) own go go' see end end' first rest e = rw (first x refl) (rest x e)
 step_widened (Err fault) own go go' see end end' first rest e = absurd cc
 
--- The same of the blocks of a program.
+-- Blocks that read in full read for their waits, with the same controls.
 blocks_widened : BlockLaw → (dialect : Dialect) (tape : List Program) (blocks : List Block) (done forms : List BlockForm)
     → All (IsPlainBlock dialect) blocks → AreClean blocks → full.blocks_from dialect done blocks ≡ Ok forms
     → blocks_from (basis_of dialect tape) (map control_block done) blocks ≡ Ok (map control_block forms)
@@ -142,7 +143,7 @@ blocks_widened law dialect tape (block ∷ blocks) done forms plain clean e =
     (blocks_widened law dialect tape blocks (done ++ form ∷ []) forms (All-tail (IsPlainBlock dialect) block blocks plain) clean.1 rest))
     e
 
--- The same of a program.
+-- A program that reads in full reads for its waits, with the same controls.
 program_widened : BlockLaw → (dialect : Dialect) (tape : List Program) (program : Program) (form : ProgramForm)
     → All (IsPlainBlock dialect) program.blocks → AreClean program.blocks → full.program_read dialect program ≡ Ok form
     → program_read (basis_of dialect tape) program ≡ Ok (control_program form)
@@ -159,7 +160,7 @@ program_widened law dialect tape program form plain clean e =
         ap (λ read. read >>= (λ blocks. Ok (record { number = program.number; line = program.line; blocks = blocks }))) own
         ∙ ap (λ p. Ok (control_program p)) same
 
--- The same of the programs of a tape.
+-- Programs of a tape that read in full read for their waits, with the same controls.
 programs_widened : BlockLaw → (dialect : Dialect) (tape rest : List Program) (done forms : List ProgramForm)
     → All (IsPlainBlock dialect) (blocks_in rest) → IsCleanTape rest → full.programs_from dialect done rest ≡ Ok forms
     → programs_from (basis_of dialect tape) (controls done) rest ≡ Ok (controls forms)
@@ -225,7 +226,7 @@ no_cycle dialect texts words are given no_macro =
     (same_words_of (codes "G") texts words are)
     (known_codes dialect.system words (gives dialect.system is_macro_call words) refl kind given.known) (g_plain dialect words given.fixed)
 
--- So its words call no contour.
+-- Words of a block that is accepted for a run name no contour.
 no_contour_words : (dialect : Dialect) (texts : List Word) (words : List FlowWord) → AreSaid texts words → IsAccepted dialect words
     → contour_in (Words texts) ≡ None
 no_contour_words dialect texts words are given = go (is_macro texts) refl
@@ -237,7 +238,7 @@ no_contour_words dialect texts words are given = go (is_macro texts) refl
     go true is = rw (macro_is_code, is) refl
     go false is = rw (macro_is_code, is, no_cycle dialect texts words are given is) refl
 
--- The same of a block that has a form.
+-- A body that has a form in full names no contour.
 no_contour_form : (dialect : Dialect) (body : Body) (own : Form) → form_or_refusal dialect body ≡ Ok own → contour_in body ≡ None
 no_contour_form dialect (Statement text) own reads = refl
 no_contour_form dialect (Words texts) own reads = go (words_or_refusal dialect texts) refl reads
@@ -248,13 +249,13 @@ no_contour_form dialect (Words texts) own reads = go (words_or_refusal dialect t
         let told = judged_words dialect texts words is in
         no_contour_words dialect texts words (are_said texts words told.0) (accepted dialect words told.1)
 
--- The same with its place.
+-- A block that has a form in full names no contour.
 no_contour_block : (dialect : Dialect) (block : Block) (r : Result Form ℕ) (form : BlockForm) → form_or_refusal dialect block.body ≡ r
     → block_at block r ≡ Ok form → contour_in block.body ≡ None
 no_contour_block dialect block (Err number) form is e = absurd cc
 no_contour_block dialect block (Ok own) form is e = no_contour_form dialect block.body own is
 
--- A block that reads in full calls no contour.
+-- A block that reads in full names no contour.
 no_contour : (dialect : Dialect) (block : Block) (form : BlockForm) → full.block_read dialect block ≡ Ok form → contour_in block.body ≡ None
 no_contour dialect block form reads = go (block_or_refusal dialect block) refl reads
   where
@@ -262,11 +263,11 @@ no_contour dialect block form reads = go (block_or_refusal dialect block) refl r
     go (Err number) is e = absurd cc
     go (Ok own) is e = no_contour_block dialect block (form_or_refusal dialect block.body) own refl is
 
--- The block calls no contour.
+-- The block names no contour.
 abbrev HasNone : Block → Type 0
 HasNone block = contour_in block.body ≡ None
 
--- No block of a program that reads in full calls a contour.
+-- No block of a program that reads in full names a contour.
 none_in_blocks : (dialect : Dialect) (blocks : List Block) (done forms : List BlockForm) → full.blocks_from dialect done blocks ≡ Ok forms
     → All HasNone blocks
 none_in_blocks dialect [] done forms e = All-nil HasNone
@@ -306,7 +307,7 @@ no_contours dialect order (program ∷ rest) done forms e =
 
 -- The tape of a path, and a pair.
 
--- A tape that is accepted for a run has an order for its waits, the same.
+-- A text whose tape is accepted for a run has, for its waits, an order with the same controls.
 ordered_too : BlockLaw → CleanLaw → (cell : Cell) (path : Path) (text : List ℕ) (forms : List ProgramForm)
     → IsPlainText (dialect_in cell) (skips_of path cell) text → (flow : IsFlowOf cell path text forms)
     → IsOrderOf (record { dialect = dialect_in cell; outside = None }) (skips_of path cell) text flow.tape (controls forms)

@@ -1,11 +1,13 @@
--- What is asked for: the three texts of a pair, and which programs its tapes may lack. lathe_calls
--- and lathe_top read this.
+-- What `waits` is asked: the three texts of a pair, and which programs its tapes may lack; and how
+-- the text of a tape is read, with a blank for each comma.
+-- lathe_calls and lathe_top take `Asked`.
 use Rattle.std.specs.Prelude.{ℕ, ◌==◌, List, map, Option, if◌then◌else◌}
 use Rattle.nc_verify.specs.Verdict.{Texts}
 use Rattle.open_order.specs.declared.outside.Outside.{Outside}
 
--- A question about waits.
+-- A question about the waits of a pair.
 pub record Asked : Type 0 where
+  -- The tapes of both paths and the settings, as bytes.
   pub texts : Texts
   -- The O numbers of programs in the control's memory, which the tapes may lack; none if they may
   -- lack none.
@@ -15,7 +17,7 @@ pub record Asked : Type 0 where
 abbrev pub without_comma : ℕ → ℕ
 without_comma b = if b == 44 then 32 else b
 
--- The text of a tape with a blank for each comma.
+-- The text of a tape with a blank for each comma, which the reader of tapes does not know.
 abbrev pub opened : List ℕ → List ℕ
 opened text = map without_comma text
 

@@ -1,5 +1,6 @@
--- The text of an accepted pair: its meetings, and what was taken on trust. lathe_calls and
--- lathe_top read `waits_text`.
+-- The text that `waits` prints of an accepted pair: how often the paths meet, a line for each
+-- meeting and for the end, and what was taken on trust. src/printing.rt makes it.
+-- lathe_calls and lathe_top take `waits_text`.
 use Rattle.std.specs.Prelude.{ℕ, ◌-◌, nat_le, pos, List, [], ◌∷◌, ◌++◌, length, codes, decimal, if◌then◌else◌}
 use Rattle.nc_number.specs.Printed.{value_text}
 use Rattle.block_order.specs.declared.label.Label.{Label}
@@ -8,14 +9,14 @@ use Rattle.label_list.specs.declared.labelled.Labelled.{Labelled}
 use Rattle.text_pieces.specs.Pieces.{numbered}
 use Rattle.open_order.specs.Trusted.{TrustView, is_nothing}
 
--- A meeting by its code, or how the list of labels ends.
+-- A label as it is printed: a wait by its M code, or how the path ends.
 abbrev pub label_text : Label → List ℕ
 label_text (Wait code) = numbered (codes "M") code
 label_text End = codes "end"
 label_text Again = codes "again"
 label_text Off = codes "off"
 
--- The line of a label of both paths, with the line of each tape.
+-- The line of a label that both paths come to: `M100 path 1 line 3 path 2 line 5`.
 unfoldable pub meeting_text : Labelled → Labelled → List ℕ
 meeting_text one two =
     label_text one.label ++ numbered (codes " path 1 line ") one.line ++ numbered (codes " path 2 line ") two.line ++ codes "\n"
@@ -26,16 +27,17 @@ meetings_text [] right = []
 meetings_text (one ∷ left) [] = []
 meetings_text (one ∷ left) (two ∷ right) = meeting_text one two ++ meetings_text left right
 
--- A G code after a blank, from its value in 0.000001. None is greater than a value may be.
+-- A G code after a blank, from its value in 0.000001. A value above 99999999.999999, which no code
+-- has, prints nothing.
 abbrev pub geometry_text : ℕ → List ℕ
 geometry_text micro = if nat_le micro 99999999999999 then codes " G" ++ value_text (pos micro) else []
 
--- All these G codes.
+-- These G codes, each after a blank.
 abbrev pub geometries_text : List ℕ → List ℕ
 geometries_text [] = []
 geometries_text (micro ∷ rest) = geometry_text micro ++ geometries_text rest
 
--- Each number after these bytes.
+-- These numbers, each after the bytes `before`.
 abbrev pub numbers_text : List ℕ → List ℕ → List ℕ
 numbers_text before [] = []
 numbers_text before (number ∷ rest) = before ++ decimal number ++ numbers_text before rest

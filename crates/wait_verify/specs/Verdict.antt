@@ -1,5 +1,6 @@
--- Which pairs have one order of waits, and the one refusal of all others. lathe_calls and lathe_top
--- read this.
+-- Which pairs wait for each other in one order, whatever the variables hold, and the one refusal of
+-- all others: what `verdict` (src/verifying.rt) promises.
+-- lathe_calls and lathe_top say by these words what is due to `waits`.
 use Rattle.std.specs.Prelude.{◌≡◌, ℕ, List, Ok, Err}
 use Rattle.nc_number.specs.declared.path.Path.{Path}
 use Rattle.nc_number.specs.declared.path.Path.TheVariants.{One, Two}
@@ -27,7 +28,9 @@ premises_of asked cell = record { dialect = dialect_in cell; outside = asked.out
 -- The text of a tape, with a blank for each comma, reads as this tape, whose blocks have this
 -- order. `skips` says which block-skip switches are on.
 pub record IsOrderOf (premises : Premises) (skips : ℕ) (text : List ℕ) (tape : List Program) (order : List ControlProgram) : Type 0 where
+  -- the text reads as this tape
   pub reads : tape_of skips (opened text) ≡ Ok tape
+  -- the blocks of the tape have this order, in which nothing is wrong
   pub ordered : IsOrdered premises tape order
 
 -- The refusal of a path's tape: of its reading, or else of the order of its blocks.
@@ -44,16 +47,21 @@ pub data IsTapeRefusal (premises : Premises) (skips : ℕ) (path : Path) (text :
 abbrev pub IsLeftOrder : Asked → Cell → List Program → List ControlProgram → Type 0
 IsLeftOrder asked cell tape own = IsOrderOf (premises_of asked cell) (skips_of One cell) asked.texts.left tape own
 
--- The same of path 2.
+-- The text of path 2 has this tape and this order, under the settings of a cell.
 abbrev pub IsRightOrder : Asked → Cell → List Program → List ControlProgram → Type 0
 IsRightOrder asked cell tape own = IsOrderOf (premises_of asked cell) (skips_of Two cell) asked.texts.right tape own
 
 -- A pair as it is judged: the settings, and for each path its tape and the order of its blocks.
 pub record Judged : Type 0 where
+  -- the settings of the cell
   pub cell : Cell
+  -- the tape of path 1
   pub left_tape : List Program
+  -- the tape of path 2
   pub right_tape : List Program
+  -- the order of the blocks of path 1
   pub left : List ControlProgram
+  -- the order of the blocks of path 2
   pub right : List ControlProgram
 
 -- The settings are allowed, and both tapes have orders.
@@ -62,7 +70,8 @@ pub record AreOrders (asked : Asked) (judged : Judged) : Type 0 where
   pub left_is : IsLeftOrder asked judged.cell judged.left_tape judged.left
   pub right_is : IsRightOrder asked judged.cell judged.right_tape judged.right
 
--- The pair is accepted: besides, both paths come to the same labels, whatever the variables hold.
+-- The pair is accepted: the settings are allowed, both tapes have orders, and both paths come to
+-- the same labels, whatever the variables hold.
 pub record AreAccepted (asked : Asked) (judged : Judged) : Type 0 where
   pub orders : AreOrders asked judged
   pub pair : IsAcceptedPair judged.left judged.right
@@ -90,7 +99,11 @@ trust_of asked judged =
 -- What is told of an accepted pair: the labels of both paths with their lines, and what was taken
 -- on trust.
 pub record IsTold (asked : Asked) (judged : Judged) (left right : List Labelled) (trust : TrustView) : Type 0 where
+  -- the pair is accepted
   pub accepted : AreAccepted asked judged
+  -- `left` are the labels of path 1
   pub left_are : left ≡ path_labels judged.left
+  -- `right` are the labels of path 2
   pub right_are : right ≡ path_labels judged.right
+  -- `trust` is what both tapes take on trust
   pub trust_is : trust ≡ trust_of asked judged

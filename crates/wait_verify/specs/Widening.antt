@@ -1,4 +1,6 @@
--- Which pairs that `verify` accepts are accepted for their waits too. For this crate alone.
+-- Which pairs that `verify` accepts `waits` accepts too, with the same lists of labels: those
+-- without a comma and without M96, M97 and M198 as plain codes.
+-- For the law `what_a_run_accepts_is_accepted` (src/laws.rt) alone.
 use Rattle.std.specs.Prelude.{◌≡◌, ℕ, List, All, None, Ok, false}
 use Rattle.nc_text.specs.declared.tape.Block.{Block}
 use Rattle.nc_text.specs.declared.tape.Program.{Program}
@@ -16,22 +18,22 @@ use Rattle.nc_verify.specs.Verdict.{Texts, skips_of, dialect_in}
 use Rattle.wait_verify.specs.Asked.{opened, asked}
 use Rattle.wait_verify.specs.Verdict.{Judged, AreAccepted}
 
--- The block has no M96, M97 or M198, unless it is a wait or an argument of a macro call.
+-- The block is plain: it has no M96, M97 or M198, unless as a wait or an argument of a macro call.
 abbrev pub IsPlainBlock : Dialect → Block → Type 0
 IsPlainBlock dialect block = has_interrupt dialect block.body ≡ false
 
--- The text has no comma, and each of its blocks is such.
+-- The text of a tape is plain: it has no comma, and each of its blocks is plain.
 pub record IsPlainText (dialect : Dialect) (skips : ℕ) (text : List ℕ) : Type 0 where
   pub no_comma : opened text ≡ text
   pub plain : (tape : List Program) → tape_of skips text ≡ Ok tape → All (IsPlainBlock dialect) (blocks_in tape)
 
--- Both texts of a pair are such.
+-- The texts of both tapes of a pair are plain.
 pub record ArePlain (texts : Texts) (cell : Cell) : Type 0 where
   pub left : IsPlainText (dialect_in cell) (skips_of One cell) texts.left
   pub right : IsPlainText (dialect_in cell) (skips_of Two cell) texts.right
 
--- The pair is accepted for its waits, with the same orders of blocks, and so with the same lists of
--- labels.
+-- A pair that `verify` accepts with these programs is accepted for its waits too, with the same
+-- orders of blocks, and so with the same lists of labels.
 pub record IsWidened (texts : Texts) (cell : Cell) (left right : List ProgramForm) : Type 0 where
   pub judged : Judged
   pub left_same : judged.left ≡ controls left

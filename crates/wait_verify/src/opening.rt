@@ -1,4 +1,6 @@
-//! The text of a tape with a blank for each comma.
+//! The text of a tape with a blank for each comma. Tapes may write chamfers and corners with
+//! commas, which say nothing of waits and which the reader of tapes refuses.
+//! tape.rt opens each text so before it is read.
 ghost use Rattle.std.specs.Prelude.{◌≡◌, IfOk};
 ghost use Rattle.wait_verify.specs.Asked.{without_comma, opened};
 
@@ -14,7 +16,7 @@ fn without_comma(byte: u8) -> u8
 
 /// The text of a tape with a blank for each comma: a chamfer or a corner is written `,C1.` or
 /// `,R1.`, and the reader of tapes knows no comma. Each line keeps its number. The only error is
-/// out of memory.
+/// that memory ran out.
 pub(crate) fn opened(alloc: Global, text: &[u8]) -> Result<Vec<u8>, NoMemory>
     ensures { IfOk result (λ bytes. bytes.items ≡ opened text.now) }
 {

@@ -1,5 +1,6 @@
-//! The text of an accepted pair: its meetings, and what was taken on trust. lathe_calls calls
-//! `push_waits`.
+//! The text that `waits` prints of an accepted pair: how often the paths meet, a line for each
+//! meeting and for the end, and what was taken on trust. Its definition is in specs/Printed.antt.
+//! lathe_calls calls `push_waits`.
 ghost use Rattle.std.specs.Prelude.{◌≡◌, ◌+◌, ◌≤◌, ◌++◌, OnOk, codes, length};
 ghost use Rattle.nc_number.specs.Printed.{value_text};
 ghost use Rattle.text_pieces.specs.Pieces.{numbered};
@@ -32,7 +33,7 @@ fn push_numbered(text: &mut Vec<u8>, before: &[u8], number: u64) -> Result<(), N
     push_piece(text, &piece)
 }
 
-/// Adds a meeting by its code, or how the list of labels ends: at most 21 bytes.
+/// Adds a label: a wait by its M code, or how the path ends; at most 21 bytes.
 fn add_label(piece: &mut Piece, label: Label)
     requires { length piece.old + 21 ≤ 512 }
     ensures text { piece.new ≡ piece.old ++ label_text label }
@@ -46,7 +47,7 @@ fn add_label(piece: &mut Piece, label: Label)
     }
 }
 
-/// The line of a label of both paths, with the line of each.
+/// The line of a label that both paths come to, with the line of each tape.
 #[tactic(auto, unfolding(crate::specs::Printed::meeting_text))]
 fn meeting_line(one: &Labelled, two: &Labelled) -> Piece
     ensures { result ≡ meeting_text one.now two.now }
@@ -59,14 +60,14 @@ fn meeting_line(one: &Labelled, two: &Labelled) -> Piece
     piece
 }
 
-/// Adds the line of a label of both paths, with the line of each. The only error is out of memory.
+/// Adds the line of a label that both paths come to. The only error is out of memory.
 fn push_meeting(text: &mut Vec<u8>, one: &Labelled, two: &Labelled) -> Result<(), NoMemory>
     ensures { OnOk result (text.new.items ≡ text.old.items ++ meeting_text one.now two.now) }
 {
     push_piece(text, &meeting_line(one, two))
 }
 
-/// Adds a line for each label of both lists. The only error is out of memory.
+/// Adds a line for each label of both lists, as far as both go. The only error is out of memory.
 fn push_meetings(text: &mut Vec<u8>, left: &[Labelled], right: &[Labelled]) -> Result<(), NoMemory>
     ensures { OnOk result (text.new.items ≡ text.old.items ++ meetings_text left.now right.now) }
 {
@@ -137,7 +138,8 @@ fn push_programs(text: &mut Vec<u8>, numbers: &BTreeSet<u16>) -> Result<(), NoMe
     Ok(())
 }
 
-/// Adds all codes and programs, each after a blank. The only error is out of memory.
+/// Adds the codes and programs that were taken on trust, each after a blank. The only error is out
+/// of memory.
 fn push_codes(text: &mut Vec<u8>, trust: &Trust) -> Result<(), NoMemory>
     ensures { OnOk result (text.new.items ≡ text.old.items ++ codes_text (seen trust.now)) }
 {
@@ -159,7 +161,7 @@ fn push_trust(text: &mut Vec<u8>, trust: &Trust) -> Result<(), NoMemory>
     Ok(())
 }
 
-/// The line of how often the paths meet: each label but the last is a wait.
+/// The line `waits 4`: how often the paths meet. Each label but the last is a wait.
 fn head_line(left: &[Labelled]) -> Piece
     ensures { result ≡ head_text left.now }
 {
@@ -169,7 +171,7 @@ fn head_line(left: &[Labelled]) -> Piece
     piece
 }
 
-/// Adds that line. The only error is out of memory.
+/// Adds the line `waits 4`: how often the paths meet. The only error is out of memory.
 fn push_head(text: &mut Vec<u8>, left: &[Labelled]) -> Result<(), NoMemory>
     ensures { OnOk result (text.new.items ≡ text.old.items ++ head_text left.now) }
 {

@@ -1,5 +1,6 @@
-//! The tape of one path, from its text to the order of its blocks. How a block is read for its
-//! order is in open_order.
+//! The tape of one path, from its text to the order of its blocks, or its one refusal. How a block
+//! is read for its order is in open_order.
+//! `verdict` (verifying.rt) calls `ordered_tape` for each path.
 ghost use Rattle.std.specs.Prelude.{◌≡◌, ℕ, List, Ok, IfOk, IfErr};
 ghost use Rattle.block_order.specs.Answers.{IfFault};
 ghost use Rattle.nc_number.specs.Answers.{Gives};
@@ -20,7 +21,9 @@ use std::alloc::Global;
 /// A tape, and the order of its blocks.
 #[derive(Drop)]
 pub(crate) struct OrderedTape {
+    /// The tape as its text reads.
     pub(crate) tape: Tape,
+    /// The order of its blocks, in which nothing is wrong.
     pub(crate) order: BlockOrder,
 }
 

@@ -1,4 +1,5 @@
--- The modal state behind the codes and words of a block (src/modal.rt).
+-- `modal_behind` hands F, S and T and the rows of the block's codes to `modal_after`, and what that
+-- answers is the modal state behind all words of the block (src/modal.rt).
 use Rattle.std.proofs.Common.{ap, sym, ◌∙◌}
 use Rattle.block_values.specs.InForce.{modal_behind, settings_said}
 use Rattle.block_values.specs.Seen.{values_seen}

@@ -1,5 +1,5 @@
--- Where the turret stands behind these moves, which begin at `at`: the end of the last one that
--- goes somewhere (src/moves.rt).
+-- `last_end` answers the end of the last move that goes somewhere, and a position if all moves lead
+-- to positions (src/moves.rt).
 use Rattle.std.proofs.Common.{subst, sym, arith}
 use Rattle.std.proofs.lemmas.Grind.{common_steps}
 use Rattle.nc_number.specs.Position.{IsPosition}

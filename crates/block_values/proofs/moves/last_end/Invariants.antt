@@ -1,4 +1,5 @@
--- The last end so far, with the moves that are left, is the last end of all (loop of src/moves.rt).
+-- For `last_end`, which looks for the end of the last move that goes somewhere (loop of
+-- src/moves.rt).
 use Rattle.std.proofs.Common.{◌≡◌, drop}
 use Rattle.block_values.specs.Moves.{last_end}
 use Rattle.block_values.proofs.moves.last_end.Given as goal

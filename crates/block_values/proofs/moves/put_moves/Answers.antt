@@ -1,4 +1,5 @@
--- Lets the list hold all moves of a block, and nothing that it held before (src/moves.rt).
+-- `put_moves` leaves exactly the moves of the block in the list, speed, tool, motion and M code in
+-- this order, and they are within range if those of the motion are (src/moves.rt).
 use Rattle.std.proofs.Common.{rules, subst, sym}
 use Rattle.nc_number.specs.declared.value.Var.TheVariants.{Vacant}
 use Rattle.motion_track.specs.declared.targets.TheConstants.{LONGEST}
@@ -10,7 +11,7 @@ use Rattle.block_values.proofs.moves.put_moves.Goals as goal
 pub returns-clause-moves : goal.returns-clause-moves
 returns-clause-moves c = search rules
 
--- the moves lead no farther than those of the motion
+-- the moves are within range if those of the motion are
 pub returns-clause-within : goal.returns-clause-within
 returns-clause-within c all =
     let values = settings_said Vacant c.args.speed c.args.tool in

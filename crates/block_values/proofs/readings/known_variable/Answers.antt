@@ -1,4 +1,5 @@
--- The variable of a number, if there is one (src/readings.rt).
+-- A variable that was found by its number is one that exists, since each number names one variable
+-- at most (src/readings.rt).
 use Rattle.std.proofs.Common.{◌≡◌, ℕ, Option, Some, None, IfSome, sym}
 use Rattle.common_vars.specs.declared.variable.Variable.{Variable}
 use Rattle.common_vars.specs.Variables.{IsVariable, variable_of}

@@ -1,4 +1,5 @@
--- All runs of an order of blocks come to one list of labels (src/meeting.rt).
+-- An order of blocks is sound by its type, so all runs of it come to one list of labels
+-- (src/meeting.rt).
 use Rattle.nc_verify.proofs.meeting.is_unforked.Goals as goal
 
 pub returns : goal.returns

@@ -1,4 +1,5 @@
--- Lists of labels that differ refuse the pair with their mismatch (src/meeting.rt).
+-- `meet`: if the lists of labels differ, the refusal of the pair is their first difference
+-- (src/meeting.rt).
 use Rattle.nc_verify.proofs.Refused.{labels_differ}
 use Rattle.nc_verify.proofs.meeting.meet.Goals as goal
 

@@ -1,4 +1,5 @@
--- A tape that does not read, or whose flow is wrong, is refused with its line (src/tape.rt).
+-- `flow_of`: a text that does not read, or a tape that has no flow, is refused with its line and
+-- number (src/tape.rt).
 use Rattle.cell_settings.specs.View.{view}
 use Rattle.nc_verify.proofs.Refused.{tape_refused, flow_refused}
 use Rattle.nc_verify.proofs.tape.flow_of.Goals as goal

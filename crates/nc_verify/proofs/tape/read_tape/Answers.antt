@@ -1,4 +1,5 @@
--- The text is the tape that is read, or is refused (src/tape.rt).
+-- `read_tape` feeds the whole text to a reader, and what that answers is the tape of the text or
+-- its first fault (src/tape.rt).
 use Rattle.std.proofs.Common.{[]}
 use Rattle.nc_text.proofs.RefusedAtEnd.{refused_at_end}
 use Rattle.nc_verify.proofs.tape.read_tape.Goals as goal

@@ -1,4 +1,5 @@
--- Three texts are accepted, or refused for a tape or for labels that differ (src/verifying.rt).
+-- `verdict`: what the parts answer is the answer of the three texts. The refusal of a tape or of
+-- the flows as a pair is theirs, and if there is none they are accepted (src/verifying.rt).
 use Rattle.std.proofs.Common.{map, subst}
 use Rattle.cell_settings.specs.View.{view}
 use Rattle.nc_number.specs.declared.path.Path.TheVariants.{One, Two}

@@ -1,4 +1,5 @@
--- The line of a refusal has the name of the cause of its number (src/writing.rt).
+-- `verdict_line`: the line of a refusal has the name of the cause of its number, if there is one
+-- (src/writing.rt).
 use Rattle.nc_verify.proofs.Named.{cause_named}
 use Rattle.nc_verify.proofs.writing.verdict_line.Goals as goal
 

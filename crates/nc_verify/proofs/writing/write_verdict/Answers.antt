@@ -1,4 +1,5 @@
--- The line of the verdict is put whole, or a prefix of it is (src/writing.rt).
+-- `write_verdict` puts the line of the verdict whole, or a prefix of it up to a fault of the sink
+-- (src/writing.rt).
 use Rattle.nc_verify.proofs.writing.write_verdict.Goals as goal
 
 pub returns : goal.returns

@@ -1,4 +1,5 @@
--- The first fault is that of the blocks that the loop has not passed (loop of src/cycles.rt).
+-- For `blocks_fault`, which looks for the first fault of a contour of a program: it is that of the
+-- blocks that the loop has not passed (loop of src/cycles.rt).
 use Rattle.std.proofs.Common.{◌≡◌, drop}
 use Rattle.block_order.specs.Loud.{loud}
 use Rattle.block_order.specs.Order.{blocks}

@@ -1,4 +1,5 @@
--- The first block of a contour lies in the program (src/cycles.rt).
+-- `contour_cause`: the first block of a contour, if the search finds one, lies in the program, as
+-- `fault_from` requires (src/cycles.rt).
 use Rattle.block_order.specs.Order.{blocks}
 use Rattle.open_order.proofs.Within.{seek_some}
 use Rattle.open_order.proofs.cycles.contour_cause.Goals as goal

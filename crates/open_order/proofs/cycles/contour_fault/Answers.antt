@@ -1,4 +1,5 @@
--- A program has no more blocks than a tape may have (src/cycles.rt).
+-- `contour_fault`: a program has no more blocks than a tape may have, as `program_fault` requires
+-- (src/cycles.rt).
 use Rattle.std.proofs.Common.{rules, ◌≤◌, length, All}
 use Rattle.nc_number.specs.declared.limits.TheConstants.{MOST_BLOCKS}
 use Rattle.nc_text.specs.declared.tape.Program.{Program}

@@ -1,4 +1,5 @@
--- The last block of a contour lies in the program (src/cycles.rt).
+-- `fault_from`: the last block of a contour, if the search finds one, lies in the program, as
+-- `fault_between` requires (src/cycles.rt).
 use Rattle.block_order.specs.Order.{blocks}
 use Rattle.open_order.proofs.Within.{last_some}
 use Rattle.open_order.proofs.cycles.fault_from.Goals as goal

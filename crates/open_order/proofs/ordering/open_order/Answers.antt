@@ -1,5 +1,5 @@
--- A tape is refused by its reading, one that reads by the order of its blocks, and one whose order
--- is sound by its contours (src/ordering.rt).
+-- `open_order` tells the tape's one refusal: of a block; of the order, if all blocks read; of a
+-- contour, if the order is sound (src/ordering.rt).
 use Rattle.std.proofs.Common.{ap, sym, ◌∙◌}
 use Rattle.open_order.specs.Contours.{contour_fault}
 use Rattle.open_order.specs.Exact.IsRefused.{contour}

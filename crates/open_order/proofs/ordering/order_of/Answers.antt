@@ -1,4 +1,4 @@
--- The first fault of the order is the one that is told (src/ordering.rt).
+-- `order_of` tells the first fault of the order, by its line and number (src/ordering.rt).
 use Rattle.open_order.proofs.ordering.order_of.Goals as goal
 
 pub returns-in-Err-Fault-clause-first : goal.returns-in-Err-Fault-clause-first

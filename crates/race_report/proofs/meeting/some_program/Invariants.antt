@@ -1,4 +1,5 @@
--- Those that are passed do not (loop of src/meeting.rt).
+-- For `some_program`: the programs that the loop has passed have no block that does what is looked
+-- for, so the rest decides (loop of src/meeting.rt).
 use Rattle.std.proofs.Common.{◌≡◌, drop}
 use Rattle.race_report.specs.Meeting.{some_program}
 use Rattle.race_report.proofs.meeting.some_program.Given as goal

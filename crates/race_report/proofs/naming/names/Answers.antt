@@ -1,4 +1,4 @@
--- Whether the expression names the variable: by its number, or by one that is computed
+-- `names`: the instructions of an expression's code may read just the variables that its tree names
 -- (src/naming.rt).
 use Rattle.std.proofs.Common.{◌∙◌, ap}
 use Rattle.race_report.specs.Reads.{some_read}

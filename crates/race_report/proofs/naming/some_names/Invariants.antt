@@ -1,4 +1,5 @@
--- Those that are passed do not name the variable (loop of src/naming.rt).
+-- For `some_names`: the expressions that the loop has passed do not name the variable, so the rest
+-- decides (loop of src/naming.rt).
 use Rattle.std.proofs.Common.{◌≡◌, drop}
 use Rattle.named_vars.specs.Names.{some_names}
 use Rattle.race_report.proofs.naming.some_names.Given as goal

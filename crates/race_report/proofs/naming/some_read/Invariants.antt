@@ -1,4 +1,5 @@
--- Those that are passed do not read the variable (loop of src/naming.rt).
+-- For `some_read`: the instructions that the loop has passed do not read the variable, so the rest
+-- decides (loop of src/naming.rt).
 use Rattle.std.proofs.Common.{◌≡◌, drop}
 use Rattle.race_report.specs.Reads.{some_read}
 use Rattle.race_report.proofs.naming.some_read.Given as goal

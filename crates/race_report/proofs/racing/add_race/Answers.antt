@@ -1,4 +1,5 @@
--- Adds the first race of a variable, where there is one (src/racing.rt).
+-- `add_race`: with the first race of the variable added, or none if it has none, the list is that
+-- of the variables up to this one (src/racing.rt).
 use Rattle.std.proofs.Common.{◌+◌, List, subst, sym}
 use Rattle.race_report.specs.declared.race.Race.{Race}
 use Rattle.race_report.specs.RaceLists.{shared_by}

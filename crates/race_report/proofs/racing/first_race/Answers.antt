@@ -1,4 +1,5 @@
--- The first race of the variable (src/racing.rt).
+-- `first_race` answers the first race among the least lines, part by part, or none if no part has
+-- one (src/racing.rt).
 use Rattle.std.proofs.Common.{◌≡◌, ◌<◌, false, is_some, length, rules}
 use Rattle.race_report.specs.Found.{race_at}
 use Rattle.race_report.proofs.FirstRaces.{left_next}

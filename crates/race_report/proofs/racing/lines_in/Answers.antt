@@ -1,5 +1,5 @@
--- The least line of each part of a path, among the blocks that do what is looked for
--- (src/racing.rt).
+-- `lines_in`: the table tells the lines that are looked for, so the least lines found by it are the
+-- least of these, part by part (src/racing.rt).
 use Rattle.std.proofs.Common.{◌≡◌, IfOk, subst}
 use Rattle.std.proofs.Math.Path.{fun_ext}
 use Rattle.part_lines.specs.PartLines.{AreLeastLines}

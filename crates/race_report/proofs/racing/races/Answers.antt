@@ -1,5 +1,5 @@
--- The list takes the variables from #100 and then those from #500; no other is shared, so it is the
--- list of the pair (src/racing.rt).
+-- `races` takes the variables from #100 and then those from #500; no other is shared, so its list
+-- is the list of the pair (src/racing.rt).
 use Rattle.std.proofs.Common.{◌≤◌, ◌+◌, List, sym, subst, arith}
 use Rattle.cell_settings.specs.declared.settings.Settings.{Settings}
 use Rattle.race_report.specs.declared.race.Race.{Race}

@@ -1,4 +1,5 @@
--- Keeps the lines of a program, if none of a program of its O number are kept (src/table.rt).
+-- `add_program`: behind it the table and the programs that are left tell all lines of a flow,
+-- whether lines of this O number were kept already or not (src/table.rt).
 use Rattle.std.proofs.Common.{◌≡◌, true, false, is_some, rules}
 use Rattle.race_report.specs.Tables.{kept_lines, lines_of}
 use Rattle.race_report.proofs.Told.{told_again, told_more}

@@ -1,4 +1,5 @@
--- The lines so far, and those of the blocks that are left, are all (loop of src/table.rt).
+-- For `program_lines`: the lines so far, with those of the blocks that are left, are all lines of
+-- the program (loop of src/table.rt).
 use Rattle.std.proofs.Common.{◌≡◌, ◌++◌, drop}
 use Rattle.race_report.specs.Tables.{lines_of}
 use Rattle.race_report.proofs.table.program_lines.Given as goal

@@ -1,4 +1,5 @@
--- The lines of the blocks of a path that do what is looked for (src/table.rt).
+-- `table_of`: behind the loop over the programs the table tells, for each place, the line that is
+-- looked for (src/table.rt).
 use Rattle.std.proofs.Common.{◌+◌, drop}
 use Rattle.race_report.proofs.Told.{told_item}
 use Rattle.race_report.proofs.table.table_of.Goals as goal

@@ -1,4 +1,5 @@
--- The table tells all lines with those of the programs that are left (loop of src/table.rt).
+-- For `table_of`: the table and the programs that are left tell all lines of the flow (loop of
+-- src/table.rt).
 use Rattle.std.proofs.Common.{drop}
 use Rattle.race_report.specs.Tables.{IsToldWith}
 use Rattle.race_report.proofs.table.table_of.Given as goal

@@ -1,4 +1,5 @@
--- Writes to the sink a line for each race; if the sink fails, a prefix of that (src/writing.rt).
+-- `put_races` puts a line for each race; after a fault of the sink, a prefix of them
+-- (src/writing.rt).
 use Rattle.race_report.proofs.Puts.{puts_on, puts_break, puts_end}
 use Rattle.race_report.proofs.writing.put_races.Goals as goal
 

@@ -1,4 +1,5 @@
--- Whoever puts the lines of the races that are left has put all (loop of src/writing.rt).
+-- For `put_races`: putting the lines of the races that are left puts those of all (loop of
+-- src/writing.rt).
 use Rattle.std.proofs.Common.{drop}
 use Rattle.race_report.proofs.Puts.{PutsAll}
 use Rattle.race_report.proofs.writing.put_races.Given as goal

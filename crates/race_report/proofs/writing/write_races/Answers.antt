@@ -1,5 +1,5 @@
--- How many races there are and a line for each are put, or a prefix of that when the sink fails
--- (src/writing.rt).
+-- `write_races` puts how many races there are and a line for each; after a fault of the sink, a
+-- prefix of that (src/writing.rt).
 use Rattle.std.proofs.Common.{List, ◌++◌, length, Err, subst}
 use Rattle.nc_verify.specs.Printed.{IsPut}
 use Rattle.nc_verify.proofs.Put.{put_then, put_stops}

@@ -1,4 +1,5 @@
--- A tape is refused by its reading, and one that reads by the order of its blocks (src/flow.rt).
+-- `compile` tells the tape's one refusal: that of the first block that is refused, or, if all
+-- blocks read, the first fault of their order (src/flow.rt).
 use Rattle.std.proofs.Common.{map, subst, sym}
 use Rattle.nc_text.specs.Shape.{IsTapeShape}
 use Rattle.block_order.specs.Shape.{IsListed}

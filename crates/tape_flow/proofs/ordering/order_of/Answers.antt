@@ -1,5 +1,5 @@
--- What is checked are the controls of the programs' forms, and its fault is theirs
--- (src/ordering.rt).
+-- `order_of` checks the controls of the programs' forms: the order is theirs and sound, or the
+-- fault is their first one (src/ordering.rt).
 use Rattle.std.proofs.Common.{sym, ◌∙◌, subst}
 use Rattle.std.proofs.lemmas.Simd.{map-map}
 use Rattle.block_order.specs.Faults.{IsSound, IsFirst}

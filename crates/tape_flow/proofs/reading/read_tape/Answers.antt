@@ -1,4 +1,5 @@
--- The blocks are read as the settings of the cell say (src/reading.rt).
+-- `read_tape` reads the blocks by the dialect that the contracts make of the settings
+-- (src/reading.rt).
 use Rattle.std.proofs.Common.{◌≡◌, map, subst}
 use Rattle.nc_number.specs.Answers.{Gives}
 use Rattle.tape_flow.specs.Forms.{program_form, programs_read}

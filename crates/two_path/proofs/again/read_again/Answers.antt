@@ -1,5 +1,5 @@
--- A variable that is due is one that both paths share, and there is room for its value
--- (src/again.rt).
+-- `read_again`: a variable that is due is one that both paths share, and there is room for its
+-- value, as the calls require (src/again.rt).
 use Rattle.std.proofs.Common.{sym, ◌∙◌}
 use Rattle.path_state.specs.Effect.{effect_of}
 use Rattle.two_path.proofs.Redone.{asked}

@@ -1,5 +1,5 @@
--- What is read so far, and what the stamps that are left stand for, is what all stamps stand for
--- (loop of src/again.rt).
+-- For `read_all_again`: what is read so far, with what the stamps that are left stand for, is what
+-- all stamps stand for (loop of src/again.rt).
 use Rattle.std.proofs.Common.{drop}
 use Rattle.two_path.specs.Turns.{blocks_of}
 use Rattle.two_path.proofs.Replayed.{IsReplaying}

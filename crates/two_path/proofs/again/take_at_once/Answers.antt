@@ -1,4 +1,5 @@
--- The block is taken if its record is of this kind; else the path stays as it was (src/again.rt).
+-- `take_at_once`: the block is taken if its record is of this kind; if it is not, the block changed
+-- nothing (src/again.rt).
 use Rattle.std.proofs.Common.{◌≡◌, Some, sym, ap, ◌∙◌}
 use Rattle.std.specs.Prelude.{slice_get}
 use Rattle.two_path.specs.Turns.{blocks_of}

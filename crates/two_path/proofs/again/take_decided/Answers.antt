@@ -1,5 +1,5 @@
--- The block that was decided is taken if its record is of this kind; else nothing has changed
--- (src/again.rt).
+-- `take_decided`: the block that was decided is taken if its record is of this kind; else nothing
+-- has changed (src/again.rt).
 use Rattle.std.proofs.Common.{refl, sym, ap, ◌∙◌}
 use Rattle.two_path.specs.Turns.{blocks_of}
 use Rattle.two_path.specs.Again.{kind_of_effect}

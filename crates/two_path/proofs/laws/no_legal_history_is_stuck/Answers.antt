@@ -1,4 +1,5 @@
--- After no legal history of an accepted pair do both paths stand still for ever (src/laws.rt).
+-- No legal history of a pair whose lists of labels are equal leads to paths that can't go on
+-- (src/laws.rt).
 use Rattle.two_path.specs.Turns.{tapes_of}
 use Rattle.two_path.proofs.Behind.{fold_free}
 use Rattle.two_path.proofs.laws.no_legal_history_is_stuck.Goals as goal

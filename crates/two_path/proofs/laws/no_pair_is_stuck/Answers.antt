@@ -1,4 +1,5 @@
--- No order of events of an accepted pair ends where neither path can go on (src/laws.rt).
+-- No order of events of a pair whose lists of labels are equal leads to paths that can't go on
+-- (src/laws.rt).
 use Rattle.two_path.specs.Turns.{tapes_of}
 use Rattle.two_path.proofs.Paired.{run_free}
 use Rattle.two_path.proofs.laws.no_pair_is_stuck.Goals as goal

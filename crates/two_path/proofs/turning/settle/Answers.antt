@@ -1,5 +1,5 @@
--- What each answer of a path that took its block comes to: the turn, the machine and the record
--- (src/turning.rt).
+-- `settle`: for each answer of a path that took its block, the turn, the machine and the record are
+-- those of the block's turn (src/turning.rt).
 use Rattle.std.proofs.Common.{Some, None, refl, ap, subst, ◌∙◌}
 use Rattle.run_records.specs.declared.entry.EntryKind.TheVariants as kind
 use Rattle.path_state.specs.declared.advance.BlockAnswer.{BlockAnswer}

@@ -1,4 +1,4 @@
--- Two orders that are an accepted pair are never stuck, by the law of label_list (src/laws.rt).
+-- Two orders that are an accepted pair are never stuck, by the law of pair_order (src/laws.rt).
 use Rattle.wait_verify.proofs.laws.accepted_pairs_do_not_wait_in_vain.Goals as goal
 
 pub returns : goal.returns

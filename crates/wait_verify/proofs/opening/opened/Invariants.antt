@@ -1,4 +1,4 @@
--- The bytes so far are those of the text so far, with a blank for each comma (loop of
+-- For `opened`: the bytes so far are those of the text so far, with a blank for each comma (loop of
 -- src/opening.rt).
 use Rattle.std.proofs.Common.{◌≡◌, map, take}
 use Rattle.wait_verify.specs.Asked.{without_comma}

@@ -1,4 +1,5 @@
--- The label and both lines, piece by piece, are the line of the meeting (src/printing.rt).
+-- `meeting_line`: the label and the line of each tape, piece by piece, are the line of the meeting
+-- (src/printing.rt).
 use Rattle.std.proofs.Common.{List, ℕ, ◌++◌, ap, codes, ◌∙◌}
 use Rattle.text_pieces.specs.Pieces.{numbered}
 use Rattle.wait_verify.specs.Printed.{label_text, meeting_text}

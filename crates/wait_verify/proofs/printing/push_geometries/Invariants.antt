@@ -1,4 +1,5 @@
--- The text so far with the G codes ahead is the text with all of them (loop of src/printing.rt).
+-- For `push_geometries`: the text so far with the G codes that are left is the text with all of
+-- them (loop of src/printing.rt).
 use Rattle.std.proofs.Common.{◌≡◌, ◌++◌}
 use Rattle.wait_verify.specs.Printed.{geometries_text}
 use Rattle.wait_verify.proofs.printing.push_geometries.Given as goal

@@ -1,4 +1,5 @@
--- After the shorter list no line follows (src/printing.rt).
+-- `push_meetings` adds a line for each label up to the end of the shorter list; behind it no line
+-- follows (src/printing.rt).
 use Rattle.std.proofs.Common.{rules, ◌≤◌, ◌++◌, List, ℕ, min, length, drop, sym, ap, ◌∙◌}
 use Rattle.std.proofs.lemmas.List.{append-nil}
 use Rattle.wait_verify.proofs.Pieces.{no_more}

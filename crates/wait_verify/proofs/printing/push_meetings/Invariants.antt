@@ -1,5 +1,5 @@
--- The text so far with the lines of the labels ahead is the text with all of them (loop of
--- src/printing.rt).
+-- For `push_meetings`: the text so far with the lines of the labels that are left is the text with
+-- all of them (loop of src/printing.rt).
 use Rattle.std.proofs.Common.{◌≡◌, ◌++◌, drop}
 use Rattle.wait_verify.specs.Printed.{meetings_text}
 use Rattle.wait_verify.proofs.printing.push_meetings.Given as goal

@@ -1,4 +1,5 @@
--- The text so far with the programs ahead is the text with all of them (loop of src/printing.rt).
+-- For `push_programs`: the text so far with the programs that are left is the text with all of them
+-- (loop of src/printing.rt).
 use Rattle.std.proofs.Common.{◌≡◌, ◌++◌, codes}
 use Rattle.wait_verify.specs.Printed.{numbers_text}
 use Rattle.wait_verify.proofs.printing.push_programs.Given as goal

@@ -1,4 +1,5 @@
--- The three pieces of the text, one after another, are the text (src/printing.rt).
+-- `push_waits`: head, meetings and trust, added one after another, are the text of the pair
+-- (src/printing.rt).
 use Rattle.open_order.specs.Basis.{seen}
 use Rattle.wait_verify.specs.Printed.{waits_text, head_text, meetings_text, trust_text}
 use Rattle.wait_verify.proofs.Pieces.{three}

@@ -1,4 +1,4 @@
--- A refused order is the refusal of the path's tape (src/tape.rt).
+-- `order_of_path`: what `open_order` refuses is the refusal of the path's tape (src/tape.rt).
 use Rattle.std.proofs.Common.{subst, sym}
 use Rattle.nc_text.specs.Shape.{IsTapeShape}
 use Rattle.block_order.specs.Answers.{IfFault}

@@ -1,4 +1,5 @@
--- A refusal of the reading or of the order is that of the text (src/tape.rt).
+-- `ordered_tape`: a refusal of the reading, or else of the order, is that of the path's text
+-- (src/tape.rt).
 use Rattle.wait_verify.proofs.tape.ordered_tape.Goals as goal
 
 pub returns-in-Err-clause-refused : goal.returns-in-Err-clause-refused

@@ -1,4 +1,4 @@
--- A bad line is the refusal of the path's tape (src/tape.rt).
+-- `tape_of_path`: a line that does not read is the refusal of the path's tape (src/tape.rt).
 use Rattle.wait_verify.proofs.Refused.{tape_refused}
 use Rattle.wait_verify.proofs.tape.tape_of_path.Goals as goal
 

@@ -1,5 +1,5 @@
--- The refusal of a tape or of both orders is the pair's; else its labels and trust are told
--- (src/verifying.rt).
+-- `verdict`: the refusal of a tape, or of both orders as a pair, is the pair's; if there is none,
+-- the labels and the trust are those that are told of the pair (src/verifying.rt).
 use Rattle.nc_verify.specs.Verdict.{skips_of}
 use Rattle.cell_settings.specs.View.{view}
 use Rattle.open_order.specs.Basis.{seen}

@@ -1,4 +1,5 @@
--- Where the path stands on a block, the number of the next one fits (src/decision.rt).
+-- `block`: if the path stands on a block, there is a number for the one behind it
+-- (src/decision.rt).
 use Rattle.std.proofs.Common.{subst, sym, ap, ◌∙◌, rules}
 use Rattle.block_order.specs.Frames.{MayPass, callers}
 use Rattle.path_state.proofs.NextBlocks.{may_pass_at}

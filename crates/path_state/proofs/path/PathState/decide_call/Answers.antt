@@ -1,4 +1,5 @@
--- A macro call goes where it leads, or raises the alarm of why it leads nowhere (src/decision.rt).
+-- `decide_call`: a macro call whose arguments are known opens the call, or raises the alarm of the
+-- cause for which it leads nowhere (src/decision.rt).
 use Rattle.std.proofs.Common.{Some}
 use Rattle.path_state.proofs.Decided.{call_goes, call_stays}
 use Rattle.path_state.proofs.path.PathState.decide_call.Goals as goal

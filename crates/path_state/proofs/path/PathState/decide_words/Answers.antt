@@ -1,9 +1,10 @@
--- Words whose values can't be had decide the need or the alarm of the definition (src/decision.rt).
+-- `decide_words`: if the evaluation of the words stops, the decision is the need or the alarm of
+-- the definition (src/decision.rt).
 use Rattle.std.proofs.Common.{sym, ◌∙◌}
 use Rattle.path_state.proofs.Decided.{unwaiting}
 use Rattle.path_state.proofs.path.PathState.decide_words.Goals as goal
 
--- a block whose words say nothing stops
+-- a block of words, no wait and no macro call, whose evaluation stopped, stops so
 pub returns-in-Err-clause-decided : goal.returns-in-Err-clause-decided
 returns-in-Err-clause-decided c =
     let words = c.args.words.now in

@@ -1,4 +1,5 @@
--- There are as many places as were made, and what stood stands (loop of src/table.rt).
+-- For `make_room`: the table has as many places as the loop has made, and each program's lines are
+-- as before (loop of src/table.rt).
 use Rattle.std.proofs.Common.{◌≡◌, ℕ, ◌≤◌, length}
 use Rattle.race_report.specs.Tables.{kept_lines}
 use Rattle.race_report.proofs.table.LineTable.make_room.Given as goal

@@ -1,4 +1,5 @@
--- The block is that of the flow, and seen without what it says that of the order (src/lending.rt).
+-- What `block` lends is the flow's block at that place, and its line, sequence number and control
+-- are those that the order has there (src/lending.rt).
 use Rattle.std.proofs.Common.{ap, ◌∙◌, slice_get}
 use Rattle.std.specs.Option.{option_map}
 use Rattle.block_forms.specs.Blocks.{block_form}

@@ -1,4 +1,5 @@
--- The order keeps the place of each program of the flow (src/lending.rt).
+-- The place that the order keeps of an O number is that of the flow's program, and a number without
+-- a place has no program (src/lending.rt).
 use Rattle.std.proofs.Common.{ap, sym, ◌∙◌, slice_get}
 use Rattle.block_order.specs.ProgramPlaces.{place_of}
 use Rattle.tape_flow.proofs.Seen.{program_there, no_program_there}

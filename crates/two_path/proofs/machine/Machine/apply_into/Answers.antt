@@ -1,4 +1,5 @@
--- After a record that is an edit each waiting path still stands on a wait (src/machine.rt).
+-- `apply_into`: behind the record of an edit that is done again each waiting path still stands on a
+-- wait (src/machine.rt).
 use Rattle.two_path.proofs.machine.Machine.apply_into.Goals as goal
 
 pub returns-in-Some-clause-waits : goal.returns-in-Some-clause-waits
