@@ -223,16 +223,6 @@ contains-any q (suc k) (n ∷ ns) l e f = contains-any q k ns (omega arith) e (o
   or-false true b g = absurd cc
   or-false false b g = g
 
--- A test whose negation is false is true.
-pub not-false : (v : Bool) → not v ≡ false → v ≡ true
-not-false true e = refl
-not-false false e = absurd cc
-
--- A test whose negation is true is false.
-pub not-true : (v : Bool) → not v ≡ true → v ≡ false
-not-true true e = absurd cc
-not-true false e = refl
-
 -- At the start no program is looked at, so none has a fault.
 pub clear-none : (tape : List ControlProgram) → ClearTo tape 0
 clear-none tape i p line cause l there fault = absurd (omega arith)

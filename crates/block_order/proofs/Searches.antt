@@ -1,6 +1,6 @@
 -- What the searches for loops and jumps find. For the law `a_loop_ends_at_its_nearest_end` and the
--- proofs on loops and jumps; wait_order takes `led`, `leads_to` and `loop_facts`, part_order `led`
--- and `loop_facts`.
+-- proofs on loops and jumps; wait_order takes `control_drop`, `led`, `leads_to` and `loop_facts`,
+-- part_order `led` and `loop_facts`.
 use Rattle.std.proofs.Common.{◌≡◌, ◌≢◌, ◌↔◌, ℕ, zero, suc, ◌+◌, ◌-◌, ◌<◌, ◌≤◌, inl, inr, Bool, true, false, ◌==◌, ◌&&◌, ◌||◌, not, nat_lt, nat_le, List, [], ◌∷◌, drop, Option, Some, None, Result, Ok, Err, refl, ap, sym, subst, ◌∙◌, arith}
 use Rattle.std.proofs.lemmas.Bool.Decides.{nat_tests}
 use Rattle.nc_number.specs.declared.cause.Cause.{Cause}
@@ -75,11 +75,11 @@ first_end-is name (b ∷ bs) place (suc i) at before =
     go rest false n = rw n (rest ∙ ap (λ n. Some n) (omega arith))
 
 -- The control at a place of the blocks without the first n is that n places further on.
-control-drop : (bs : List ControlBlock) (n i : ℕ) → control_at (drop n bs) i ≡ control_at bs (n + i)
-control-drop bs zero i = ap (λ k. control_at bs k) (omega arith)
-control-drop [] (suc n) i = refl
-control-drop (b ∷ bs) (suc n) i =
-    control-drop bs n i ∙ (let e : suc (n + i) ≡ suc n + i = omega arith in ap (λ k. control_at (b ∷ bs) k) e)
+pub control_drop : (bs : List ControlBlock) (n i : ℕ) → control_at (drop n bs) i ≡ control_at bs (n + i)
+control_drop bs zero i = ap (λ k. control_at bs k) (omega arith)
+control_drop [] (suc n) i = refl
+control_drop (b ∷ bs) (suc n) i =
+    control_drop bs n i ∙ (let e : suc (n + i) ≡ suc n + i = omega arith in ap (λ k. control_at (b ∷ bs) k) e)
 
 -- The nearest END is the one that the search finds.
 pub nearest_is : (bs : List ControlBlock) (head close : ℕ) → LoopFacts bs head close → IsLoop bs head close
@@ -88,9 +88,9 @@ nearest_is bs head close facts =
     let e : suc head + i ≡ close = (let o = facts.order in omega arith) in
     rw facts.named
     (first_end-is facts.name (drop (suc head) bs) (suc head) i
-    (control-drop bs (suc head) i ∙ (ap (λ k. control_at bs k) e ∙ facts.is_close))
+    (control_drop bs (suc head) i ∙ (ap (λ k. control_at bs k) e ∙ facts.is_close))
     (λ k lt at. facts.nearest (suc head + k) (omega arith) (let o = facts.order in omega arith)
-    (sym (control-drop bs (suc head) k) ∙ at))
+    (sym (control_drop bs (suc head) k) ∙ at))
     ∙ ap (λ k. Some k) e)
 
 -- A loop that the search finds is as `LoopFacts` says.
@@ -106,13 +106,13 @@ loop_facts bs head close loop = go (head_name (control_at bs head)) refl loop
           named = named;
           is_close =
               (let e : suc head + r.0 ≡ close = sym r.1 in
-              ap (λ k. control_at bs k) (sym e) ∙ (sym (control-drop bs (suc head) r.0) ∙ r.2));
+              ap (λ k. control_at bs k) (sym e) ∙ (sym (control_drop bs (suc head) r.0) ∙ r.2));
           order = (let e = r.1 in omega arith);
           nearest = λ b lt lt' at'.
               let k = b - suc head in
               let e : suc head + k ≡ b = omega arith in
               let e' = r.1 in
-              r.3 k (omega arith) (control-drop bs (suc head) k ∙ (ap (λ j. control_at bs j) e ∙ at'));
+              r.3 k (omega arith) (control_drop bs (suc head) k ∙ (ap (λ j. control_at bs j) e ∙ at'));
         }
 
 -- A loop is exactly what `LoopFacts` says.

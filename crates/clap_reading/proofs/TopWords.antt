@@ -7,7 +7,6 @@ use Rattle.std.specs.Prelude.{option_and_then}
 use Rattle.std.specs.List.{All, find, fold}
 use Rattle.std.specs.Str.{IsUtf8, bytes_eq}
 use Rattle.std.proofs.lemmas.List.{append-nil}
-use Rattle.std.proofs.lemmas.Slice.Eq.{bytes_eq-Decides}
 use Rattle.clap.specs.Kinds.{Kinds, or_else}
 use Rattle.clap.specs.Faults.{check_fault, defaults_fault, entered_fault, settle_fault, step_fault, turn_fault, walk_fault, word_fault}
 use Rattle.clap.specs.Simple.{App, Shape, entered, label_of, names_of, new_shape}
@@ -26,6 +25,7 @@ use Rattle.clap_reading.proofs.Readings.{check_of, reads_all}
 use Rattle.clap_reading.proofs.Steps.{at_rest, bundle_fails, first_some, going, leaf, or_else-none}
 use Rattle.clap_reading.proofs.Stories.{Outcome, begun}
 use Rattle.clap_reading.proofs.Subcommands.{ArePairNames, Ends, IsWordName, alone_arguments, alone_ends, alone_row, one_arguments, one_ends, one_row, one_rules, option_rules, pair_arguments, pair_ends, pair_row, pair_rules}
+use Rattle.clap_reading.proofs.Uses.{same_text}
 use Rattle.clap_reading.proofs.Walks.{AllTexts, Arguments, end_of, rest_fault}
 use Rattle.clap_reading.proofs.WordKinds.{WordKind, dashes, kind_of_word, listed, long, name, short}
 
@@ -121,10 +121,6 @@ subcommand_is row c ends arguments rest texts =
     ((reads_all row.name c row.words row.options arguments rest texts).0 [] None [] [] false tt (begun row.words row.options))
 
 -- an unknown first word
-
--- Texts that pass the test of equality are equal.
-same_text : (a b : Text) → bytes_eq a b ≡ true → a ≡ b
-same_text a b e = (bytes_eq-Decides a b).0 e
 
 -- The word is the name of none of these rows.
 abbrev IsUnknown : Text → List Listing → Type 0

@@ -2,7 +2,7 @@
 //! written out is in tape_expand.
 //! lathe_top calls `expand`.
 ghost use Rattle.std.specs.Prelude.{◌≡◌, ◌++◌, OnOk, codes};
-ghost use Rattle.text_pieces.specs.Pieces.{name_text, numbered};
+ghost use Rattle.text_pieces.specs.Pieces.{name_text};
 ghost use Rattle.lathe_calls.specs.Answers.{Ends, IsJust, tells};
 ghost use Rattle.lathe_looks.specs.Expanded.{IsExpanded, IsTapeRefusing, at_line_text, fault_name_text, refusal_text};
 ghost use Rattle.lathe_looks.specs.Fetched.{IsOfFiles};
@@ -10,12 +10,12 @@ ghost use Rattle.lathe_looks.specs.Named.{alone, tape_named};
 ghost use Rattle.lathe_calls.specs.Statuses as exit;
 
 use crate::fetching::{fetch_tape, tell_unfetched};
-use crate::printing::{push_bytes, push_number};
 use lathe_calls::{Status, write_text};
 use nc_number::{Cause, Failing, NoMemory};
 use nc_outside::{Shelf, Sink};
 use std::alloc::Global;
 use tape_expand::{ExpandFault, expand_tape};
+use text_pieces::{push_bytes, push_numbered};
 
 /// Writes the tape with its roughing cycles as plain blocks, and gives the exit status: 0; 1 if the
 /// tape is refused; or that of a file that can't be read.
@@ -110,12 +110,4 @@ fn push_line(text: &mut Vec<u8>, line: u32) -> Result<(), NoMemory>
 {
     push_numbered(text, b" line ", u64::from(line))?;
     push_bytes(text, b"\n")
-}
-
-/// Adds bytes, and a number after them. The only error is out of memory.
-fn push_numbered(text: &mut Vec<u8>, before: &[u8], number: u64) -> Result<(), NoMemory>
-    ensures { OnOk result (text.new.items ≡ text.old.items ++ numbered before.now number) }
-{
-    push_bytes(text, before)?;
-    push_number(text, number)
 }

@@ -10,11 +10,11 @@ ghost use Rattle.lathe_looks.specs.Texts.{files_in, tape_files, texts_of};
 ghost use Rattle.lathe_looks.specs.Fetched.{AreAsked, AreHad, FileCause, IsText, IsUnfetched, fault_status, fault_text, file_of, unfetched};
 
 use crate::files::{CommandFile, FileNames};
-use crate::printing::push_bytes;
 use lathe_calls::{Status, write_text};
 use nc_number::{Both, Failing, NoMemory};
 use nc_outside::{FetchFault, Shelf, Sink};
 use std::alloc::Global;
+use text_pieces::push_bytes;
 
 /// Why a file can't be read.
 #[derive(Clone, Copy, Debug, PartialEq, Eq)]

@@ -14,7 +14,6 @@ mod expanding;
 mod fetching;
 mod files;
 mod laws;
-mod printing;
 mod refusing;
 mod showing;
 mod standing;

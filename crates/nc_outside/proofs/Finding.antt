@@ -1,12 +1,12 @@
--- A search through the files of a shelf in memory, one file at a time. For the loop of `find`
--- (src/memory_shelf.rt).
+-- A list from a place on, and a search through the files of a shelf in memory, one file at a time.
+-- For the loop of `find` (src/memory_shelf.rt); trace_list takes `at_place`.
 use Rattle.std.proofs.Common.{refl, ◌≡◌, ℕ, ◌+◌, ◌<◌, true, false, List, length, drop, get_or, Some, String, Vec, string_bytes, ◌∷◌, add-one, drop-cons}
 use Rattle.std.specs.Str.{bytes_eq}
 use Rattle.nc_outside.specs.Files.{file_named}
 use Rattle.nc_outside.specs.Kept.{files_of}
 
 -- the items from i on are the one at i and those after it
-at_place : {T : Type 0} (xs : List T) (i : ℕ) (x : T) → i < length xs → x ≡ get_or xs i x → drop i xs ≡ x ∷ drop (i + 1) xs
+pub at_place : {T : Type 0} (xs : List T) (i : ℕ) (x : T) → i < length xs → x ≡ get_or xs i x → drop i xs ≡ x ∷ drop (i + 1) xs
 at_place xs i x here is = rw (drop-cons xs i x, ← is, add-one) refl
 
 -- if the next file has the name, its bytes are what is found among the files from there on

@@ -6,7 +6,7 @@ use Rattle.std.specs.Prelude.{◌≡◌, ◌≢◌, ℕ, List, ◌++◌, take, O
 use Rattle.nc_number.specs.declared.cause.Cause.{Cause}
 use Rattle.nc_number.specs.declared.cause.Cause.TheVariants.{BadSetting, TooManyLabels, WaitMismatch}
 use Rattle.nc_number.specs.Causes.{cause_number}
-use Rattle.text_pieces.specs.Pieces.{name_text, numbered}
+use Rattle.text_pieces.specs.Pieces.{name_text, numbered, place_text}
 use Rattle.nc_outside.specs.declared.sink.PutFault.{PutFault}
 use Rattle.nc_outside.specs.declared.sink.PutFault.TheVariants.{Failed}
 use Rattle.nc_outside.specs.Faults.{CountsFault}
@@ -17,10 +17,6 @@ use Rattle.nc_verify.specs.declared.refusal.Refusal.{Refusal}
 abbrev pub IsCauseOf : ℕ → Option Cause → Type 0
 IsCauseOf number None = (cause : Cause) → cause_number cause ≢ number
 IsCauseOf number (Some cause) = cause_number cause ≡ number
-
--- a path and a line of its tape, as they are printed: ` path 1 line 3`
-unfoldable pub place_text : ℕ → ℕ → List ℕ
-place_text path line = numbered (codes " path ") path ++ numbered (codes " line ") line
 
 -- of labels that differ, the line of path 2's label, and how many labels before are equal
 unfoldable pub other_text : Refusal → List ℕ

@@ -3,24 +3,13 @@
 //! lathe_calls calls `write_verdict`.
 ghost use Rattle.std.specs.Prelude.{◌≡◌, ◌+◌, ◌≤◌, ℕ, List, ◌++◌, length, codes};
 ghost use Rattle.std.specs.Option.{option_copied};
-ghost use Rattle.nc_verify.specs.Printed.{IsPut, IsVerdictText, about_text, mismatch_text, other_text, place_text, refused_text};
+ghost use Rattle.nc_verify.specs.Printed.{IsPut, IsVerdictText, about_text, mismatch_text, other_text, refused_text};
 
 use crate::putting::put_piece;
 use crate::refusal::Refusal;
 use nc_number::Cause;
 use nc_outside::{PutFault, Sink};
 use text_pieces::Piece;
-
-/// Adds a path and a line of its tape.
-#[tactic(auto, unfolding(crate::specs::Printed::place_text))]
-fn add_place(piece: &mut Piece, path: u8, line: u32)
-    requires { length piece.old + 52 ≤ 512 }
-    ensures text { piece.new ≡ piece.old ++ place_text path line }
-    ensures size { length piece.new ≤ length piece.old + 52 }
-{
-    piece.add_numbered(b" path ", u64::from(path));
-    piece.add_numbered(b" line ", u64::from(line));
-}
 
 /// Adds the place of path 2's label, and how many labels before are equal.
 #[tactic(auto, unfolding(crate::specs::Printed::other_text))]
@@ -29,7 +18,7 @@ fn add_other(piece: &mut Piece, refusal: &Refusal)
     ensures text { piece.new ≡ piece.old ++ other_text refusal.now }
     ensures size { length piece.new ≤ length piece.old + 79 }
 {
-    add_place(piece, 2, refusal.other);
+    piece.add_place(2, refusal.other);
     piece.add_numbered(b" after ", u64::from(refusal.after));
 }
 
@@ -40,7 +29,7 @@ fn add_mismatch(piece: &mut Piece, refusal: &Refusal)
     ensures text { piece.new ≡ piece.old ++ mismatch_text refusal.now }
     ensures size { length piece.new ≤ length piece.old + 131 }
 {
-    add_place(piece, 1, refusal.line);
+    piece.add_place(1, refusal.line);
     add_other(piece, refusal);
 }
 
@@ -55,7 +44,7 @@ fn add_about(piece: &mut Piece, cause: Option<Cause>, refusal: &Refusal)
         Some(Cause::BadSetting) => piece.add_numbered(b" line ", u64::from(refusal.line)),
         Some(Cause::TooManyLabels) => piece.add_numbered(b" path ", u64::from(refusal.path)),
         Some(Cause::WaitMismatch) => add_mismatch(piece, refusal),
-        _ => add_place(piece, refusal.path, refusal.line),
+        _ => piece.add_place(refusal.path, refusal.line),
     }
 }
 

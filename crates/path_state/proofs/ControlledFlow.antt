@@ -23,7 +23,7 @@ use Rattle.tape_flow.specs.declared.program.FlowProgram.{FlowProgram}
 use Rattle.tape_flow.specs.Forms.{program_form}
 use Rattle.tape_flow.specs.Controls.{control_block, control_program, controls}
 use Rattle.tape_flow.specs.Places.{flow_program, flow_blocks, flow_block}
-use Rattle.tape_flow.proofs.Seen.{block_seen, program_seen}
+use Rattle.tape_flow.proofs.Seen.{block_seen, program_seen, stands_in}
 use Rattle.path_state.specs.View.{Fixed, PathView}
 use Rattle.block_values.specs.Outcomes.{Outcome, Gives, Needs, Alarms}
 use Rattle.path_state.specs.Statements.{Write, After, statement_effect}
@@ -31,21 +31,6 @@ use Rattle.path_state.specs.Effect.{Done, AtWait, of_after, past_the_last, effec
 use Rattle.path_state.specs.Controlled.{GoesAsOrdered}
 use Rattle.path_state.proofs.ControlledStatements.{OnGives, Goes, statement-goes}
 use Rattle.path_state.proofs.ControlledWords.{IsSteady, words_end_no_loop, words-steady}
-
--- the control of a block that a flow has is that of its order
-stands_in : (programs : List FlowProgram) (number place : ℕ) (block : FlowBlock)
-    → flow_block programs number place ≡ Some block
-    → control_at (blocks (controls (map program_form programs)) number) place ≡ Some block.control
-stands_in programs number place block is =
-    rw (sym (program_seen programs number)) (go (flow_program programs number) is)
-  where
-    go : (found : Option FlowProgram) → slice_get (flow_blocks found) place ≡ Some block
-        → control_at (blocks_of (option_map (λ p. control_program (program_form p)) found)) place
-        ≡ Some block.control
-    go None there = absurd cc
-    go (Some program) there =
-        ap (λ found. control_of found) (sym (block_seen program.blocks place))
-        ∙ ap (λ found. control_of (option_map (λ b. control_block (block_form b)) found)) there
 
 -- if the outcome of a statement goes a step of the order, the effect of the statement is steady
 after-steady : (tape : List ControlProgram) (path : PathView) (after : Outcome After)

@@ -19,22 +19,10 @@ use Rattle.race_report.specs.declared.sought.Sought.TheVariants.{Writes, Names}
 use Rattle.race_report.specs.Lines.{does, line_if, block_line, sought_line}
 use Rattle.race_report.specs.RaceLists.{MayWriteAt, NamesAt}
 
--- the control of a block that a flow has is that of its order
-control_there : (programs : List FlowProgram) (number place : ℕ) (block : FlowBlock) → flow_block programs number place ≡ Some block
-    → control_at (blocks (controls (map program_form programs)) number) place ≡ Some block.control
-control_there programs number place block is = rw (sym (program_seen programs number)) (go (flow_program programs number) is)
-  where
-    go : (found : Option FlowProgram) → slice_get (flow_blocks found) place ≡ Some block
-        → control_at (blocks_of (option_map (λ p. control_program (program_form p)) found)) place ≡ Some block.control
-    go None there = absurd cc
-    go (Some program) there =
-        ap (λ found. control_of found) (sym (block_seen program.blocks place))
-        ∙ ap (λ found. control_of (option_map (λ b. control_block (block_form b)) found)) there
-
 -- a block of the flow is one of its order, with the same control
 in_order : (flow : Flow) (number place : ℕ) (block : FlowBlock) → flow_block flow.programs number place ≡ Some block
     → control_at (blocks flow.order number) place ≡ Some block.control
-in_order flow number place block is = rw (flow.agrees) (control_there flow.programs number place block is)
+in_order flow number place block is = rw (flow.agrees) (stands_in flow.programs number place block is)
 
 -- there is a block, it does what is looked for, and its line is k
 abbrev DoesAt : Sought → ℕ → Option FlowBlock → ℕ → Type 0

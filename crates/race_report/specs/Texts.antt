@@ -1,21 +1,16 @@
 -- The list of races as `races` prints it: how many there are, and a line for each.
 -- lathe_calls and lathe_top take `list_text`; src/writing.rt writes it.
 use Rattle.std.specs.Prelude.{ℕ, List, [], ◌∷◌, ◌++◌, length, codes}
-use Rattle.nc_number.specs.declared.path.Path.{Path}
 use Rattle.nc_number.specs.Path.{number_of, other_of}
-use Rattle.text_pieces.specs.Pieces.{numbered}
+use Rattle.text_pieces.specs.Pieces.{numbered, place_text}
 use Rattle.race_report.specs.declared.race.Race.{Race}
-
--- a path and a line of its tape, as they are printed: ` path 1 line 3`
-unfoldable pub place_text : Path → ℕ → List ℕ
-place_text path line = numbered (codes " path ") (number_of path) ++ numbered (codes " line ") line
 
 -- the line of a race, `#500 after 1 path 1 line 3 path 2 line 5`: the variable, behind how many
 -- waits, the writer and its line, the other path and its line
 unfoldable pub race_text : Race → List ℕ
 race_text race =
-    numbered (codes "#") race.variable ++ numbered (codes " after ") race.after ++ place_text race.writer race.write_line
-    ++ place_text (other_of race.writer) race.other_line ++ codes "\n"
+    numbered (codes "#") race.variable ++ numbered (codes " after ") race.after ++ place_text (number_of race.writer) race.write_line
+    ++ place_text (number_of (other_of race.writer)) race.other_line ++ codes "\n"
 
 -- a line for each race, in their order
 abbrev pub races_text : List Race → List ℕ

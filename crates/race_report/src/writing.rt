@@ -2,25 +2,13 @@
 //! lathe_calls and tests call `write_races`.
 ghost use Rattle.std.specs.Prelude.{◌≡◌, ◌+◌, ◌≤◌, ◌++◌, length};
 ghost use Rattle.nc_verify.specs.Printed.{IsPut};
-ghost use Rattle.race_report.specs.Texts.{place_text, race_text, head_text, races_text, list_text};
+ghost use Rattle.race_report.specs.Texts.{race_text, head_text, races_text, list_text};
 
 use crate::list::RaceList;
 use crate::race::Race;
-use nc_number::Path;
 use nc_outside::{PutFault, Sink};
 use nc_verify::put_piece;
 use text_pieces::Piece;
-
-/// Adds a path and a line of its tape.
-#[tactic(auto, unfolding(crate::specs::Texts::place_text))]
-fn add_place(piece: &mut Piece, path: Path, line: u32)
-    requires { length piece.old + 52 ≤ 512 }
-    ensures text { piece.new ≡ piece.old ++ place_text path line }
-    ensures size { length piece.new ≤ length piece.old + 52 }
-{
-    piece.add_numbered(b" path ", u64::from(path.number()));
-    piece.add_numbered(b" line ", u64::from(line));
-}
 
 /// The line of a race.
 #[tactic(auto, unfolding(crate::specs::Texts::race_text))]
@@ -30,8 +18,8 @@ fn race_line(race: &Race) -> Piece
     let mut piece = Piece::empty();
     piece.add_numbered(b"#", u64::from(race.variable));
     piece.add_numbered(b" after ", u64::from(race.after));
-    add_place(&mut piece, race.writer, race.write_line);
-    add_place(&mut piece, race.writer.other(), race.other_line);
+    piece.add_place(race.writer.number(), race.write_line);
+    piece.add_place(race.writer.other().number(), race.other_line);
     piece.add(b"\n");
     piece
 }

@@ -1,12 +1,12 @@
 -- A flow's programs and its order list the same programs and blocks, so what is found in the one by
 -- an O number and a place is found in the other: for `Flow::block` (src/lending.rt).
--- path_state and race_report take `block_seen` and `program_seen`.
+-- path_state takes `block_seen` and `program_seen`, and both it and race_report `stands_in`.
 use Rattle.std.proofs.Common.{◌≡◌, ℕ, zero, suc, ◌+◌, Bool, true, false, ◌==◌, List, [], ◌∷◌, map, Option, Some, None, slice_get, refl, ap, sym, ◌∙◌, arith, if◌then◌else◌, Bor}
 use Rattle.std.specs.Option.{option_map, option_copied}
 use Rattle.block_forms.specs.declared.block.FlowBlock.{FlowBlock}
 use Rattle.block_forms.specs.Blocks.{block_form}
 use Rattle.block_order.specs.declared.program.ControlProgram.{ControlProgram}
-use Rattle.block_order.specs.Order.{program_of, blocks_of, blocks}
+use Rattle.block_order.specs.Order.{program_of, blocks_of, blocks, control_of, control_at}
 use Rattle.block_order.specs.ProgramPlaces.{place_from, place_of}
 use Rattle.tape_flow.specs.declared.program.FlowProgram.{FlowProgram}
 use Rattle.tape_flow.specs.Forms.{program_form}
@@ -37,6 +37,21 @@ pub program_seen : (programs : List FlowProgram) (number : ℕ)
 program_seen [] number = refl
 program_seen (program ∷ programs) number =
     rw (one_seen (program.number == number) program (flow_program programs number), program_seen programs number) refl
+
+-- the control of a block that a flow has is that of its order
+pub stands_in : (programs : List FlowProgram) (number place : ℕ) (block : FlowBlock)
+    → flow_block programs number place ≡ Some block
+    → control_at (blocks (controls (map program_form programs)) number) place ≡ Some block.control
+stands_in programs number place block is =
+    rw (sym (program_seen programs number)) (go (flow_program programs number) is)
+  where
+    go : (found : Option FlowProgram) → slice_get (flow_blocks found) place ≡ Some block
+        → control_at (blocks_of (option_map (λ p. control_program (program_form p)) found)) place
+        ≡ Some block.control
+    go None there = absurd cc
+    go (Some program) there =
+        ap (λ found. control_of found) (sym (block_seen program.blocks place))
+        ∙ ap (λ found. control_of (option_map (λ b. control_block (block_form b)) found)) there
 
 -- what is seen of a lent value is what is seen of the value
 pub lent_seen : {A B : Type 0} (view : A → B) (found : Option (Bor A))

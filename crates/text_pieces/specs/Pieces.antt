@@ -26,6 +26,10 @@ point_text to = codes " X" ++ length_text to.x ++ codes " Z" ++ length_text to.z
 unfoldable pub code_text : ℕ → List ℕ
 code_text code = if nat_lt code 10 then codes "0" ++ decimal code else decimal code
 
+-- a path by its number, and a line of its tape, as they are printed: ` path 1 line 3`
+unfoldable pub place_text : ℕ → ℕ → List ℕ
+place_text path line = numbered (codes " path ") path ++ numbered (codes " line ") line
+
 -- a path as "path" and its number
 unfoldable pub path_name : Path → List ℕ
 path_name path = codes "path " ++ decimal (number_of path)

@@ -3,7 +3,7 @@
 //! much room a call asks for.
 ghost use Rattle.std.specs.Prelude.{◌≡◌, ◌+◌, ◌≤◌, ◌%◌, [], ◌++◌, length, codes, decimal};
 ghost use Rattle.nc_number.specs.Printed.{last_digits, length_text, value_text};
-ghost use Rattle.text_pieces.specs.Pieces.{code_text, name_text, numbered, path_name, point_text};
+ghost use Rattle.text_pieces.specs.Pieces.{code_text, name_text, numbered, path_name, place_text, point_text};
 
 use arrayvec::ArrayVec;
 use itoa::Buffer;
@@ -155,6 +155,17 @@ impl Piece {
             self.add(b" ");
             self.add(cause.name().as_bytes());
         }
+    }
+
+    /// Adds a path by its number, and a line of its tape.
+    #[tactic(auto, unfolding(crate::specs::Pieces::place_text))]
+    pub fn add_place(&mut self, path: u8, line: u32)
+        requires { length self.old + 52 ≤ 512 }
+        ensures text { self.new ≡ self.old ++ place_text path line }
+        ensures size { length self.new ≤ length self.old + 52 }
+    {
+        self.add_numbered(b" path ", u64::from(path));
+        self.add_numbered(b" line ", u64::from(line));
     }
 
     /// Adds the X and the Z of a point, given in 0.001 mm, in mm with three decimals.

@@ -37,6 +37,7 @@ use Rattle.two_path.specs.Turns.{Blocks, Tapes, TurnResult, block_turn, kind_of,
 use Rattle.two_path.specs.Histories.{IsLegal, IsStep, behind_entry, behind_own, behind_step, with_reads}
 use Rattle.two_path.specs.Again.{turn_by, turn_of_entry}
 use Rattle.two_path.proofs.Edited.{step_of_next}
+use Rattle.two_path.proofs.Paired.{AreLed}
 use Rattle.two_path.specs.Stuck.{AreAtStart, IsPair}
 use Rattle.trace_list.specs.declared.looking.Look.{Look}
 use Rattle.trace_list.specs.declared.looking.Standing.{Standing}
@@ -282,10 +283,6 @@ awake_by m (Some alarm) f w rest kind ends is makes = absurd (cc)
 awake_by m None true w rest kind ends is makes = absurd (cc)
 awake_by m None false (Some code) rest kind ends is makes = absurd (cc)
 awake_by m None false None rest kind ends is makes = record { none_waits = is; unfinished = ends; same = refl }
-
--- each block of the path leads where the order of blocks allows
-abbrev AreLed : List ControlProgram → Blocks → Type 0
-AreLed tape blocks = (path : PathView) (values : List Var) → GoesAsOrdered tape path (blocks.effect path values)
 
 -- a turn of the path whose part stands first tells the next of its labels, or none
 own_passes : (tape : List ControlProgram) (blocks : Blocks) (path : Path) (kind : EntryKind) (stamps : List ℕ) (m : MachineView) → KeepsLabels tape → AreLed tape blocks

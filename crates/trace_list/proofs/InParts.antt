@@ -1,7 +1,6 @@
 -- Texts that are put in parts: lines one after the other, and how much of a text is put so far.
 -- The proofs of src/blocks.rt and src/tracing.rt use it.
-use Rattle.std.proofs.Common.{◌≡◌, ℕ, ◌+◌, ◌<◌, List, [], ◌∷◌, ◌++◌, length, drop, get_or, Result, Ok, Err, sym, subst, ap, ◌∙◌, append_assoc, append-nil}
-use Rattle.std.proofs.lemmas.List.{drop_more}
+use Rattle.std.proofs.Common.{◌≡◌, ℕ, List, [], ◌∷◌, ◌++◌, Result, Ok, Err, sym, subst, ap, ◌∙◌, append_assoc, append-nil}
 use Rattle.std.proofs.lemmas.Grind.{flat_map-append}
 use Rattle.nc_outside.specs.declared.sink.PutFault.{PutFault}
 use Rattle.nc_outside.specs.Written.{SinkState}
@@ -63,7 +62,3 @@ has_ended a b c piece rest whole result is so_far put =
 pub has_all : (a b : SinkState) (rest whole : List ℕ) → rest ≡ [] → HasPut a b rest whole → IsPut a b whole (Ok tt)
 has_all a b rest whole is so_far =
     subst (λ t. IsPut a b t (Ok tt)) (sym (append-nil so_far.front) ∙ ap (λ t. so_far.front ++ t) (sym is) ∙ so_far.is_whole) so_far.put
-
--- the elements from index i on are that at i, and then the others
-pub rest_from : {X : Type 0} (xs : List X) (i : ℕ) (x : X) → i < length xs → x ≡ get_or xs i x → drop i xs ≡ x ∷ drop (i + 1) xs
-rest_from xs i x within is = drop_more xs i x within ∙ ap (λ (y : _). y ∷ drop (i + 1) xs) (sym is)

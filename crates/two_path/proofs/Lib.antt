@@ -1,5 +1,5 @@
 -- The lemmas of two_path, each file by its subject. Other crates use Folds, Edited, NoCrossing,
--- Apart, DoneAgain and Replays.
+-- Paired, Apart, DoneAgain and Replays.
 mod Idle
 pub mod Folds
 pub mod Edited
@@ -13,7 +13,7 @@ mod NoCrossingPlaces
 mod NoCrossingStatements
 mod NoCrossingMotion
 mod NoCrossingBlocks
-mod Paired
+pub mod Paired
 mod Behind
 mod Stays
 mod Settled

@@ -2,7 +2,6 @@
 -- as there are as many records as their stamps say. The second half of the law `histories_are_runs`
 -- (src/laws.rt).
 use Rattle.std.proofs.Common.{◌≡◌, ℕ, ◌+◌, ◌≤◌, ◌<◌, Bool, true, false, ◌==◌, ◌||◌, ◌⊎◌, inl, inr, List, [], ◌∷◌, ◌++◌, Option, Some, None, is_some, refl, sym, ap, subst, ◌∙◌, append_assoc, append-nil, arith}
-use Rattle.std.proofs.lemmas.Bool.Decides.{nat_tests}
 use Rattle.nc_number.specs.declared.path.Path.{Path}
 use Rattle.nc_number.specs.declared.path.Path.TheVariants.{One, Two}
 use Rattle.nc_number.specs.declared.value.Var.{Var}
@@ -16,6 +15,7 @@ use Rattle.path_state.specs.Statements.{Write as Written}
 use Rattle.path_state.specs.Effect.{Effect, Need, Done, AtWait, AtEnd}
 use Rattle.path_state.specs.Effect as effect
 use Rattle.nc_number.proofs.Bools.{or_right}
+use Rattle.nc_number.proofs.Counts.{same_or_below}
 use Rattle.nc_number.specs.Both.{of_path}
 use Rattle.two_path.specs.Machine.{Part, MachineView, own_first, part_without_reads, without_reads, opening}
 use Rattle.two_path.specs.Turns.{Blocks, Tapes, with_write, part_at, crossed_waits, result_at_wait, result_by, own_turn, kind_of}
@@ -338,21 +338,13 @@ Base tapes m rs n =
     (ks ko : List ℕ) → Ready tapes.one n ks → Ready tapes.two (own_first Two n) ko → Below n.count ks → Below n.count ko
     → IsReached tapes m rs (loaded tapes.one tapes.two ks ko n)
 
--- a number up to another is it, or less
-below_or : (k c : ℕ) → k ≤ c → (k ≡ c) ⊎ (k < c)
-below_or k c h = go (k == c) refl
-  where
-    go : (b : Bool) → (k == c) ≡ b → (k ≡ c) ⊎ (k < c)
-    go true e = inl (grind (arith, nat_tests))
-    go false e = inr (grind (arith, nat_tests))
-
 -- from reads before the last record on, what the second path may have read since can be read now
 extend_second : (tapes : Tapes) (m n : MachineView) (rs : List Entry) → Base tapes m rs n → (ks : List ℕ) → Ready tapes.one n ks → Below n.count ks
     → (ko : List ℕ) → Ready tapes.two (own_first Two n) ko → IsReached tapes m rs (loaded tapes.one tapes.two ks ko n)
 extend_second tapes m n rs base ks r b =
     from_end (λ ko. Ready tapes.two (own_first Two n) ko → IsReached tapes m rs (loaded tapes.one tapes.two ks ko n))
     (λ s. base ks [] r s b tt)
-    (λ ko k rest s. go ko k (rest (ready_front tapes.two (own_first Two n) ko k s)) s (below_or k n.count (order_front n.paths.two.since n.count ko k s.may.order).2))
+    (λ ko k rest s. go ko k (rest (ready_front tapes.two (own_first Two n) ko k s)) s (same_or_below k n.count (order_front n.paths.two.since n.count ko k s.may.order).2))
   where
     go : (ko : List ℕ) (k : ℕ) → IsReached tapes m rs (loaded tapes.one tapes.two ks ko n) → Ready tapes.two (own_first Two n) (ko ++ k ∷ [])
         → (k ≡ n.count) ⊎ (k < n.count) → IsReached tapes m rs (loaded tapes.one tapes.two ks (ko ++ k ∷ []) n)
@@ -364,7 +356,7 @@ extend_first : (tapes : Tapes) (m n : MachineView) (rs : List Entry) → Base ta
 extend_first tapes m n rs base ks ko r s = from_end
     (λ ks. Ready tapes.one n ks → IsReached tapes m rs (loaded tapes.one tapes.two ks ko n))
     (λ r. extend_second tapes m n rs base [] r tt ko s)
-    (λ ks k rest r. go ks k (rest (ready_front tapes.one n ks k r)) r (below_or k n.count (order_front n.paths.one.since n.count ks k r.may.order).2))
+    (λ ks k rest r. go ks k (rest (ready_front tapes.one n ks k r)) r (same_or_below k n.count (order_front n.paths.one.since n.count ks k r.may.order).2))
     ks r
   where
     go : (ks : List ℕ) (k : ℕ) → IsReached tapes m rs (loaded tapes.one tapes.two ks ko n) → Ready tapes.one n (ks ++ k ∷ [])

@@ -16,13 +16,7 @@ use Rattle.wait_order.specs.Waiting.{IsOtherIn, IsLeast}
 use Rattle.wait_order.proofs.Least.{least_none}
 use Rattle.wait_order.proofs.Stretched.{stretch_behind, stretches_are, stretch_rises}
 use Rattle.block_order.proofs.Opened.{within_control}
-
--- The control after n blocks is that n places further on.
-pub control_drop : (bs : List ControlBlock) (n i : ℕ) → control_at (drop n bs) i ≡ control_at bs (n + i)
-control_drop bs zero i = ap (λ k. control_at bs k) (omega arith)
-control_drop [] (suc n) i = refl
-control_drop (b ∷ bs) (suc n) i =
-    control_drop bs n i ∙ (let e : suc (n + i) ≡ suc n + i = omega arith in ap (λ k. control_at (b ∷ bs) k) e)
+use Rattle.block_order.proofs.Searches.{control_drop}
 
 -- The marks before a block are those of the first n blocks and those from there on.
 stretch_drop : (ld : ℕ → Bool) (bs : List ControlBlock) (n i : ℕ)

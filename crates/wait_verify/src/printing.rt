@@ -13,25 +13,7 @@ use label_list::Labelled;
 use nc_number::{NoMemory, Value};
 use open_order::Trust;
 use std::collections::BTreeSet;
-use text_pieces::Piece;
-
-/// Adds a piece at the end of a text. The only error is out of memory.
-fn push_piece(text: &mut Vec<u8>, piece: &Piece) -> Result<(), NoMemory>
-    ensures { OnOk result (text.new.items ≡ text.old.items ++ piece.now) }
-{
-    text.extend_from_slice(piece.as_slice())?;
-    Ok(())
-}
-
-/// Adds these bytes, and a number after them. The only error is out of memory.
-fn push_numbered(text: &mut Vec<u8>, before: &[u8], number: u64) -> Result<(), NoMemory>
-    requires { length before.now ≤ 100 }
-    ensures { OnOk result (text.new.items ≡ text.old.items ++ numbered before.now number) }
-{
-    let mut piece = Piece::empty();
-    piece.add_numbered(before, number);
-    push_piece(text, &piece)
-}
+use text_pieces::{Piece, push_numbered, push_piece};
 
 /// Adds a label: a wait by its M code, or how the path ends; at most 21 bytes.
 fn add_label(piece: &mut Piece, label: Label)

@@ -5,9 +5,10 @@ use Rattle.std.specs.List.{list_any, Contains}
 use Rattle.std.specs.HashSet.{contains}
 use Rattle.std.proofs.lemmas.Option.{slice_get_read}
 use Rattle.std.proofs.lemmas.Grind.{common_steps}
+use Rattle.nc_number.proofs.Bools.{not_false, not_true}
 use Rattle.block_order.proofs.Lines.{blocks-few}
 use Rattle.block_order.specs.First.{IsMismatchLine}
-use Rattle.block_order.proofs.Located.{clear-all, clear-more, twice-first, apart-first, any-contains, contains-any, not-false, not-true, no-line}
+use Rattle.block_order.proofs.Located.{clear-all, clear-more, twice-first, apart-first, any-contains, contains-any, no-line}
 use Rattle.block_order.proofs.fitting.fitting_fault.Goals as goal
 
 pub returns-then-not-branch : goal.returns-then-not-branch
@@ -17,7 +18,7 @@ returns-then-not-branch c =
     let p = c.program-item.result in
     let at = slice_get_read tape (length tape) i p refl c.loop-program-test.true c.program-item.is in
     let has : contains nat_eq c.loop-program.numbers p.number ≡ true =
-    not-false _ (sym c.in_ok-insert.ensures.added ∙ c.if-not-branch.true) in
+    not_false _ (sym c.in_ok-insert.ensures.added ∙ c.if-not-branch.true) in
     twice-first tape i p c.requires at c.loop-program.invariant.clear
     (any-contains p.number _ (sym (c.loop-program.invariant.known p.number) ∙ has))
 
@@ -34,7 +35,7 @@ returns-in-Some c =
     let p = c.program-item.result in
     let at = slice_get_read tape (length tape) i p refl c.loop-program-test.true c.program-item.is in
     let none : list_any (nat_eq p.number) (map (λ q. q.number) (take i tape)) ≡ false =
-    sym (c.loop-program.invariant.known p.number) ∙ not-true _ (sym c.in_ok-insert.ensures.added ∙ c.if-not-branch.false) in
+    sym (c.loop-program.invariant.known p.number) ∙ not_true _ (sym c.in_ok-insert.ensures.added ∙ c.if-not-branch.false) in
     apart-first tape i p c.in-Some.line c.requires at c.loop-program.invariant.clear
     (λ (w : Contains (map (λ q. q.number) (take i tape)) p.number). contains-any p.number w.0 _ w.1 w.2 none)
     (subst (IsMismatchLine p.blocks) c.in-Some.is c.in_ok-line.ensures)
@@ -46,7 +47,7 @@ loop-program-preserved c =
     let p = c.program-item.result in
     let at = slice_get_read tape (length tape) i p refl c.loop-program-test.true c.program-item.is in
     let none : list_any (nat_eq p.number) (map (λ q. q.number) (take i tape)) ≡ false =
-    sym (c.loop-program.invariant.known p.number) ∙ not-true _ (sym c.in_ok-insert.ensures.added ∙ c.if-not-branch.false) in
+    sym (c.loop-program.invariant.known p.number) ∙ not_true _ (sym c.in_ok-insert.ensures.added ∙ c.if-not-branch.false) in
     record {
       known = λ q. grind (arith, common_steps, c.loop-program.invariant.known q);
       clear = clear-more tape i p at
