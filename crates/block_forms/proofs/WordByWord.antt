@@ -1,8 +1,7 @@
 -- Words that are gathered one by one: each step of a loop over words (src/reading.rt,
 -- src/gathering.rt) is one word more.
-use Rattle.std.proofs.Common.{◌≡◌, ℕ, suc, ◌+◌, ◌-◌, ◌<◌, ◌≤◌, nat_lt, true, false, List, [], ◌∷◌, ◌++◌, length, get_or, drop, Option, Some, None, Result, Ok, Err, OnOk, append_assoc, refl, sym, ◌∙◌, ap, arith}
+use Rattle.std.proofs.Common.{◌≡◌, ℕ, suc, ◌+◌, ◌-◌, ◌<◌, false, List, [], ◌∷◌, ◌++◌, length, get_or, drop, Option, Some, None, Result, Ok, Err, OnOk, append_assoc, refl, sym, ◌∙◌, ap, arith}
 use Rattle.std.proofs.Math.Seq.{drop-cons}
-use Rattle.std.proofs.Math.ListN.{drop_of_length-le}
 use Rattle.std.proofs.lemmas.Bool.Decides.{nat_tests}
 use Rattle.std.specs.Result.{is_err}
 use Rattle.line_text.specs.declared.body.Word.{Word}
@@ -44,25 +43,8 @@ pub where_ok : {X E P : Type 0} (result : Result X E) → is_err result ≡ fals
 where_ok (Ok x) no_error holds = holds
 where_ok (Err e) no_error holds = absurd (cc)
 
--- Behind the last word there is none.
-pub all_words_end : (words : List Word) (i : ℕ) → length words ≤ i → all_words (drop i words) ≡ Ok []
-all_words_end words i le = rw (drop_of_length-le words le) refl
-
 -- The signs of variables from the word i on are its own and those behind it.
 pub signs_at : (words : List Word) (i : ℕ) (d : Word) → i < length words → signs_in (drop i words) ≡ variable_signs (get_or words i d).text + signs_in (drop (i + 1) words)
 signs_at words i d lt =
     let e : i + 1 ≡ suc i = omega arith in
     rw (drop-cons words i d lt, e) refl
-
--- Behind the last word there is no sign of a variable.
-pub signs_end : (words : List Word) (i : ℕ) → length words ≤ i → signs_in (drop i words) ≡ 0
-signs_end words i le = rw (drop_of_length-le words le) refl
-
--- To take the signs that fit from the room and from the rest does not change whether the rest is
--- too much.
-pub less_room : (room signs rest : ℕ) → signs ≤ room → nat_lt (room - signs) rest ≡ nat_lt room (signs + rest)
-less_room room signs rest le = grind (arith, nat_tests)
-
--- Signs that are more than the room are too much, whatever comes.
-pub no_room : (room signs rest : ℕ) → room < signs → nat_lt room (signs + rest) ≡ true
-no_room room signs rest lt = grind (arith, nat_tests)

@@ -54,15 +54,6 @@ pub known_is_flagged : (tape : List ControlProgram) (numbers : ProgramNumbers) (
     → flag_known numbers flags ≡ flagged tape flags
 known_is_flagged tape numbers flags knows i q = flag_at flags (knows q i)
 
--- After one round more the flags are those of the programs that are known to be loud by that round.
-pub round_known : (tape : List ControlProgram) (numbers : ProgramNumbers) (flags : List Bool) (n : ℕ) → KnowsPlaces tape numbers
-    → flagged tape flags ≡ known_loud tape n
-    → flagged tape (map (λ p. has_loud_block (flag_known numbers flags) p.blocks) tape) ≡ known_loud tape (n + 1)
-round_known tape numbers flags n knows e =
-    (λ i q. flag_of_blocks (λ bs. has_loud_block (flag_known numbers flags) bs) refl tape q i)
-    ∙ ((λ i q. has_loud_block ((known_is_flagged tape numbers flags knows ∙ e) i) (blocks tape q))
-    ∙ (let k : n + 1 ≡ suc n = omega arith in ap (λ m. known_loud tape m) (sym k)))
-
 -- If a round finds nothing new, each later round knows the same programs.
 stays : (tape : List ControlProgram) (n : ℕ) → known_loud tape n ≡ known_loud tape (suc n) → (k m : ℕ) → m ≡ k + n
     → known_loud tape n ≡ known_loud tape m

@@ -1,6 +1,6 @@
 -- What looking up and copying an entry gives, and options that a test compared. For the proofs of
 -- src/loops.rt, src/order.rt and src/sequence.rt.
-use Rattle.std.proofs.Common.{◌≡◌, ◌≢◌, ℕ, eqb, true, false, arith, ◌<◌, ◌≤◌, ◌↔◌, Bor, List, length, Option, Some, None, refl, sym, ap, ◌∙◌}
+use Rattle.std.proofs.Common.{◌≡◌, ◌≢◌, ℕ, eqb, true, false, arith, ◌<◌, ◌≤◌, ◌↔◌, Bor, List, length, Option, Some, None, refl, sym, ap}
 use Rattle.std.specs.Option.{MatchOption, option_copied, option_flatten, option_eq}
 use Rattle.std.proofs.lemmas.Bool.Decides.{nat_tests}
 use Rattle.std.proofs.lemmas.Bool.{eqb-true}
@@ -19,10 +19,6 @@ pub flat-some : {X : Type 0} (o : Option (Option X)) (x : X) → option_flatten 
 flat-some None x e = absurd cc
 flat-some (Some None) x e = absurd cc
 flat-some (Some (Some y)) x e = ap (λ o. Some o) e
-
--- If an option holds another one, it flattens to that one.
-pub some-flat : {X : Type 0} (a b : Option (Option X)) (o : Option X) → a ≡ b → b ≡ Some o → option_flatten a ≡ o
-some-flat a b o e f = ap option_flatten (e ∙ f)
 
 -- Options that hold the same are the same.
 pub same_somes : (a b : Option ℕ) → ((x : ℕ) → (a ≡ Some x) ↔ (b ≡ Some x)) → a ≡ b

@@ -1,6 +1,6 @@
 -- In which program a fault of the first stage lies, and which such fault is the first. For the
 -- proofs of src/fitting.rt and src/tables.rt, and for Findable.
-use Rattle.std.proofs.Common.{◌≡◌, ◌≢◌, ℕ, zero, suc, ◌+◌, ◌<◌, ◌≤◌, ◌⊎◌, inl, inr, Bool, true, false, not, ◌||◌, nat_eq, eqb, List, [], ◌∷◌, ◌++◌, length, map, get_or, take, drop, Option, Some, None, refl, sym, ap, ◌∙◌, arith, subst, ⊎_elim}
+use Rattle.std.proofs.Common.{◌≡◌, ◌≢◌, ℕ, zero, suc, ◌+◌, ◌<◌, ◌≤◌, ◌⊎◌, inl, inr, Bool, true, false, ◌||◌, nat_eq, eqb, List, [], ◌∷◌, ◌++◌, length, map, get_or, take, drop, Option, Some, None, refl, sym, ap, ◌∙◌, arith, subst, ⊎_elim}
 use Rattle.std.specs.List.{slice_get, Contains, list_any}
 use Rattle.std.proofs.lemmas.Bool.{cases_eq, cases_order, eqb-true}
 use Rattle.std.proofs.lemmas.Bool.Decides.{nat_tests}
@@ -222,10 +222,6 @@ contains-any q (suc k) (n ∷ ns) l e f = contains-any q k ns (omega arith) e (o
   or-false : (a b : Bool) → (a || b) ≡ false → b ≡ false
   or-false true b g = absurd cc
   or-false false b g = g
-
--- At the start no program is looked at, so none has a fault.
-pub clear-none : (tape : List ControlProgram) → ClearTo tape 0
-clear-none tape i p line cause l there fault = absurd (omega arith)
 
 -- The line of the block at the first mismatch is the line of the first mismatch.
 pub mismatch-line : (bs : List ControlBlock) (o : Option ℕ) (first : ℕ) (d : ControlBlock) → IsFirstMismatch bs o

@@ -2,7 +2,6 @@
 -- that file and for Located; wait_order takes `mismatch-within`.
 use Rattle.std.proofs.Common.{◌≡◌, ℕ, zero, suc, ◌+◌, ◌<◌, ◌≤◌, ◌⊎◌, inl, inr, min, Bool, true, false, not, ◌||◌, cond, eqb, List, [], ◌∷◌, length, get_or, take, Option, Some, None, refl, sym, ap, ◌∙◌, arith, subst, ⊎_elim}
 use Rattle.std.specs.List.{Contains}
-use Rattle.std.specs.Option.{option_or}
 use Rattle.std.proofs.lemmas.Bool.{cases_lt, eqb-true}
 use Rattle.std.proofs.lemmas.Bool.Decides.{nat_tests}
 use Rattle.std.proofs.lemmas.List.{take_all}
@@ -194,13 +193,6 @@ all-below m zero d (x ∷ xs) w l = w.0
 all-below m (suc k) d (x ∷ xs) w l =
     let more = all-below x.place k d xs w.1 (omega arith) in omega (arith, w.0)
 
--- If a loop is open, one was opened first.
-some-earliest : (x : Open) (xs : List Open) → earliest (x ∷ xs) ≡ None → ⊥
-some-earliest x xs e = go (earliest xs) e where
-  go : (o : Option ℕ) → or_else o (Some x.place) ≡ None → ⊥
-  go None f = absurd cc
-  go (Some y) f = absurd cc
-
 -- No loop is open, or the place is the least of the open loops' heads and below the bound.
 abbrev Earliest : ℕ → List Open → Option ℕ → Type 0
 Earliest m loops None = loops ≡ []
@@ -295,14 +287,6 @@ mismatch-found bs =
     lesser-first bs _ _ (misplaced-found bs 0 [])
     (subst (λ (ls : List Open). Earliest (length bs) ls (earliest (open_after 0 [] bs))) (sym all)
     (earliest-is (length bs) (open_after 0 [] bs) falls))
-
--- What is found in the blocks so far comes before what is found in the rest.
-pub or-else-further : (m : Option ℕ) (v : Bool) (i : ℕ) (rest : Option ℕ)
-    → or_else m (cond v (Some i) rest) ≡ or_else (option_or m (cond v (Some i) None)) rest
-or-else-further None true i rest = refl
-or-else-further None false i rest = refl
-or-else-further (Some x) true i rest = refl
-or-else-further (Some x) false i rest = refl
 
 -- An option, or else nothing, is the option.
 pub or-else-none : (m : Option ℕ) → or_else m None ≡ m

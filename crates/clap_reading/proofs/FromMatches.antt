@@ -1,5 +1,5 @@
 -- From what `clap` answers to the listed command, step by step: for the proofs of src/reading.rt.
-use Rattle.std.proofs.Common.{◌≡◌, zero, suc, true, false, List, [], ◌∷◌, ◌++◌, map, Option, Some, None, option_map, Result, Ok, Err, refl, sym, ap, subst, ◌∙◌, arith, append_assoc, inl, inr}
+use Rattle.std.proofs.Common.{◌≡◌, zero, suc, true, false, List, [], ◌∷◌, map, Option, Some, None, Result, Ok, Err, refl, sym, ap, subst, ◌∙◌, arith, inl, inr}
 use Rattle.std.specs.Prelude.{IfOk, IsErrOf, string_bytes}
 use Rattle.std.specs.List.{All}
 use Rattle.std.specs.Str.{IsUtf8}
@@ -9,7 +9,7 @@ use Rattle.clap.specs.Kinds.{HasKind, IsAmong, Kinds}
 use Rattle.clap.specs.Faults.{fault_of, is_simple_and_free}
 use Rattle.clap.specs.Simple.{HasMatchesOf, app_of, is_simple, subcommand_of, subcommand_rows_of}
 use Rattle.clap.specs.Values.{kind_of}
-use Rattle.clap.specs.Walk.{Row, Text, first_of, is_empty}
+use Rattle.clap.specs.Walk.{Row, Text, is_empty}
 use Rattle.clap.specs.declared.builder.command.Command.{Command as Parser}
 use Rattle.clap.specs.declared.error.Error.{Error}
 use Rattle.clap.specs.declared.error.kind.ErrorKind.{ErrorKind}
@@ -24,20 +24,6 @@ use Rattle.clap_reading.specs.ClapReading.{command_from, command_in, command_met
 use Rattle.clap_reading.specs.Grammar.{IsRead, program_app}
 
 -- the names that a row's words were given, one by one
-
--- A word that was given is added to the names so far.
-pub one_name_more : (rows : List Row) (before : List Text) (id text : Text) (ids : List Text) → first_of id rows ≡ Some text
-    → option_map (λ rest. (before ++ text ∷ []) ++ rest) (names_in rows ids) ≡ option_map (λ rest. before ++ rest) (names_in rows (id ∷ ids))
-one_name_more rows before id text ids e = rw e (go (names_in rows ids))
-  where
-    go : (later : Option (List Text)) → option_map (λ rest. (before ++ text ∷ []) ++ rest) later ≡ option_map (λ rest. before ++ rest) (option_map (λ rest. text ∷ rest) later)
-    go None = refl
-    go (Some rest) = ap Some (append_assoc before (text ∷ []) rest)
-
--- If a word was not given, there are no names.
-pub one_name_lacks : (rows : List Row) (before : List Text) (id : Text) (ids : List Text) → first_of id rows ≡ None
-    → option_map (λ rest. before ++ rest) (names_in rows (id ∷ ids)) ≡ None
-one_name_lacks rows before id ids e = rw e refl
 
 -- the command of a row, and of its name
 

@@ -7,9 +7,9 @@ use Rattle.nc_number.specs.declared.point.Point.{Point}
 use Rattle.nc_number.proofs.Bools.{both}
 use Rattle.rough_cycle.specs.Contour.{Descends, last_of}
 use Rattle.rough_cycle.specs.Form.{IsWritten}
-use Rattle.rough_cycle.specs.Roughing.{Rough, IsForm, IsFinishStart}
+use Rattle.rough_cycle.specs.Roughing.{Rough, IsForm}
 use Rattle.nc_number.proofs.Integers.{le_is}
-use Rattle.cycle_form.specs.Forms.{goes_down, descends, is_form, is_finish_start}
+use Rattle.cycle_form.specs.Forms.{goes_down, descends, is_form}
 
 -- A contour that passes the test of `descends` descends as rough_cycle asks.
 falls : (p : Point) (points : List Point) → descends p points ≡ true → Descends p points
@@ -30,9 +30,3 @@ pub form : (r : Rough) → 1 ≤ r.depth → r.first.z ≡ r.start.z → is_form
 form r deep at_start e =
     let parts = both (descends r.first r.points) (int_le ((last_of r.first r.points).x +ℤ pos r.across) r.start.x) e in
     record { deep = deep; at_start = at_start; descends = falls r.first r.points parts.0; high = le_is _ _ parts.1 }
-
--- A start that passes the test lies above and before the contour.
-pub finish_start : (r : Rough) (start : Point) → is_finish_start r start ≡ true → IsFinishStart r start
-finish_start r start e =
-    let parts = both (int_le (last_of r.first r.points).x start.x) (int_le r.first.z start.z) e in
-    record { high = le_is _ _ parts.0; before = le_is _ _ parts.1 }

@@ -4,7 +4,7 @@ use Rattle.std.proofs.Common.{◌≡◌, ◌⊎◌, inl, inr, ℕ, zero, suc, �
 use Rattle.std.proofs.lemmas.Bool.{cases_lt}
 use Rattle.std.proofs.lemmas.List.{length-take, length-replicate, get_or_append_left, get_or-append_right, get_or-take, get_or-drop, get_or-replicate}
 use Rattle.disk_model.specs.declared.stretch.Stretch.{Stretch}
-use Rattle.disk_model.specs.Image.{IsImage, IsOutside, greatest_end}
+use Rattle.disk_model.specs.Image.{IsOutside, greatest_end}
 use Rattle.disk_model.specs.Memory.{IsFilled}
 use Rattle.disk_model.proofs.Images.{greatest_end-push, greatest_end-least, outside_push, push_outside}
 
@@ -13,18 +13,6 @@ pub end_within : (len : ℕ) (written : List Stretch) (i : ℕ) (d : Stretch) �
 end_within len [] i d within = absurd (omega arith)
 end_within len (w ∷ written) zero d within = omega arith
 end_within len (w ∷ written) (suc i) d within = omega (arith, end_within len written i d (omega arith))
-
--- a filled disk is an image that a crash may leave
-pub filled_image : (with : ℕ) (synced : List ℕ) (written : List Stretch) (c : List ℕ) → IsFilled with synced written c → IsImage synced written c
-filled_image with synced written c filled = record {
-  no_shorter = omega (arith, filled.len, greatest_end-least (length synced) written);
-  no_longer = omega (arith, filled.len);
-  outside = filled.outside;
-}
-
--- without writes nothing is filled
-pub filled_none : (with : ℕ) (synced : List ℕ) → IsFilled with synced [] synced
-filled_none with synced = record { len = refl; outside = λ i within out. refl; inside = λ i within not_out. absurd (not_out (within, tt)) }
 
 -- One stretch more is filled: `long` is the content filled up to the stretch's end, `next` that
 -- with the stretch filled.

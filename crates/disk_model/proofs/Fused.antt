@@ -1,14 +1,13 @@
 -- What a fuse makes of the calls that it passes on, and of those that it fails: a refinement of the
 -- disk below it.
 -- For the proofs of src/fuse.rt.
-use Rattle.std.proofs.Common.{◌≡◌, ◌⊎◌, inl, inr, ⊎_elim, ℕ, ◌+◌, ◌-◌, ◌^◌, ◌≤◌, ◌<◌, max, min, List, length, Bool, true, false, refl, sym, ap, arith, subst, Result}
+use Rattle.std.proofs.Common.{◌≡◌, ◌⊎◌, inl, inr, ⊎_elim, ℕ, ◌+◌, ◌-◌, ◌^◌, ◌≤◌, ◌<◌, min, List, length, Bool, true, false, refl, sym, ap, arith, subst, Result}
 use Rattle.std.specs.Prelude.{◌==◌, not}
 use Rattle.disk_model.specs.Device.{Torn, Tears, Looks, Elapses, HasCause}
 use Rattle.nc_number.specs.Faults.{next}
 use Rattle.disk_model.specs.Calls.{Measures, Fetches, Writes, Syncs}
 use Rattle.disk_model.specs.Memory.{Memory, CrashLeaves, CrashLeft, MemoryAllows, memory_state, after_write}
 use Rattle.disk_model.specs.Fuse.{Fuse, FuseAllows, after_stop, fuse_after_write, fuse_state}
-use Rattle.disk_model.proofs.Written.{torn_not}
 
 -- a fuse round this disk that has failed no call yet
 abbrev pub whole : Memory → ℕ → ℕ → Fuse
@@ -85,27 +84,6 @@ module _ (f : Fuse) (fits : f.burnt < 2 ^ 64) (out : f.passes ≡ 0) (reach : �
   -- a failed call leaves what the fuse allows: all of that was used up before
   stopped_allows : (calls end : ℕ) → FuseAllows f calls end → FuseAllows stopped calls end
   stopped_allows calls end allows = record { inner = allows.inner; passed = allows.passed; unburnt = λ used. absurd (omega (arith, used, out, allows.passed)) }
-
--- a call that the fuse fails, and that writes nothing, reaches nothing
-pub stopped_looks : (f : Fuse) → f.burnt < 2 ^ 64 → f.passes ≡ 0 → Looks (fuse_state f) (fuse_state (after_stop f))
-stopped_looks f fits out = record {
-  time = stopped_time f fits out f.reach (λ b c. c ≡ b) (λ c. refl);
-  same = refl;
-  counted = λ bytes is. omega arith;
-  reach = λ bytes is. refl;
-  allows = stopped_allows f fits out f.reach;
-}
-
--- a write that the fuse fails reaches nothing
-pub stopped_tears : (f : Fuse) (at n : ℕ) → f.burnt < 2 ^ 64 → f.passes ≡ 0 → Tears at n (fuse_state f) (fuse_state (record (after_stop f) { reach = max f.reach (at + n) }))
-stopped_tears f at n fits out = record {
-  time = stopped_time f fits out (max f.reach (at + n)) (Torn at n) (torn_not at n);
-  told = λ old is. (old, is, torn_not at n old);
-  untold = λ none. none;
-  counted = λ bytes is. omega arith;
-  reach = λ bytes is. omega arith;
-  allows = stopped_allows f fits out (max f.reach (at + n));
-}
 
 -- A call that is passed on by a fuse that has failed none.
 module _ (f : Fuse) (n : Memory) (p : ℕ) (less : f.passes - 1 ≤ p) (none : f.burnt ≡ 0) where

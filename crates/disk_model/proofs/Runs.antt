@@ -97,12 +97,6 @@ no_fault calls end old new coherent bytes reads allows room within rose =
     let none = coherent.enough bytes calls end reads allows room within in
     omega (arith, none, rose)
 
--- in a run whose calls the disk allows there is no fault
-pub no_fault_used : (m e calls end : ℕ) (old new : DiskState) → IsCoherent new → Uses m e old new → (bytes : List ℕ) → Reads old bytes → old.allows calls end → old.calls + m ≤ calls → max old.reach e ≤ end → Rose old.faults new.faults → ⊥
-no_fault_used m e calls end old new coherent uses bytes reads allows room within rose =
-    let told = uses.told bytes reads in
-    no_fault calls end old new coherent told.0 told.1 (uses.allows calls end allows) (omega (arith, uses.calls bytes reads)) (omega (arith, uses.reach bytes reads)) rose
-
 -- a run of no call writes nothing
 pub unwritten_none : (disk : DiskState) → IsCoherent disk → Unwritten disk disk
 unwritten_none disk coherent = record {
@@ -128,24 +122,6 @@ unwritten_look old new coherent looks =
 -- if all that was written is on the disk, it still is after a run that writes nothing
 pub settled_kept : (a b : DiskState) → Unwritten a b → IsSettled a → IsSettled b
 settled_kept a b unwritten settled = λ bytes reads c here. settled bytes (sym unwritten.same ∙ reads) c (unwritten.now c here)
-
--- a run of no call writes nothing and has no fault
-pub peeks_none : (n : ℕ) (disk : DiskState) → IsCoherent disk → Peeks n disk disk
-peeks_none n disk coherent = record { later = omega arith; unwritten = unwritten_none disk coherent; uses = uses_none n 0 disk }
-
--- one call that writes nothing is a run of one call that writes nothing
-pub peeks_look : (old new : DiskState) → IsCoherent new → Looks old new → old.faults ≤ new.faults → Peeks 1 old new
-peeks_look old new coherent looks later = record {
-  later = later;
-  unwritten = unwritten_look old new coherent looks;
-  uses = record {
-    calls = λ bytes reads. omega (arith, looks.counted bytes reads);
-    reach = λ bytes reads. omega (arith, looks.reach bytes reads);
-    told = λ bytes reads. (bytes, looks.same ∙ reads);
-    untold = λ none. looks.same ∙ none;
-    allows = looks.allows;
-  };
-}
 
 -- two runs that write nothing, one after the other, are one, with the calls of both
 pub peeks_more : (m n k : ℕ) (a b c : DiskState) → Peeks m a b → Peeks n b c → m + n ≤ k → Peeks k a c

@@ -1,17 +1,13 @@
 -- The items of a line, one after the other: their moves, marks and end, and what both ends of the
 -- line keep with one item more. The functions of line.rt, line_in.rt and line_out.rt (src) rest on
 -- it; path_worker takes the lemmas on two lists of items.
-use Rattle.std.proofs.Common.{arith, ◌≡◌, ◌≤◌, ◌+◌, ℕ, suc, Bool, List, true, false, true≢false, [], ◌∷◌, ◌++◌, length, take, refl, append_assoc, ap, sym, ◌∙◌, subst, All, Contains}
+use Rattle.std.proofs.Common.{arith, ◌≡◌, ◌≤◌, ◌+◌, ℕ, suc, Bool, List, true, false, true≢false, [], ◌∷◌, ◌++◌, length, take, refl, ap, sym, ◌∙◌, subst, All, Contains}
 use Rattle.std.proofs.lemmas.List.{append-nil, take-append-le, length-append}
 use Rattle.std.proofs.lemmas.List.Elements.{All-nil, All-cons, All-append, All-weaker, All-contains, Contains-append_left, Contains-append_right, Contains-push}
 use Rattle.nc_outside.specs.declared.lined_move.LinedMove.{LinedMove}
 use Rattle.drive_line.specs.declared.item.Item.{Item}
 use Rattle.drive_line.specs.declared.item.Item.TheVariants.{Move, Mark, End}
 use Rattle.drive_line.specs.Line.{moves_among, has_end, EndIsLast, mark_counts, AreTaken, IsSending, IsTaking}
-
--- an item that is added behind a whole list is added behind the part after its front
-pub push_behind : {X : Type 0} (first seen was now : List X) (x : X) → was ≡ first ++ seen → now ≡ was ++ x ∷ [] → now ≡ first ++ (seen ++ x ∷ [])
-push_behind first seen was now x e f = f ∙ ap (λ l. l ++ x ∷ []) e ∙ append_assoc first seen (x ∷ [])
 
 -- the moves of two lists, put together, are those of the first and then those of the second
 pub moves_of_both : (a b : List Item) → moves_among (a ++ b) ≡ moves_among a ++ moves_among b

@@ -8,7 +8,7 @@ use Rattle.nc_outside.specs.declared.lined_move.LinedMove.{LinedMove}
 use Rattle.nc_outside.specs.Faults.{Rose, CountsFault}
 use Rattle.nc_outside.specs.Received.{TurretState, Adds, Receives, Settles}
 use Rattle.drive_line.specs.declared.phase.Phase.{Phase}
-use Rattle.drive_line.specs.declared.phase.Phase.TheVariants.{Moving, Still, Failed, Halted}
+use Rattle.drive_line.specs.declared.phase.Phase.TheVariants.{Moving, Still, Failed}
 use Rattle.drive_line.specs.Driving.{DrivenState, fresh, has_failed, most, Serves}
 use Rattle.drive_line.proofs.Adding.{adds_none, adds_both}
 
@@ -193,17 +193,3 @@ module _ (moves : List LinedMove) (start : TurretState) (d : DrivenState) (s : S
             (adds_both start.received d.state.received now.received (map Moved (take d.taken moves)) [] (d.taken + s.at_call) 0 s.settles 1 s.received got));
         counted = failing start.faults d.state.faults now.faults (subst (λ b. CountsFault start.faults d.state.faults (IsTrue b)) calm_ s.counted) later rose;
       }
-
--- after the run was halted for a turret that failed, it has served the same moves
-pub serves_halted : (moves : List LinedMove) (start : TurretState) (d : DrivenState) → d.phase ≡ Failed → Serves moves start d → Serves moves start (record d { phase = Halted })
-serves_halted moves start d failed s = record {
-  all = s.all;
-  none = λ calm_. absurd (true≢false calm_);
-  at_call = s.at_call;
-  settles = s.settles;
-  few = subst (λ p. s.at_call ≤ most (has_failed p)) failed s.few;
-  within = s.within;
-  settled = broken Halted refl;
-  received = s.received;
-  counted = subst (λ p. CountsFault start.faults d.state.faults (IsTrue (has_failed p))) failed s.counted;
-}

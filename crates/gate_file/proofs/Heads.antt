@@ -1,26 +1,10 @@
 -- What the first five bytes at a gate (the gate and the length) say of the entry that stands there.
 -- `read_entry` (src/open.rt) rests on it.
-use Rattle.std.proofs.Common.{◌≡◌, ◌≢◌, inl, inr, ℕ, ◌+◌, ◌^◌, ◌≤◌, ◌<◌, List, [], ◌∷◌, ◌++◌, length, take, drop, refl, sym, ◌∙◌, ap, arith, append_assoc, take-append-drop}
-use Rattle.std.proofs.lemmas.List.{take_at, drop-drop, length-take}
+use Rattle.std.proofs.Common.{◌≡◌, ◌≢◌, inr, ℕ, ◌+◌, ◌^◌, ◌≤◌, ◌<◌, List, ◌∷◌, ◌++◌, length, take, drop, refl, sym, ◌∙◌, ap, arith, append_assoc, take-append-drop}
+use Rattle.std.proofs.lemmas.List.{take_at, drop-drop}
 use Rattle.std.proofs.lemmas.Nat.{from_be_bytes-to_be_bytes_4}
 use Rattle.std.specs.Int.{w32, to_be_bytes, from_be_bytes}
-use Rattle.gate_file.specs.Chain.{IsEntry, IsShut, IsCutShort}
-
--- a shut gate in the first five bytes is one of the whole
-pub shut_head : (rest : List ℕ) → IsShut (take 5 rest) → IsShut rest
-shut_head [] (behind, is) = absurd (cc)
-shut_head (b ∷ rest) (behind, is) = let zero : b ≡ 0 = cc in (rest, ap (λ (g : ℕ). g ∷ rest) zero)
-
--- fewer than five bytes after an open gate are cut short
-pub cut_head : (rest : List ℕ) → 0 < length rest → length (take 5 rest) < 5 → (IsShut (take 5 rest) → ⊥) → IsCutShort rest
-cut_head [] some short not_shut = absurd (omega arith)
-cut_head (b ∷ rest) some short not_shut = record {
-  gate = b;
-  rest = rest;
-  is_open = λ (zero : b ≡ 0). not_shut (take 4 rest, ap (λ (g : ℕ). g ∷ take 4 rest) zero);
-  bytes = refl;
-  short = inl (omega (arith, length-take 4 rest));
-}
+use Rattle.gate_file.specs.Chain.{IsEntry, IsCutShort}
 
 -- an open gate with a length after it
 module _ (rest : List ℕ) (size gate : ℕ) (is_open : gate ≢ 0) (fits : size < 2 ^ 32) (head : take 5 rest ≡ gate ∷ to_be_bytes w32 size) where

@@ -6,7 +6,7 @@ use Rattle.std.proofs.lemmas.List.{map-append}
 use Rattle.nc_number.specs.declared.fault.Failing.{Failing}
 use Rattle.nc_number.specs.declared.fault.Failing.TheVariants.{Fault, NoMemory}
 use Rattle.nc_outside.specs.Faults.{Rose}
-use Rattle.nc_outside.specs.Files.{Files, ShelfState, HoldsMore, HoldsOn, IsAsked, Lacks, file_named}
+use Rattle.nc_outside.specs.Files.{Files, ShelfState, HoldsMore, HoldsOn, Lacks, file_named}
 use Rattle.block_order.specs.Answers.{IfFault}
 use Rattle.lathe_looks.specs.declared.fetching.FileFault.{FileFault}
 use Rattle.lathe_looks.specs.declared.fetching.Unfetched.{Unfetched}
@@ -20,11 +20,6 @@ pub unfetched_due : {A : Type 0} {listed : A → List (List ℕ)} {Rests : Type 
     → IsOfFiles listed files Rests IsAnswer old new (unfetched error)
 unfetched_due files old new (Fault missing) is rests = not_had is rests
 unfetched_due files old new NoMemory is rests = unread is rests
-
--- To be asked for one name is to be asked for the list of one file.
-pub asked_one : (old new : Option (List (List ℕ))) (file : Named) → IsAsked old new file.name → AreAsked old new (file ∷ [])
-asked_one None new file is = is
-asked_one (Some was) new file is = is
 
 -- To be asked for some files and then for more is to be asked for all of them.
 pub asked_more : (old middle new : Option (List (List ℕ))) (files more : List Named) → AreAsked old middle files → AreAsked middle new more

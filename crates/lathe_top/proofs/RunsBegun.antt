@@ -1,7 +1,7 @@
 -- What `run` and `make` answer after the beginning of a journal, or after a refusal.
 -- For the proofs of `run_pair` and `run_texts` (src/beginning.rt) and `tell_unbegun`
 -- (src/refusing.rt).
-use Rattle.std.proofs.Common.{◌≡◌, ◌⊎◌, inl, inr, ℕ, ◌≤◌, false, List, [], length, Ok, Err, refl, sym, ap, subst, arith, ◌∙◌, Option}
+use Rattle.std.proofs.Common.{◌≡◌, ◌⊎◌, inl, inr, ℕ, ◌≤◌, false, List, [], length, Ok, Err, refl, sym, ap, subst, arith, ◌∙◌}
 use Rattle.nc_outside.specs.Received.{TurretState}
 use Rattle.nc_number.specs.declared.both.Both.{Both}
 use Rattle.disk_model.specs.Device.{DiskState}
@@ -9,7 +9,6 @@ use Rattle.gate_file.specs.declared.fault.GateFault.{GateFault}
 use Rattle.gate_file.specs.declared.fault.GateFault.TheVariants as gate
 use Rattle.nc_number.specs.declared.fault.Failing.{Failing}
 use Rattle.nc_number.specs.declared.fault.Failing.TheVariants.{Fault, NoMemory}
-use Rattle.nc_outside.specs.declared.halt.Halt.{Halt}
 use Rattle.block_order.specs.Answers.{IfFault}
 use Rattle.nc_verify.specs.declared.refusal.Refusal.{Refusal}
 use Rattle.nc_verify.specs.declared.verified.Verified.{Verified}
@@ -21,7 +20,6 @@ use Rattle.run_records.specs.Headers.{IsShort}
 use Rattle.run_journal.specs.Beginning.{BeginsRun}
 use Rattle.run_table.specs.Begun.{IsBegun}
 use Rattle.run_table.specs.Kept.{TableView}
-use Rattle.run_table.specs.Running.{MayRun, IsNoneOrAlarm}
 use Rattle.two_path.specs.Machine.{MachineView}
 use Rattle.nc_number.specs.declared.limits.TheConstants.{LONGEST_TAPE}
 use Rattle.nc_restart.specs.Pair.{texts_of, IsPairOf, machine_behind}
@@ -35,13 +33,6 @@ use Rattle.lathe_top.specs.Lathe.{LatheState, lathe_with}
 use Rattle.lathe_top.specs.Ran.{TextOf, IsRun, refused, unjudged, ran, reported, unprepared, unbegun}
 use Rattle.lathe_top.specs.Session.{Session}
 use Rattle.lathe_top.proofs.Opened.{NoneIsStuck, begun_keeps, ending_since, is_session, unprepared_since}
-
--- a table that was begun may be run
-pub begun_may : {D : Type 0} (pair : Verified) (t : TableView D) → IsBegun pair t → MayRun t
-begun_may pair t begun = record {
-  all = begun.flushed ∙ ap length (sym begun.history);
-  halt = subst (λ (h : Option Halt). IsNoneOrAlarm h) (sym begun.halt) tt;
-}
 
 -- the machine of a table that has begun is the one after its records
 pub begun_behind : {D : Type 0} (pair : Verified) (t : TableView D) → IsBegun pair t
@@ -114,11 +105,6 @@ run_refused state limit text_of texts a c (Fault refusal) rest of_texts answer i
     subst (IsRun state limit text_of texts a c) (sym is.2) (refused of_texts is.1 rest)
 run_refused state limit text_of texts a c NoMemory rest of_texts answer is =
     subst (IsRun state limit text_of texts a c) (sym is) (unjudged rest)
-
--- a header of these texts has them
-pub header_texts : (header : Header) (texts : Texts) → header.left ≡ texts.left → header.right ≡ texts.right → header.settings ≡ texts.settings
-    → texts_of header ≡ texts
-header_texts header texts left right settings = λ i. record { left = left i; right = right i; settings = settings i }
 
 -- a header of texts that are no longer than their limits is short
 pub short_header : (header : Header) (texts : Texts) → header.left ≡ texts.left → header.right ≡ texts.right → header.settings ≡ texts.settings

@@ -1,7 +1,7 @@
 -- Records that are done again one by one: the machine is the fold of those that are done. `redo`
 -- and `replay` (src/replay.rt) rest on it.
 use Rattle.std.proofs.Common.{◌≡◌, ℕ, suc, ◌+◌, ◌≤◌, ◌<◌, List, [], ◌∷◌, ◌++◌, length, take, drop, get_or, refl, sym, ap, subst, ◌∙◌, arith, length-append}
-use Rattle.std.proofs.lemmas.List.{take_more, take_all, length-take-le, take-append-drop}
+use Rattle.std.proofs.lemmas.List.{take_more, length-take-le, take-append-drop}
 use Rattle.std.proofs.Math.Seq.{drop-cons}
 use Rattle.nc_number.specs.declared.limits.TheConstants.{MOST_RECORDS}
 use Rattle.run_records.specs.declared.bad_record.BadRecord.{BadRecord}
@@ -9,8 +9,7 @@ use Rattle.run_records.specs.declared.bad_record.BadRecord.TheVariants.{NotLegal
 use Rattle.run_records.specs.Entries.{Entry}
 use Rattle.two_path.specs.declared.turn.Turn.{Turn}
 use Rattle.two_path.specs.Machine.{MachineView, without_reads}
-use Rattle.two_path.specs.Turns.{Tapes}
-use Rattle.two_path.specs.Histories.{behind_entry, fold, IsLegal, IsNext, Counts}
+use Rattle.two_path.specs.Histories.{behind_entry, IsLegal, IsNext, Counts}
 use Rattle.two_path.specs.Joined.{RoomyMachine, AreAtTheirWaits}
 use Rattle.two_path.specs.Again.{IsDoneAgain, IsRefused}
 use Rattle.two_path.proofs.Edited.{entry_bare}
@@ -106,8 +105,3 @@ module _ (pair : Verified) (entries : List Entry) (done : ℕ) (e : Entry) (now 
     history = are.behind.history;
     bad = bad (take done entries) are.behind;
   }
-
--- once no record is left, the machine stands behind all of them
-pub all_done : (pair : Verified) (entries : List Entry) (done : ℕ) (now : RoomyMachine) → AreDone pair entries done now → length entries ≤ done
-    → IsBehind pair entries now.machine
-all_done pair entries done now are all = subst (λ (l : List Entry). IsBehind pair l now.machine) (take_all done entries all) are.behind

@@ -65,12 +65,6 @@ last_other [] program other same all = All-cons IsProgramShape other [] (same (A
 last_other (first ∷ programs) program other same all =
     All-cons IsProgramShape first (programs ++ other ∷ []) (All-head IsProgramShape first (programs ++ program ∷ []) all) (last_other programs program other same (All-tail IsProgramShape first (programs ++ program ∷ []) all))
 
--- before the first line, no programs have the shape of what was read
-pub nothing_shaped : (programs : List Program) → programs ≡ [] → IsReadShape 0 0 programs
-nothing_shaped programs e =
-    let P : List Program → Type 0 = IsReadShape 0 0 in
-    let none : IsReadShape 0 0 [] = record { numbers = All-nil IsProgramShape; rise = omega arith; count = omega arith; shaped = All-nil IsBlockShape } in subst P (sym e) none
-
 -- with further lines that say nothing, programs keep their shape
 pub line_shaped : (lines more blocks : ℕ) (programs : List Program) → IsReadShape lines blocks programs → lines ≤ more → IsReadShape more blocks programs
 line_shaped lines more blocks programs is later = record { numbers = is.numbers; rise = rise_on (lines_in programs) 0 lines more is.rise later; count = is.count; shaped = is.shaped }

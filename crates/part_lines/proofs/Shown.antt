@@ -1,7 +1,7 @@
 -- The lines of a program as they grow by a line, a wait and a call, and that they come to the lines
 -- of the whole program. For the proofs of src/piece.rt and src/listing.rt. The file's name stands
 -- for the lines that a piece shows (`shown`).
-use Rattle.std.proofs.Common.{◌≡◌, ℕ, zero, suc, ◌+◌, ◌-◌, ◌<◌, true, false, Bool, List, [], ◌∷◌, ◌++◌, length, drop, get_or, Option, Some, None, refl, ap, sym, ◌∙◌, arith, append_assoc}
+use Rattle.std.proofs.Common.{◌≡◌, ℕ, zero, suc, ◌+◌, ◌-◌, ◌<◌, true, false, Bool, List, [], ◌∷◌, ◌++◌, length, drop, get_or, Option, Some, None, refl, ap, sym, ◌∙◌, arith}
 use Rattle.std.proofs.Math.Seq.{drop-cons}
 use Rattle.block_order.specs.declared.control.Control.{Control}
 use Rattle.block_order.specs.declared.control.Control.TheVariants.{Next, Goto, While, Do, EndLoop, Wait, End, Call, Back, BackTo}
@@ -12,28 +12,10 @@ use Rattle.block_order.specs.Loud.{loud}
 use Rattle.part_lines.specs.declared.piece.Ending.{Ending}
 use Rattle.part_lines.specs.declared.piece.Ending.TheVariants.{Stops, Returns}
 use Rattle.part_lines.specs.declared.piece.PieceLines.{PieceLines}
-use Rattle.nc_number.specs.Options.{lesser}
 use Rattle.part_lines.specs.Lines.{Lines, with_first, times, seen_line, block_lines, blocks_lines, whole}
 use Rattle.loud_calls.specs.Calls.{IsShort, IsShortCall}
 use Rattle.part_lines.specs.Pieces.{shown, coming, stop_of, IsSeen, AreJoined, AreAdded, IsPiece, IsTaken, IsSoFar, from_block}
-use Rattle.part_lines.proofs.Lesser.{lesser_none, with_none, with_both, with_again}
-
--- A piece without a line and a wait shows only what comes behind it.
-pub new_shown : (lines : PieceLines) → lines.done.items ≡ [] → lines.last ≡ None → (behind : Lines) → shown lines behind ≡ behind
-new_shown lines none last behind = rw (none, last) (with_none behind)
-
--- With the lesser of its last line and one more, a piece shows one line more in its last part.
-pub seen_shown : (old new : PieceLines) (line : Option ℕ) → new.done.items ≡ old.done.items → new.last ≡ lesser old.last line
-    → IsSeen old new line
-seen_shown old new line done last behind =
-    rw (done, last) (ap (λ xs. old.done.items ++ xs) (with_both old.last line behind))
-
--- With its last line put to the others a piece shows one part more, without a line.
-pub passed_shown : (old new : PieceLines) → new.done.items ≡ old.done.items ++ old.last ∷ [] → new.last ≡ None
-    → (behind : Lines) → shown new behind ≡ shown old (None ∷ behind)
-passed_shown old new done last behind =
-    rw (done, last) (append_assoc old.done.items (old.last ∷ []) (with_first None behind)
-    ∙ ap (λ xs. old.done.items ++ xs) (ap (λ xs. old.last ∷ xs) (with_none behind) ∙ ap (λ o. o ∷ behind) (sym (lesser_none old.last))))
+use Rattle.part_lines.proofs.Lesser.{lesser_none, with_again}
 
 -- To join a line n times, at least once, is to join it once.
 pub times_again : (n : ℕ) (line : Option ℕ) (behind : Lines) → 0 < n → times n (with_first line) behind ≡ with_first line behind

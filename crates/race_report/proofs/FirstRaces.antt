@@ -198,19 +198,6 @@ pub record IsLeft (lines : Both PathLines) (v after total : ℕ) : Type 0 where
   pub all : after + count ≡ total
   pub same : first_from lines v count after ≡ first_from lines v total 0
 
--- before the first part all parts are left
-pub left_start : (lines : Both PathLines) (v total : ℕ) → IsLeft lines v 0 total
-left_start lines v total = record { count = total; all = omega arith; same = refl }
-
--- if the part at hand has a race, it is the first of all
-pub left_here : (lines : Both PathLines) (v after total : ℕ) → IsLeft lines v after total → after < total
-    → is_some (race_at lines v after) ≡ true → race_at lines v after ≡ first_from lines v total 0
-left_here lines v after total left less some = go left.count left.all ∙ left.same
-  where
-    by : (o : Option Race) (c : ℕ) → race_at lines v after ≡ o → race_at lines v after ≡ or_race (race_at lines v after) (first_from lines v c (suc after))
-    by (Some race) c e = rw e refl
-    by None c e = let none : is_some (race_at lines v after) ≡ false = ap is_some e in absurd cc
-
     go : (count : ℕ) → after + count ≡ total → race_at lines v after ≡ first_from lines v count after
     go zero all = absurd (omega arith)
     go (suc c) all = by (race_at lines v after) c refl

@@ -1,6 +1,5 @@
 -- The lemmas of race_report, each file by its subject. lathe_top takes SameForms.
 mod TreeReads
-mod Slots
 mod NoMeeting
 mod SoughtLines
 mod FewerWaits

@@ -147,14 +147,6 @@ between_both settings u more less = grind arith
 pub behind_the_last : (settings : Settings) (u : ℕ) → 500 + settings.shared500 ≤ u → settings.shared100 ≤ 100 → shared_by settings u ≡ false
 behind_the_last settings u more few = grind arith
 
--- the variables from #100 on are shared, as many as the settings say
-pub first_shared : (settings : Settings) (u : ℕ) → 100 ≤ u → u < 100 + settings.shared100 → shared_by settings u ≡ true
-first_shared settings u from less = grind arith
-
--- the variables from #500 on are shared, as many as the settings say
-pub second_shared : (settings : Settings) (u : ℕ) → 500 ≤ u → u < 500 + settings.shared500 → shared_by settings u ≡ true
-second_shared settings u from less = grind arith
-
 -- the number of a shared variable is above 0
 pub above_zero : (settings : Settings) (v : ℕ) → shared_by settings v ≡ true → 0 < v
 above_zero settings zero e = let none = before_the_first settings 0 (omega arith) in absurd cc

@@ -1,16 +1,10 @@
 -- The lines that part_lines finds among those looked for are the lines of the blocks that name or
 -- may write the variable, part by part. FirstRaces, NoMeeting and SameForms build on it.
-use Rattle.std.proofs.Common.{◌≡◌, ℕ, Bool, true, false, List, map, Option, Some, None, slice_get, refl, ap, sym, subst, ◌∙◌}
-use Rattle.std.specs.Option.{option_map}
-use Rattle.block_order.specs.Order.{blocks, blocks_of, control_of, control_at}
+use Rattle.std.proofs.Common.{◌≡◌, ℕ, Bool, true, false, Option, Some, None, refl, ap, sym, subst}
+use Rattle.block_order.specs.Order.{blocks, control_at}
 use Rattle.block_forms.specs.declared.block.FlowBlock.{FlowBlock}
-use Rattle.block_forms.specs.Blocks.{block_form}
 use Rattle.tape_flow.specs.declared.flow.Flow.{Flow}
-use Rattle.tape_flow.specs.declared.program.FlowProgram.{FlowProgram}
-use Rattle.tape_flow.specs.Places.{flow_program, flow_blocks, flow_block}
-use Rattle.tape_flow.specs.Forms.{program_form}
-use Rattle.tape_flow.specs.Controls.{control_block, control_program, controls}
-use Rattle.tape_flow.proofs.Seen.{block_seen, program_seen}
+use Rattle.tape_flow.specs.Places.{flow_block}
 use Rattle.named_vars.specs.Names.{found_names, found_may_write}
 use Rattle.part_lines.specs.PartLines.{LineInPart}
 use Rattle.race_order.specs.Races.{PartNames, PartMayWrite}

@@ -1,9 +1,8 @@
 -- A table of lines, as it takes one program after another, tells all lines of a flow together with
 -- the programs that are left: for `add_program` and `table_of` (src/table.rt).
-use Rattle.std.proofs.Common.{◌≡◌, ◌==◌, ℕ, zero, suc, ◌+◌, ◌<◌, ◌≤◌, ◌⊎◌, inl, inr, true, false, List, [], ◌∷◌, length, drop, get_or, Option, Some, None, is_some, slice_get, refl, ap, sym, subst, ◌∙◌, arith}
+use Rattle.std.proofs.Common.{◌≡◌, ◌==◌, ℕ, zero, suc, ◌+◌, ◌<◌, ◌⊎◌, inl, inr, true, false, List, [], ◌∷◌, length, drop, get_or, Option, Some, None, is_some, slice_get, refl, ap, sym, subst, ◌∙◌, arith}
 use Rattle.std.proofs.lemmas.Bool.{eq-eqb, ne_eqb}
 use Rattle.std.proofs.Math.Seq.{drop-cons}
-use Rattle.std.proofs.Math.ListN.{drop_of_length-le}
 use Rattle.block_forms.specs.declared.block.FlowBlock.{FlowBlock}
 use Rattle.tape_flow.specs.declared.flow.Flow.{Flow}
 use Rattle.tape_flow.specs.declared.program.FlowProgram.{FlowProgram}
@@ -12,12 +11,7 @@ use Rattle.race_report.specs.declared.sought.Sought.{Sought}
 use Rattle.race_report.specs.declared.table.LineTable.{LineTable}
 use Rattle.race_report.specs.declared.table.ProgramLines.{ProgramLines}
 use Rattle.race_report.specs.Lines.{block_line, sought_line}
-use Rattle.race_report.specs.Tables.{kept_lines, line_at, program_line, table_line, lines_of, told_or, IsToldWith}
-
--- an empty table and all programs of the flow tell all lines
-pub told_start : (flow : Flow) (sought : Sought) (v : ℕ) (table : LineTable) → ((q : ℕ) → kept_lines table q ≡ None)
-    → IsToldWith flow sought v table flow.programs
-told_start flow sought v table none q place = rw (none q) refl
+use Rattle.race_report.specs.Tables.{kept_lines, line_at, lines_of, told_or, IsToldWith}
 
 -- the lines of a program have at each place that of its block, if it does what is looked for
 lines_at : (sought : Sought) (v : ℕ) (blocks : List FlowBlock) (place : ℕ)
@@ -78,16 +72,6 @@ told_more flow sought v old new p rest lines unknown are kept others so q place 
         ap (λ o. told_or sought v o (flow_program rest q) place) (others q other)
         ∙ (ap (λ f. told_or sought v (kept_lines old q) f place) (sym (other_program p rest q other)) ∙ so q place)
 
--- a table that needs no further program tells all lines
-pub told_all : (flow : Flow) (sought : Sought) (v : ℕ) (table : LineTable) → IsToldWith flow sought v table []
-    → (q place : ℕ) → table_line table q place ≡ sought_line flow sought v q place
-told_all flow sought v table so q place = go (kept_lines table q) refl ∙ so q place
-  where
-    go : (o : Option ProgramLines) → kept_lines table q ≡ o
-        → program_line (kept_lines table q) place ≡ told_or sought v (kept_lines table q) None place
-    go (Some lines) e = rw e refl
-    go None e = rw e refl
-
 -- the programs that are left from place i on begin with the one at that place
 pub told_at : (flow : Flow) (sought : Sought) (v : ℕ) (table : LineTable) (programs : List FlowProgram) (i : ℕ) (d : FlowProgram)
     → i < length programs → IsToldWith flow sought v table (drop i programs)
@@ -95,11 +79,6 @@ pub told_at : (flow : Flow) (sought : Sought) (v : ℕ) (table : LineTable) (pro
 told_at flow sought v table programs i d within so =
     let next : suc i ≡ i + 1 = omega arith in
     subst (IsToldWith flow sought v table) (drop-cons programs i d within ∙ ap (λ k. get_or programs i d ∷ drop k programs) next) so
-
--- past the last program the table alone tells all lines
-pub told_past : (flow : Flow) (sought : Sought) (v : ℕ) (table : LineTable) (programs : List FlowProgram) (i : ℕ)
-    → length programs ≤ i → IsToldWith flow sought v table (drop i programs) → IsToldWith flow sought v table []
-told_past flow sought v table programs i past so = subst (IsToldWith flow sought v table) (drop_of_length-le programs past) so
 
 -- the programs that are left begin with the one that the loop has at hand
 pub told_item : (flow : Flow) (sought : Sought) (v : ℕ) (table : LineTable) (items : List FlowProgram) (i : ℕ) (p : FlowProgram)

@@ -10,10 +10,6 @@ use Rattle.rough_cycle.proofs.Orders.{is_lt, is_not_lt}
 pub made : (r : Rough) (k : ℕ) → (first_moved r).x <ℤ x_of_pass r k → (pass_of r k).z <ℤ r.start.z → made_at r k ≡ Some (pass_of r k)
 made r k above below = rw (is_lt (first_moved r).x (x_of_pass r k) above, is_lt (pass_of r k).z r.start.z below) refl
 
--- a pass at or below the contour's first point is not made
-pub none_above : (r : Rough) (k : ℕ) → x_of_pass r k ≤ℤ (first_moved r).x → made_at r k ≡ None
-none_above r k past = rw (is_not_lt (first_moved r).x (x_of_pass r k) past) refl
-
 -- a pass that doesn't lead down from the start is not made
 pub none_below : (r : Rough) (k : ℕ) → r.start.z ≤ℤ (pass_of r k).z → made_at r k ≡ None
 none_below r k past = go (int_lt (first_moved r).x (x_of_pass r k))

@@ -3,7 +3,7 @@
 -- for it, for `branch_point` (src/branching.rt).
 use Rattle.std.proofs.Common.{◌≡◌, inl, inr, ℕ, zero, suc, ◌+◌, ◌-◌, ◌≤◌, ◌<◌, Bool, true, false, List, [], ◌∷◌, length, take, drop, get_or, Option, Some, None, refl, sym, ap, subst, arith, ◌∙◌, if◌then◌else◌}
 use Rattle.std.proofs.lemmas.Bool.{cases_lt}
-use Rattle.std.proofs.lemmas.List.{drop_more, drop_all}
+use Rattle.std.proofs.lemmas.List.{drop_more}
 use Rattle.std.specs.Option.{option_map}
 use Rattle.run_records.specs.Entries.{Entry, is_meeting}
 use Rattle.run_branch.specs.Meetings.{meetings, branch_point, IsBranchPoint}
@@ -96,11 +96,6 @@ is_point entries n k is = go (branch_point n entries) refl where
       let same : j ≡ k = omega (arith, one_point entries n j k found is, one_point entries n k j is found) in
       some ∙ ap Some same
 
--- before the first record is looked at, the search is that of all records
-pub unmoved : (r : Option ℕ) → r ≡ option_map (λ (k : ℕ). 0 + k) r
-unmoved None = refl
-unmoved (Some k) = let same : k ≡ 0 + k = omega arith in ap Some same
-
 -- the place counts from the first record, also from the next one on
 moved : (index : ℕ) (r : Option ℕ) → option_map (λ (k : ℕ). index + k) (option_map suc r) ≡ option_map (λ (k : ℕ). index + 1 + k) r
 moved index None = refl
@@ -121,10 +116,3 @@ looked_on entries (suc n) index e some within is =
           ≡ option_map (λ (k : ℕ). index + 1 + k) (branch_point (if b then suc n - 1 else suc n) (drop (index + 1) entries))
       less true = let same : n ≡ suc n - 1 = omega arith in ap (λ (m : ℕ). option_map (λ (k : ℕ). index + 1 + k) (branch_point m (drop (index + 1) entries))) same
       less false = refl
-
--- after the last record, with meetings left, there is no such prefix
-pub none_looked : (entries : List Entry) (left index : ℕ) → 0 < left → index ≡ length entries
-    → option_map (λ (k : ℕ). index + k) (branch_point left (drop index entries)) ≡ None
-none_looked entries zero index some all = absurd (omega (arith, some))
-none_looked entries (suc n) index some all =
-    ap (λ (l : List Entry). option_map (λ (k : ℕ). index + k) (branch_point (suc n) l)) (drop_all index entries (omega (arith, all)))

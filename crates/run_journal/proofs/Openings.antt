@@ -3,15 +3,13 @@
 -- `kept_settled`.
 use Rattle.std.proofs.Common.{◌≡◌, ℕ, ◌+◌, ◌*◌, List, [], ◌∷◌, length, take, get_or, refl, sym, ◌∙◌, ap, subst, arith, Some, Ok, Err}
 use Rattle.std.proofs.lemmas.List.{length-map}
-use Rattle.disk_model.specs.Device.{DiskState, IsCoherent, Reads, Only}
+use Rattle.disk_model.specs.Device.{DiskState, Reads, Only}
 use Rattle.disk_model.specs.Moments.{Uses}
-use Rattle.disk_model.proofs.Runs.{unwritten_none, uses_none}
 use Rattle.gate_file.specs.declared.fault.GateFault.{GateFault}
 use Rattle.gate_file.specs.declared.fault.GateFault.TheVariants.{DiskFault as GateDisk, NoRun as GateNone, RunThere as GateThere, Cut as GateCut, NoMemory as GateMemory}
 use Rattle.gate_file.specs.Chain.{Spells, ends_at}
 use Rattle.gate_file.specs.Gate.{Keeps}
 use Rattle.gate_file.specs.Opening.{Finds, RefusesOpening}
-use Rattle.gate_file.proofs.Reading.{uses_opening}
 use Rattle.run_records.specs.declared.bad_record.BadRecord.TheVariants.{NoHeader}
 use Rattle.run_records.specs.Entries.{Entry}
 use Rattle.run_records.specs.declared.header.Header.{Header}
@@ -37,17 +35,6 @@ kept_settled bodies disk end bytes keeps reads =
     let both : Some keeps.bytes ≡ Some bytes = sym keeps.reads ∙ reads in
     let same : keeps.bytes ≡ bytes = cc in
     subst (λ (l : List ℕ). Only l disk.image) same keeps.only
-
--- without memory a journal is not opened, and the disk is as it was
-pub none_opened : (disk : DiskState) → IsCoherent disk → FindsRun disk disk (Err NoMemory)
-none_opened disk coherent = record {
-  found = tt;
-  refused = tt;
-  later = omega arith;
-  calm = λ other. refl;
-  unwritten = unwritten_none disk coherent;
-  uses = λ bytes reads. uses_opening disk disk [] bytes bytes 0 reads refl (uses_none 0 0 disk) (omega arith);
-}
 
 -- the disk before and after the opening of its file of gates
 module _ (old new : DiskState) where

@@ -1,5 +1,5 @@
 -- The pieces of a journal, read one by one. The loop of `read_pieces` (src/reading.rt) rests on it.
-use Rattle.std.proofs.Common.{◌≡◌, ℕ, ◌+◌, ◌<◌, List, [], ◌∷◌, ◌++◌, length, take, drop, map, get_or, refl, sym, ◌∙◌, ap, subst, arith, append_assoc, take-append-drop}
+use Rattle.std.proofs.Common.{◌≡◌, ℕ, ◌+◌, ◌<◌, List, [], ◌∷◌, ◌++◌, length, take, drop, map, get_or, sym, ◌∙◌, ap, subst, arith, append_assoc, take-append-drop}
 use Rattle.std.proofs.lemmas.List.{append-nil, take_more, map-append}
 use Rattle.gate_file.specs.Chain.{ends_at}
 use Rattle.run_records.specs.declared.header.Header.{Header}
@@ -28,17 +28,6 @@ places_piece gate (first ∷ pieces) piece at here =
     let later : at ≡ next + ends_at (map piece_bytes pieces) + 5 = omega (arith, here) in
     ap (λ (l : List ℕ). record_places (gate + 6) (records_in first) ++ l) (places_piece next pieces piece at later)
     ∙ sym (append_assoc (record_places (gate + 6) (records_in first)) (places next pieces) (record_places (at + 1) (records_in piece)))
-
--- before the first piece nothing is read
-pub none_are_read : (version : Version) (bodies : List (List ℕ)) (index : ℕ) → index ≡ 1 → AreRead version version bodies index [] []
-none_are_read version bodies index is = record {
-  pieces = [];
-  are = tt;
-  version_is = refl;
-  bodies_are = ap (λ (n : ℕ). take n bodies) is ∙ sym (append-nil (take 1 bodies));
-  entries_are = refl;
-  offsets_are = refl;
-}
 
 -- the pieces up to an index are read, and this body comes next
 module _ (version now : Version) (bodies : List (List ℕ)) (index : ℕ) (entries : List Entry) (offsets : List ℕ) (read : AreRead version now bodies index entries offsets) (within : index < length bodies) (body : List ℕ) (is : body ≡ get_or bodies index [])

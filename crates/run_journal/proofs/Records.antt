@@ -7,13 +7,10 @@ use Rattle.run_records.specs.declared.bad_record.BadRecord.TheVariants.{WrongLen
 use Rattle.run_records.specs.Entries.{Entry}
 use Rattle.run_records.specs.Spelling.{entry_bytes, IsEntry}
 use Rattle.run_records.specs.declared.version.Version.{Version}
-use Rattle.run_records.specs.declared.version.Version.TheVariants.{One, Two}
-use Rattle.run_journal.specs.declared.fault.JournalFault.{JournalFault}
-use Rattle.run_journal.specs.declared.fault.JournalFault.TheVariants.{DiskFault, NoRun, Cut, BadRecord as Bad, NoMemory}
-use Rattle.run_journal.specs.Batches.{records_bytes, raising_mark, a_batch, the_mark, MayStand}
+use Rattle.run_journal.specs.Batches.{records_bytes, a_batch, MayStand}
 use Rattle.run_journal.specs.Bad.{cause_for, Begins, IsBadBatch, empty, uncounted, unread, late}
 use Rattle.run_journal.specs.Places.{record_places}
-use Rattle.run_journal.specs.Reading.{IsRecordsRead, IsUnread, IsBatchRead, IsPieceRead, RefusesBatch, RefusesBody}
+use Rattle.run_journal.specs.Reading.{IsRecordsRead, IsUnread, IsBatchRead, IsPieceRead}
 use Rattle.run_journal.proofs.Batches.{are_push, records_push}
 
 -- the offset of one record more is where the bytes before it end
@@ -130,25 +127,6 @@ piece_read version at body old new places_old places_new read = record {
   entries = read.entries;
   offsets = read.offsets;
 }
-
--- the mark is a piece without a record
-pub mark_read : (at : ℕ) (body : List ℕ) (entries : List Entry) (places : List ℕ) → body ≡ raising_mark → IsPieceRead One Two at body entries entries places places
-mark_read at body entries places is = record {
-  piece = the_mark;
-  is = refl;
-  version_is = refl;
-  body_is = is;
-  entries = sym (append-nil entries);
-  offsets = sym (append-nil places);
-}
-
--- a body that is no mark, where that may stand, is no piece if it is no batch
-pub piece_refused : (version : Version) (at : ℕ) (body : List ℕ) (fault : JournalFault) → (version ≡ One → body ≡ raising_mark → ⊥) → RefusesBatch version at body fault → RefusesBody version at body fault
-piece_refused version at body (Bad offset cause) unmarked (place, stands, bad) = (place, stands, record { unmarked = unmarked; batch = bad })
-piece_refused version at body NoMemory unmarked refused = tt
-piece_refused version at body DiskFault unmarked refused = absurd refused
-piece_refused version at body NoRun unmarked refused = absurd refused
-piece_refused version at body (Cut place) unmarked refused = absurd refused
 
 -- the first byte of a body, and the others
 pub count_first : (body : List ℕ) → 1 ≤ length body → body ≡ get_or body 0 0 ∷ take (length body - 1) (drop 1 body)

@@ -16,7 +16,7 @@ use Rattle.run_table.specs.Draining.{owed_behind}
 use Rattle.run_table.specs.Kept.{TableView, IsTable}
 use Rattle.run_table.specs.Since.{Since}
 use Rattle.run_table.specs.Stepping.{step_of, IsStep}
-use Rattle.run_table.specs.Holding.{HeldView, held_of, IsOf, ShowsFlushed, MayHold, IsHeld, MayHoldAgain, without_turret, records_since, next_of, is_lost}
+use Rattle.run_table.specs.Holding.{HeldView, held_of, IsOf, ShowsFlushed, IsHeld, MayHoldAgain, without_turret, records_since, next_of, is_lost}
 use Rattle.run_table.proofs.HeldSteps.{comes, halted_told, still_lost}
 use Rattle.run_table.proofs.FlushedShown.{shows_on, shown_unless}
 use Rattle.run_table.proofs.Then.{since_more}
@@ -121,10 +121,6 @@ pub shows_halt : {D : Type 0} (opened : Option (TableView D)) (t : TableView D) 
     → ShowsFlushed opened (held_of (record t { halt = why }) shown) (record t { halt = why })
 shows_halt None t shown why is = is
 shows_halt (Some start) t shown why is = is
-
--- a table that may be held is held, with its last moves answered
-pub held_first : {D : Type 0} (state : D → DiskState) (opened : Option (TableView D)) (t : TableView D) → MayHold state opened t → IsHeld state opened t true
-held_first state opened t may = record { of = may.of; lost = λ clash. absurd cc; shows = may.shows }
 
 -- what was shown stays on the disk when the table is taken out, whatever its reason
 taken_shown : {D : Type 0} (opened : Option (TableView D)) (t : TableView D) (shown : Bool) (why : Option Halt) → ShowsFlushed opened (held_of t shown) t

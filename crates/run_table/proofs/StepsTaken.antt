@@ -19,8 +19,8 @@ use Rattle.run_table.specs.declared.answer.TableStep.TheVariants.{Drain, DiskFau
 use Rattle.run_table.specs.Kept.{TableView}
 use Rattle.run_table.specs.Stepping.{Answers, is_shown, is_due, drains, step_by, step_of, bound_of, IsStep}
 use Rattle.run_table.specs.Stepping.Answers.{at_once, flushed, failed}
-use Rattle.run_table.specs.Recording.{RecordingView, StandsForPrefix, Follows, Records, IsNoted}
-use Rattle.run_table.proofs.RecordingsFollow.{sends_nothing, follows_more}
+use Rattle.run_table.specs.Recording.{RecordingView, StandsForPrefix, Records, IsNoted}
+use Rattle.run_table.proofs.RecordingsFollow.{sends_nothing}
 
 -- a record that is added makes no call of the disk
 pub noted_only : {D : Type 0} (state : D → DiskState) (made : List Entry) (old new : RecordingView D)
@@ -57,21 +57,6 @@ noted_only state made old new coherent noted = record {
 pub nothing : {D : Type 0} (state : D → DiskState) (r : RecordingView D) → ((disk : D) → IsCoherent (state disk)) → Records state [] r r
 nothing state r coherent =
     noted_only state [] r r coherent (record { within = λ (some : 1 ≤ 0). absurd (omega (arith, some)); history = sym (append-nil r.history); file = refl; flushed = refl; version = refl; room = refl; journal = λ header j. j })
-
--- the disk took four calls at most, within the bytes of the old file and of one batch of what pends
-abbrev IsUsed : {D : Type 0} → (D → DiskState) → RecordingView D → Gate D → ℕ → Type 0
-IsUsed state new file count =
-    Uses 4 (file.end + length (batch_bytes (drop count new.history)) + 6) (state file.disk) (state new.log.file.disk)
-
--- a record that is added, and then a flush, are one call with that record
-pub noted_then : {D : Type 0} (state : D → DiskState) (made : List Entry) (old mid new : RecordingView D)
-    → ((disk : D) → IsCoherent (state disk)) → IsNoted state made old mid → Records state [] mid new → Records state made old new
-noted_then state made old mid new coherent noted then = record {
-  follows = subst (λ (l : List Entry). Follows state l old new) (append-nil made)
-      (follows_more state made [] old mid new (noted_only state made old mid coherent noted).follows then.follows);
-  room = then.room ∙ noted.room;
-  uses = subst (λ (n : ℕ). IsUsed state new old.log.file n) noted.flushed (subst (λ (f : Gate _). IsUsed state new f mid.flushed) noted.file then.uses);
-}
 
 -- an answer after a flush that is done
 pub answer_flushed : {D : Type 0} (state : D → DiskState) (answer : TableStep) (old new : RecordingView D) → old.flushed ≤ length old.history

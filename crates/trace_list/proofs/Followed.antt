@@ -9,7 +9,6 @@ use Rattle.nc_number.specs.Path.{is_same}
 use Rattle.nc_number.specs.declared.path.Path.{Path}
 use Rattle.nc_number.specs.declared.path.Path.TheVariants.{One, Two}
 use Rattle.nc_number.specs.declared.point.Point.{Point}
-use Rattle.nc_number.specs.declared.value.Var.{Var}
 use Rattle.nc_number.specs.Both.{of_path}
 use Rattle.nc_moves.specs.declared.alarm.Alarm.{Alarm}
 use Rattle.nc_moves.specs.declared.motion.Move.{Move}

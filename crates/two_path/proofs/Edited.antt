@@ -1,7 +1,7 @@
 -- Records that are edits, and records that are steps: which a record is, what is behind it, and
 -- what an edit leaves as it was.
 -- nc_restart, run_table and trace_list use these lemmas.
-use Rattle.std.proofs.Common.{◌≡◌, ℕ, ◌+◌, true, List, [], Option, Some, None, is_some, refl, sym, ap, ◌∙◌, inl, inr}
+use Rattle.std.proofs.Common.{◌≡◌, ℕ, List, [], Option, Some, None, refl, ap, inl, inr}
 use Rattle.nc_number.specs.declared.path.Path.{Path}
 use Rattle.nc_number.specs.declared.path.Path.TheVariants.{One, Two}
 use Rattle.nc_moves.specs.declared.alarm.Alarm.{Alarm}
@@ -14,12 +14,11 @@ use Rattle.nc_number.specs.Both.{of_path}
 use Rattle.run_records.proofs.OneSpelling.{edited_kind}
 use Rattle.two_path.specs.declared.turn.Turn.{Turn}
 use Rattle.two_path.specs.declared.turn.Turn.TheVariants as turn
-use Rattle.path_state.specs.Edits.{edited}
 use Rattle.two_path.specs.Machine.{Part, MachineView, own_first, without_reads}
-use Rattle.two_path.specs.Turns.{Blocks, Tapes, part_at, own_turn, kind_of}
+use Rattle.two_path.specs.Turns.{Blocks, Tapes, own_turn, kind_of}
 use Rattle.two_path.specs.Edits.{behind_edit_of, edit_entry, unless_alarm}
 use Rattle.two_path.specs.Histories.{with_reads, IsStep, behind_step, behind_own, behind_entry, IsNext}
-use Rattle.two_path.specs.Again.{turn_by, turn_of_entry, IsDoneAgain, IsRefused}
+use Rattle.two_path.specs.Again.{turn_by, turn_of_entry}
 
 -- a record of this path and kind, with these stamps
 abbrev pub entry : Path → EntryKind → List ℕ → Entry
@@ -63,10 +62,6 @@ pub turn_of_step : (tapes : Tapes) (m : MachineView) (e : Entry) → edit_of e.k
     → turn_of_entry tapes e m ≡ (own_turn (of_path tapes e.path) e.path (with_reads (of_path tapes e.path) e.stamps (own_first e.path m))).turn
 turn_of_step tapes m e step = ap (λ o. turn_by (of_path tapes e.path) e.path o e.stamps (own_first e.path m)) step
 
--- what the record of an edit answers as it is done again
-pub turn_of_edit : (tapes : Tapes) (m : MachineView) (e : Entry) (edit : Edit) → edit_of e.kind ≡ Some edit → turn_of_entry tapes e m ≡ turn.Edited
-turn_of_edit tapes m e edit is = ap (λ o. turn_by (of_path tapes e.path) e.path o e.stamps (own_first e.path m)) is
-
 -- behind a record no block has read anything
 pub entry_bare : (tapes : Tapes) (e : Entry) (m : MachineView) → without_reads (behind_entry tapes e m) ≡ behind_entry tapes e m
 entry_bare tapes e m = go e.path (edit_of e.kind)
@@ -93,19 +88,6 @@ pub record StayPaths (before after : MachineView) : Type 0 where
   pub second : StaysPart before.paths.two after.paths.two
   pub alarm : after.alarm ≡ before.alarm
 
--- the path that is not edited stays where it was; its block reads anew
-stays_part : (p : Part) (since : ℕ) → StaysPart p (part_at p.path since p)
-stays_part p since = record { place = refl; position = refl; modal = refl; fixed = refl; waiting = refl; finished = refl }
-
--- the path that is edited stays where it was
-edited_part : (edit : Edit) (p : Part) (since : ℕ) → StaysPart p (part_at (edited edit p.path) since p)
-edited_part edit p since = record { place = refl; position = refl; modal = refl; fixed = refl; waiting = refl; finished = refl }
-
--- an edit of either path leaves both where they were
-pub edit_stays : (p : Path) (edit : Edit) (m : MachineView) → StayPaths m (behind_edit_of p edit m)
-edit_stays One edit m = record { first = edited_part edit m.paths.one (m.count + 1); second = stays_part m.paths.two (m.count + 1); alarm = refl }
-edit_stays Two edit m = record { first = stays_part m.paths.one (m.count + 1); second = edited_part edit m.paths.two (m.count + 1); alarm = refl }
-
 -- the record of a step that the machine can make is legal
 pub next_of_step : (tapes : Tapes) (m : MachineView) (e : Entry) → IsStep (of_path tapes e.path) e.path (own_first e.path m) e.kind e.stamps → IsNext tapes m e
 next_of_step tapes m e i = inl i
@@ -120,24 +102,3 @@ step_of_next tapes m e step (inr i) =
 -- a record of an edit's kind, with no stamps, is the record of that edit
 pub edit_is : (e : Entry) (edit : Edit) → edit_of e.kind ≡ Some edit → e.stamps ≡ [] → e ≡ edit_entry e.path edit
 edit_is e edit is bare = let same : e.kind ≡ kind.Edited edit = edited_kind e.kind edit is in λ i. record { path = e.path; kind = same i; stamps = bare i }
-
--- the record of an edit is done again if there is no alarm
-pub edit_done : (tapes : Tapes) (e : Entry) (edit : Edit) (before after : MachineView) → edit_of e.kind ≡ Some edit → e.stamps ≡ []
-    → before.alarm ≡ None → after ≡ behind_edit_of e.path edit before → IsDoneAgain tapes e before after turn.Edited
-edit_done tapes e edit before after kind bare calm is =
-    let whole : e ≡ edit_entry e.path edit = edit_is e edit kind bare in
-    record {
-      legal = inr (record { edit = edit; is = whole; calm = calm });
-      machine = is ∙ sym (behind_edit_entry tapes before e edit whole);
-      answer = sym (turn_of_edit tapes before e edit kind);
-    }
-
--- the record of an edit is refused if there is an alarm
-pub edit_refused : (tapes : Tapes) (e : Entry) (edit : Edit) (before after : MachineView) → edit_of e.kind ≡ Some edit
-    → is_some before.alarm ≡ true → after ≡ before → IsRefused tapes e before after
-edit_refused tapes e edit before after kind halted is = record { illegal = illegal; unchanged = is }
-  where
-    illegal : IsNext tapes before e → ⊥
-    illegal (inl i) =
-        let none : edit_of e.kind ≡ None = step_no_edit (of_path tapes e.path) e.path (own_first e.path before) e.kind e.stamps i in cc
-    illegal (inr i) = let calm : before.alarm ≡ None = i.calm in cc

@@ -7,24 +7,11 @@ use Rattle.nc_number.specs.Both.{of_path}
 use Rattle.block_order.specs.declared.program.ControlProgram.{ControlProgram}
 use Rattle.run_records.specs.Entries.{Entry, edit_of}
 use Rattle.two_path.specs.declared.turn.Turn.{Turn}
-use Rattle.two_path.specs.Machine.{Part, MachineView, own_first, without_reads}
+use Rattle.two_path.specs.Machine.{Part, MachineView, own_first}
 use Rattle.two_path.specs.Turns.{Tapes}
-use Rattle.two_path.specs.Joined.{JointView, machine_of, AreShared, AreAtTheirWaits}
+use Rattle.two_path.specs.Joined.{JointView, machine_of, AreAtTheirWaits}
 use Rattle.two_path.specs.Again.{AreReady, IsStepDone, IsStepRefused, IsDoneAgain, IsRefused}
 use Rattle.two_path.proofs.Edited.{behind_step_entry, turn_of_step, next_of_step, step_of_next}
-
--- parts that share the joint part, wait on waits and have read nothing are ready
-pub ready_of : (tape other_tape : List ControlProgram) (me other : Part) (joint : JointView) → AreShared me joint → AreShared other joint
-    → AreAtTheirWaits tape other_tape (machine_of me other joint) → without_reads (machine_of me other joint) ≡ machine_of me other joint
-    → AreReady tape other_tape me other joint
-ready_of tape other_tape me other joint mine theirs waits bare = record {
-  my_shared = mine;
-  other_shared = theirs;
-  my_wait = waits.first;
-  other_wait = waits.second;
-  my_reads = ap (λ (m : MachineView). m.paths.one) bare;
-  other_reads = ap (λ (m : MachineView). m.paths.two) bare;
-}
 
 -- ready parts are ready with the paths changed over
 pub swap : (tape other_tape : List ControlProgram) (me other : Part) (joint : JointView) → AreReady tape other_tape me other joint → AreReady other_tape tape other me joint
@@ -41,11 +28,6 @@ swap tape other_tape me other joint r = record {
 pub waits_of : (tape other_tape : List ControlProgram) (me other : Part) (joint : JointView) → AreReady tape other_tape me other joint
     → AreAtTheirWaits tape other_tape (machine_of me other joint)
 waits_of tape other_tape me other joint r = record { first = r.my_wait; second = r.other_wait }
-
--- no block of ready parts has read anything
-pub bare_of : (tape other_tape : List ControlProgram) (me other : Part) (joint : JointView) → AreReady tape other_tape me other joint
-    → without_reads (machine_of me other joint) ≡ machine_of me other joint
-bare_of tape other_tape me other joint r = λ i. machine_of (r.my_reads i) (r.other_reads i) joint
 
 -- a machine whose paths are changed over twice is as it was
 twice : (p : Path) (m : MachineView) → own_first p (own_first p m) ≡ m

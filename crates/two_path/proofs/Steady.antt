@@ -132,15 +132,6 @@ step_shared blocks keeps path stamps me other me' other' joint joint' is lasting
       still_shared other other' joint joint' (ap (λ (m : MachineView). m.paths.two.path.fixed) is ∙ fixed.second) lasting theirs,
     )
 
--- behind a record that is refused, which leaves the machine, both parts share the variables of the
--- joint part
-pub same_shared : (me other me' other' : Part) (joint joint' : JointView) → machine_of me' other' joint' ≡ machine_of me other joint
-    → IsLasting joint joint' → AreShared me joint → AreShared other joint → AreShared me' joint' × AreShared other' joint'
-same_shared me other me' other' joint joint' is lasting mine theirs = (
-  still_shared me me' joint joint' (ap (λ (m : MachineView). m.paths.one.path.fixed) is) lasting mine,
-  still_shared other other' joint joint' (ap (λ (m : MachineView). m.paths.two.path.fixed) is) lasting theirs,
-)
-
 -- after a record that is done again each waiting path stands on a wait
 pub step_waits : (left right : List ControlProgram) (blocks : Blocks) → ((at : PathView) (values : List Var) → GoesAsOrdered left at (blocks.effect at values))
     → (path : Path) (stamps : List ℕ) (m to : MachineView) → to ≡ behind_step blocks path stamps m → AreAtTheirWaits left right m → AreAtTheirWaits left right to

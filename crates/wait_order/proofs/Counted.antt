@@ -1,31 +1,15 @@
 -- The first line of a tape that may pass a wait is the least of its programs' first ones. A loud
 -- program comes to a wait or an end, itself or by its calls; the others are quiet. For the proof of
 -- `stray_line` (src/waiting.rt), and for Called, Deepest and Strayed.
-use Rattle.std.proofs.Common.{◌≡◌, ℕ, suc, ◌+◌, ◌<◌, ◌⊎◌, inl, inr, Bool, true, false, ◌==◌, List, [], ◌∷◌, length, Option, Some, None, slice_get, refl, ap, sym, subst, ◌∙◌, arith}
+use Rattle.std.proofs.Common.{◌≡◌, ℕ, suc, ◌+◌, ◌<◌, ◌⊎◌, inl, inr, Bool, true, false, ◌==◌, List, [], ◌∷◌, length, Option, Some, slice_get, refl, ap, sym, subst, ◌∙◌, arith}
 use Rattle.std.proofs.lemmas.Bool.Decides.{nat_tests}
 use Rattle.block_order.specs.declared.program.ControlBlock.{ControlBlock}
 use Rattle.block_order.specs.declared.program.ControlProgram.{ControlProgram}
 use Rattle.block_order.specs.Order.{blocks}
-use Rattle.block_order.specs.Labels.{Counts}
-use Rattle.block_order.specs.Faults.{Strays, jump, loop, back}
 use Rattle.wait_order.specs.TapeFaults.{IsStrayLineBelow, IsTapeStrayLine}
 use Rattle.wait_order.specs.Waiting.{IsStrayLine, IsLeast}
 use Rattle.nc_number.specs.Options.{lesser}
-use Rattle.wait_order.proofs.Least.{least_same, least_none, least_either}
-
--- Only a program on which labels hang (the main one, or a loud one) has blocks that may pass a
--- wait.
-pub strays_count : (tape : List ControlProgram) (program place : ℕ) (b : ControlBlock) → Strays tape program place b → Counts tape program
-strays_count tape program place b (jump target counts is apart) = counts
-strays_count tape program place b (loop head counts is apart) = counts
-strays_count tape program place b (back n is_loud other e) = inr is_loud
-
--- A program on which no labels hang has no line that may pass a wait.
-pub least_uncounted : (tape : List ControlProgram) (program : ℕ) → (Counts tape program → ⊥) → IsLeast (IsStrayLine tape program) None
-least_uncounted tape program not_so = least_none {P = IsStrayLine tape program} none
-  where
-    none : (n : ℕ) → IsStrayLine tape program n → ⊥
-    none n (place, b, stands, strays, e) = not_so (strays_count tape program place b strays)
+use Rattle.wait_order.proofs.Least.{least_same, least_either}
 
 -- The lesser of the first lines of the first i programs and of one more is that of the first i + 1.
 pub least_program : (tape : List ControlProgram) (i : ℕ) (p : ControlProgram) (a b : Option ℕ) → slice_get tape i ≡ Some p
@@ -48,10 +32,6 @@ least_program tape i p a b at l r =
       | inl e ↦ inr (here n t q is h e)
       | inr less ↦ inl (t, q, less, is, h)
     ]
-
--- Of no programs there is no line that may pass a wait.
-pub least_no_program : (tape : List ControlProgram) → IsLeast (IsStrayLineBelow tape 0) None
-least_no_program tape = least_none {P = IsStrayLineBelow tape 0} (λ n h. (let below = h.2 in absurd (omega arith)))
 
 -- A program of this O number stands on the tape.
 pub record IsOnTape (tape : List ControlProgram) (q : ℕ) : Type 0 where

@@ -156,10 +156,6 @@ least_more ld q may bs n a b first second =
         go (inl e) = inr (subst (λ j. MayLeadTo ld q may bs j k) e h)
         go (inr less) = inl (t, less, h)
 
--- For no targets there is no such block.
-pub least_no_target : (ld : ℕ → Bool) (q : Control → Bool) (may : ℕ → Bool) (bs : List ControlBlock) → IsLeast (MayLeadBelow ld q may bs 0) None
-least_no_target ld q may bs = least_none {P = MayLeadBelow ld q may bs 0} (λ k h. (let below = h.1 in absurd (omega arith)))
-
 -- The first block for all targets is the first of the search that may lead to another stretch.
 pub least_all : (ld : ℕ → Bool) (q : Control → Bool) (may : ℕ → Bool) (bs : List ControlBlock) (a : Option ℕ) → IsLeast (MayLeadBelow ld q may bs (length bs)) a
     → IsLeast (IsSearchStray ld q may bs) a

@@ -3,10 +3,9 @@
 -- end, an M99 without a number, or a loud call. A loud program comes to a wait or an end, itself or
 -- by its calls; the others are quiet. For the proofs of src/search.rt, src/searches.rt and
 -- src/view.rt, and for Strayed.
-use Rattle.std.proofs.Common.{◌≡◌, ℕ, zero, suc, ◌+◌, ◌<◌, ◌⊎◌, inl, inr, Bool, true, false, ◌||◌, ◌==◌, List, [], ◌∷◌, ◌++◌, length, drop, Option, Some, None, slice_get, slice_index_or, refl, ap, sym, subst, ◌∙◌, arith}
+use Rattle.std.proofs.Common.{◌≡◌, ℕ, zero, suc, ◌+◌, ◌⊎◌, inl, inr, Bool, true, false, ◌||◌, ◌==◌, List, [], ◌∷◌, ◌++◌, length, Option, Some, None, slice_get, refl, ap, sym, subst, ◌∙◌, arith}
 use Rattle.std.specs.List.{list_any}
 use Rattle.std.proofs.lemmas.Bool.Decides.{nat_tests}
-use Rattle.std.proofs.Math.Seq.{drop-cons}
 use Rattle.nc_number.proofs.Bools.{or_true}
 use Rattle.nc_number.proofs.Counts.{equal, last_or_before}
 use Rattle.block_order.specs.declared.control.Control.{Control}
@@ -21,11 +20,6 @@ use Rattle.wait_order.specs.Searches.{IsLongQuiet, IsCallSearch, IsReturnSearch,
 use Rattle.wait_order.specs.Waiting.{HasBack, IsSearchStray, IsLeast}
 use Rattle.nc_number.specs.Options.{lesser}
 use Rattle.wait_order.proofs.Least.{least_none, least_either}
-
--- Of three tests one holds, however they are grouped.
-or_or : (x y z : Bool) → ((x || y) || z) ≡ (x || (y || z))
-or_or true y z = refl
-or_or false y z = refl
 
 -- A control that passes the test is a GOTO to a calculated number.
 pub computed_is : (c : Control) → is_computed c ≡ true → c ≡ Goto None
@@ -104,20 +98,6 @@ any_searcher q (b ∷ bs) zero (c, at, is) =
     rw here refl
 any_searcher q (b ∷ bs) (suc place) (c, at, is) = rw (any_searcher q bs place (c, at, is)) (or_true (q b.control))
 
--- The numbers noted so far and those of the blocks ahead are those of all blocks, also after one
--- block more.
-pub noted_more : (bs : List ControlBlock) (i : ℕ) (d : ControlBlock) (n : ℕ) (old new : Bool) → i < length bs
-    → new ≡ (old || is_back_to n (slice_index_or bs i d).control) → (old || has_back_to (drop i bs) n) ≡ has_back_to bs n
-    → (new || has_back_to (drop (i + 1) bs) n) ≡ has_back_to bs n
-noted_more bs i d n old new within e before =
-    let on : i + 1 ≡ suc i = omega arith in
-    let b = slice_index_or bs i d in
-    let rest = has_back_to (drop (suc i) bs) n in
-    let cut : has_back_to (drop i bs) n ≡ (is_back_to n b.control || rest) = ap (λ l. has_back_to l n) (drop-cons bs i d within) in
-    ap (λ k. new || has_back_to (drop k bs) n) on
-    ∙ (ap (λ x. x || rest) e
-    ∙ (or_or old (is_back_to n b.control) rest ∙ (ap (λ x. old || x) (sym cut) ∙ before)))
-
 -- A list with one entry more has its old entries and the new one.
 get_push : {X : Type 0} (xs : List X) (y x : X) (i : ℕ) → slice_get (xs ++ y ∷ []) i ≡ Some x → (slice_get xs i ≡ Some x) ⊎ (x ≡ y)
 get_push [] y x zero e = inr (let same : y ≡ x = cc in sym same)
@@ -142,19 +122,6 @@ same_program : (tape : List ControlProgram) (i n : ℕ) (p q : ControlProgram) �
 same_program tape i n p q at is e =
     let both : Some q ≡ Some p = sym is ∙ (ap (λ k. slice_get tape k) e ∙ at) in
     cc
-
--- The searches of the first n + 1 programs are those of the first n, if one more is no long quiet
--- program.
-pub searches_same : (tape : List ControlProgram) (n : ℕ) (p : ControlProgram) (searches : List Search) → slice_get tape n ≡ Some p
-    → (IsLongQuiet tape p.number → ⊥) → AreSearchesBelow tape n searches → AreSearchesBelow tape (n + 1) searches
-searches_same tape n p searches at not_so are = record {
-  each = are.each;
-  computed = are.computed;
-  calls = λ i q below is long. elim (last_or_before i n below) [
-    | inl e ↦ absurd (not_so (subst (λ x. IsLongQuiet tape x.number) (same_program tape i n p q at is e) long))
-    | inr less ↦ are.calls i q less is long
-  ];
-}
 
 -- If one program more is a long quiet one, and the search of its calls is added, the searches are
 -- those of the first n + 1.
@@ -183,18 +150,6 @@ searches_more tape n p searches search at long serves are = record {
         → (s ≡ Computed) ⊎ ((called : ℕ) × IsReturnSearch tape called s)
     each i s (inl e) = are.each i s e
     each i s (inr e) = inr (p.number, subst (λ x. IsReturnSearch tape p.number x) (sym e) own)
-
--- Of no programs the searches are that of the computed GOTOs alone.
-pub searches_none : (tape : List ControlProgram) → AreSearchesBelow tape 0 (Computed ∷ [])
-searches_none tape = record {
-  each = λ i s e. inl (first i s e);
-  computed = (0, refl);
-  calls = λ i q below is long. absurd (omega arith);
-}
-  where
-    first : (i : ℕ) (s : Search) → slice_get (Computed ∷ []) i ≡ Some s → s ≡ Computed
-    first zero s e = let same : Computed ≡ s = cc in sym same
-    first (suc i) s e = absurd cc
 
 -- The lesser of the first blocks of the first i searches and of one more is that of the first i +
 -- 1.

@@ -3,8 +3,6 @@
 use Rattle.std.proofs.Common.{◌≡◌, ◌<◌, ◌≤◌, ◌*◌, ◌+◌, ℕ, zero, suc, Bool, true, false, cond, refl, arith, inl, inr, nat_le}
 use Rattle.std.proofs.lemmas.Bool.{cases_lt, leb-true, leb-false}
 use Rattle.std.proofs.Math.Nat.{le-mul_of_pos_right, mul-le-mul}
-use Rattle.nc_number.proofs.Roots.{root_le}
-use Rattle.zone_area.specs.Range.{far_squares}
 use Rattle.zone_area.specs.Roots.{least_root_below, least_root}
 
 -- the square of the least root up to a bound is at least the number, if that of the bound is
@@ -64,7 +62,3 @@ root_after n r low high = least_root_is n (r + 1) (omega arith) (λ k e. let sam
 -- the root of a square is exact
 pub root_exact : (n r : ℕ) → r * r ≤ n → n ≤ r * r → least_root n ≡ r
 root_exact n r low high = least_root_is n r high (λ k e. let next : (k + 1) * (k + 1) ≤ n = (rw e at low) in omega arith)
-
--- the root of a square within range is within range
-pub root_small : (n r : ℕ) → n ≤ far_squares → r * r ≤ n → r ≤ 990000000000000
-root_small n r small low = root_le r 990000000000000 (omega arith)
