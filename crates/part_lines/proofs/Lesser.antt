@@ -23,11 +23,6 @@ lesser_again None b = refl
 lesser_again (Some a) None = let e : min a a ≡ a = omega arith in ap Some e
 lesser_again (Some a) (Some b) = let e : min a (min a b) ≡ min a b = omega arith in ap Some e
 
--- To join no line to the first part changes nothing.
-pub with_none : (lines : Lines) → with_first None lines ≡ lines
-with_none [] = refl
-with_none (own ∷ lines) = refl
-
 -- To join the lesser of two lines to the first part is to join both.
 pub with_both : (a b : Option ℕ) (lines : Lines) → with_first (lesser a b) lines ≡ with_first a (with_first b lines)
 with_both a b [] = refl
