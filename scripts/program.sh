@@ -7,6 +7,8 @@ program=$crate/out/twin_lathe
 unproved=$crate/out/twin_lathe.unproved
 # What the toolchain hands to its compiler for the library of include/lathe.h, kept by scripts/build_library.
 library_module=$root/crates/lathe_c/out/lathe_c.bc
+# Once a gate has passed here: of which sources it proved the library and all below it, whose libraries it left in out/rlib of each crate.
+library_proofs=$root/crates/lathe_c/out/proofs
 # Beside each of these stands its mark, a file with `.built` after its name: its checksum, the lines of crates.txt that it stands on,
 # and the checksum of their sources when its building began. The proved program and the module have one only if they were proved and
 # built whole. A file with `.toolchain` after its name has the identity of the toolchain that built it.
@@ -118,6 +120,40 @@ note_built() {
     local built=${2:-$program}
     tool_version >"$built.toolchain" && mark_text "$built" "${3:-twin_lathe}" "$(<"$1")" >"$built.built"
 }
+
+# The crates of the repository below the library for C.
+crates_below_library() { lines_below lathe_c | sed -n 's/^\([a-z0-9_]*\).*/\1/p' | grep -vx lathe_c; }
+
+# Takes away the libraries that an earlier gate left. The tool would put them back over those of the next one. (a library of another command
+# has a stamp, and stays)
+drop_gate_libraries() {
+    local folder
+    for folder in "$root"/crates/*/out/rlib; do
+        [[ ! -d $folder || -e $folder/stamp ]] || rm -r -- "$folder"
+    done
+}
+
+# What `library_proofs` has to say for sources with the checksum $1.
+proofs_text() {
+    tool_version
+    lines_below lathe_c
+    printf '%s\n' "$1"
+}
+
+# Notes that a gate has left the libraries below the library for C, of sources whose checksum stands in the file $1; or, if one of them is
+# not that gate's, nothing.
+note_libraries() {
+    local name folder
+    rm -f -- "$library_proofs"
+    while read -r name; do
+        folder=$root/crates/$name/out/rlib
+        [[ -d $folder/$name.rlib && ! -e $folder/stamp ]] || return 0
+    done < <(crates_below_library)
+    proofs_text "$(<"$1")" >"$library_proofs"
+}
+
+# Whether these libraries are here, of this toolchain and of the sources as they are.
+are_libraries_here() { [[ -f $library_proofs && $(<"$library_proofs") == "$(proofs_text "$(sum_proved lathe_c)")" ]]; }
 
 # The identity of the toolchain, if there is one. (its file is read where there is one, since `rt version` takes half a second)
 tool_version() {
