@@ -13,7 +13,7 @@ use Rattle.block_forms.specs.Variables.{variables_of_value, variables_of_words}
 use Rattle.block_forms.proofs.WordByWord.{signs_at}
 
 -- The words with one more name their own variables and its.
-pub words_with : (words : List FlowWord) (word : FlowWord) → variables_of_words (words ++ word ∷ []) ≡ variables_of_words words + variables_of_value word.value
+words_with : (words : List FlowWord) (word : FlowWord) → variables_of_words (words ++ word ∷ []) ≡ variables_of_words words + variables_of_value word.value
 words_with [] word = omega arith
 words_with (w ∷ words) word = omega (arith, words_with words word)
 

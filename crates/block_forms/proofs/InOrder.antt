@@ -32,7 +32,7 @@ in_order_cons before word words = go (is_one_of (codes "IJK") word.letter) (word
 
 -- At the word i of the loop: if it is an I, J or K, it must be above the letter before, and the
 -- words ahead rise from it.
-pub in_order_next : (before : Option ℕ) (words : List FlowWord) (i : ℕ) (d : FlowWord) → i < length words → in_order_behind before (drop i words) ≡ cond (is_one_of (codes "IJK") (get_or words i d).letter) (is_above before (get_or words i d).letter && in_order_behind (Some (get_or words i d).letter) (drop (i + 1) words)) (in_order_behind before (drop (i + 1) words))
+in_order_next : (before : Option ℕ) (words : List FlowWord) (i : ℕ) (d : FlowWord) → i < length words → in_order_behind before (drop i words) ≡ cond (is_one_of (codes "IJK") (get_or words i d).letter) (is_above before (get_or words i d).letter && in_order_behind (Some (get_or words i d).letter) (drop (i + 1) words)) (in_order_behind before (drop (i + 1) words))
 in_order_next before words i d lt =
     let e : i + 1 ≡ suc i = omega arith in
     rw (drop-cons words i d lt, e) (in_order_cons before (get_or words i d) (drop (suc i) words))

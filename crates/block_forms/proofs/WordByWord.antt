@@ -28,7 +28,7 @@ one_that_does_not done number (Some least) (Ok words) = refl
 one_that_does_not done number (Some least) (Err other) = ap Err (three_numbers least number other)
 
 -- The words from i on are the word i and those behind it.
-pub all_words_at : (words : List Word) (i : ℕ) (d : Word) → i < length words → all_words (drop i words) ≡ joined (word_of (get_or words i d)) (all_words (drop (i + 1) words))
+all_words_at : (words : List Word) (i : ℕ) (d : Word) → i < length words → all_words (drop i words) ≡ joined (word_of (get_or words i d)) (all_words (drop (i + 1) words))
 all_words_at words i d lt =
     let e : i + 1 ≡ suc i = omega arith in
     rw (drop-cons words i d lt, e) refl

@@ -20,7 +20,7 @@ counts_below tape are g (h ∷ stack) q r is noisy = are.calls g.program g.block
 
 -- The running program of a place that counts is reached by as many calls of loud programs as are
 -- open.
-pub place_calling : (tape : List ControlProgram) → AreLoud tape → (f : Frame) (stack : List Frame)
+place_calling : (tape : List ControlProgram) → AreLoud tape → (f : Frame) (stack : List Frame)
     → IsPlace tape (f ∷ stack) → counts tape f.program stack ≡ true
     → IsReachedBy tape (length stack) (main_number tape) f.program
 place_calling tape are f [] place e = sym place.0
@@ -38,19 +38,19 @@ chain_before tape (suc n) m p q (mid, block, r, c, is, noisy) chain =
     subst (λ k. Chain tape k p) e (chain_before tape n (suc m) p mid c (block, q, r, is, noisy, chain))
 
 -- A chain begins with a chain one shorter.
-pub chain_front : (tape : List ControlProgram) (n p : ℕ) → Chain tape (suc n) p → Chain tape n p
+chain_front : (tape : List ControlProgram) (n p : ℕ) → Chain tape (suc n) p → Chain tape n p
 chain_front tape zero p chain = tt
 chain_front tape (suc n) p (block, q, r, is, noisy, chain) = (block, q, r, is, noisy, chain_front tape n q chain)
 
 -- A chain begins with each shorter chain.
-pub chain_less : (tape : List ControlProgram) (k n p : ℕ) → Chain tape (k + n) p → Chain tape n p
+chain_less : (tape : List ControlProgram) (k n p : ℕ) → Chain tape (k + n) p → Chain tape n p
 chain_less tape zero n p chain = let e : 0 + n ≡ n = omega arith in subst (λ k. Chain tape k p) e chain
 chain_less tape (suc k) n p chain =
     let e : suc k + n ≡ suc (k + n) = omega arith in
     chain_less tape k n p (chain_front tape (k + n) p (subst (λ k. Chain tape k p) e chain))
 
 -- A circle of calls is a chain of any length.
-pub chain_round : (tape : List ControlProgram) (d m p : ℕ) → IsReachedBy tape (suc d) p p → Chain tape m p
+chain_round : (tape : List ControlProgram) (d m p : ℕ) → IsReachedBy tape (suc d) p p → Chain tape m p
 chain_round tape d zero p c = tt
 chain_round tape d (suc m) p c =
     let e : suc d + m ≡ d + suc m = omega arith in

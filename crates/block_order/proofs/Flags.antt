@@ -63,7 +63,7 @@ stays tape n e (suc k) m h =
     e ∙ ((λ i program. has_loud_block (stays tape n e k (k + n) refl i) (blocks tape program)) ∙ ap (λ j. known_loud tape j) same)
 
 -- If a round finds nothing new, it knows all loud programs.
-pub settled : (tape : List ControlProgram) (n : ℕ) → n ≤ length tape → known_loud tape n ≡ known_loud tape (n + 1)
+settled : (tape : List ControlProgram) (n : ℕ) → n ≤ length tape → known_loud tape n ≡ known_loud tape (n + 1)
     → known_loud tape n ≡ loud tape
 unfolding loud
 settled tape n within e =

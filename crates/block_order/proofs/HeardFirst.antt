@@ -12,7 +12,7 @@ use Rattle.block_order.proofs.Flags.{flag_of_blocks, flag_set, known_is_flagged,
 use Rattle.block_order.proofs.LoudReaches.{IsWithin, has_within, loud-has}
 
 -- A program with a block that is loud by sound flags is loud.
-pub look_is_loud : (tape : List ControlProgram) (known : ℕ → Bool) → IsWithin known (loud tape) → (q : ℕ)
+look_is_loud : (tape : List ControlProgram) (known : ℕ → Bool) → IsWithin known (loud tape) → (q : ℕ)
     → has_loud_block known (blocks tape q) ≡ true → loud tape q ≡ true
 look_is_loud tape known within q e = loud-has tape q ∙ has_within known (loud tape) within (blocks tape q) e
 

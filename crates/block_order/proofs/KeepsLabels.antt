@@ -24,14 +24,14 @@ Counts-from tape f [] place e = inl place.0
 Counts-from tape f (g ∷ stack) place e = inr e
 
 -- The next block, behind one that is no mark, keeps the labels ahead.
-pub next_kept : (tape : List ControlProgram) (f : Frame) (stack : List Frame) (c : Control)
+next_kept : (tape : List ControlProgram) (f : Frame) (stack : List Frame) (c : Control)
     → control_at (blocks tape f.program) f.block ≡ Some c → mark_of (loud tape) c ≡ []
     → Same tape f stack (at f (suc f.block) ∷ stack)
 next_kept tape f stack c is none =
     moves_kept tape f stack (suc f.block) (λ _. from-next tape f.program f.block c is none)
 
 -- A jump to a target in the same stretch keeps the labels ahead.
-pub jump_kept : (tape : List ControlProgram) → IsUnforked tape → (f : Frame) (stack : List Frame)
+jump_kept : (tape : List ControlProgram) → IsUnforked tape → (f : Frame) (stack : List Frame)
     → IsPlace tape (f ∷ stack) → (c : Control) → control_at (blocks tape f.program) f.block ≡ Some c
     → (target : ℕ) → IsTarget tape f.program f.block c target
     → Same tape f stack (at f target ∷ stack)
@@ -41,7 +41,7 @@ jump_kept tape un f stack place c is target to =
     (un.jumps f.program f.block target c (Counts-from tape f stack place e) is to))
 
 -- Leaving a loop from its head keeps the labels ahead.
-pub exit_kept : (tape : List ControlProgram) → IsUnforked tape → (f : Frame) (stack : List Frame)
+exit_kept : (tape : List ControlProgram) → IsUnforked tape → (f : Frame) (stack : List Frame)
     → IsPlace tape (f ∷ stack) → (close : ℕ) → IsLoop (blocks tape f.program) f.block close
     → Same tape f stack (at f (suc close) ∷ stack)
 exit_kept tape un f stack place close loop =
@@ -51,7 +51,7 @@ exit_kept tape un f stack place close loop =
     ∙ from-jump tape f.program f.block close (un.loops f.program f.block close (Counts-from tape f stack place e) loop))
 
 -- Going from the end of a loop to its head keeps the labels ahead.
-pub loop_kept : (tape : List ControlProgram) → IsUnforked tape → (f : Frame) (stack : List Frame)
+loop_kept : (tape : List ControlProgram) → IsUnforked tape → (f : Frame) (stack : List Frame)
     → IsPlace tape (f ∷ stack) → (head : ℕ) → IsLoop (blocks tape f.program) head f.block
     → Same tape f stack (at f head ∷ stack)
 loop_kept tape un f stack place head loop =
@@ -60,7 +60,7 @@ loop_kept tape un f stack place head loop =
     (un.loops f.program head f.block (Counts-from tape f stack place e) loop)))
 
 -- A call keeps the labels ahead.
-pub call_kept : (tape : List ControlProgram) → AreLoud tape → (f : Frame) (stack : List Frame) (q more : ℕ)
+call_kept : (tape : List ControlProgram) → AreLoud tape → (f : Frame) (stack : List Frame) (q more : ℕ)
     → control_at (blocks tape f.program) f.block ≡ Some (Call q (suc more))
     → length stack < 8
     → Same tape f stack (record { program = q; block = 0; left = more } ∷ f ∷ stack)
@@ -75,7 +75,7 @@ call_kept tape are f stack q more is few = go (loud tape q) refl
         ∙ sym (ahead-counts tape f stack (counts_below tape are f stack q (suc more) is e)))
 
 -- The return of a program with callers keeps the labels ahead, with whatever repeats.
-pub back_kept : (tape : List ControlProgram) → AreLoud tape → (f g : Frame) (stack : List Frame)
+back_kept : (tape : List ControlProgram) → AreLoud tape → (f g : Frame) (stack : List Frame)
     → IsPlace tape (f ∷ g ∷ stack) → control_at (blocks tape f.program) f.block ≡ Some Back
     → (left : ℕ) → f.left ≡ left
     → Same tape f (g ∷ stack) (return_by left f (g ∷ stack))
@@ -101,7 +101,7 @@ back_kept tape are f g stack place is (suc left) l = go (loud tape f.program) re
         ∙ sym (ahead-counts tape f (g ∷ stack) e ∙ rw l refl))
 
 -- M99 P, which leads to a block of the caller, keeps the labels ahead.
-pub back_to_kept : (tape : List ControlProgram) → AreLoud tape → IsUnforked tape → (f : Frame) (stack : List Frame)
+back_to_kept : (tape : List ControlProgram) → AreLoud tape → IsUnforked tape → (f : Frame) (stack : List Frame)
     → IsPlace tape (f ∷ stack) → (n : ℕ) → control_at (blocks tape f.program) f.block ≡ Some (BackTo n)
     → (to : List Frame) → place_of_jump_back tape n (f ∷ stack) ≡ Ok to → Same tape f stack to
 back_to_kept tape are un f [] place n is to e =
@@ -120,7 +120,7 @@ back_to_kept tape are un f (g ∷ stack) place n is to e =
         ∙ sym (ahead-quiet tape f (g ∷ stack) quiet)
 
 -- M99 of the main program begins the list of labels anew.
-pub restart_kept : (tape : List ControlProgram) (f : Frame) → IsPlace tape (f ∷ [])
+restart_kept : (tape : List ControlProgram) (f : Frame) → IsPlace tape (f ∷ [])
     → control_at (blocks tape f.program) f.block ≡ Some Back
     → (to : List Frame) → Goes tape (f ∷ []) Back to → Kept tape f [] Back to
 restart_kept tape f place is to e = (

@@ -163,7 +163,7 @@ settles tape (suc n) =
         inr (omega (arith, differ))
 
 -- After as many rounds as there are programs nothing new is found.
-pub settled : (tape : List ControlProgram) → IsSettled tape (length tape)
+settled : (tape : List ControlProgram) → IsSettled tape (length tape)
 settled tape = go (settles tape (length tape))
   where
     go : IsSettled tape (length tape) ⊎ (length tape ≤ holding (known_loud tape (length tape)) tape)

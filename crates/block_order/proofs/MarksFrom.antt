@@ -9,7 +9,7 @@ use Rattle.block_order.specs.Order.{control_at}
 use Rattle.block_order.specs.Loud.{mark_of, marks, stretch}
 
 -- The marks of two lists of blocks are those of one and those of the other.
-pub marks-append : (loud : ℕ → Bool) (xs ys : List ControlBlock)
+marks-append : (loud : ℕ → Bool) (xs ys : List ControlBlock)
     → marks loud (xs ++ ys) ≡ marks loud xs ++ marks loud ys
 marks-append loud [] ys = refl
 marks-append loud (x ∷ xs) ys =

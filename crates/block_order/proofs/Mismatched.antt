@@ -45,7 +45,7 @@ found-further place loops b bs (Some p) here w =
     (suc w.0, omega (arith, w.1), w.2, none-further place loops b bs w.0 here w.3)
 
 -- The pass finds the first misplaced block.
-pub misplaced-found : (bs : List ControlBlock) (place : ℕ) (loops : List Open)
+misplaced-found : (bs : List ControlBlock) (place : ℕ) (loops : List Open)
     → Found place loops bs (first_misplaced place loops bs)
 misplaced-found [] place loops = λ k c l e. absurd (omega arith)
 misplaced-found (b ∷ bs) place loops =
@@ -107,7 +107,7 @@ end-mismatch bs p n at other = go (has_name n (open_before bs p)) refl where
       let f : has_name n (open_before bs p) ≡ true = contains-has n w.0 (open_before bs p) w.1 w.2 in absurd cc)
 
 -- A misplaced block is a mismatch.
-pub to-mismatch : (bs : List ControlBlock) (p : ℕ) (c : Control) → control_at bs p ≡ Some c
+to-mismatch : (bs : List ControlBlock) (p : ℕ) (c : Control) → control_at bs p ≡ Some c
     → is_misplaced (open_before bs p) c ≡ true → IsMismatch bs p
 to-mismatch bs p (While n) at e = nested n (ap head_name at) (has-contains n (open_before bs p) e)
 to-mismatch bs p (Do n) at e = nested n (ap head_name at) (has-contains n (open_before bs p) e)
@@ -141,7 +141,7 @@ head-misplaced bs p n named w = go (control_at bs p) refl where
   go (Some c) at = in-head c at (sym (ap head_name at) ∙ named)
 
 -- A mismatch is a misplaced block or an unclosed head.
-pub from-mismatch : (bs : List ControlBlock) (p : ℕ) → IsMismatch bs p
+from-mismatch : (bs : List ControlBlock) (p : ℕ) → IsMismatch bs p
     → Contains (places (open_before bs (length bs))) p ⊎ Misplaced bs p
 from-mismatch bs p (unclosed w) = inl w
 from-mismatch bs p (unopened n at none) =

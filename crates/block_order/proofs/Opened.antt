@@ -63,7 +63,7 @@ open_more bs p c e =
     open_after-more bs p 0 [] c e ∙ ap (λ q. open_behind q c (open_before bs p)) at
 
 -- A place within the program has a control.
-pub control_within : (bs : List ControlBlock) (p : ℕ) → p < length bs → (c : Control) × (control_at bs p ≡ Some c)
+control_within : (bs : List ControlBlock) (p : ℕ) → p < length bs → (c : Control) × (control_at bs p ≡ Some c)
 control_within (b ∷ bs) zero h = (b.control, refl)
 control_within (b ∷ bs) (suc p) h = control_within bs p (omega arith)
 control_within [] p h = absurd (omega arith)
@@ -91,7 +91,7 @@ has-names h n (x ∷ xs) (inl e) = (0, omega arith, e.1)
 has-names h n (x ∷ xs) (inr w) = let k = has-names h n xs w in (suc k.0, omega (arith, k.1), k.2)
 
 -- The head of an open loop is one of the places.
-pub has-places : (h n : ℕ) (loops : List Open) → Has h n loops → Contains (places loops) h
+has-places : (h n : ℕ) (loops : List Open) → Has h n loops → Contains (places loops) h
 has-places h n [] w = elim w [ ]
 has-places h n (x ∷ xs) (inl e) = (0, omega arith, e.0)
 has-places h n (x ∷ xs) (inr w) = let k = has-places h n xs w in (suc k.0, omega (arith, k.1), k.2)
@@ -177,7 +177,7 @@ some-names : (x : Open) (xs : List Open) (n : ℕ) → x.name ≢ n → latest (
 some-names x xs n ne e = let k : x.name ≡ n = cc in ne k
 
 -- The END of a program that fits closes the latest open loop.
-pub closes-latest : (bs : List ControlBlock) (p n : ℕ) → Fits bs → control_at bs p ≡ Some (EndLoop n)
+closes-latest : (bs : List ControlBlock) (p n : ℕ) → Fits bs → control_at bs p ≡ Some (EndLoop n)
     → (loops : List Open) → loops ≡ open_before bs p
     → (x : Open) × (xs : List Open) × (loops ≡ x ∷ xs) × (x.name ≡ n)
 closes-latest bs p n fits at [] is =
@@ -218,7 +218,7 @@ all-behind bs p c loops fits at (closing n is) same w =
 all-behind bs p c loops fits at (plain none stays other) same w = rw (stays p loops) (all-further bs p c loops at (λ n k. other n) w)
 
 -- The invariant holds of the loops that are open before each block.
-pub all-open : (bs : List ControlBlock) → Fits bs → (p : ℕ) → p ≤ length bs → AllOpen bs p (open_before bs p)
+all-open : (bs : List ControlBlock) → Fits bs → (p : ℕ) → p ≤ length bs → AllOpen bs p (open_before bs p)
 all-open bs fits zero h = tt
 all-open bs fits (suc p) h =
     let c = control_within bs p (omega arith) in
@@ -226,7 +226,7 @@ all-open bs fits (suc p) h =
     (all-behind bs p c.0 (open_before bs p) fits c.1 (kind c.0) refl (all-open bs fits p (omega arith)))
 
 -- An open loop began at its head, before the block, and has met no END of its name.
-pub each-open : (bs : List ControlBlock) (p h n : ℕ) (loops : List Open) → AllOpen bs p loops → Has h n loops
+each-open : (bs : List ControlBlock) (p h n : ℕ) (loops : List Open) → AllOpen bs p loops → Has h n loops
     → (h < p) × (head_name (control_at bs h) ≡ Some n)
     × ((k : ℕ) → h < k → k < p → control_at bs k ≢ Some (EndLoop n))
 each-open bs p h n [] w more = elim more [ ]
@@ -255,7 +255,7 @@ opens bs h n named = go (control_at bs h) refl where
   go (Some c) at = opened c at (sym (ap head_name at) ∙ named) (kind c)
 
 -- A loop is open between its head and its END.
-pub loop-open : (bs : List ControlBlock) (h close : ℕ) (loop : LoopFacts bs h close) (gap : ℕ)
+loop-open : (bs : List ControlBlock) (h close : ℕ) (loop : LoopFacts bs h close) (gap : ℕ)
     → suc (h + gap) ≤ close → Has h loop.name (open_before bs (suc (h + gap)))
 loop-open bs h close loop zero l =
     let e : suc h ≡ suc (h + 0) = omega arith in
@@ -336,7 +336,7 @@ top-of bs p h n top (x ∷ xs) fits l w (inr more) e =
     omega (arith, below.0)
 
 -- No open loop begins behind the head of the innermost one.
-pub top-least : (bs : List ControlBlock) (p h n top : ℕ) → Fits bs → p ≤ length bs → Has h n (open_before bs p)
+top-least : (bs : List ControlBlock) (p h n top : ℕ) → Fits bs → p ≤ length bs → Has h n (open_before bs p)
     → innermost bs p ≡ Some top → h ≤ top
 top-least bs p h n top fits l has e = top-of bs p h n top _ fits l (all-open bs fits p l) has e
 

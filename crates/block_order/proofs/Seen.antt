@@ -14,12 +14,12 @@ use Rattle.block_order.specs.Loops.{Open, closed}
 use Rattle.block_order.specs.Misplaced.{opened, seen, has_name, is_latest, earliest}
 
 -- A stack on top of another one, as the specs see it, is the upper one and then the lower one.
-pub seen-append : (xs ys : List OpenLoop) → seen (xs ++ ys) ≡ seen ys ++ seen xs
+seen-append : (xs ys : List OpenLoop) → seen (xs ++ ys) ≡ seen ys ++ seen xs
 unfolding seen
 seen-append xs ys = ap reverse (map-append opened xs ys) ∙ reverse-append (map opened xs) (map opened ys)
 
 -- A stack of one loop is seen as that loop alone.
-pub seen-one : (x : OpenLoop) → seen (x ∷ []) ≡ opened x ∷ []
+seen-one : (x : OpenLoop) → seen (x ∷ []) ≡ opened x ∷ []
 unfolding seen
 seen-one x = refl
 
@@ -45,13 +45,13 @@ seen-name n xs =
     ∙ list_any-IsPermutation (λ x. x.name == n) (map opened xs) (reverse (map opened xs)) (IsPermutation-reverse (map opened xs))
 
 -- A stack that is not empty is all but its last loop, and that one.
-pub front-last : (xs : List OpenLoop) (d : OpenLoop) → 0 < length xs
+front-last : (xs : List OpenLoop) (d : OpenLoop) → 0 < length xs
     → xs ≡ take (length xs - 1) xs ++ get_or xs (length xs - 1) d ∷ []
 front-last xs d h =
     sym (take_all ((length xs - 1) + 1) xs (omega arith)) ∙ take_more xs (length xs - 1) d (omega arith)
 
 -- The last loop of the stack has the name exactly if the latest open one has it.
-pub seen-last : (xs : List OpenLoop) (d : OpenLoop) (n : ℕ) → 0 < length xs
+seen-last : (xs : List OpenLoop) (d : OpenLoop) (n : ℕ) → 0 < length xs
     → is_latest n (seen xs) ≡ ((get_or xs (length xs - 1) d).name == n)
 seen-last xs d n h =
     ap (λ ls. is_latest n (seen ls)) (front-last xs d h)

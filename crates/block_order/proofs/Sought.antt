@@ -43,7 +43,7 @@ rises-cond true p xs h = (omega arith, h)
 rises-cond false p xs h = rises-lower p xs h
 
 -- The places of a number rise.
-pub places-rise : (bs : List ControlBlock) (p n : ℕ) → Rises p (places_from bs p n)
+places-rise : (bs : List ControlBlock) (p n : ℕ) → Rises p (places_from bs p n)
 places-rise [] p n = tt
 places-rise (b ∷ bs) p n = rises-cond (has_sequence n b.sequence) p (places_from bs (suc p) n) (places-rise bs (suc p) n)
 
@@ -84,14 +84,14 @@ unfolding places_of
 places_of-rise bs n = places-rise bs 0 n
 
 -- No number of a list that rises from a bound is below it.
-pub rises-least : (p : ℕ) (xs : List ℕ) → Rises p xs → (j d : ℕ) → j < length xs → p ≤ get_or xs j d
+rises-least : (p : ℕ) (xs : List ℕ) → Rises p xs → (j d : ℕ) → j < length xs → p ≤ get_or xs j d
 rises-least p (x ∷ xs) r zero d h = r.0
 rises-least p (x ∷ xs) r (suc j) d h =
     let more = rises-least (suc x) xs r.1 j d (omega arith) in omega (arith, more, r.0)
 rises-least p [] r j d h = absurd (omega arith)
 
 -- In a rising list a later number is greater.
-pub rises-apart : (p : ℕ) (xs : List ℕ) → Rises p xs → (i j d : ℕ) → i < j → j < length xs → get_or xs i d < get_or xs j d
+rises-apart : (p : ℕ) (xs : List ℕ) → Rises p xs → (i j d : ℕ) → i < j → j < length xs → get_or xs i d < get_or xs j d
 rises-apart p (x ∷ xs) r zero (suc j) d h l = rises-least (suc x) xs r.1 j d (omega arith)
 rises-apart p (x ∷ xs) r (suc i) (suc j) d h l = rises-apart (suc x) xs r.1 i j d (omega arith) (omega arith)
 rises-apart p (x ∷ xs) r i zero d h l = absurd (omega arith)
@@ -140,7 +140,7 @@ above_step low x xs w true e = inr (0, omega arith, rw e refl, grind (arith, nat
 above_step low x xs w false e = let le : x ≤ low = grind (arith, nat_tests) in above-more low x xs le w
 
 -- Of each list it is known whether a number is above the bound, and which is the first.
-pub above_cases : (low : ℕ) (xs : List ℕ) → Above low xs
+above_cases : (low : ℕ) (xs : List ℕ) → Above low xs
 above_cases low [] = inl (refl, λ k l. absurd (omega arith))
 above_cases low (x ∷ xs) = above_step low x xs (above_cases low xs) (nat_lt low x) refl
 
@@ -166,7 +166,7 @@ places-push (a ∷ bs) b p n =
     ∙ cond-append (has_sequence n a.sequence) (places_from bs (suc p) n) tail p
 
 -- A block more adds its place, if it has the number, to the places so far.
-pub places_more : (bs : List ControlBlock) (i q : ℕ) (d : ControlBlock) (own : Option ℕ) → i < length bs
+places_more : (bs : List ControlBlock) (i q : ℕ) (d : ControlBlock) (own : Option ℕ) → i < length bs
     → (get_or bs i d).sequence ≡ own
     → places_from (take (i + 1) bs) 0 q ≡ places_from (take i bs) 0 q ++ cond (has_sequence q own) (i ∷ []) []
 places_more bs i q d own h is =

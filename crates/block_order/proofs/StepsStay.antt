@@ -15,7 +15,7 @@ use Rattle.block_order.proofs.Moved.{jump_leads, exit_leads, head_leads, call_le
 use Rattle.block_order.proofs.LabelsAhead.{ahead-counts, wait_begins, end_alone}
 
 -- A place whose running frame moves is a place.
-pub place_moves : (tape : List ControlProgram) (f : Frame) (stack : List Frame) (block : ℕ) → IsPlace tape (f ∷ stack)
+place_moves : (tape : List ControlProgram) (f : Frame) (stack : List Frame) (block : ℕ) → IsPlace tape (f ∷ stack)
     → IsPlace tape (at f block ∷ stack)
 place_moves tape f [] block place = place
 place_moves tape f (g ∷ stack) block place = place

@@ -49,7 +49,7 @@ is_given-uses id (one ∷ uses) =
     [ true ↦ refl | false ↦ is_given-uses id uses ]
 
 -- A change of the row of an argument that was not used adds a row.
-pub at_row-uses : (id : Text) (change : Row → List Row) (missing : List Row) (uses : List Used) → value_in id uses ≡ None
+at_row-uses : (id : Text) (change : Row → List Row) (missing : List Row) (uses : List Used) → value_in id uses ≡ None
     → at_row id change missing (map row_of_use uses) ≡ map row_of_use uses ++ missing
 at_row-uses id change missing [] none = refl
 at_row-uses id change missing (one ∷ uses) none =
@@ -99,7 +99,7 @@ flipped a b e = go (bytes_eq b a) refl
     go false same = refl
 
 -- An option's name differs from one that is none.
-pub known_differs : (options : List Text) (a id : Text) → is_known options a ≡ true → is_known options id ≡ false → bytes_eq a id ≡ false
+known_differs : (options : List Text) (a id : Text) → is_known options a ≡ true → is_known options id ≡ false → bytes_eq a id ≡ false
 known_differs options a id e f = go (bytes_eq a id) refl
   where
     go : (same : Bool) → bytes_eq a id ≡ same → same ≡ false

@@ -16,7 +16,7 @@ last_of_push [] x = refl
 last_of_push (y ∷ ys) x = rw (last_of_push ys x) refl
 
 -- with one row more, the last of a group is that row if it is of the group, else the last before
-pub last_of_group_push : (rows : List Row) (row : Row) (group : ℕ) → last_of_group (rows ++ row ∷ []) group ≡ cond (row.group == group) (Some row) (last_of_group rows group)
+last_of_group_push : (rows : List Row) (row : Row) (group : ℕ) → last_of_group (rows ++ row ∷ []) group ≡ cond (row.group == group) (Some row) (last_of_group rows group)
 last_of_group_push rows row group =
     rw (filter-append (λ (r : Row). r.group == group) rows (row ∷ [])) (go (row.group == group) (filter (λ (r : Row). r.group == group) rows))
   where

@@ -9,7 +9,7 @@ use Rattle.code_tables.specs.declared.row.Row.{Row}
 use Rattle.code_tables.specs.Codes.{codes_stand_once, row_of}
 
 -- if no row has the code, it has no row
-pub row_of_none : (rows : List Row) (code : ℕ) → All (λ row. row.code ≢ code) rows → row_of rows code ≡ None
+row_of_none : (rows : List Row) (code : ℕ) → All (λ row. row.code ≢ code) rows → row_of rows code ≡ None
 row_of_none [] code none = refl
 row_of_none (x ∷ xs) code none =
     let Other : Row → Type 0 = λ row. row.code ≢ code in

@@ -49,7 +49,7 @@ found k v (n ∷ ns) (suc i) past early =
     rw rest refl
 
 -- the value of the write that is found is that of the variable
-pub value-found : (nodes : List Node) (k v : ℕ) (i : ℕ) → IsPast nodes k v (Some i) → stamp_at nodes i ≤ k
+value-found : (nodes : List Node) (k v : ℕ) (i : ℕ) → IsPast nodes k v (Some i) → stamp_at nodes i ≤ k
     → (node_at nodes i).write.value ≡ value_after k v (written nodes)
 value-found nodes k v i past early = sym (ap (λ o. unwrap_or o Vacant) (found k v nodes i past early))
 

@@ -10,6 +10,6 @@ steps_left None = 0
 steps_left (Some i) = i + 1
 
 -- at the latest node of a variable no later write of it is left out
-pub starts : (nodes : List Node) (k v : ℕ) (latest : Option ℕ) → IsLatestBefore nodes (length nodes) v latest → IsPast nodes k v latest
+starts : (nodes : List Node) (k v : ℕ) (latest : Option ℕ) → IsLatestBefore nodes (length nodes) v latest → IsPast nodes k v latest
 starts nodes k v None none = λ j inside same. absurd (none j inside same)
 starts nodes k v (Some i) latest = (latest.0, latest.1, λ j behind inside same. absurd (latest.2 j behind inside same))

@@ -23,7 +23,7 @@ along start p points =
     omega (arith, joined, same)
 
 -- A form has four blocks a pass, four more, and one for each point after the first.
-pub blocks_are : (r : Rough) (most : ℕ) → length (rough_blocks r most) ≡ 4 * length (passes_from r 1 most) + (length r.points + 4)
+blocks_are : (r : Rough) (most : ℕ) → length (rough_blocks r most) ≡ 4 * length (passes_from r 1 most) + (length r.points + 4)
 blocks_are r most =
     let joined = length-append (flat_map (pass_blocks r) (passes_from r 1 most)) (contour_blocks r.start (first_moved r) (points_moved r)) in
     let passes = four_each r (passes_from r 1 most) in

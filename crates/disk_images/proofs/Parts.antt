@@ -65,7 +65,7 @@ left_among since until (image ∷ images) c (inl here) = inl here.1
 left_among since until (image ∷ images) c (inr rest) = inr (left_among since until images c rest)
 
 -- the listed images since a moment are those that a crash since then may have left
-pub listed_left : (since : ℕ) (past : List Ended) (c : List ℕ) → IsAmong (left_since since past) c ↔ WasLeft since past c
+listed_left : (since : ℕ) (past : List Ended) (c : List ℕ) → IsAmong (left_since since past) c ↔ WasLeft since past c
 listed_left since [] c = (λ none. none, λ none. none)
 listed_left since (e ∷ past) c = go (nat_lt since e.until) refl (listed_left since past c)
   where
@@ -90,7 +90,7 @@ left_push since (first ∷ past) e = go (nat_lt since first.until) refl (left_pu
     go false is rest = rw is rest
 
 -- the list of images has exactly those that a crash since then may leave
-pub listed_images : (d : Images) (since : ℕ) (c : List ℕ) → IsAmong (images_since d since) c ↔ (images_state d).image_since since c
+listed_images : (d : Images) (since : ℕ) (c : List ℕ) → IsAmong (images_since d since) c ↔ (images_state d).image_since since c
 listed_images d since c = go (nat_lt since d.calls) refl
   where
     go : (b : Bool) → nat_lt since d.calls ≡ b → IsAmong (images_since d since) c ↔ (images_state d).image_since since c

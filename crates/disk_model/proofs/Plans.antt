@@ -7,7 +7,7 @@ use Rattle.nc_number.specs.Faults.{next}
 use Rattle.disk_model.specs.Memory.{Memory, IsKept, HasPlan, MemoryAllows, next_fails, after_look}
 
 -- a call that the plan allows is neither listed nor past the record
-pub plan_passes : (m : Memory) (calls end : ℕ) → HasPlan m calls end → m.calls + 1 ≤ calls → next_fails m ≡ false
+plan_passes : (m : Memory) (calls end : ℕ) → HasPlan m calls end → m.calls + 1 ≤ calls → next_fails m ≡ false
 plan_passes m calls end plan within =
     let listed = plan.unlisted m.calls (omega arith) in
     let short : m.calls < m.call_room = omega (arith, plan.recorded) in

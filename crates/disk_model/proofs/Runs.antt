@@ -92,7 +92,7 @@ told_before m e old new uses b reads = go old.reads refl
     go (Some a) is = (a, is)
 
 -- a disk that allows what it was used for has no fault in a run
-pub no_fault : (calls end : ℕ) (old new : DiskState) → IsCoherent new → (bytes : List ℕ) → Reads new bytes → new.allows calls end → new.calls ≤ calls → new.reach ≤ end → Rose old.faults new.faults → ⊥
+no_fault : (calls end : ℕ) (old new : DiskState) → IsCoherent new → (bytes : List ℕ) → Reads new bytes → new.allows calls end → new.calls ≤ calls → new.reach ≤ end → Rose old.faults new.faults → ⊥
 no_fault calls end old new coherent bytes reads allows room within rose =
     let none = coherent.enough bytes calls end reads allows room within in
     omega (arith, none, rose)

@@ -24,7 +24,7 @@ end_of_both (Mark ∷ a) b open_ = end_of_both a b open_
 end_of_both (End ∷ a) b open_ = absurd (true≢false open_)
 
 -- the marks of two lists, which count the moves of both
-pub counts_of_both : (n : ℕ) (a b : List Item) → mark_counts n (a ++ b) ≡ mark_counts n a ++ mark_counts (n + length (moves_among a)) b
+counts_of_both : (n : ℕ) (a b : List Item) → mark_counts n (a ++ b) ≡ mark_counts n a ++ mark_counts (n + length (moves_among a)) b
 counts_of_both n [] b = let e : n ≡ n + 0 = omega arith in ap (λ k. mark_counts k b) e
 counts_of_both n (Move what ∷ a) b =
     let e : suc n + length (moves_among a) ≡ n + length (what ∷ moves_among a) = omega arith in
@@ -33,7 +33,7 @@ counts_of_both n (Mark ∷ a) b = ap (λ l. n ∷ l) (counts_of_both n a b)
 counts_of_both n (End ∷ a) b = counts_of_both n a b
 
 -- the marks of two lists, if n is the number of moves in the first
-pub counts_behind : (n : ℕ) (a b : List Item) → n ≡ length (moves_among a) → mark_counts 0 (a ++ b) ≡ mark_counts 0 a ++ mark_counts n b
+counts_behind : (n : ℕ) (a b : List Item) → n ≡ length (moves_among a) → mark_counts 0 (a ++ b) ≡ mark_counts 0 a ++ mark_counts n b
 counts_behind n a b counted =
     let e : 0 + length (moves_among a) ≡ n = omega (arith, counted) in counts_of_both 0 a b ∙ ap (λ k. mark_counts 0 a ++ mark_counts k b) e
 

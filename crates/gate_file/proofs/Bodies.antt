@@ -14,7 +14,7 @@ length_bodies start [] bytes = refl
 length_bodies start (end ∷ ends) bytes = ap suc (length_bodies end ends bytes)
 
 -- the bodies begin inside the bytes
-pub start_within : (start : ℕ) (ends : List ℕ) (len : ℕ) → AreEnds start ends len → start ≤ len
+start_within : (start : ℕ) (ends : List ℕ) (len : ℕ) → AreEnds start ends len → start ≤ len
 start_within start [] len are = omega (arith, are)
 start_within start (end ∷ ends) len are = omega (arith, are.0, start_within end ends len are.1)
 

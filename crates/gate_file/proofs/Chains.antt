@@ -72,7 +72,7 @@ opens_anew (body ∷ bodies) gate other file rest some is_open (next, is, opens)
     (next, record { gate = other; is_open = is_open; short = is.short; bytes = ap (λ (l : List ℕ). other ∷ drop 1 l) is.bytes }, opens)
 
 -- staged bytes stand for at least one body
-pub staged_some : (bodies : List (List ℕ)) (staged : List ℕ) → IsStaged bodies staged → 0 < length bodies
+staged_some : (bodies : List (List ℕ)) (staged : List ℕ) → IsStaged bodies staged → 0 < length bodies
 staged_some [] staged is = absurd (omega (arith, ap (λ (l : List ℕ). get_or l 0 0) is))
 staged_some (body ∷ bodies) staged is = omega arith
 

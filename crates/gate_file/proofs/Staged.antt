@@ -24,7 +24,7 @@ module _ (at n : ℕ) (old new : List ℕ) (torn : Torn at n old new) where
       (λ i below. get_or-drop (at + n) new i 0 ∙ torn.outside (at + n + i) (omega (arith, length-drop (at + n) new, torn.no_longer)) (inr (omega arith)) ∙ sym (get_or-drop (at + n) old i 0))
 
 -- a write within the file puts its bytes there
-pub written_within : (old : List ℕ) (at : ℕ) (bytes : List ℕ) → at ≤ length old → written_over old at bytes ≡ take at old ++ bytes ++ drop (at + length bytes) old
+written_within : (old : List ℕ) (at : ℕ) (bytes : List ℕ) → at ≤ length old → written_over old at bytes ≡ take at old ++ bytes ++ drop (at + length bytes) old
 written_within old at bytes within = ap (λ (l : List ℕ). l ++ bytes ++ drop (at + length bytes) old) (take-append-le at old (replicate (at - length old) 0) within)
 
 -- A file that opens these bodies up to a shut gate, and bytes staged after that gate.

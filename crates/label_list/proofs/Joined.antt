@@ -29,7 +29,7 @@ times_repeated (suc n) f xs behind is =
     is (times n f behind) ∙ (ap (λ ys. xs ++ ys) (times_repeated n f xs behind is) ∙ sym (append_assoc xs (repeated n xs) behind))
 
 -- Fewer runs than n, with one more, give no more labels than n runs.
-pub repeated-longer : (i n : ℕ) (xs : List Labelled) → i < n → length (repeated i xs) + length xs ≤ length (repeated n xs)
+repeated-longer : (i n : ℕ) (xs : List Labelled) → i < n → length (repeated i xs) + length xs ≤ length (repeated n xs)
 repeated-longer i zero xs lt = absurd (omega arith)
 repeated-longer zero (suc n) xs lt = omega (arith, length-append xs (repeated n xs))
 repeated-longer (suc i) (suc n) xs lt =

@@ -40,7 +40,7 @@ so_far_start tape p = record {
 
 -- If no chain of n + 1 calls begins in a program, none of n calls begins in a program that a block
 -- of it calls.
-pub short_call : (tape : List ControlProgram) (n p : ℕ) (labels : List Labelled) (b : ControlBlock) (rest : List ControlBlock)
+short_call : (tape : List ControlProgram) (n p : ℕ) (labels : List Labelled) (b : ControlBlock) (rest : List ControlBlock)
     → IsSoFar tape p labels (b ∷ rest) → IsShort tape (suc n) p → IsShortCall tape n b.control
 short_call tape n p labels b rest so short = go b.control refl
   where

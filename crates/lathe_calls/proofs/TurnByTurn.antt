@@ -18,7 +18,7 @@ given_full tapes most m (path ∷ order) full =
     ap (λ (b : Bool). if b then [] else path ∷ given tapes most (turn_of tapes path m).machine order) is_full
 
 -- if there are fewer records than there may be, the next turn of the order is given
-pub given_more : (tapes : Tapes) (most : ℕ) (m : MachineView) (path : Path) (order : List Path) → m.count < most
+given_more : (tapes : Tapes) (most : ℕ) (m : MachineView) (path : Path) (order : List Path) → m.count < most
     → given tapes most m (path ∷ order) ≡ path ∷ given tapes most (turn_of tapes path m).machine order
 given_more tapes most m path order few =
     let has_room : nat_le most m.count ≡ false = grind arith in

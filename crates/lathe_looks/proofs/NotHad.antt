@@ -22,7 +22,7 @@ unfetched_due files old new (Fault missing) is rests = not_had is rests
 unfetched_due files old new NoMemory is rests = unread is rests
 
 -- To be asked for some files and then for more is to be asked for all of them.
-pub asked_more : (old middle new : Option (List (List ℕ))) (files more : List Named) → AreAsked old middle files → AreAsked middle new more
+asked_more : (old middle new : Option (List (List ℕ))) (files more : List Named) → AreAsked old middle files → AreAsked middle new more
     → AreAsked old new (files ++ more)
 asked_more None middle new files more first then_too =
     subst (λ m. AreAsked m new more) first then_too
@@ -34,7 +34,7 @@ asked_more (Some was) middle new files more first then_too =
 
 -- The cause at a later moment is one from an earlier moment on, if the shelf's files stayed and its
 -- faults did not sink.
-pub cause_before : (old middle new : ShelfState) (file : Named) (fault : FileFault) → HoldsOn old middle → old.faults ≤ middle.faults
+cause_before : (old middle new : ShelfState) (file : Named) (fault : FileFault) → HoldsOn old middle → old.faults ≤ middle.faults
     → FileCause middle new file fault → FileCause old new file fault
 cause_before old middle new file fault same later (failed rose) = failed (omega (arith, later, rose))
 cause_before old middle new file fault same later (absent lacks) = absent (subst (λ told. Lacks told file.name) same lacks)

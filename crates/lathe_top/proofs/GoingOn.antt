@@ -51,14 +51,14 @@ AreSmall {D} state = (disk : D) (header : Header) (version : Version) (entries :
     → end ≤ 13 + length (header_bytes header) + length (records_bytes entries) + 6 * length entries
 
 -- a machine that gives a reason to end is over, and stands there for that reason
-pub over_by : (alarm : Option Alarm) (finished : Bool) (e : Reason) → end_by alarm finished ≡ Some e
+over_by : (alarm : Option Alarm) (finished : Bool) (e : Reason) → end_by alarm finished ≡ Some e
     → ((is_some alarm || finished) ≡ true) × (reason_by alarm finished ≡ e)
 over_by (Some alarm) finished e is = (refl, cc)
 over_by None true e is = (refl, cc)
 over_by None false e is = absurd (cc)
 
 -- a machine that gives no reason to end has no alarm, and not both paths are at their ends
-pub open_by : (alarm : Option Alarm) (finished : Bool) → end_by alarm finished ≡ None → (is_some alarm || finished) ≡ false
+open_by : (alarm : Option Alarm) (finished : Bool) → end_by alarm finished ≡ None → (is_some alarm || finished) ≡ false
 open_by (Some alarm) finished is = absurd (cc)
 open_by None true is = absurd (cc)
 open_by None false is = refl

@@ -51,7 +51,7 @@ ending_since limit s a b before c reason least opened ends = record {
 }
 
 -- the records that were found are no more than those at the end
-pub no_fewer : (found history : List Entry) → take (length found) history ≡ found → length found ≤ length history
+no_fewer : (found history : List Entry) → take (length found) history ≡ found → length found ≤ length history
 no_fewer found history begins = omega (arith, ap length begins, length-take (length found) history)
 
 -- an opening that makes so many calls and leaves an image of its kind, before a run that goes on

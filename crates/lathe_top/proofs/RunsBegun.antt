@@ -107,7 +107,7 @@ run_refused state limit text_of texts a c NoMemory rest of_texts answer is =
     subst (IsRun state limit text_of texts a c) (sym is) (unjudged rest)
 
 -- a header of texts that are no longer than their limits is short
-pub short_header : (header : Header) (texts : Texts) → header.left ≡ texts.left → header.right ≡ texts.right → header.settings ≡ texts.settings
+short_header : (header : Header) (texts : Texts) → header.left ≡ texts.left → header.right ≡ texts.right → header.settings ≡ texts.settings
     → length texts.left ≤ LONGEST_TAPE → length texts.right ≤ LONGEST_TAPE → length texts.settings ≤ LONGEST_SETTINGS → IsShort header
 short_header header texts left right settings few_left few_right few_settings =
     omega (arith, ap length left, ap length right, ap length settings, few_left, few_right, few_settings)

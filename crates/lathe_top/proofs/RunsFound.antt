@@ -51,7 +51,7 @@ module _ {D : Type 0} (state : D → DiskState) (law : NoneIsStuck) (limit : ℕ
       (found_keeps state found a begun c.disk recovers pair history least goes.extends keeps))
 
 -- the parts of a recovery as the table takes them
-pub parts_of : {D : Type 0} (state : D → DiskState) (header : Header) (pair : Verified) (machine : MachineView) (entries : List Entry) (log : Log D)
+parts_of : {D : Type 0} (state : D → DiskState) (header : Header) (pair : Verified) (machine : MachineView) (entries : List Entry) (log : Log D)
     → IsRecovered state header pair machine entries log → table.IsRecovered state pair machine entries log
 parts_of state header pair machine entries log is = record {
   legal = is.behind.history.legal;
@@ -73,7 +73,7 @@ LeavesRecords {D} state = (disk : D) (header : Header) (version : Version) (entr
     → (c : List ℕ) → (state disk).image c → Stands header entries c
 
 -- for a run that is over, the disk holds all its records: that is what its reason asks for
-pub least_by : (s : Session) (alarm : Option Alarm) (finished : Bool) → IsLeast (reason_by alarm finished) s (length s.history)
+least_by : (s : Session) (alarm : Option Alarm) (finished : Bool) → IsLeast (reason_by alarm finished) s (length s.history)
 least_by s (Some alarm) finished = refl
 least_by s None true = refl
 least_by s None false = refl

@@ -32,7 +32,7 @@ at_word sign signs depth top begins =
     subst (λ (d : ℕ). Behind 0 (sign ∷ signs) (add_to_cut true sign (cut_at signs (depth_behind d sign.byte)))) (sym top) (rw here refl, rw here refl)
 
 -- the words begin after as many signs as stand before the first letter outside brackets
-pub cut_behind : (signs : List Sign) (depth : ℕ) → Behind (value_len signs depth) signs (cut_at signs depth)
+cut_behind : (signs : List Sign) (depth : ℕ) → Behind (value_len signs depth) signs (cut_at signs depth)
 cut_behind [] depth = (refl, refl)
 cut_behind (sign ∷ signs) depth =
     either sign signs (cut_at signs (depth_behind depth sign.byte)) (value_len signs (depth_behind depth sign.byte)) (begins_word depth sign.byte)
@@ -56,7 +56,7 @@ pub record IsFirst (letter : Sign) (others : List Sign) : Type 0 where
   pub next : value_len (drop (value_len others 0) others) 0 ≡ 0
 
 -- signs of which the first begins a word are that word and the words of the rest
-pub first_piece : (letter : Sign) (others : List Sign) → value_len (letter ∷ others) 0 ≡ 0 → IsFirst letter others
+first_piece : (letter : Sign) (others : List Sign) → value_len (letter ∷ others) 0 ≡ 0 → IsFirst letter others
 first_piece letter others lead =
     let word : begins_word 0 letter.byte ≡ true = begins (begins_word 0 letter.byte) (value_len others (depth_behind 0 letter.byte)) lead in
     let top : depth_behind 0 letter.byte ≡ 0 = depth_stays letter.byte (and_parts (0 == 0) (is_ascii_uppercase letter.byte) word).1 in

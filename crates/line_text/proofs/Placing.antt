@@ -26,7 +26,7 @@ placed_switch [] placed = placed
 placed_switch (sign ∷ signs) placed = placed_cond _ (behind_digit signs) (sign ∷ signs) (placed_digit signs (All-tail IsPlaced sign signs placed)) placed
 
 -- the signs after the first comments have places below 2 ^ 32
-pub placed_comments : (signs : List Sign) → ArePlaced signs → ArePlaced (behind_comments signs)
+placed_comments : (signs : List Sign) → ArePlaced signs → ArePlaced (behind_comments signs)
 placed_comments signs placed = All-drop IsPlaced _ signs placed
 
 -- the signs of a line after its skip sign and the comments behind that have places below 2 ^ 32

@@ -8,7 +8,7 @@ use Rattle.block_order.specs.Loud.{loud}
 use Rattle.loud_calls.specs.Calls.{IsShort, IsCallOf, IsReady}
 
 -- A block calls one program only.
-pub one_call : (tape : List ControlProgram) (control : Control) (p q : ℕ) → IsCallOf tape control p → IsCallOf tape control q → p ≡ q
+one_call : (tape : List ControlProgram) (control : Control) (p q : ℕ) → IsCallOf tape control p → IsCallOf tape control q → p ≡ q
 one_call tape control p q a b = let e : Call p a.repeats ≡ Call q b.repeats = sym a.is ∙ b.is in cc
 
 -- A block that calls a loud program at least once is a call of it.

@@ -34,7 +34,7 @@ condition-sound text =
     (stops stop.Expression)))
 
 -- a condition that is read after IF or WHILE is one of the grammar
-pub test-sound : Reads IsTest test_at
+test-sound : Reads IsTest test_at
 unfolding test_at
 test-sound text = go (condition-sound text)
   where
@@ -43,7 +43,7 @@ test-sound text = go (condition-sound text)
     go (stops s) = stops stop.Condition
 
 -- the target of a jump that is read is one of the grammar
-pub target-sound : Reads IsTarget target_at
+target-sound : Reads IsTarget target_at
 unfolding target_at
 target-sound text = go (begins is_ascii_digit text) (begins (λ b. b == 35) text)
   where
@@ -74,7 +74,7 @@ abbrev pub IsAssign : List ℕ → Named × Tree → Type 0
 IsAssign t a = IsAssignment t a.0 a.1
 
 -- an assignment that is read is one of the grammar
-pub assignment-sound : Reads IsAssign assignment_at
+assignment-sound : Reads IsAssign assignment_at
 unfolding assignment_at
 assignment-sound text =
     step _ (variable-sound (inside 5) (IsWithin 5) (within-sound 5) text) (λ t after v is_variable here.
@@ -110,7 +110,7 @@ abbrev Behind : List ℕ → List ℕ → Keyword → Type 0
 Behind text word k = (at : List ℕ) → text ≡ word ++ at → Sound IsStatement text (statement_for k at)
 
 -- a statement that is read is one of the grammar
-pub statement-sound : Reads IsStatement statement_at
+statement-sound : Reads IsStatement statement_at
 unfolding statement_at keyword
 statement-sound text = go (begins (λ b. b == 35) text)
   where

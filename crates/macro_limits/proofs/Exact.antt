@@ -81,7 +81,7 @@ told_answer {A} text (Err stop) within =
     told_stop A stop (has_long_number text) (has_deep_brackets text) (has_many_variables text)
 
 -- the answer is refused by the limits exactly as they say
-pub refused : {A : Type 0} (text : List ℕ) (read : Result A Stop) → ((x : A) → read ≡ Ok x → IsWithinLimits text)
+refused : {A : Type 0} (text : List ℕ) (read : Result A Stop) → ((x : A) → read ≡ Ok x → IsWithinLimits text)
     → IsRefusedByLimits text read (answer text read)
 refused text read within =
     let long = has_long_number text in

@@ -38,7 +38,7 @@ abbrev pub Extended : {B : Type 0} → (List ℕ → B → Type 0) → List ℕ 
 Extended {B} Is front t = (ending u : List ℕ) × (y : B) × (u ≡ front ++ (t ++ ending)) × Is u y
 
 -- what a part lacks where it stops, the whole lacks
-pub carries : {A B : Type 0} {Is : List ℕ → A → Type 0} {Is' : List ℕ → B → Type 0} {Other : Stop → Type 0}
+carries : {A B : Type 0} {Is : List ℕ → A → Type 0} {Is' : List ℕ → B → Type 0} {Other : Stop → Type 0}
     {text : List ℕ} (front at : List ℕ) → text ≡ front ++ at → ((t : List ℕ) (x : A) → Is t x → Extended Is' front t)
     → (s : Stop) → Lacks Is Other at s → Caused Is' Other text (Err s)
 carries front at here extend stop.Expression lacks = stopped stop.Expression tt
@@ -88,7 +88,7 @@ joins_stop {at} front mk make here caused =
     lasts _ front at here (λ t x is. ([], front ++ t, mk x, simp append-nil, make t x is)) caused
 
 -- a part that is the whole of another kind stops where a cause stands as that kind
-pub turns : {A : Type 0} {Is Is' : List ℕ → A → Type 0} {Other : Stop → Type 0} {text : List ℕ} {r : Read A}
+turns : {A : Type 0} {Is Is' : List ℕ → A → Type 0} {Other : Stop → Type 0} {text : List ℕ} {r : Read A}
     → ((t : List ℕ) (x : A) → Is t x → Is' t x) → Caused Is Other text r → Caused Is' Other text r
 turns make (went x) = went x
 turns {text} make (stopped s lacks) =

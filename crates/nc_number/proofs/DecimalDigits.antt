@@ -34,7 +34,7 @@ value_more ds i digits within =
     digits_value_more 10 ds i within ∙ ap (λ d. digits_value 10 (take i ds) * 10 + d) weight
 
 -- k digits write a number below 10 ^ k
-pub value_below : (ds : List ℕ) → all_digits ds ≡ true → digits_value 10 ds < 10 ^ length ds
+value_below : (ds : List ℕ) → all_digits ds ≡ true → digits_value 10 ds < 10 ^ length ds
 value_below ds digits = digits_value-lt 10 ds (digits_model.to ds digits)
 
 -- the first digits of at most k digits write a number below 10 ^ k
@@ -59,7 +59,7 @@ value-significant (d ∷ ds) = elim (cases_eq d 48) [
 ]
 
 -- digits without some at the front are digits
-pub all_digits-drop : (ds : List ℕ) (k : ℕ) → all_digits ds ≡ true → all_digits (drop k ds) ≡ true
+all_digits-drop : (ds : List ℕ) (k : ℕ) → all_digits ds ≡ true → all_digits (drop k ds) ≡ true
 all_digits-drop ds k digits =
     list_all-from_AllPass is_ascii_digit (drop k ds) (All-drop (λ c. is_ascii_digit c ≡ true) k ds (AllPass-from_list_all is_ascii_digit ds digits))
 

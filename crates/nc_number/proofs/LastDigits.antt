@@ -19,7 +19,7 @@ length-last (suc k) n =
     length-append (last_digits k (n / 10)) ((48 + n % 10) ∷ []) ∙ rw (length-last k (n / 10)) (omega arith)
 
 -- 48 and a number below 10 is the byte of a digit
-pub last_byte : (n : ℕ) → is_ascii_digit (48 + n % 10) ≡ true
+last_byte : (n : ℕ) → is_ascii_digit (48 + n % 10) ≡ true
 last_byte n = and_from _ _ (le-leb 48 (48 + n % 10) (omega arith)) (le-leb (48 + n % 10) 57 (omega arith))
 
 -- the last k digits are digits

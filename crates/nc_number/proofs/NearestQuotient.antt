@@ -13,7 +13,7 @@ use Rattle.nc_number.specs.Signs.{with_sign, differ}
 use Rattle.nc_number.specs.Arithmetic.{nearest, nearest_quotient}
 
 -- no multiple of d is nearer to n than the one by `nearest`
-pub nearest_is_near : (n d m : ℕ) → 0 < d → abs_diff n (nearest n d * d) ≤ abs_diff n (m * d)
+nearest_is_near : (n d m : ℕ) → 0 < d → abs_diff n (nearest n d * d) ≤ abs_diff n (m * d)
 nearest_is_near n d m positive = go (nat_le d (2 * (n % d))) refl
   where
     go : (test : Bool) → nat_le d (2 * (n % d)) ≡ test → abs_diff n (cond test (n / d + 1) (n / d) * d) ≤ abs_diff n (m * d)
@@ -29,7 +29,7 @@ nearest_is_near n d m positive = go (nat_le d (2 * (n % d))) refl
         ]
 
 -- a multiple of d that is as near to n as the one by `nearest` is not greater
-pub nearest_is_greatest : (n d m : ℕ) → 0 < d → abs_diff n (m * d) ≤ abs_diff n (nearest n d * d) → m ≤ nearest n d
+nearest_is_greatest : (n d m : ℕ) → 0 < d → abs_diff n (m * d) ≤ abs_diff n (nearest n d * d) → m ≤ nearest n d
 nearest_is_greatest n d m positive = go (nat_le d (2 * (n % d))) refl
   where
     go : (test : Bool) → nat_le d (2 * (n % d)) ≡ test → abs_diff n (m * d) ≤ abs_diff n (cond test (n / d + 1) (n / d) * d) → m ≤ cond test (n / d + 1) (n / d)
@@ -64,7 +64,7 @@ negative_neg zero nonzero = absurd (nonzero refl)
 negative_neg (suc n) nonzero = refl
 
 -- if the first factor has a minus, so has the product
-pub neg_times : (n m : ℕ) → neg_ℤ (pos n) *ℤ pos m ≡ neg_ℤ (pos (n * m))
+neg_times : (n m : ℕ) → neg_ℤ (pos n) *ℤ pos m ≡ neg_ℤ (pos (n * m))
 neg_times zero m = let none : 0 * m ≡ 0 = omega arith in rw none refl
 neg_times (suc n) m = negsuc-*ℤ-pos n m
 
@@ -77,23 +77,23 @@ signed_times false n (negsuc m) =
 signed_times true n (negsuc m) = pos-*ℤ-negsuc n m
 
 -- two numbers with one sign are as far apart as without it
-pub signed_distance : (s : Bool) (x y : ℕ) → unsigned_abs (with_sign s x -ℤ with_sign s y) ≡ abs_diff x y
+signed_distance : (s : Bool) (x y : ℕ) → unsigned_abs (with_sign s x -ℤ with_sign s y) ≡ abs_diff x y
 signed_distance false x y = omega (arith, ints)
 signed_distance true x y = omega (arith, ints)
 
 -- the sizes of two numbers are no farther apart than the numbers
-pub distance_of_sizes : (x y : ℤ) → abs_diff (unsigned_abs x) (unsigned_abs y) ≤ unsigned_abs (x -ℤ y)
+distance_of_sizes : (x y : ℤ) → abs_diff (unsigned_abs x) (unsigned_abs y) ≤ unsigned_abs (x -ℤ y)
 distance_of_sizes x y = omega (arith, ints)
 
 -- the size of a number that isn't 0 is above 0
-pub positive_size : (b : ℤ) → b ≢ pos 0 → 0 < unsigned_abs b
+positive_size : (b : ℤ) → b ≢ pos 0 → 0 < unsigned_abs b
 positive_size b nonzero = elim (cases_lt 0 (unsigned_abs b)) [
   | inl positive ↦ positive
   | inr none ↦ (let zero_is : b ≡ pos 0 = omega (arith, ints) in absurd (nonzero zero_is))
 ]
 
 -- how far a nearest multiple is from a: as far as the sizes say
-pub quotient_distance : (a b : ℤ) → unsigned_abs (a -ℤ nearest_quotient a b *ℤ b) ≡ abs_diff (unsigned_abs a) (nearest (unsigned_abs a) (unsigned_abs b) * unsigned_abs b)
+quotient_distance : (a b : ℤ) → unsigned_abs (a -ℤ nearest_quotient a b *ℤ b) ≡ abs_diff (unsigned_abs a) (nearest (unsigned_abs a) (unsigned_abs b) * unsigned_abs b)
 quotient_distance a b =
     let near = nearest (unsigned_abs a) (unsigned_abs b) in
     ap (λ z. unsigned_abs (a -ℤ z)) (signed_times (is_negative a) near b)
@@ -101,7 +101,7 @@ quotient_distance a b =
     ∙ signed_distance (is_negative a) (unsigned_abs a) (near * unsigned_abs b)
 
 -- any multiple is at least as far from a as the sizes say
-pub multiple_distance : (a b k : ℤ) → abs_diff (unsigned_abs a) (unsigned_abs k * unsigned_abs b) ≤ unsigned_abs (a -ℤ k *ℤ b)
+multiple_distance : (a b k : ℤ) → abs_diff (unsigned_abs a) (unsigned_abs k * unsigned_abs b) ≤ unsigned_abs (a -ℤ k *ℤ b)
 multiple_distance a b k =
     subst (λ n. abs_diff (unsigned_abs a) n ≤ unsigned_abs (a -ℤ k *ℤ b)) (unsigned_abs-mul k b) (distance_of_sizes a (k *ℤ b))
 

@@ -24,17 +24,17 @@ abbrev pub printed_sign : Bool → Sign
 printed_sign minus = cond minus Minus Bare
 
 -- the bytes that are printed for a sign are those of the grammar
-pub printed_sign_bytes : (minus : Bool) → sign_text minus ≡ sign_bytes (printed_sign minus)
+printed_sign_bytes : (minus : Bool) → sign_text minus ≡ sign_bytes (printed_sign minus)
 printed_sign_bytes true = refl
 printed_sign_bytes false = refl
 
 -- a minus is printed exactly below 0
-pub printed_minus : (minus : Bool) → is_minus (printed_sign minus) ≡ minus
+printed_minus : (minus : Bool) → is_minus (printed_sign minus) ≡ minus
 printed_minus true = refl
 printed_minus false = refl
 
 -- a literal with these parts, where the digits are few enough
-pub word_of_parts : (text : List ℕ) (sign : Sign) (whole : List ℕ) (fraction : Option (List ℕ)) → HasParts text sign whole fraction
+word_of_parts : (text : List ℕ) (sign : Sign) (whole : List ℕ) (fraction : Option (List ℕ)) → HasParts text sign whole fraction
     → length whole ≤ 8 → length (digits_behind fraction) ≤ 6
     → word_literal text ≡ Ok (record { value = with_sign (is_minus sign) (size_of_parts whole (digits_behind fraction)); point = is_some fraction })
 word_of_parts text sign whole fraction parts short_whole short_fraction =
@@ -49,7 +49,7 @@ abbrev pub printed_fraction : ℕ → Option (List ℕ)
 printed_fraction millionths = cond (millionths == 0) None (Some (without_trailing_zeros (last_digits 6 millionths)))
 
 -- the fraction's text is a point and these digits, or nothing
-pub printed_fraction_bytes : (millionths : ℕ) → fraction_text millionths ≡ point_bytes (printed_fraction millionths)
+printed_fraction_bytes : (millionths : ℕ) → fraction_text millionths ≡ point_bytes (printed_fraction millionths)
 printed_fraction_bytes millionths = go (millionths == 0)
   where
     go : (test : Bool) → cond test [] (46 ∷ without_trailing_zeros (last_digits 6 millionths)) ≡ point_bytes (cond test None (Some (without_trailing_zeros (last_digits 6 millionths))))
@@ -66,7 +66,7 @@ pub record IsFraction (digits : List ℕ) (millionths : ℕ) : Type 0 where
   pub value : digits_value 10 digits * 10 ^ (6 - length digits) ≡ millionths
 
 -- six digits without the zeros at the end still write the fraction
-pub trimmed_is_fraction : (millionths : ℕ) → millionths < 1000000 → IsFraction (without_trailing_zeros (last_digits 6 millionths)) millionths
+trimmed_is_fraction : (millionths : ℕ) → millionths < 1000000 → IsFraction (without_trailing_zeros (last_digits 6 millionths)) millionths
 trimmed_is_fraction millionths small =
     let six = length-last 6 millionths in
     record {
@@ -77,7 +77,7 @@ trimmed_is_fraction millionths small =
     }
 
 -- the digits that are printed write the fraction
-pub printed_is_fraction : (millionths : ℕ) → millionths < 1000000 → IsFraction (digits_behind (printed_fraction millionths)) millionths
+printed_is_fraction : (millionths : ℕ) → millionths < 1000000 → IsFraction (digits_behind (printed_fraction millionths)) millionths
 printed_is_fraction millionths small = go (millionths == 0) refl
   where
     go : (test : Bool) → (millionths == 0) ≡ test → IsFraction (digits_behind (cond test None (Some (without_trailing_zeros (last_digits 6 millionths))))) millionths
@@ -85,7 +85,7 @@ printed_is_fraction millionths small = go (millionths == 0) refl
     go false is = trimmed_is_fraction millionths small
 
 -- what is printed of a value is spelled as the grammar of literals says
-pub value_is_written : (a : ℤ) → InRange a
+value_is_written : (a : ℤ) → InRange a
     → IsWritten (value_text a) (printed_sign (is_negative a)) (decimal (unsigned_abs a / 1000000)) (printed_fraction (unsigned_abs a % 1000000))
 value_is_written a range =
     let fraction = printed_is_fraction (unsigned_abs a % 1000000) (omega arith) in
@@ -121,7 +121,7 @@ value_reads_back a range =
 -- ---- lengths
 
 -- what is printed of a length is spelled as the grammar of literals says
-pub length_is_written : (a : ℤ) → unsigned_abs a ≤ 2 ^ 63
+length_is_written : (a : ℤ) → unsigned_abs a ≤ 2 ^ 63
     → IsWritten (length_text a) (printed_sign (is_negative a)) (decimal (unsigned_abs a / 1000)) (Some (last_digits 3 (unsigned_abs a % 1000)))
 length_is_written a range =
     let small : unsigned_abs a / 1000 < 2 ^ 64 = omega arith in
@@ -138,7 +138,7 @@ pub length_minus : (a : ℤ) → unsigned_abs a ≤ 2 ^ 63 → has_minus (length
 length_minus a range = (parts_of_written _ _ _ _ (length_is_written a range)).minus_is ∙ printed_minus (is_negative a)
 
 -- an increment of 0.001 is 1000 millionths, with the sign kept
-pub thousandfold : (a : ℤ) → with_sign (is_negative a) (unsigned_abs a * 1000) ≡ a *ℤ pos 1000
+thousandfold : (a : ℤ) → with_sign (is_negative a) (unsigned_abs a * 1000) ≡ a *ℤ pos 1000
 thousandfold (pos n) = rw (negative_pos n) (sym (pos-*ℤ-pos n 1000))
 thousandfold (negsuc n) = sym (negsuc-*ℤ-pos n 1000)
 

@@ -10,12 +10,12 @@ use Rattle.nc_number.proofs.NearestQuotient.{negative_pos, negative_neg}
 use Rattle.nc_number.proofs.Wide.{rest_is, below_divisor}
 
 -- a remainder that isn't 0 has the sign of what is divided
-pub rest_sign : (a b : ℤ) → int_rem a b ≢ pos 0 → is_negative (int_rem a b) ≡ is_negative a
+rest_sign : (a b : ℤ) → int_rem a b ≢ pos 0 → is_negative (int_rem a b) ≡ is_negative a
 rest_sign (pos n) b nonzero = negative_pos _ ∙ sym (negative_pos n)
 rest_sign (negsuc n) b nonzero = negative_neg (suc n % unsigned_abs b) nonzero
 
 -- if the control gives a remainder, the divisor isn't 0 and the remainder is that of the division
-pub rest_of : (a b r : ℤ) → remainder_of a b ≡ Ok r → (is_zero b ≡ false) × (int_rem a b ≡ r)
+rest_of : (a b r : ℤ) → remainder_of a b ≡ Ok r → (is_zero b ≡ false) × (int_rem a b ≡ r)
 rest_of a b r is = go (is_zero b) refl is
   where
     go : (test : Bool) → is_zero b ≡ test → cond test (Err ZeroDivide) (Ok (a -ℤ int_div a b *ℤ b)) ≡ Ok r → (is_zero b ≡ false) × (int_rem a b ≡ r)

@@ -19,7 +19,7 @@ root_squares n (suc most) = go (nat_le (suc most * suc most) n) refl (root_squar
     go false is below = below
 
 -- no greater number, up to `most`, has a square that is at most n
-pub root_is_greatest : (n most k : ℕ) → k ≤ most → k * k ≤ n → k ≤ greatest_root n most
+root_is_greatest : (n most k : ℕ) → k ≤ most → k * k ≤ n → k ≤ greatest_root n most
 unfolding greatest_root
 root_is_greatest n zero k within square = within
 root_is_greatest n (suc most) k within square =

@@ -14,7 +14,7 @@ use Rattle.nc_number.specs.Spelling.{Sign, Bare, Plus, Minus, sign_bytes, is_min
 use Rattle.nc_number.proofs.DecimalDigits.{digit_byte}
 
 -- the byte of a digit is from 48 to 57
-pub digit_range : (d : ℕ) → is_ascii_digit d ≡ true → (48 ≤ d) × (d ≤ 57)
+digit_range : (d : ℕ) → is_ascii_digit d ≡ true → (48 ≤ d) × (d ≤ 57)
 digit_range d digit = let one : all_digits (d ∷ []) ≡ true = and_from _ _ digit refl in digit_byte (d ∷ []) 0 one (omega arith)
 
 -- a digit is not a point
@@ -27,11 +27,11 @@ digit_no_sign d digit = let range = digit_range d digit in
     or_from _ _ (ne_eqb d 43 (λ is. absurd (omega arith))) (ne_eqb d 45 (λ is. absurd (omega arith)))
 
 -- a digit is not a minus (byte 45)
-pub digit_no_minus : (d : ℕ) → is_ascii_digit d ≡ true → (d == 45) ≡ false
+digit_no_minus : (d : ℕ) → is_ascii_digit d ≡ true → (d == 45) ≡ false
 digit_no_minus d digit = let range = digit_range d digit in ne_eqb d 45 (λ is. absurd (omega arith))
 
 -- the first point of a body stands after its whole digits
-pub point_place : (whole : List ℕ) (fraction : Option (List ℕ)) → all_digits whole ≡ true → position_or_len is_point (whole ++ point_bytes fraction) ≡ length whole
+point_place : (whole : List ℕ) (fraction : Option (List ℕ)) → all_digits whole ≡ true → position_or_len is_point (whole ++ point_bytes fraction) ≡ length whole
 point_place [] None digits = refl
 point_place [] (Some fraction) digits = refl
 point_place (d ∷ ds) fraction digits =
@@ -39,12 +39,12 @@ point_place (d ∷ ds) fraction digits =
     rw (digit_no_point d parts.0, point_place ds fraction parts.1) (omega arith)
 
 -- before the first point stand the digits of the whole part
-pub before_point : (whole : List ℕ) (fraction : Option (List ℕ)) → all_digits whole ≡ true → before_first is_point (whole ++ point_bytes fraction) ≡ whole
+before_point : (whole : List ℕ) (fraction : Option (List ℕ)) → all_digits whole ≡ true → before_first is_point (whole ++ point_bytes fraction) ≡ whole
 before_point whole fraction digits =
     rw (point_place whole fraction digits) (take-append_seam whole (point_bytes fraction))
 
 -- after the first point stand the digits of the fraction
-pub after_point : (whole : List ℕ) (fraction : Option (List ℕ)) → all_digits whole ≡ true → after_first is_point (whole ++ point_bytes fraction) ≡ digits_behind fraction
+after_point : (whole : List ℕ) (fraction : Option (List ℕ)) → all_digits whole ≡ true → after_first is_point (whole ++ point_bytes fraction) ≡ digits_behind fraction
 after_point whole fraction digits =
     rw (point_place whole fraction digits) (drop-append-add whole (point_bytes fraction) 1 ∙ behind fraction)
   where
@@ -53,25 +53,25 @@ after_point whole fraction digits =
     behind (Some fraction) = refl
 
 -- a body has no sign
-pub body_unsigned : (whole : List ℕ) (fraction : Option (List ℕ)) → all_digits whole ≡ true → behind_sign (whole ++ point_bytes fraction) ≡ whole ++ point_bytes fraction
+body_unsigned : (whole : List ℕ) (fraction : Option (List ℕ)) → all_digits whole ≡ true → behind_sign (whole ++ point_bytes fraction) ≡ whole ++ point_bytes fraction
 body_unsigned [] None digits = refl
 body_unsigned [] (Some fraction) digits = refl
 body_unsigned (d ∷ ds) fraction digits = rw (digit_no_sign d (and_parts _ _ digits).0) refl
 
 -- what stands after the sign begins with no minus
-pub body_no_minus : (whole : List ℕ) (fraction : Option (List ℕ)) → all_digits whole ≡ true → has_minus (whole ++ point_bytes fraction) ≡ false
+body_no_minus : (whole : List ℕ) (fraction : Option (List ℕ)) → all_digits whole ≡ true → has_minus (whole ++ point_bytes fraction) ≡ false
 body_no_minus [] None digits = refl
 body_no_minus [] (Some fraction) digits = refl
 body_no_minus (d ∷ ds) fraction digits = digit_no_minus d (and_parts _ _ digits).0
 
 -- digits hold no point
-pub digits_no_point : (ds : List ℕ) → all_digits ds ≡ true → list_any is_point ds ≡ false
+digits_no_point : (ds : List ℕ) → all_digits ds ≡ true → list_any is_point ds ≡ false
 digits_no_point [] digits = refl
 digits_no_point (d ∷ ds) digits =
     let parts = and_parts _ _ digits in or_from _ _ (digit_no_point d parts.0) (digits_no_point ds parts.1)
 
 -- what stands after the sign has a point exactly if the spelling has one
-pub body_point : (whole : List ℕ) (fraction : Option (List ℕ)) → all_digits whole ≡ true → list_any is_point (whole ++ point_bytes fraction) ≡ is_some fraction
+body_point : (whole : List ℕ) (fraction : Option (List ℕ)) → all_digits whole ≡ true → list_any is_point (whole ++ point_bytes fraction) ≡ is_some fraction
 body_point whole fraction digits =
     list_any-append is_point whole (point_bytes fraction) ∙ rw (digits_no_point whole digits) (behind fraction)
   where
@@ -80,19 +80,19 @@ body_point whole fraction digits =
     behind (Some fraction) = refl
 
 -- a body with a sign in front, without that sign, is the body
-pub written_body : (sign : Sign) (whole : List ℕ) (fraction : Option (List ℕ)) → all_digits whole ≡ true → behind_sign (sign_bytes sign ++ (whole ++ point_bytes fraction)) ≡ whole ++ point_bytes fraction
+written_body : (sign : Sign) (whole : List ℕ) (fraction : Option (List ℕ)) → all_digits whole ≡ true → behind_sign (sign_bytes sign ++ (whole ++ point_bytes fraction)) ≡ whole ++ point_bytes fraction
 written_body Bare whole fraction digits = body_unsigned whole fraction digits
 written_body Plus whole fraction digits = refl
 written_body Minus whole fraction digits = refl
 
 -- a text begins with a minus exactly if its spelling does
-pub written_minus : (sign : Sign) (whole : List ℕ) (fraction : Option (List ℕ)) → all_digits whole ≡ true → has_minus (sign_bytes sign ++ (whole ++ point_bytes fraction)) ≡ is_minus sign
+written_minus : (sign : Sign) (whole : List ℕ) (fraction : Option (List ℕ)) → all_digits whole ≡ true → has_minus (sign_bytes sign ++ (whole ++ point_bytes fraction)) ≡ is_minus sign
 written_minus Bare whole fraction digits = body_no_minus whole fraction digits
 written_minus Plus whole fraction digits = refl
 written_minus Minus whole fraction digits = refl
 
 -- a text has a point exactly if its spelling does
-pub written_point : (sign : Sign) (whole : List ℕ) (fraction : Option (List ℕ)) → all_digits whole ≡ true → has_point (sign_bytes sign ++ (whole ++ point_bytes fraction)) ≡ is_some fraction
+written_point : (sign : Sign) (whole : List ℕ) (fraction : Option (List ℕ)) → all_digits whole ≡ true → has_point (sign_bytes sign ++ (whole ++ point_bytes fraction)) ≡ is_some fraction
 written_point Bare whole fraction digits = body_point whole fraction digits
 written_point Plus whole fraction digits = body_point whole fraction digits
 written_point Minus whole fraction digits = body_point whole fraction digits
@@ -117,7 +117,7 @@ sign_of [] = Bare
 sign_of (b ∷ bs) = cond (b == 43) Plus (cond (b == 45) Minus Bare)
 
 -- a text is its sign and what stands after it
-pub signed_body : (text : List ℕ) → text ≡ sign_bytes (sign_of text) ++ behind_sign text
+signed_body : (text : List ℕ) → text ≡ sign_bytes (sign_of text) ++ behind_sign text
 signed_body [] = refl
 signed_body (b ∷ bs) =
     let P : ℕ → Type 0 = λ x. x ∷ bs ≡ sign_bytes (sign_of (x ∷ bs)) ++ behind_sign (x ∷ bs) in
@@ -134,7 +134,7 @@ abbrev pub fraction_of : List ℕ → Option (List ℕ)
 fraction_of body = cond (nat_lt (position_or_len is_point body) (length body)) (Some (after_first is_point body)) None
 
 -- what stands after the sign is the whole part, and a point with a fraction if there is one
-pub body_parts : (body : List ℕ) → body ≡ before_first is_point body ++ point_bytes (fraction_of body)
+body_parts : (body : List ℕ) → body ≡ before_first is_point body ++ point_bytes (fraction_of body)
 body_parts body = go (nat_lt (position_or_len is_point body) (length body)) refl
   where
     go : (test : Bool) → nat_lt (position_or_len is_point body) (length body) ≡ test
@@ -146,7 +146,7 @@ body_parts body = go (nat_lt (position_or_len is_point body) (length body)) refl
     go false is = sym (append-nil (before_first is_point body) ∙ take_all _ body (ltb-false _ _ is))
 
 -- the digits of the fraction are what stands after the point
-pub body_fraction : (body : List ℕ) → digits_behind (fraction_of body) ≡ after_first is_point body
+body_fraction : (body : List ℕ) → digits_behind (fraction_of body) ≡ after_first is_point body
 body_fraction body = go (nat_lt (position_or_len is_point body) (length body)) refl
   where
     go : (test : Bool) → nat_lt (position_or_len is_point body) (length body) ≡ test

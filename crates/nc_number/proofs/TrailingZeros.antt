@@ -8,13 +8,13 @@ use Rattle.std.proofs.Math.Bool.{and-true}
 use Rattle.nc_number.specs.Printed.{is_zero_digit, without_trailing_zeros}
 
 -- a zero at the end makes no difference to the digits without the zeros at their end
-pub trim-zero : (xs : List ℕ) → without_trailing_zeros (xs ++ 48 ∷ []) ≡ without_trailing_zeros xs
+trim-zero : (xs : List ℕ) → without_trailing_zeros (xs ++ 48 ∷ []) ≡ without_trailing_zeros xs
 trim-zero [] = refl
 trim-zero (x ∷ xs) =
     rw (list_all-append is_zero_digit xs (48 ∷ []), and-true (list_all is_zero_digit xs), trim-zero xs) refl
 
 -- digits that end with another digit than 0 stay as they are
-pub trim-digit : (xs : List ℕ) (d : ℕ) → d ≢ 48 → without_trailing_zeros (xs ++ d ∷ []) ≡ xs ++ d ∷ []
+trim-digit : (xs : List ℕ) (d : ℕ) → d ≢ 48 → without_trailing_zeros (xs ++ d ∷ []) ≡ xs ++ d ∷ []
 trim-digit [] d other = rw (ne_eqb d 48 other) refl
 trim-digit (x ∷ xs) d other =
     let last : (is_zero_digit d && true) ≡ false = and_left _ _ (ne_eqb d 48 other) in

@@ -14,7 +14,7 @@ pub wide_is : (a : ℤ) → InRange a → cast_signed w128 (cast_unsigned w128 a
 wide_is a range = to_z-of_z w128 a (fits_signed_from_abs w128 a (omega arith))
 
 -- the product of two values fits 128 bits
-pub product_fits : (a b : ℤ) → InRange a → InRange b → FitsSigned w128 (a *ℤ b)
+product_fits : (a b : ℤ) → InRange a → InRange b → FitsSigned w128 (a *ℤ b)
 product_fits a b left right = fits_signed_mul w128 a b 99999999999999 99999999999999 left right (omega arith)
 
 -- the product of two values is the same when counted in 128 bits
@@ -31,7 +31,7 @@ pub below_divisor : (b : ℤ) → is_zero b ≡ false → 0 < unsigned_abs b
 below_divisor b nonzero = let other = eqb-false (unsigned_abs b) 0 nonzero in omega arith
 
 -- a remainder is a value
-pub rest_in_range : (a b : ℤ) → is_zero b ≡ false → InRange b → InRange (int_rem a b)
+rest_in_range : (a b : ℤ) → is_zero b ≡ false → InRange b → InRange (int_rem a b)
 rest_in_range a b nonzero range = let below = rem_below a b (below_divisor b nonzero) in omega arith
 
 -- a remainder is what is left when the quotient's multiple is taken away
@@ -39,7 +39,7 @@ pub rest_is : (a b : ℤ) → int_rem a b ≡ a -ℤ int_div a b *ℤ b
 rest_is a b = let parts = quot-rem a b in omega (arith, ints)
 
 -- a number in the range passes the check of the range
-pub checked_in_range : (z : ℤ) → InRange z → checked z ≡ Ok z
+checked_in_range : (z : ℤ) → InRange z → checked z ≡ Ok z
 checked_in_range z range = let test : is_in_range z ≡ true = le-leb _ _ range in rw test refl
 
 -- the remainder that the code checks is the control's

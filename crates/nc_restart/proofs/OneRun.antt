@@ -24,7 +24,7 @@ use Rattle.nc_restart.proofs.Parted.{parted_before, parted_alike, first_alike, p
 use Rattle.nc_restart.proofs.SamePair.{same_pair}
 
 -- a record of a legal history is the machine's step behind those before it
-pub follows : (tapes : Tapes) (m : MachineView) (before after : List Entry) (e : Entry) → IsLegal tapes m (before ++ e ∷ after)
+follows : (tapes : Tapes) (m : MachineView) (before after : List Entry) (e : Entry) → IsLegal tapes m (before ++ e ∷ after)
     → IsNext tapes (fold tapes m before) e
 follows tapes m [] after e legal = legal.0
 follows tapes m (b ∷ before) after e legal = follows tapes (behind_entry tapes b m) before after e legal.1

@@ -54,7 +54,7 @@ refused_alike old new (journal.BadRecord offset cause) refused = (refused.0, λ 
 refused_alike old new journal.NoMemory refused = tt
 
 -- a journal that can't be opened recovers no run
-pub not_opened : (old new : DiskState) (fault : JournalFault) → FindsRun old new (Err fault) → Recovers old new (Err (fault_of fault))
+not_opened : (old new : DiskState) (fault : JournalFault) → FindsRun old new (Err fault) → Recovers old new (Err (fault_of fault))
 not_opened old new fault finds = record {
   found = tt;
   refused = refused_alike old new fault finds.refused;

@@ -112,7 +112,7 @@ block_shaped lines blocks done (Some program) block is line shape =
 -- being read.
 
 -- if neither field changed, the shape is kept
-pub same_shape : (lines blocks : ℕ) (done new-done : List Program) (current new-current : Option Program) → IsReadShape lines blocks (done ++ option_to_list current) → new-done ≡ done → new-current ≡ current
+same_shape : (lines blocks : ℕ) (done new-done : List Program) (current new-current : Option Program) → IsReadShape lines blocks (done ++ option_to_list current) → new-done ≡ done → new-current ≡ current
     → IsReadShape lines blocks (new-done ++ option_to_list new-current)
 same_shape lines blocks done new-done current new-current is d c =
     let P : List Program → Type 0 = IsReadShape lines blocks in

@@ -32,11 +32,11 @@ kept_back stage kept piece longer shorter n n-is longer-is shorter-is =
     shorter-is ∙ ap (λ (k : ℕ). take k longer) n-is ∙ ap (take (length kept)) longer-is ∙ take-append_seam kept (more_kept stage kept piece)
 
 -- a line of which nothing is kept or counted has no bytes yet
-pub no_bytes : (stage : Stage) (kept : List ℕ) (len : ℕ) → kept ≡ [] → len ≡ 0 → IsOpenLine stage kept len []
+no_bytes : (stage : Stage) (kept : List ℕ) (len : ℕ) → kept ≡ [] → len ≡ 0 → IsOpenLine stage kept len []
 no_bytes stage kept len kept-is len-is = record { one_line = All-nil (λ (x : ℕ). (x == 10) ≡ false); kept_is = kept-is ∙ sym (kept_none stage); len_is = len-is }
 
 -- the present line with a piece without a line feed is an open line of all these bytes
-pub line_extended : (stage new-stage : Stage) (kept new-kept : List ℕ) (len new-len : ℕ) (piece line : List ℕ) → IsOneLine piece → new-stage ≡ stage → new-kept ≡ kept ++ more_kept stage kept piece → new-len ≡ counted (len + length piece)
+line_extended : (stage new-stage : Stage) (kept new-kept : List ℕ) (len new-len : ℕ) (piece line : List ℕ) → IsOneLine piece → new-stage ≡ stage → new-kept ≡ kept ++ more_kept stage kept piece → new-len ≡ counted (len + length piece)
     → IsOpenLine stage kept len line → IsOpenLine new-stage new-kept new-len (line ++ piece)
 line_extended stage new-stage kept new-kept len new-len piece line one stage-is kept-is len-is is =
     let kept-all : new-kept ≡ kept_of stage (line ++ piece) = kept-is ∙ ap (λ (k : List ℕ). k ++ more_kept stage k piece) is.kept_is ∙ kept_more stage line piece in record {
@@ -46,7 +46,7 @@ line_extended stage new-stage kept new-kept len new-len piece line one stage-is 
     }
 
 -- a reader that goes on with the present line by a piece has read that piece
-pub line_goes_on : (s : ℕ) (stage new-stage : Stage) (kept new-kept : List ℕ) (len new-len : ℕ) (before : Before) (piece : List ℕ) → IsOneLine piece → new-stage ≡ stage → new-kept ≡ kept ++ more_kept stage kept piece → new-len ≡ counted (len + length piece)
+line_goes_on : (s : ℕ) (stage new-stage : Stage) (kept new-kept : List ℕ) (len new-len : ℕ) (before : Before) (piece : List ℕ) → IsOneLine piece → new-stage ≡ stage → new-kept ≡ kept ++ more_kept stage kept piece → new-len ≡ counted (len + length piece)
     → (skips : ℕ) (bytes : List ℕ) → HasRead (state s stage kept len before) skips bytes → HasRead (state s new-stage new-kept new-len before) skips (bytes ++ piece)
 line_goes_on s stage new-stage kept new-kept len new-len before piece one stage-is kept-is len-is skips bytes read =
     let line = read.1.0 in

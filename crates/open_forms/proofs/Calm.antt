@@ -46,7 +46,7 @@ quiet_join : (t u : List ℕ) → IsQuiet t → IsQuiet u → IsQuiet (t ++ u)
 quiet_join t u first second rest none = subst HidesNone (sym (append_assoc t u rest)) (first (u ++ rest) (second rest none))
 
 -- Two calm texts, one after the other, are calm.
-pub calm_join : (t u : List ℕ) → IsCalm t → IsCalm u → IsCalm (t ++ u)
+calm_join : (t u : List ℕ) → IsCalm t → IsCalm u → IsCalm (t ++ u)
 calm_join t u first second = record {
   balanced = balanced_join t u first.balanced second.balanced;
   quiet = quiet_join t u first.quiet second.quiet;
@@ -71,7 +71,7 @@ balanced_byte b flat n rest = go (b == 91) (b == 93) flat
     go false false e = refl
 
 -- A text without brackets is balanced.
-pub balanced_flat : (t : List ℕ) → list_all is_flat t ≡ true → IsBalanced t
+balanced_flat : (t : List ℕ) → list_all is_flat t ≡ true → IsBalanced t
 balanced_flat [] all = λ n rest. refl
 balanced_flat (b ∷ t) all =
     let parts = and_parts (is_flat b) (list_all is_flat t) all in
@@ -95,7 +95,7 @@ quiet_mild (b ∷ t) all =
     quiet_join (b ∷ []) t (quiet_byte b parts.0) (quiet_mild t parts.1)
 
 -- A text without brackets, G and M is calm.
-pub calm_bytes : (t : List ℕ) → list_all is_flat t ≡ true → list_all is_mild t ≡ true → IsCalm t
+calm_bytes : (t : List ℕ) → list_all is_flat t ≡ true → list_all is_mild t ≡ true → IsCalm t
 calm_bytes t flat mild = record { balanced = balanced_flat t flat; quiet = quiet_mild t mild }
 
 -- The word MOD hides no word: its M stands before OD.
@@ -113,7 +113,7 @@ calm_mod : IsCalm (codes "MOD")
 calm_mod = record { balanced = balanced_flat (codes "MOD") refl; quiet = quiet_mod }
 
 -- A balanced text in brackets is balanced.
-pub balanced_bracketed : (t : List ℕ) → IsBalanced t → IsBalanced (codes "[" ++ (t ++ codes "]"))
+balanced_bracketed : (t : List ℕ) → IsBalanced t → IsBalanced (codes "[" ++ (t ++ codes "]"))
 unfolding behind_close
 balanced_bracketed t inner n rest =
     let same : suc n - 1 ≡ n = omega arith in

@@ -109,7 +109,7 @@ same_has letters _ _ none = refl
 same_has letters _ _ (one_more text word texts words is others) = rw (is.letter, same_has letters texts words others) refl
 
 -- There are as many words as texts.
-pub same_length : (texts : List Word) (words : List FlowWord) → AreSaid texts words → length texts ≡ length words
+same_length : (texts : List Word) (words : List FlowWord) → AreSaid texts words → length texts ≡ length words
 same_length _ _ none = refl
 same_length _ _ (one_more text word texts words is others) = ap suc (same_length texts words others)
 

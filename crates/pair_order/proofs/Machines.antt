@@ -44,6 +44,6 @@ run_reached left right m _ (moved from to before moves) =
     reached_by left right (m.paths from) (m.paths to) (run_reached left right m from before) (m.lawful from to moves)
 
 -- Over two tapes with one list of labels no run of a machine waits in vain.
-pub machine_free : (left right : List ControlProgram) → IsLawfulPair left right → (m : Machine left right) (at : m.State) → IsRun m at
+machine_free : (left right : List ControlProgram) → IsLawfulPair left right → (m : Machine left right) (at : m.State) → IsRun m at
     → IsFree left right (m.paths at)
 machine_free left right pair m at run = never_stuck left right pair (m.paths at) (run_reached left right m at run)

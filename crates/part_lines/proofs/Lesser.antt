@@ -11,14 +11,14 @@ lesser_none None = refl
 lesser_none (Some a) = refl
 
 -- The least of three lines is the same however they are joined.
-pub lesser_assoc : (a b c : Option ℕ) → lesser (lesser a b) c ≡ lesser a (lesser b c)
+lesser_assoc : (a b c : Option ℕ) → lesser (lesser a b) c ≡ lesser a (lesser b c)
 lesser_assoc None b c = refl
 lesser_assoc (Some a) None c = refl
 lesser_assoc (Some a) (Some b) None = refl
 lesser_assoc (Some a) (Some b) (Some c) = let e : min (min a b) c ≡ min a (min b c) = omega arith in ap Some e
 
 -- A line that is joined twice counts once.
-pub lesser_again : (a b : Option ℕ) → lesser a (lesser a b) ≡ lesser a b
+lesser_again : (a b : Option ℕ) → lesser a (lesser a b) ≡ lesser a b
 lesser_again None b = refl
 lesser_again (Some a) None = let e : min a a ≡ a = omega arith in ap Some e
 lesser_again (Some a) (Some b) = let e : min a (min a b) ≡ min a b = omega arith in ap Some e
@@ -74,5 +74,5 @@ least_one None = λ k is. absurd cc
 least_one (Some a) = (refl, λ k is. let e : a ≡ k = cc in omega arith)
 
 -- If P holds of no line, none is the least.
-pub least_none : (P : ℕ → Type 0) → ((k : ℕ) → P k → ⊥) → IsLeast P None
+least_none : (P : ℕ → Type 0) → ((k : ℕ) → P k → ⊥) → IsLeast P None
 least_none P never = never

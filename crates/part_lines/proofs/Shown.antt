@@ -18,14 +18,14 @@ use Rattle.part_lines.specs.Pieces.{shown, coming, stop_of, IsSeen, AreJoined, A
 use Rattle.part_lines.proofs.Lesser.{lesser_none, with_again}
 
 -- To join a line n times, at least once, is to join it once.
-pub times_again : (n : ℕ) (line : Option ℕ) (behind : Lines) → 0 < n → times n (with_first line) behind ≡ with_first line behind
+times_again : (n : ℕ) (line : Option ℕ) (behind : Lines) → 0 < n → times n (with_first line) behind ≡ with_first line behind
 times_again zero line behind some = absurd (omega arith)
 times_again (suc zero) line behind some = refl
 times_again (suc (suc n)) line behind some =
     ap (with_first line) (times_again (suc n) line behind (omega arith)) ∙ with_again line behind
 
 -- Two functions that agree on all lines give the same n times over.
-pub times_same : (n : ℕ) (f g : Lines → Lines) (behind : Lines) → ((xs : Lines) → f xs ≡ g xs) → times n f behind ≡ times n g behind
+times_same : (n : ℕ) (f g : Lines → Lines) (behind : Lines) → ((xs : Lines) → f xs ≡ g xs) → times n f behind ≡ times n g behind
 times_same zero f g behind same = refl
 times_same (suc n) f g behind same = ap f (times_same n f g behind same) ∙ same (times n g behind)
 

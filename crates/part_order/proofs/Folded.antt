@@ -29,7 +29,7 @@ folds all n _ (anew _ rest before) = go (folds all n (Anew ∷ rest) before)
     go (inr (m, e, f)) = inr (m, e, anew m rest f)
 
 -- If items follow n waits, more than the list has, they follow a round fewer too.
-pub follows_before : (all : List Item) (n m : ℕ) (xs : List Item) → Follows all n xs → waits_in all < n → n ≡ m + waits_in all → Follows all m xs
+follows_before : (all : List Item) (n m : ℕ) (xs : List Item) → Follows all n xs → waits_in all < n → n ≡ m + waits_in all → Follows all m xs
 follows_before all n m xs f more e = go (folds all n xs f)
   where
     go : (n + waits_in xs ≡ waits_in all) ⊎ ((k : ℕ) × (n ≡ k + waits_in all) × Follows all k xs) → Follows all m xs
@@ -37,7 +37,7 @@ follows_before all n m xs f more e = go (folds all n xs f)
     go (inr (k, is, g)) = let same : k ≡ m = omega arith in subst (λ i. Follows all i xs) same g
 
 -- A block in a part after more waits than the list has is in the part of a round before.
-pub part_before : (tape : List ControlProgram) (n m program block : ℕ) → waits_in (path_items tape) < n → n ≡ m + waits_in (path_items tape)
+part_before : (tape : List ControlProgram) (n m program block : ℕ) → waits_in (path_items tape) < n → n ≡ m + waits_in (path_items tape)
     → IsInPart tape n program block → IsInPart tape m program block
 part_before tape n m _ _ more e (listed program block rest f) =
     listed program block rest (follows_before (path_items tape) n m (Stretch program (stretch_at tape program block) ∷ rest) f more e)
@@ -45,7 +45,7 @@ part_before tape n m _ _ more e (called caller there program block repeats insid
     called caller there program block repeats (part_before tape n m caller there more e inside) is quiet
 
 -- If the list has no wait, no wait is ever passed, and what follows has none.
-pub without_wait : (all : List Item) (n : ℕ) (xs : List Item) → waits_in all ≡ 0 → Follows all n xs → (n ≡ 0) × (waits_in xs ≡ 0)
+without_wait : (all : List Item) (n : ℕ) (xs : List Item) → waits_in all ≡ 0 → Follows all n xs → (n ≡ 0) × (waits_in xs ≡ 0)
 without_wait all _ _ none first = (refl, none)
 without_wait all n _ none (behind_stretch _ program number rest before) = without_wait all n (Stretch program number ∷ rest) none before
 without_wait all _ _ none (behind_wait n rest before) = let e = (without_wait all n (Meets ∷ rest) none before).1 in absurd cc

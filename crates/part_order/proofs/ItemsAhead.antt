@@ -28,7 +28,7 @@ pub ahead-quiet : (tape : List ControlProgram) (f : Frame) (stack : List Frame) 
 ahead-quiet tape f stack e = rw e
 
 -- Before the next block stand the marks before a block and its own.
-pub stretch_next : (ld : ℕ → Bool) (bs : List ControlBlock) (i : ℕ) (c : Control) → control_at bs i ≡ Some c
+stretch_next : (ld : ℕ → Bool) (bs : List ControlBlock) (i : ℕ) (c : Control) → control_at bs i ≡ Some c
     → stretch ld bs (suc i) ≡ length (mark_of ld c) + stretch ld bs i
 stretch_next ld [] i c e = absurd cc
 stretch_next ld (b ∷ bs) zero c e =
@@ -60,7 +60,7 @@ unmarked_next tape p block c is none =
     omega arith
 
 -- The block behind a mark lies in the next stretch.
-pub marked_next : (tape : List ControlProgram) (p block : ℕ) (c : Control) (m : Mark) → control_at (blocks tape p) block ≡ Some c
+marked_next : (tape : List ControlProgram) (p block : ℕ) (c : Control) (m : Mark) → control_at (blocks tape p) block ≡ Some c
     → mark_of (loud tape) c ≡ m ∷ [] → stretch_at tape p (suc block) ≡ suc (stretch_at tape p block)
 marked_next tape p block c m is one =
     let next = stretch_next (loud tape) (blocks tape p) block c is in
@@ -68,7 +68,7 @@ marked_next tape p block c m is one =
     omega arith
 
 -- The marks from a block's stretch on begin with the block's own.
-pub marks_here : (tape : List ControlProgram) (p block : ℕ) (c : Control) → control_at (blocks tape p) block ≡ Some c
+marks_here : (tape : List ControlProgram) (p block : ℕ) (c : Control) → control_at (blocks tape p) block ≡ Some c
     → drop (stretch_at tape p block) (marks (loud tape) (blocks tape p))
     ≡ mark_of (loud tape) c ++ drop (stretch_at tape p (suc block)) (marks (loud tape) (blocks tape p))
 marks_here tape p block c is =

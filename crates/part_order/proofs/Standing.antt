@@ -14,7 +14,7 @@ use Rattle.part_order.proofs.ItemsAhead.{ahead-counts, ahead-quiet, stretch_firs
 use Rattle.part_order.proofs.KeepsItems.{Stands, goes_stands, passed_stands}
 
 -- If the items ahead of a place follow n waits, its running block is in part n.
-pub in_part : (tape : List ControlProgram) (n : ℕ) (f : Frame) (stack : List Frame) → IsPlace tape (f ∷ stack)
+in_part : (tape : List ControlProgram) (n : ℕ) (f : Frame) (stack : List Frame) → IsPlace tape (f ∷ stack)
     → Stands tape n (f ∷ stack) → IsInPart tape n f.program f.block
 in_part tape n f [] place s =
     let own = stretch_first tape (λ q k. whole tape (room []) q k) f.program (stretch_at tape f.program f.block)

@@ -33,7 +33,7 @@ use Rattle.path_state.specs.Effect.{Moved, alarm_of, of_values, of_arguments, co
 use Rattle.path_state.specs.Decisions.{macro_decided, of_said, of_arguments_said, MayTake, MayTakeWords}
 
 -- the effect of a block by the outcome of its words is that by what the code was told of them
-pub of_values_said : (tape : List ControlProgram) (path : PathView) (system : System) (words : List FlowWord) (control : Control) (said : Result kept.Values Stop) (left : List Var)
+of_values_said : (tape : List ControlProgram) (path : PathView) (system : System) (words : List FlowWord) (control : Control) (said : Result kept.Values Stop) (left : List Var)
     → of_values tape path.fixed path system words control (outcome_of values_seen said left) ≡ of_said tape path system words control said
 of_values_said tape path system words control (Ok values) left = refl
 of_values_said tape path system words control (Err (stop.Needs variable)) left = refl
@@ -68,7 +68,7 @@ arguments_said tape path words control reads arguments taken left e =
     ∙ of_taken tape path control arguments taken left
 
 -- by its purpose, a block of words that is no macro call does what its words do
-pub plain : (tape : List ControlProgram) (fixed : Fixed) (path : PathView) (purpose : Purpose) (system : System) (words : List FlowWord) (control : Control) (reads : List Var)
+plain : (tape : List ControlProgram) (fixed : Fixed) (path : PathView) (purpose : Purpose) (system : System) (words : List FlowWord) (control : Control) (reads : List Var)
     → is_macro purpose ≡ false → of_purpose tape fixed path purpose system words control reads ≡ words_effect tape fixed path purpose system words control reads
 plain tape fixed path MacroCall system words control reads is = absurd cc
 plain tape fixed path Subprogram system words control reads is = refl

@@ -25,14 +25,14 @@ few_waits (label.Again ∷ ls) = let rest = few_waits ls in omega arith
 few_waits (label.Off ∷ ls) = let rest = few_waits ls in omega arith
 
 -- an accepted path has no more waits than a list may have labels
-pub few_parts : (left right : Flow) → IsAcceptedPair left.order right.order → path_waits left.order ≤ MOST_LABELS
+few_parts : (left right : Flow) → IsAcceptedPair left.order right.order → path_waits left.order ≤ MOST_LABELS
 few_parts left right pair =
     let same : path_waits left.order ≡ waits_of (list left.order) = list_waits left.order in
     let few = few_waits (list left.order) in
     let most = pair.left_few in omega arith
 
 -- both paths of an accepted pair have the same number of waits
-pub have_waits : (left right : Flow) → IsAcceptedPair left.order right.order → HaveWaits left right (path_waits left.order)
+have_waits : (left right : Flow) → IsAcceptedPair left.order right.order → HaveWaits left right (path_waits left.order)
 have_waits left right pair = record { one = refl; two = sym (waits_agree left.order right.order pair.same) }
 
 -- the list of path 1's least lines of an accepted pair is no longer than the code allows

@@ -223,7 +223,7 @@ left_next lines v after total left less none = go left.count left.all left.same
         }
 
 -- if no part is left, there is no race
-pub left_none : (lines : Both PathLines) (v after total : ℕ) → IsLeft lines v after total → total ≤ after → None ≡ first_from lines v total 0
+left_none : (lines : Both PathLines) (v after total : ℕ) → IsLeft lines v after total → total ≤ after → None ≡ first_from lines v total 0
 left_none lines v after total left past = go left.count left.all ∙ left.same
   where
     go : (count : ℕ) → after + count ≡ total → None ≡ first_from lines v count after

@@ -136,7 +136,7 @@ module _ (shared : ℕ → Bool) (left right : Flow) where
       two n u there (inr more) = let never = unshared u more in let is = there.is_shared in absurd cc
 
 -- no variable below #100 is shared
-pub before_the_first : (settings : Settings) (u : ℕ) → u < 100 → shared_by settings u ≡ false
+before_the_first : (settings : Settings) (u : ℕ) → u < 100 → shared_by settings u ≡ false
 before_the_first settings u less = grind arith
 
 -- no variable between the shared ones from #100 and those from #500 is shared

@@ -60,7 +60,7 @@ meets shared writer other n v is =
     (writes_somewhere writer n v is.writes) (names_somewhere other n v is.names)
 
 -- a variable that can't have a race by the tapes has none
-pub no_meeting : (shared : ℕ → Bool) (left right : Flow) (v : ℕ) → may_race v left right ≡ false → IsAnswer shared left right v None
+no_meeting : (shared : ℕ → Bool) (left right : Flow) (v : ℕ) → may_race v left right ≡ false → IsAnswer shared left right v None
 no_meeting shared left right v none = (
   λ n is. let some = or_left (may_meet v left right) (may_meet v right left) (meets shared left right n v is) in absurd cc,
   λ n is. let some = or_right (may_meet v left right) (may_meet v right left) (meets shared right left n v is) in absurd cc,

@@ -73,7 +73,7 @@ told_more flow sought v old new p rest lines unknown are kept others so q place 
         ∙ (ap (λ f. told_or sought v (kept_lines old q) f place) (sym (other_program p rest q other)) ∙ so q place)
 
 -- the programs that are left from place i on begin with the one at that place
-pub told_at : (flow : Flow) (sought : Sought) (v : ℕ) (table : LineTable) (programs : List FlowProgram) (i : ℕ) (d : FlowProgram)
+told_at : (flow : Flow) (sought : Sought) (v : ℕ) (table : LineTable) (programs : List FlowProgram) (i : ℕ) (d : FlowProgram)
     → i < length programs → IsToldWith flow sought v table (drop i programs)
     → IsToldWith flow sought v table (get_or programs i d ∷ drop (i + 1) programs)
 told_at flow sought v table programs i d within so =

@@ -7,11 +7,11 @@ use Rattle.rough_cycle.specs.Roughing.{Rough, first_moved, x_of_pass, pass_of, i
 use Rattle.rough_cycle.proofs.Orders.{is_lt, is_not_lt}
 
 -- a pass above the contour's first point that leads down from the start is made
-pub made : (r : Rough) (k : ℕ) → (first_moved r).x <ℤ x_of_pass r k → (pass_of r k).z <ℤ r.start.z → made_at r k ≡ Some (pass_of r k)
+made : (r : Rough) (k : ℕ) → (first_moved r).x <ℤ x_of_pass r k → (pass_of r k).z <ℤ r.start.z → made_at r k ≡ Some (pass_of r k)
 made r k above below = rw (is_lt (first_moved r).x (x_of_pass r k) above, is_lt (pass_of r k).z r.start.z below) refl
 
 -- a pass that doesn't lead down from the start is not made
-pub none_below : (r : Rough) (k : ℕ) → r.start.z ≤ℤ (pass_of r k).z → made_at r k ≡ None
+none_below : (r : Rough) (k : ℕ) → r.start.z ≤ℤ (pass_of r k).z → made_at r k ≡ None
 none_below r k past = go (int_lt (first_moved r).x (x_of_pass r k))
   where
     no : int_lt (pass_of r k).z r.start.z ≡ false
@@ -22,7 +22,7 @@ none_below r k past = go (int_lt (first_moved r).x (x_of_pass r k))
     go false = refl
 
 -- if pass k is not made, there are no passes from k on
-pub no_further : (r : Rough) (k most : ℕ) → made_at r k ≡ None → passes_from r k most ≡ []
+no_further : (r : Rough) (k most : ℕ) → made_at r k ≡ None → passes_from r k most ≡ []
 unfolding passes_from
 no_further r k zero none = refl
 no_further r k (suc most) none = go (is_made r (pass_of r k)) none
@@ -32,7 +32,7 @@ no_further r k (suc most) none = go (is_made r (pass_of r k)) none
     go false e = refl
 
 -- a pass that is made is the first of those from there on
-pub one_further : (r : Rough) (k most : ℕ) (pass : Point) → made_at r k ≡ Some pass → passes_from r k (suc most) ≡ pass ∷ passes_from r (k + 1) most
+one_further : (r : Rough) (k most : ℕ) (pass : Point) → made_at r k ≡ Some pass → passes_from r k (suc most) ≡ pass ∷ passes_from r (k + 1) most
 unfolding passes_from
 one_further r k most pass some = go (is_made r (pass_of r k)) some
   where

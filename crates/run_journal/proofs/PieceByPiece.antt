@@ -15,7 +15,7 @@ use Rattle.run_journal.specs.Reading.{IsPieceRead, AreRead, RefusesBody, Refuses
 use Rattle.run_journal.proofs.Batches.{pieces_push, behind_push, joined_push}
 
 -- bodies end after those of their first part, and then those of their second
-pub ends_append : (before after : List (List ℕ)) → ends_at (before ++ after) ≡ ends_at before + ends_at after
+ends_append : (before after : List (List ℕ)) → ends_at (before ++ after) ≡ ends_at before + ends_at after
 ends_append [] after = omega arith
 ends_append (body ∷ before) after = omega (arith, ends_append before after)
 

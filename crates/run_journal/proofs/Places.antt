@@ -12,7 +12,7 @@ as_many_records at [] = refl
 as_many_records at (entry ∷ entries) = omega (arith, as_many_records (at + length (entry_bytes entry)) entries)
 
 -- each record of the pieces has one offset
-pub as_many_places : (gate : ℕ) (pieces : List Piece) → length (places gate pieces) ≡ length (records_of pieces)
+as_many_places : (gate : ℕ) (pieces : List Piece) → length (places gate pieces) ≡ length (records_of pieces)
 as_many_places gate [] = refl
 as_many_places gate (piece ∷ pieces) =
     let next : ℕ = gate + 5 + length (piece_bytes piece) in

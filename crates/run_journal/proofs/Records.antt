@@ -14,7 +14,7 @@ use Rattle.run_journal.specs.Reading.{IsRecordsRead, IsUnread, IsBatchRead, IsPi
 use Rattle.run_journal.proofs.Batches.{are_push, records_push}
 
 -- the offset of one record more is where the bytes before it end
-pub places_push : (at : ℕ) (entries : List Entry) (e : Entry) → record_places at (entries ++ e ∷ []) ≡ record_places at entries ++ (at + length (records_bytes entries)) ∷ []
+places_push : (at : ℕ) (entries : List Entry) (e : Entry) → record_places at (entries ++ e ∷ []) ≡ record_places at entries ++ (at + length (records_bytes entries)) ∷ []
 places_push at [] e = ap (λ (n : ℕ). n ∷ []) (let none : at ≡ at + 0 = omega arith in none)
 places_push at (x ∷ entries) e =
     let n = length (entry_bytes x) in
@@ -22,7 +22,7 @@ places_push at (x ∷ entries) e =
     ap (λ (l : List ℕ). at ∷ l) (places_push (at + n) entries e ∙ ap (λ (k : ℕ). record_places (at + n) entries ++ k ∷ []) same)
 
 -- what stands after the records that are read
-pub rest_is : (front rest bytes : List ℕ) → bytes ≡ front ++ rest → drop (length bytes - length rest) bytes ≡ rest
+rest_is : (front rest bytes : List ℕ) → bytes ≡ front ++ rest → drop (length bytes - length rest) bytes ≡ rest
 rest_is front rest bytes is =
     let size : length bytes - length rest ≡ length front = omega (arith, ap length is, length-append front rest) in
     ap (λ (n : ℕ). drop n bytes) size ∙ ap (drop (length front)) is ∙ drop_at front rest (length front) refl

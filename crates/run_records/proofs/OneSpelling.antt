@@ -39,7 +39,7 @@ step_again Alarmed is = refl
 step_again (Edited edit) is = absurd (none-some edit (sym is))
 
 -- steps of one number are the same
-pub one_step : (a b : EntryKind) → edit_of a ≡ None → edit_of b ≡ None → kind_number a ≡ kind_number b → a ≡ b
+one_step : (a b : EntryKind) → edit_of a ≡ None → edit_of b ≡ None → kind_number a ≡ kind_number b → a ≡ b
 one_step a b is also same = sym (step_again a is) ∙ ap step_with same ∙ step_again b also
 
 -- steps have the numbers 1 to 5
@@ -88,16 +88,16 @@ one_entry entry other rest more is also same =
     (λ i. record { path = path i; kind = behind.0 i; stamps = behind.1 i }, behind.2)
 
 -- the byte of a path is 1 or 2
-pub path_fits : (path : Path) → (number_of path == 1 || number_of path == 2) ≡ true
+path_fits : (path : Path) → (number_of path == 1 || number_of path == 2) ≡ true
 path_fits One = refl
 path_fits Two = refl
 
 -- if none of the causes holds, there is no cause
-pub no_cause_holds : (bytes : List ℕ) → has_bad_path bytes ≡ false → has_bad_kind bytes ≡ false → has_too_many_stamps bytes ≡ false → is_cut_short bytes ≡ false → has_bad_edit bytes ≡ false → cause_of bytes ≡ None
+no_cause_holds : (bytes : List ℕ) → has_bad_path bytes ≡ false → has_bad_kind bytes ≡ false → has_too_many_stamps bytes ≡ false → is_cut_short bytes ≡ false → has_bad_edit bytes ≡ false → cause_of bytes ≡ None
 no_cause_holds bytes path kind some whole good = rw (path, kind, some, whole, good) refl
 
 -- a path, the kind of a step, the number of its stamps and all of these hold no cause
-pub no_cause_of_step : (path : Path) (kind : ℕ) (stamps rest : List ℕ) → 1 ≤ kind → kind ≤ 5 → length stamps ≤ 32 → cause_of (number_of path ∷ kind ∷ length stamps ∷ (stamp_bytes stamps ++ rest)) ≡ None
+no_cause_of_step : (path : Path) (kind : ℕ) (stamps rest : List ℕ) → 1 ≤ kind → kind ≤ 5 → length stamps ≤ 32 → cause_of (number_of path ∷ kind ∷ length stamps ∷ (stamp_bytes stamps ++ rest)) ≡ None
 no_cause_of_step path kind stamps rest least most few =
     let bytes : List ℕ = number_of path ∷ kind ∷ length stamps ∷ (stamp_bytes stamps ++ rest) in
     let a_path : has_bad_path bytes ≡ false = let fits = path_fits path in grind (arith, nat_tests) in
@@ -110,7 +110,7 @@ no_cause_of_step path kind stamps rest least most few =
     no_cause_holds bytes a_path a_kind some whole good
 
 -- a path, the kind of an edit and its numbers hold no cause
-pub no_cause_of_edit : (path : Path) (edit : Edit) (rest : List ℕ) → IsEdit edit → cause_of (number_of path ∷ 6 ∷ (numbers_bytes (numbers_of edit) ++ rest)) ≡ None
+no_cause_of_edit : (path : Path) (edit : Edit) (rest : List ℕ) → IsEdit edit → cause_of (number_of path ∷ 6 ∷ (numbers_bytes (numbers_of edit) ++ rest)) ≡ None
 no_cause_of_edit path edit rest is =
     let bytes : List ℕ = number_of path ∷ 6 ∷ (numbers_bytes (numbers_of edit) ++ rest) in
     let a_path : has_bad_path bytes ≡ false = let fits = path_fits path in grind (arith, nat_tests) in

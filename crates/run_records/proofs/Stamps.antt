@@ -16,12 +16,12 @@ length-stamp_bytes [] = refl
 length-stamp_bytes (s ∷ stamps) = omega (arith, length-stamp_bytes stamps, length-append (big_bytes 4 s) (stamp_bytes stamps))
 
 -- the bytes of stamps with one more are those of the others and then its own
-pub stamp_bytes-push : (stamps : List ℕ) (s : ℕ) → stamp_bytes (stamps ++ s ∷ []) ≡ stamp_bytes stamps ++ big_bytes 4 s
+stamp_bytes-push : (stamps : List ℕ) (s : ℕ) → stamp_bytes (stamps ++ s ∷ []) ≡ stamp_bytes stamps ++ big_bytes 4 s
 stamp_bytes-push [] s = refl
 stamp_bytes-push (x ∷ stamps) s = ap (λ (l : List ℕ). big_bytes 4 x ++ l) (stamp_bytes-push stamps s) ∙ sym (append_assoc (big_bytes 4 x) (stamp_bytes stamps) (big_bytes 4 s))
 
 -- four bytes are the one spelling of the number that they read as
-pub bytes_read : (front : List ℕ) → length front ≡ 4 → ((i : ℕ) → get_or front i 0 < 256) → big_bytes 4 (big_number 4 front) ≡ front
+bytes_read : (front : List ℕ) → length front ≡ 4 → ((i : ℕ) → get_or front i 0 < 256) → big_bytes 4 (big_number 4 front) ≡ front
 bytes_read front size fits =
     let same : big_number 4 front ≡ from_be_bytes w32 front = omega arith in
     be_bytes_4 front (big_number 4 front) size fits same

@@ -11,7 +11,7 @@ use Rattle.run_records.specs.declared.version.Version.TheVariants.{One, Two}
 use Rattle.run_records.specs.Headers.{text_bytes, version_number, header_mark, header_bytes, IsShort}
 
 -- two texts whose bytes begin one list are the same, and what follows them is the same
-pub one_text : (text other rest more : List ℕ) → length text < 2 ^ 32 → length other < 2 ^ 32 → text_bytes text ++ rest ≡ text_bytes other ++ more → (text ≡ other) × (rest ≡ more)
+one_text : (text other rest more : List ℕ) → length text < 2 ^ 32 → length other < 2 ^ 32 → text_bytes text ++ rest ≡ text_bytes other ++ more → (text ≡ other) × (rest ≡ more)
 one_text text other rest more short also same =
     let size : length text ≡ length other =
     sym (from_be_bytes-to_be_bytes_4 (length text) short) ∙ ap (λ (l : List ℕ). from_be_bytes w32 (take 4 l)) same ∙ from_be_bytes-to_be_bytes_4 (length other) also in
@@ -68,7 +68,7 @@ one_header header other short also same =
     λ i. record { version = version i; settings = first.0 i; left = second.0 i; right = third.0 i }
 
 -- a header has 18 bytes beside its texts: 6 of the mark, and a length of 4 before each text
-pub length-header : (header : Header) → length (header_bytes header) ≡ 18 + length header.settings + length header.left + length header.right
+length-header : (header : Header) → length (header_bytes header) ≡ 18 + length header.settings + length header.left + length header.right
 length-header header =
     let first = length-append (header_mark header.version) (text_bytes header.settings) in
     let second = length-append (header_mark header.version ++ text_bytes header.settings) (text_bytes header.left) in
@@ -76,5 +76,5 @@ length-header header =
     omega (arith, first, second, third)
 
 -- a header whose bytes are fewer than 2^32 fits a body of the journal
-pub short_header : (header : Header) (bytes : List ℕ) → bytes ≡ header_bytes header → length bytes < 2 ^ 32 → IsShort header
+short_header : (header : Header) (bytes : List ℕ) → bytes ≡ header_bytes header → length bytes < 2 ^ 32 → IsShort header
 short_header header bytes is few = omega (arith, ap length is, length-header header)

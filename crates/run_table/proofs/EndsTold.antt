@@ -91,7 +91,7 @@ flushed_table state v m r r' why why' budget owed table records reason =
     }
 
 -- a table that the disk stopped has a journal that may not be written
-pub disk_dead : {D : Type 0} (m : MachineView) (r : RecordingView D) (why : Option Halt) → HasReason m r why → why ≡ Some halt.Disk → r.log.file.live ≡ false
+disk_dead : {D : Type 0} (m : MachineView) (r : RecordingView D) (why : Option Halt) → HasReason m r why → why ≡ Some halt.Disk → r.log.file.live ≡ false
 disk_dead m r why reason is = subst (HasReason m r) is reason
 
 -- numbers that test as different are so

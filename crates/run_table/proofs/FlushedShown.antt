@@ -115,7 +115,7 @@ shows_still state start t t' shown shown' made since within pair grown still sam
     ∙ sym (ap (λ (v : Verified). moves_made v path from t'.recording.flushed t'.recording.history) pair)
 
 -- a table that is its own opening has shown nothing since
-pub shows_none : {D : Type 0} (t : TableView D) → ShowsFlushed (Some t) (held_of t true) t
+shows_none : {D : Type 0} (t : TableView D) → ShowsFlushed (Some t) (held_of t true) t
 shows_none t = λ path.
     let few : length (take t.recording.flushed t.recording.history) ≤ length t.recording.history = omega (arith, length-take t.recording.flushed t.recording.history) in
     let none : drop (length t.recording.history) t.recording.history ≡ drop (length t.recording.history) (take t.recording.flushed t.recording.history) =

@@ -17,7 +17,7 @@ use Rattle.run_table.specs.Recording.{StandsForPrefix, IsJournaled, KeepsJournal
 use Rattle.run_table.proofs.RecordingsFollow.{sends_flushed, sends_failed}
 
 -- a batch counts what pends
-pub counts : (version : Version) (pending : List Entry) (batch : List ℕ) → Pends version pending batch → pending_in batch ≡ length pending
+counts : (version : Version) (pending : List Entry) (batch : List ℕ) → Pends version pending batch → pending_in batch ≡ length pending
 counts version pending batch pends = ap pending_in pends.bytes
 
 -- a history with one record more

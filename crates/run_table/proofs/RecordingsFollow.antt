@@ -29,11 +29,11 @@ most_behind n before made after within is =
     ap (λ (l : List Entry). most_bytes (drop n l)) is ∙ ap most_bytes (drop-append-le n before made within) ∙ most_append (drop n before) made
 
 -- while the journal may be written, the records that were sent are those flushed
-pub sent_live : {D : Type 0} (r : RecordingView D) → r.log.file.live ≡ true → sent r ≡ r.flushed
+sent_live : {D : Type 0} (r : RecordingView D) → r.log.file.live ≡ true → sent r ≡ r.flushed
 sent_live r is = ap (λ (b : Bool). if b then r.flushed else length r.history) is
 
 -- once the journal may not be written any more, all records count as sent
-pub sent_dead : {D : Type 0} (r : RecordingView D) → r.log.file.live ≡ false → sent r ≡ length r.history
+sent_dead : {D : Type 0} (r : RecordingView D) → r.log.file.live ≡ false → sent r ≡ length r.history
 sent_dead r is = ap (λ (b : Bool). if b then r.flushed else length r.history) is
 
 -- a recording whose history grew without a call of the disk

@@ -128,7 +128,7 @@ module _ {A B : Type 0} (header : Header) (old new : DiskState) where
       record { held = tt; vacant = tt; spares = call.spares; refused = call.refused; later = call.later; calm = call.calm; any_moment = call.any_moment; uses = call.uses }
 
 -- if memory runs out before the first call, the disk is as it was
-pub untouched : {A : Type 0} (header : Header) (disk : DiskState) → IsCoherent disk → BeginsRun {A = A} header disk disk (Err NoMemory)
+untouched : {A : Type 0} (header : Header) (disk : DiskState) → IsCoherent disk → BeginsRun {A = A} header disk disk (Err NoMemory)
 untouched header disk coherent = record {
   held = tt;
   vacant = tt;

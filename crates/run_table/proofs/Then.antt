@@ -22,7 +22,7 @@ since_none state t coherent = record {
 }
 
 -- a fault within a part of a time is one within the whole
-pub rose_later : (a b c d : ℕ) → a ≤ b → c ≤ d → Rose b c → Rose a d
+rose_later : (a b c d : ℕ) → a ≤ b → c ≤ d → Rose b c → Rose a d
 rose_later a b c d first last rose = omega (arith, first, last, rose)
 
 -- if b came of the table a, and c of b, then c came of a
@@ -41,7 +41,7 @@ since_more state a b c f s = record {
 }
 
 -- the answer that a step is to give is never a fault of the disk
-pub no_fault : {D : Type 0} (t : TableView D) (path : Path) (why bound : Option Halt) (drain : Bool) → (step_by t path why bound drain).answer ≡ DiskFault → ⊥
+no_fault : {D : Type 0} (t : TableView D) (path : Path) (why bound : Option Halt) (drain : Bool) → (step_by t path why bound drain).answer ≡ DiskFault → ⊥
 no_fault t path (Some why) bound drain is = absurd cc
 no_fault t path None (Some why) drain is = absurd cc
 no_fault t path None None true is = absurd cc

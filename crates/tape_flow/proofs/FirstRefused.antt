@@ -163,7 +163,7 @@ pub comes_to : {A : Type 0} (read : Result A FlowFault) (fault : FlowFault) (fir
 comes_to read fault first told is = rw is at told
 
 -- a tape of which a block does not read is refused by its first one
-pub refused_by_block : (dialect : Dialect) (tape : List Program) (fault : FlowFault) → IsTapeShape tape
+refused_by_block : (dialect : Dialect) (tape : List Program) (fault : FlowFault) → IsTapeShape tape
     → programs_read dialect tape ≡ Err fault → IsRefused dialect tape fault.line fault.number
 refused_by_block dialect tape fault shape failed =
     let first = comes_to (programs_read dialect tape) fault (first_refusal dialect (blocks_in tape))

@@ -12,7 +12,7 @@ unfolding text_of
 text_of-append xs ys = flat_map-append ended xs ys
 
 -- the text of one line is that line and its line feed
-pub text_of-one : (x : List ℕ) → text_of (x ∷ []) ≡ ended x
+text_of-one : (x : List ℕ) → text_of (x ∷ []) ≡ ended x
 unfolding text_of
 text_of-one x = append-nil (ended x)
 

@@ -53,7 +53,7 @@ allowed_comment : (b : ℕ) → b ≡ 40 → is_allowed b ≡ true
 allowed_comment b e = rw e refl
 
 -- comments have no byte that is refused
-pub comments_allowed : (signs : List Sign) → list_all is_comment signs ≡ true → are_allowed signs ≡ true
+comments_allowed : (signs : List Sign) → list_all is_comment signs ≡ true → are_allowed signs ≡ true
 comments_allowed [] all = refl
 comments_allowed (sign ∷ signs) all =
     let parts = and_parts (is_comment sign) (list_all is_comment signs) all in

@@ -132,7 +132,7 @@ pass_value value rest e = go (is_literal (bytes_of value)) refl e
 -- Comments and letters.
 
 -- comments begin no word
-pub pass_comments : (comments rest : List Sign) → list_all is_comment comments ≡ true → Passes comments rest
+pass_comments : (comments rest : List Sign) → list_all is_comment comments ≡ true → Passes comments rest
 pass_comments [] rest e = refl
 pass_comments (sign ∷ comments) rest e =
     let p = both (is_comment sign) (list_all is_comment comments) e in
@@ -200,7 +200,7 @@ is_word letter (sign ∷ value) e =
     }
 
 -- a group is the piece of its letter and value, whatever comments stand after the value
-pub piece_is : (letter : Sign) (value comments : List Sign) → list_any is_comment value ≡ false → list_all is_comment comments ≡ true → piece_of (record { letter = letter; value = value ++ comments }) ≡ word_cut letter value
+piece_is : (letter : Sign) (value comments : List Sign) → list_any is_comment value ≡ false → list_all is_comment comments ≡ true → piece_of (record { letter = letter; value = value ++ comments }) ≡ word_cut letter value
 piece_is letter value comments none all =
     ap (piece_with letter (value ++ comments)) (value_before value comments none all)
     ∙ ap (λ (whole : Bool). record { letter = letter.byte; start = letter.place + 1; end = end_of (letter.place + 1) value; text = bytes_of value; whole = whole }) (ap (list_all is_comment) (drop_seam value comments) ∙ all)

@@ -23,7 +23,7 @@ use Rattle.tape_relation.proofs.Statements.{first_is, no_statement, words_before
 -- Comments.
 
 -- a comment at the front is passed
-pub behind_comment : (sign : Sign) (signs : List Sign) → is_comment sign ≡ true → behind_comments (sign ∷ signs) ≡ behind_comments signs
+behind_comment : (sign : Sign) (signs : List Sign) → is_comment sign ≡ true → behind_comments (sign ∷ signs) ≡ behind_comments signs
 behind_comment sign signs is = let one : 1 + prefix_len is_comment signs ≡ suc (prefix_len is_comment signs) = omega arith in rw (is, one) refl
 
 -- a sign that is no comment is not passed
@@ -62,7 +62,7 @@ behind_first (s ∷ signs) sign rest e = go (is_comment s) refl (behind_first si
     go false f later = let same : s ∷ signs ≡ sign ∷ rest = sym (behind_other s signs f) ∙ e in let head : s ≡ sign = cc in sym (ap is_comment head) ∙ f
 
 -- comments before a sentence leave its text as it is
-pub sentence_comments : (comments signs : List Sign) → list_all is_comment comments ≡ true → sentence_of (comments ++ signs) ≡ sentence_of signs
+sentence_comments : (comments signs : List Sign) → list_all is_comment comments ≡ true → sentence_of (comments ++ signs) ≡ sentence_of signs
 sentence_comments [] signs all = refl
 sentence_comments (sign ∷ comments) signs all = let p = both (is_comment sign) (list_all is_comment comments) all in rw p.0 (sentence_comments comments signs p.1)
 
@@ -142,7 +142,7 @@ statement_stops (sign ∷ signs) is = go (is_comment sign) refl
         let N : ℕ → Type 0 = λ b. number_byte b ≡ false in first_is N sign.byte (text_of signs) refl refl refl refl refl refl (subst P text is)
 
 -- comments, words and signs that end a literal end a literal
-pub words_stop : (comments signs tail : List Sign) (words : List Piece) → list_all is_comment comments ≡ true → AreWords signs words → Stops tail → Stops (comments ++ (signs ++ tail))
+words_stop : (comments signs tail : List Sign) (words : List Piece) → list_all is_comment comments ≡ true → AreWords signs words → Stops tail → Stops (comments ++ (signs ++ tail))
 words_stop [] signs tail [] all is stops = let P : List Sign → Type 0 = λ ss. Stops (ss ++ tail) in subst P (sym is) stops
 words_stop [] signs tail (word ∷ words) all (letter, value, more, others, is, up, val, none, every, word-is, rest) stops = let P : List Sign → Type 0 = λ ss. Stops (ss ++ tail) in subst P (sym is) (letter_byte letter.byte up)
 words_stop (sign ∷ comments) signs tail words all are stops = comment_stops sign (both (is_comment sign) (list_all is_comment comments) all).0

@@ -106,11 +106,11 @@ block_found skips line e = go (told skips line)
     go (inr (sentence, is)) = (sentence, is, sym (same_block sentence) ∙ sym (ap tape.is_block (says_read skips line sentence is)) ∙ e)
 
 -- a line that says an O number by the relation says one to the reader
-pub program_read : (skips : ℕ) (line : Line) → SaysProgram skips line → says_program skips line ≡ true
+program_read : (skips : ℕ) (line : Line) → SaysProgram skips line → says_program skips line ≡ true
 program_read skips line (text, is) = ap is_program (says_read skips line (ProgramNumber text) is)
 
 -- a line that says an O number to the reader says one by the relation
-pub program_found : (skips : ℕ) (line : Line) → says_program skips line ≡ true → SaysProgram skips line
+program_found : (skips : ℕ) (line : Line) → says_program skips line ≡ true → SaysProgram skips line
 program_found skips line e = go (told skips line)
   where
     go : Told skips line → SaysProgram skips line

@@ -24,7 +24,7 @@ abbrev pub Parts : List ℕ → List ℕ → List ℕ → Type 0
 Parts text whole fraction = (before_first is_point text ≡ whole) × (after_first is_point text ≡ fraction)
 
 -- a byte more in front that is no point is one more digit before the point
-pub parts_on : (b : ℕ) (text whole fraction : List ℕ) → is_point b ≡ false → Parts text whole fraction → Parts (b ∷ text) (b ∷ whole) fraction
+parts_on : (b : ℕ) (text whole fraction : List ℕ) → is_point b ≡ false → Parts text whole fraction → Parts (b ∷ text) (b ∷ whole) fraction
 parts_on b text whole fraction off (w, f) =
     let one : 1 + position_or_len is_point text ≡ suc (position_or_len is_point text) = omega arith in
     let two : suc (position_or_len is_point text) + 1 ≡ suc (position_or_len is_point text + 1) = omega arith in

@@ -43,7 +43,7 @@ abbrev taped : List Program → Answer
 taped programs = Ok programs
 
 -- an answer of which nothing is changed is itself
-pub unchanged : (answer : Answer) → changed same_line same_word answer ≡ answer
+unchanged : (answer : Answer) → changed same_line same_word answer ≡ answer
 unchanged (Ok programs) = ap taped (programs_unchanged programs)
 unchanged (Err fault) = refl
 

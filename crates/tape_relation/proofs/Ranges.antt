@@ -78,7 +78,7 @@ few_read text sign whole fraction w few = go (has_too_many_digits text) refl
     go false e = e
 
 -- a literal that writes a whole number by the relation has it as its value
-pub writes_read : (text : List ℕ) (n : ℕ) → Writes text n → Valued text n
+writes_read : (text : List ℕ) (n : ℕ) → Writes text n → Valued text n
 writes_read text n w =
     let few = few_read text w.sign w.whole w.fraction w.written w.few in
     let p = written_parts text w.sign w.whole w.fraction w.written in
@@ -132,7 +132,7 @@ none_scaled zero k some e = refl
 none_scaled (suc f) k some e = let more : suc f * k ≡ k + f * k = omega arith in absurd (omega arith)
 
 -- a literal whose value is a whole number writes that number by the relation
-pub writes_found : (text : List ℕ) (n : ℕ) → is_literal text ≡ true → Valued text n → Writes text n
+writes_found : (text : List ℕ) (n : ℕ) → is_literal text ≡ true → Valued text n → Writes text n
 writes_found text n is (literal, read, value) = go (has_too_many_digits text) refl read
   where
     go : (t : Bool) → has_too_many_digits text ≡ t → cond t (Err TooManyDigits) (Ok (record { value = literal_micro text; point = has_point text })) ≡ Ok literal → Writes text n

@@ -23,7 +23,7 @@ use Rattle.trace_list.specs.TraceText.{head_text, lines_text, trace_line_text}
 
 -- the text of a trace is its first line and how both paths begin, then the events, and the last
 -- lines
-pub trace_parts : (tapes : Tapes) (m : MachineView) (entries : List Entry) (reason : Reason)
+trace_parts : (tapes : Tapes) (m : MachineView) (entries : List Entry) (reason : Reason)
     → trace_text tapes m entries reason
     ≡ (head_text ++ lines_text (start_lines m)) ++ (lines_text (traced tapes 0 m entries) ++ end_text (length entries) reason)
 unfolding trace_text

@@ -65,7 +65,7 @@ counted tapes start m entries law kept =
     sym (ap (λ (x : MachineView). x.count) kept.folds) ∙ (law.counts entries kept.legal).count
 
 -- the end by the machine is that by the fold of the records
-pub same_end : (tapes : Tapes) (start m : MachineView) (entries : List Entry) → IsKept tapes start entries m → end_of (fold tapes start entries) ≡ end_of m
+same_end : (tapes : Tapes) (start m : MachineView) (entries : List Entry) → IsKept tapes start entries m → end_of (fold tapes start entries) ≡ end_of m
 same_end tapes start m entries kept = ap end_of kept.folds
 
 -- if nothing ends the run, there is no alarm, and not both paths have ended

@@ -12,7 +12,7 @@ use Rattle.nc_outside.specs.Received.{Received, counted_on}
 use Rattle.turret_lines.specs.Stream.{HasPart, got_text, stream_of}
 
 -- the lines of what a turret got and one thing more are the lines before and its line
-pub stream_push : (got : List Got) (what : Got) → stream_of (got ++ what ∷ []) ≡ stream_of got ++ got_text what
+stream_push : (got : List Got) (what : Got) → stream_of (got ++ what ∷ []) ≡ stream_of got ++ got_text what
 unfolding stream_of
 stream_push got what = flat_map-append got_text got (what ∷ []) ∙ ap (λ t. flat_map got_text got ++ t) (append-nil (got_text what))
 

@@ -11,7 +11,7 @@ use Rattle.seat_table.specs.Turning.{Records, moves_in, Answers}
 use Rattle.seat_table.proofs.Telling.{answered}
 
 -- the moves before a block and its first i, and then its next one, are those with its first i + 1
-pub block_more : (line : ℕ) (moves : List LinedMove) (list items : List Move) (i : ℕ) (what : Move) → items ≡ list → i < length items → what ≡ get_or items i what
+block_more : (line : ℕ) (moves : List LinedMove) (list items : List Move) (i : ℕ) (what : Move) → items ≡ list → i < length items → what ≡ get_or items i what
     → (moves ++ map (lined_move line) (take i list)) ++ lined_move line what ∷ [] ≡ moves ++ map (lined_move line) (take (i + 1) list)
 block_more line moves list items i what same within is =
     let more : take i list ++ what ∷ [] ≡ take (i + 1) list =

@@ -100,5 +100,5 @@ step_of_next tapes m e step (inr i) =
     absurd (let edit : edit_of e.kind ≡ Some i.edit = ap (λ (x : Entry). edit_of x.kind) i.is in cc)
 
 -- a record of an edit's kind, with no stamps, is the record of that edit
-pub edit_is : (e : Entry) (edit : Edit) → edit_of e.kind ≡ Some edit → e.stamps ≡ [] → e ≡ edit_entry e.path edit
+edit_is : (e : Entry) (edit : Edit) → edit_of e.kind ≡ Some edit → e.stamps ≡ [] → e ≡ edit_entry e.path edit
 edit_is e edit is bare = let same : e.kind ≡ kind.Edited edit = edited_kind e.kind edit is in λ i. record { path = e.path; kind = same i; stamps = bare i }

@@ -173,7 +173,7 @@ turn_sound mine theirs path m s = go (is_still m) refl
         (by_sound mine theirs path (mine.line m.paths.one.path.place) m (mine.effect m.paths.one.path m.paths.one.values) s e refl)
 
 -- behind an edit no block has read anything
-pub edit_sound : (tapes : Tapes) (p : Path) (edit : Edit) (m : MachineView) → AreLawful tapes (behind_edit_of p edit m)
+edit_sound : (tapes : Tapes) (p : Path) (edit : Edit) (m : MachineView) → AreLawful tapes (behind_edit_of p edit m)
 edit_sound tapes One edit m = record {
   first = lawful_none tapes.one (behind_edit_of One edit m) refl refl (omega arith);
   second = lawful_none tapes.two (own_first Two (behind_edit_of One edit m)) refl refl (omega arith);

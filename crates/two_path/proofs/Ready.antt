@@ -14,7 +14,7 @@ use Rattle.two_path.specs.Again.{AreReady, IsStepDone, IsStepRefused, IsDoneAgai
 use Rattle.two_path.proofs.Edited.{behind_step_entry, turn_of_step, next_of_step, step_of_next}
 
 -- ready parts are ready with the paths changed over
-pub swap : (tape other_tape : List ControlProgram) (me other : Part) (joint : JointView) → AreReady tape other_tape me other joint → AreReady other_tape tape other me joint
+swap : (tape other_tape : List ControlProgram) (me other : Part) (joint : JointView) → AreReady tape other_tape me other joint → AreReady other_tape tape other me joint
 swap tape other_tape me other joint r = record {
   my_shared = r.other_shared;
   other_shared = r.my_shared;
@@ -25,7 +25,7 @@ swap tape other_tape me other joint r = record {
 }
 
 -- each waiting path of ready parts stands on a wait of its tape
-pub waits_of : (tape other_tape : List ControlProgram) (me other : Part) (joint : JointView) → AreReady tape other_tape me other joint
+waits_of : (tape other_tape : List ControlProgram) (me other : Part) (joint : JointView) → AreReady tape other_tape me other joint
     → AreAtTheirWaits tape other_tape (machine_of me other joint)
 waits_of tape other_tape me other joint r = record { first = r.my_wait; second = r.other_wait }
 

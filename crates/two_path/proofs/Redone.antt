@@ -85,7 +85,7 @@ on_err (Ok x) p = tt
 on_err (Err e) p = p
 
 -- what holds anyway holds if a result is a success
-pub on_ok : {A E : Type 0} (r : Result A E) {P : Type 0} → P → OnOk r P
+on_ok : {A E : Type 0} (r : Result A E) {P : Type 0} → P → OnOk r P
 on_ok (Ok x) p = p
 on_ok (Err e) p = tt
 
@@ -198,7 +198,7 @@ refused blocks entry start now after other joint unfit is = record {
 }
 
 -- a joint part that does not change keeps what is shared, and its room
-pub lasts : (joint : JointView) → IsLasting joint joint
+lasts : (joint : JointView) → IsLasting joint joint
 lasts joint = record { hundreds = refl; upper = refl; room = omega arith }
 
 -- behind a record that is refused the parts stay ready for another

@@ -63,7 +63,7 @@ due_some low count stamp e v is = go (nat_le low stamp) refl (nat_le stamp count
     go false a y b is = absurd cc
 
 -- if no read is due with a stamp that is in order, the block asks for no variable
-pub due_none : (low count stamp : ℕ) (e : Effect) (v : ℕ) → variable_due low count stamp e ≡ None → low ≤ stamp → stamp ≤ count → e ≡ Need v → ⊥
+due_none : (low count stamp : ℕ) (e : Effect) (v : ℕ) → variable_due low count stamp e ≡ None → low ≤ stamp → stamp ≤ count → e ≡ Need v → ⊥
 due_none low count stamp e v is a b need =
     let x : nat_le low stamp ≡ true = grind (arith, nat_tests) in
     let y : nat_le stamp count ≡ true = grind (arith, nat_tests) in

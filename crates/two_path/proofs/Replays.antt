@@ -33,7 +33,7 @@ records_to entries i e within is = take_more entries i e within ∙ ap (λ x. ta
 
 -- the moves so far, those of one record and those of the records behind it are all moves, if the
 -- moves so far and those of the records from it on are
-pub moves_go_on : (tapes : Tapes) (path : Path) (m : MachineView) (made all : List LinedMove) (left rest : List Entry) (e : Entry)
+moves_go_on : (tapes : Tapes) (path : Path) (m : MachineView) (made all : List LinedMove) (left rest : List Entry) (e : Entry)
     → left ≡ e ∷ rest → made ++ moves_in path (turns_from tapes m left) ≡ all
     → (made ++ made_by path (turn_at tapes m e)) ++ moves_in path (turns_from tapes (behind_entry tapes e m) rest) ≡ all
 unfolding moves_in turns_from

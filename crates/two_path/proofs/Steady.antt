@@ -42,7 +42,7 @@ by_fixed path line m (AtEnd to moves) k = record { first = k; second = refl }
 by_fixed path line m (effect.Alarm number value) k = record { first = refl; second = refl }
 
 -- each turn of the path whose part is first leaves what is fixed for both paths
-pub own_fixed : (blocks : Blocks) → ((at : PathView) (values : List Var) → KeepsFixed at (blocks.effect at values)) → (path : Path) (m : MachineView)
+own_fixed : (blocks : Blocks) → ((at : PathView) (values : List Var) → KeepsFixed at (blocks.effect at values)) → (path : Path) (m : MachineView)
     → IsFixed m (own_turn blocks path m).machine
 own_fixed blocks keeps path m = go (is_still m) refl
   where
@@ -93,7 +93,7 @@ not_waiting None false (Some n) e = absurd cc
 not_waiting None false None e = refl
 
 -- after each turn of the first path each waiting path stands on a wait
-pub own_waits : (left right : List ControlProgram) (blocks : Blocks) → ((at : PathView) (values : List Var) → GoesAsOrdered left at (blocks.effect at values))
+own_waits : (left right : List ControlProgram) (blocks : Blocks) → ((at : PathView) (values : List Var) → GoesAsOrdered left at (blocks.effect at values))
     → (path : Path) (m : MachineView) → AreAtTheirWaits left right m → AreAtTheirWaits left right (own_turn blocks path m).machine
 own_waits left right blocks led path m k = go (is_still m) refl
   where

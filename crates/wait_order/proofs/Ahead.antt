@@ -11,7 +11,7 @@ use Rattle.block_order.specs.Loud.{mark_of}
 use Rattle.wait_order.specs.Searchers.{next_searcher, later_searcher, behind_marks, AreNext, AreLater}
 
 -- A number that is not below m is m or above it.
-pub at_or_above : (m n : ℕ) → m ≤ n → (n ≡ m) ⊎ (suc m ≤ n)
+at_or_above : (m n : ℕ) → m ≤ n → (n ≡ m) ⊎ (suc m ≤ n)
 at_or_above m n h = grind arith
 
 -- If the entry of a place is right and the list of later searchers holds from the next place on, it

@@ -103,7 +103,7 @@ called_more tape reached i q p first now new is before step = (λ t. there (step
     ]
 
 -- The flags after all programs are those of the programs that one call more reaches.
-pub called_all : (tape : List ControlProgram) (reached next : List Bool) → AreProgramsOf tape → length next ≡ length tape
+called_all : (tape : List ControlProgram) (reached next : List Bool) → AreProgramsOf tape → length next ≡ length tape
     → ((q : ℕ) → (flagged tape next q ≡ true) ↔ IsCalledBelow tape reached (length tape) q) → IsCalledFrom tape reached next
 called_all tape reached next own count each = record {
   count = count;

@@ -17,7 +17,7 @@ use Rattle.block_order.proofs.Searches.{led, loop_facts}
 use Rattle.block_order.proofs.Targets.{seek_stands}
 
 -- The test for unequal numbers says that they differ.
-pub differ : (a b : ℕ) → IsTrue (not (nat_eq a b)) ↔ (a ≢ b)
+differ : (a b : ℕ) → IsTrue (not (nat_eq a b)) ↔ (a ≢ b)
 differ a b = (λ t e. grind (arith, nat_tests), λ d. go d (nat_eq a b) refl)
   where
     go : (a ≢ b) → (x : Bool) → nat_eq a b ≡ x → IsTrue (not x)

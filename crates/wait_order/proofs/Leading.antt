@@ -88,7 +88,7 @@ stands_at (b ∷ bs) zero d within = refl
 stands_at (b ∷ bs) (suc i) d within = stands_at bs i d (omega arith)
 
 -- The sequence number of the block at a place is the one that the block has.
-pub numbered_as : (bs : List ControlBlock) (i : ℕ) (d : ControlBlock) → i < length bs
+numbered_as : (bs : List ControlBlock) (i : ℕ) (d : ControlBlock) → i < length bs
     → (n : ℕ) → IsNumbered bs i n ↔ ((slice_index_or bs i d).sequence ≡ Some n)
 numbered_as bs i d within n = (λ h. there h, λ e. (slice_index_or bs i d, stands_at bs i d within, e))
   where
@@ -140,7 +140,7 @@ least_unnumbered ld q may bs target sequence is e = least_none {P = MayLeadTo ld
 
 -- The lesser of the first blocks for the first n targets and for one more is that for the first n +
 -- 1.
-pub least_more : (ld : ℕ → Bool) (q : Control → Bool) (may : ℕ → Bool) (bs : List ControlBlock) (n : ℕ) (a b : Option ℕ) → IsLeast (MayLeadBelow ld q may bs n) a
+least_more : (ld : ℕ → Bool) (q : Control → Bool) (may : ℕ → Bool) (bs : List ControlBlock) (n : ℕ) (a b : Option ℕ) → IsLeast (MayLeadBelow ld q may bs n) a
     → IsLeast (MayLeadTo ld q may bs n) b → IsLeast (MayLeadBelow ld q may bs (n + 1)) (lesser a b)
 least_more ld q may bs n a b first second =
     least_either {R = MayLeadBelow ld q may bs (n + 1)} a b first second (λ k h. (let below = h.1 in (h.0, omega arith, h.2)))

@@ -89,7 +89,7 @@ back_has (b ∷ bs) n (suc inner) e =
     rw rest (or_true (is_back_to n b.control))
 
 -- If a block at some place searches, one among the blocks does.
-pub any_searcher : (q : Control → Bool) (bs : List ControlBlock) (place : ℕ) → IsSearcherAt q bs place
+any_searcher : (q : Control → Bool) (bs : List ControlBlock) (place : ℕ) → IsSearcherAt q bs place
     → list_any (λ b. q b.control) bs ≡ true
 any_searcher q [] place (c, at, is) = absurd cc
 any_searcher q (b ∷ bs) zero (c, at, is) =

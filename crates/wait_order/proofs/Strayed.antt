@@ -34,7 +34,7 @@ pub control_of_block : (bs : List ControlBlock) (place : ℕ) (b : ControlBlock)
 control_of_block bs place b e = ap (λ o. control_of o) e
 
 -- What leads to another stretch without a search for several numbers may pass a wait.
-pub fixed_strays : (tape : List ControlProgram) (program place : ℕ) (b : ControlBlock) (c : Control) → b.control ≡ c → Counts tape program
+fixed_strays : (tape : List ControlProgram) (program place : ℕ) (b : ControlBlock) (c : Control) → b.control ≡ c → Counts tape program
     → IsFixedStray tape program place c → Strays tape program place b
 fixed_strays tape program place b (Goto None) e counts h = absurd h
 fixed_strays tape program place b (Goto (Some n)) e counts (target, leads, apart) =

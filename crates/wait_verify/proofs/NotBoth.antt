@@ -30,7 +30,7 @@ pub one_order : (a b : List ControlProgram) (r : Result (List ControlProgram) Fl
 one_order a b r p q = let e : ◌≡◌ {A = Result (List ControlProgram) FlowFault} (Ok a) (Ok b) = sym p ∙ q in cc
 
 -- No tape both has an order and is refused.
-pub not_both_order : (premises : Premises) (programs : List Program) (own : List ControlProgram) (line number : ℕ)
+not_both_order : (premises : Premises) (programs : List Program) (own : List ControlProgram) (line number : ℕ)
     → IsOrdered premises programs own → IsRefused premises programs line number → ⊥
 not_both_order premises programs own line number x (block failed) =
     absurd (let e : ◌≡◌ {A = Result (List ControlProgram) FlowFault} (Ok own) (Err (refusal line number)) =

@@ -61,7 +61,7 @@ first_beyond : (g p q : ℤ) → g <ℤ (p -ℤ q) → g <ℤ pos (distance p q)
 first_beyond g p q less = omega (arith, ints, less)
 
 -- two points of clear areas differ by more than the gap in X or in Z
-pub clear_apart : (d : ℕ) (gap : Point) (a b : Area) (p q : Point) → 1 ≤ d → is_clear gap a b ≡ true → IsInside d a p → IsInside d b q → AreApart d gap p q
+clear_apart : (d : ℕ) (gap : Point) (a b : Area) (p q : Point) → 1 ≤ d → is_clear gap a b ≡ true → IsInside d a p → IsInside d b q → AreApart d gap p q
 clear_apart d gap a b p q some clear i j = elim (either _ _ clear) [
   | inl x ↦ (elim (either _ _ x) [
     | inl up ↦ inl (second_beyond _ p.x q.x (beyond d gap.x a.high.x b.low.x p.x q.x some up i.right j.left))

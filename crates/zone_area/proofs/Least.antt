@@ -12,7 +12,7 @@ use Rattle.zone_area.specs.Passing.{middle_of}
 use Rattle.zone_area.specs.Area.{SweptView, reach_of, Holds, HoldsAround, HoldsEnd, HoldsMoves, HoldsAll, HoldsArea, area_at, hull_of, area_around, area_to, swept_at, swept_with, swept_along, area_of}
 
 -- what an area holds, a larger one holds
-pub holds_more : (big small : Area) (p : Point) → HoldsArea big small → Holds small p → Holds big p
+holds_more : (big small : Area) (p : Point) → HoldsArea big small → Holds small p → Holds big p
 holds_more big small p w h = record {
   left = (let a = w.0.left in let b = h.left in omega (arith, ints, a, b));
   right = (let a = w.1.right in let b = h.right in omega (arith, ints, a, b));

@@ -39,12 +39,12 @@ pub root_reaches : (n : ℕ) → n ≤ least_root n * least_root n
 root_reaches n = root_below_reaches n n (self_square n)
 
 -- no number whose square is at least n is lesser than the least root
-pub root_is_least : (n k : ℕ) → n ≤ k * k → least_root n ≤ k
+root_is_least : (n k : ℕ) → n ≤ k * k → least_root n ≤ k
 root_is_least n k square = root_below_is_least n n k square
 
 -- the least root is the one number whose square is at least n while that of the number before is
 -- less
-pub least_root_is : (n s : ℕ) → n ≤ s * s → ((k : ℕ) → s ≡ k + 1 → k * k < n) → least_root n ≡ s
+least_root_is : (n s : ℕ) → n ≤ s * s → ((k : ℕ) → s ≡ k + 1 → k * k < n) → least_root n ≡ s
 least_root_is n zero reaches before = let least = root_is_least n 0 reaches in omega arith
 least_root_is n (suc k) reaches before =
     let least = root_is_least n (suc k) reaches in

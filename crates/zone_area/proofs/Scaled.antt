@@ -5,7 +5,7 @@ use Rattle.std.proofs.lemmas.Int.{ints}
 use Rattle.std.proofs.Math.IntN.{suc_ℤ-*ℤ, zero-*ℤ}
 
 -- one part more to a count is the length once more
-pub one_more : (d : ℕ) (z : ℤ) → pos (suc d) *ℤ z ≡ (pos d *ℤ z +ℤ z)
+one_more : (d : ℕ) (z : ℤ) → pos (suc d) *ℤ z ≡ (pos d *ℤ z +ℤ z)
 one_more d z = suc_ℤ-*ℤ (pos d) z
 
 -- in parts, lengths keep their order

@@ -26,7 +26,7 @@ same_area a b lx lz hx hz =
     ap (λ p. at p a.high) (same_point a.low b.low lx lz) ∙ ap (λ q. at b.low q) (same_point a.high b.high hx hz)
 
 -- a length that is stored is the length
-pub stored : (r z : ℤ) → r ≡ z → unsigned_abs r ≤ far_in_cell → to_z w64 (of_z w64 r) ≡ z
+stored : (r z : ℤ) → r ≡ z → unsigned_abs r ≤ far_in_cell → to_z w64 (of_z w64 r) ≡ z
 stored r z is near = to_z-of_z w64 r (fits_signed_from_abs w64 r (omega arith)) ∙ is
 
 -- an edge in the cell, from lengths as they are stored
@@ -62,7 +62,7 @@ middle_place at i k =
     ap (λ along. record { across = at.x +ℤ pos 2 *ℤ i; along = along }) e
 
 -- the distance of two lengths that are doubled is doubled
-pub doubled : (a b : ℤ) → unsigned_abs (pos 2 *ℤ a -ℤ pos 2 *ℤ b) ≡ 2 * unsigned_abs (a -ℤ b)
+doubled : (a b : ℤ) → unsigned_abs (pos 2 *ℤ a -ℤ pos 2 *ℤ b) ≡ 2 * unsigned_abs (a -ℤ b)
 doubled a b = omega (arith, ints)
 
 -- the square of a distance, as the code adds it up

@@ -103,7 +103,7 @@ unfolding moves_in turns_from
 begun tapes m = refl
 
 -- the zones kept so far, with those of the records that are left, are the zones of the segments
-pub folded : (tapes : Tapes) (zones : ZonesView) (m : MachineView) (front : List Entry) (done : List Zone) (entries : List Entry)
+folded : (tapes : Tapes) (zones : ZonesView) (m : MachineView) (front : List Entry) (done : List Zone) (entries : List Entry)
     → zones_from tapes zones (fold tapes m front) (record { list = done; standing = standing_of (segment_of tapes m front) }) entries
     ≡ done ++ map (zone_of zones) (segments_from tapes m front entries)
 folded tapes zones m front done [] = refl

@@ -32,7 +32,7 @@ texts_append n (zone ∷ front) back =
     ∙ ap (λ k. (zone_text n zone ++ zone_texts (n + 1) front) ++ zone_texts k back) count
 
 -- the lines of one zone more are those before and its own
-pub texts_more : (zones : List Zone) (i : ℕ) (d : Zone) → i < length zones
+texts_more : (zones : List Zone) (i : ℕ) (d : Zone) → i < length zones
     → zone_texts 0 (take (i + 1) zones) ≡ zone_texts 0 (take i zones) ++ zone_text i (get_or zones i d)
 unfolding zone_texts
 texts_more zones i d within =
@@ -44,7 +44,7 @@ texts_more zones i d within =
     ∙ ap (λ t. zone_texts 0 (take i zones) ++ t) (append-nil (zone_text i (get_or zones i d)))
 
 -- all lines are those before a zone, its own, and those behind it
-pub texts_parted : (zones : List Zone) (i : ℕ) (d : Zone) → i < length zones
+texts_parted : (zones : List Zone) (i : ℕ) (d : Zone) → i < length zones
     → zone_texts 0 zones ≡ zone_texts 0 (take i zones) ++ (zone_text i (get_or zones i d) ++ zone_texts (i + 1) (drop (i + 1) zones))
 unfolding zone_texts
 texts_parted zones i d within =
