@@ -19,13 +19,16 @@ mod words;
 
 pub use block::FlowBlock;
 pub use block_words::{
-    Dialect, FlowWord, FlowWordList, Purpose, Range, RowList, WordValue, fits_word, is_one_of,
-    row_of,
+    Dialect, FlowWord, FlowWordList, Purpose, Range, RowList, WordValue, is_one_of, row_of,
 };
 pub use body::FlowBody;
 pub use called::{CallKind, Called};
 pub use fault::FormFault;
-pub use laws::{the_least_refusal_is_answered, the_least_refusal_of_a_text_is_answered};
-pub use reading::{read_block, read_statement, read_words};
+pub use reading::read_block;
 pub use statement::FlowStatement;
 pub use words::FlowWords;
+
+// For users of the library: what no crate above takes.
+pub use block_words::fits_word;
+pub use laws::{the_least_refusal_is_answered, the_least_refusal_of_a_text_is_answered};
+pub use reading::{read_statement, read_words};

@@ -31,13 +31,9 @@ pub use callers::Callers;
 pub use control::Control;
 pub use draft::DraftOrder;
 pub use fault::OrderFault;
-pub use fitting_law::loops_that_fit_are_nested;
 pub use frame::Frame;
 pub use label::{Label, Mark};
-pub use laws::{
-    a_loop_ends_at_its_nearest_end, a_tape_without_faults_is_unforked,
-    being_loud_is_reaching_a_wait_or_an_end, each_step_keeps_the_labels,
-};
+pub use laws::{a_tape_without_faults_is_unforked, each_step_keeps_the_labels};
 pub use loops::{LoopTable, Reach};
 pub use loud::LoudPrograms;
 pub use numbers::ProgramNumbers;
@@ -46,3 +42,7 @@ pub use place::{MOST_CALLS, Place};
 pub use program::{ControlBlock, ControlBlockList, ControlProgram};
 pub use sequence::{Finders, SequenceIndex};
 pub use tables::ProgramTables;
+
+// For users of the library: laws that no crate above takes.
+pub use fitting_law::loops_that_fit_are_nested;
+pub use laws::{a_loop_ends_at_its_nearest_end, being_loud_is_reaching_a_wait_or_an_end};

@@ -11,5 +11,7 @@ mod law;
 mod reading;
 
 pub use grammar::program;
-pub use law::law_of_clap;
 pub use reading::read_words;
+
+// For users of the library: laws that no crate above takes.
+pub use law::law_of_clap;

@@ -20,5 +20,8 @@ pub use group::{
 };
 pub use kind::CodeKind;
 pub use row::{Row, last_of_group};
-pub use system::{System, row_of_code, system_a, system_b};
+pub use system::{System, row_of_code};
 pub use table::CodeTable;
+
+// For users of the library: what no crate above takes.
+pub use system::{system_a, system_b};

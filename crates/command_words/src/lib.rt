@@ -16,7 +16,9 @@ mod table;
 
 pub use command::{Command, Name, ProgramRange, TurretFiles};
 pub use fault::WordsFault;
-pub use laws::{law_of_names, law_of_options, law_of_rows};
 pub use making::command_of;
 pub use option_texts::OptionTexts;
 pub use table::{Journal, Row, Task, journal_of, row_named, rows, takes_option};
+
+// For users of the library: laws that no crate above takes.
+pub use laws::{law_of_names, law_of_options, law_of_rows};

@@ -15,9 +15,13 @@ mod variable;
 
 pub use links::Write;
 pub use number::CommonNumber;
-pub use own::{Own, is_common};
+pub use own::Own;
+pub use shared::Shared;
+pub use variable::{AxisLetter, Variable, a_variable_has_one_number, variable_of};
+
+// For users of the library: what no crate above takes.
+pub use own::is_common;
 pub use shared::{
-    Shared, a_write_is_seen_from_its_stamp_on, is_shared, later_writes_change_no_earlier_value,
+    a_write_is_seen_from_its_stamp_on, is_shared, later_writes_change_no_earlier_value,
     nothing_changes_behind_the_last_write,
 };
-pub use variable::{AxisLetter, Variable, a_variable_has_one_number, variable_of};

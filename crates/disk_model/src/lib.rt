@@ -16,7 +16,9 @@ mod stretch;
 
 pub use device::Disk;
 pub use fuse::FuseDisk;
-pub use laws::{a_new_disk_allows_its_room, images_are_torn_writes};
 pub use memory::{Crash, MemoryDisk, read_into};
 pub use nc_number::Failed;
 pub use stretch::Stretch;
+
+// For users of the library: laws that no crate above takes.
+pub use laws::{a_new_disk_allows_its_room, images_are_torn_writes};

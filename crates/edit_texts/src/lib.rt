@@ -15,5 +15,7 @@ mod named;
 mod reading;
 
 pub use edit_list::{EditList, MOST_EDITS, PathEdit};
-pub use laws::a_text_gives_the_edits_of_its_lines;
 pub use reading::{EditFault, read_edits};
+
+// For users of the library: laws that no crate above takes.
+pub use laws::a_text_gives_the_edits_of_its_lines;

@@ -19,6 +19,7 @@ mod open;
 pub use body_list::BodyList;
 pub use fault::{DiskFault, GateFault};
 pub use gate::{GateFile, LONGEST_BODY};
-pub use laws::{
-    a_file_ends_behind_its_bodies, a_file_stands_for_one_thing, appends_leave_prefixes,
-};
+pub use laws::a_file_stands_for_one_thing;
+
+// For users of the library: laws that no crate above takes.
+pub use laws::{a_file_ends_behind_its_bodies, appends_leave_prefixes};

@@ -24,8 +24,10 @@ pub use editing::edits_of_file;
 pub use expanding::expand;
 pub use fetching::{FileFault, Texts, Unfetched, fetch_texts, tell_unfetched};
 pub use files::{CommandFile, FileNames};
-pub use laws::the_program_answers_what_the_library_answers;
 pub use refusing::{tell_unfound, tell_usage};
 pub use showing::{Showing, Shown, show};
 pub use standing::{is_over, reason_of};
 pub use zoning::{show_zones, zones_of_file};
+
+// For users of the library: laws that no crate above takes.
+pub use laws::the_program_answers_what_the_library_answers;

@@ -30,10 +30,12 @@ mod stream_laws;
 mod telling;
 
 pub use control::top;
+pub use outcome::Outcome;
+
+// For users of the library: laws that no crate above takes.
 pub use laws::{
     a_call_leaves_as_its_kind_may, a_session_hands_eight_moves_a_record_at_most,
     a_stop_leaves_one_history, calls_make_one_history,
 };
-pub use outcome::Outcome;
 pub use rows::a_row_says_what_its_kind_does;
 pub use stream_laws::a_stream_has_the_reports_lines;

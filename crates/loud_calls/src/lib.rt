@@ -9,6 +9,9 @@ mod calling;
 mod known;
 mod unforked;
 
-pub use calling::{loud_call, unknown_call};
+pub use calling::unknown_call;
 pub use known::KnownPrograms;
 pub use unforked::runs_have_one_list;
+
+// For users of the library: what no crate above takes.
+pub use calling::loud_call;

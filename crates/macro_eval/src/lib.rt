@@ -20,6 +20,9 @@ mod whole;
 pub use code::{Code, Instr, compile};
 pub use code_list::{CodeList, compile_statement};
 pub use compare::holds;
-pub use running::{count_reads, each_variable_takes_one_read_at_most, eval, evaluate};
+pub use running::evaluate;
 pub use scope::{Eval, Look, Scope, VarFault};
 pub use whole::{variable_number, whole_number};
+
+// For users of the library: what no crate above takes.
+pub use running::{count_reads, each_variable_takes_one_read_at_most, eval};

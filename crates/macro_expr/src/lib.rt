@@ -16,6 +16,9 @@ mod stop;
 mod tree;
 mod words;
 
-pub use parse::{no_text_has_two_trees, parse_expr, parse_statement};
+pub use parse::{parse_expr, parse_statement};
 pub use stop::Stop;
 pub use tree::{Cond, Expr, ExprFault, Fun, Op, Rel, Statement, Target, VarRef};
+
+// For users of the library: laws that no crate above takes.
+pub use parse::no_text_has_two_trees;

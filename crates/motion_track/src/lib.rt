@@ -17,10 +17,14 @@ mod fault;
 mod reference;
 mod targets;
 
-pub use block::{BlockMotion, return_home, track};
+pub use block::{BlockMotion, track};
+pub use cut::is_feed_zero;
+pub use fault::MotionFault;
+pub use targets::{LONGEST, target};
+
+// For users of the library: what no crate above takes.
+pub use block::return_home;
 pub use centre::centre_of;
 pub use circle::{arc, arcs_end_on_their_circle};
-pub use cut::{is_feed_zero, line, thread};
-pub use fault::MotionFault;
+pub use cut::{line, thread};
 pub use reference::home;
-pub use targets::{LONGEST, target};

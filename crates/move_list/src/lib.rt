@@ -19,8 +19,10 @@ mod summary;
 mod turns;
 
 pub use end_line::{add_cause, end_lines};
-pub use laws::{law_of_later_moves, law_of_streams};
 pub use nc_outside::Reason;
 pub use report::write_report;
 pub use state::write_state;
 pub use summary::write_summary;
+
+// For users of the library: laws that no crate above takes.
+pub use laws::{law_of_later_moves, law_of_streams};

@@ -33,13 +33,6 @@ pub use both::Both;
 pub use byte_list::ByteList;
 pub use cause::Cause;
 pub use fault::{Failed, Failing, NoMemory, NumberFault};
-pub use laws::{
-    a_fraction_is_dropped, a_literal_is_a_sign_digits_and_a_fraction,
-    a_literal_without_a_point_counts_thousandths, a_magnitude_is_raised,
-    a_nearest_quotient_is_nearest, a_number_has_one_cause, a_printed_length_reads_back,
-    a_printed_value_reads_back, a_remainder_keeps_the_sign, a_root_is_the_greatest,
-    a_whole_number_is_its_units, halves_go_away_from_zero, what_reads_is_a_value,
-};
 pub use limits::{
     LONGEST_LINE, LONGEST_TAPE, MOST_BLOCKS, MOST_BRACKETS, MOST_LABELS, MOST_PENDING, MOST_READS,
     MOST_RECORDS,
@@ -52,3 +45,12 @@ pub use point::{Point, TOOL_OFFSETS, TRAVEL};
 pub use printing::{length_text, text};
 pub use rounding::{fix, fup, round, to_increment};
 pub use value::{Value, Var};
+
+// For users of the library: laws that no crate above takes.
+pub use laws::{
+    a_fraction_is_dropped, a_literal_is_a_sign_digits_and_a_fraction,
+    a_literal_without_a_point_counts_thousandths, a_magnitude_is_raised,
+    a_nearest_quotient_is_nearest, a_number_has_one_cause, a_printed_length_reads_back,
+    a_printed_value_reads_back, a_remainder_keeps_the_sign, a_root_is_the_greatest,
+    a_whole_number_is_its_units, halves_go_away_from_zero, what_reads_is_a_value,
+};

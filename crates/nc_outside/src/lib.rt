@@ -31,7 +31,6 @@ mod vec_sink;
 pub use drain::Drain;
 pub use got::Got;
 pub use halt::{Halt, Next};
-pub use laws::calls_add_up;
 pub use lined_move::LinedMove;
 pub use list_stepper::ListStepper;
 pub use memory_shelf::MemoryShelf;
@@ -43,3 +42,6 @@ pub use sink::{PutFault, Sink};
 pub use stepper::{Call, Drainable, Stepper};
 pub use turret::Turret;
 pub use vec_sink::VecSink;
+
+// For users of the library: laws that no crate above takes.
+pub use laws::calls_add_up;

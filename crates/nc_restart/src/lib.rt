@@ -18,6 +18,9 @@ mod replay;
 pub use fault::RestartFault;
 pub use laws::{
     a_machine_hangs_on_its_texts, an_image_of_a_run_is_never_bad, an_image_stands_for_one_run,
-    no_accepted_pair_is_stuck, no_history_is_stuck, restarts_make_one_history,
+    no_history_is_stuck,
 };
 pub use recovery::{Recovered, recover};
+
+// For users of the library: laws that no crate above takes.
+pub use laws::{no_accepted_pair_is_stuck, restarts_make_one_history};

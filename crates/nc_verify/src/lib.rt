@@ -17,9 +17,7 @@ mod verified;
 mod verifying;
 mod writing;
 
-pub use laws::{
-    accepted_texts_are_not_refused, no_texts_are_without_an_answer, texts_have_one_refusal,
-};
+pub use laws::{accepted_texts_are_not_refused, texts_have_one_refusal};
 pub use meeting::meet;
 pub use putting::put_piece;
 pub use refusal::Refusal;
@@ -27,3 +25,6 @@ pub use tape::{read_tape, skips_of};
 pub use verified::Verified;
 pub use verifying::{settings_of, verdict};
 pub use writing::write_verdict;
+
+// For users of the library: laws that no crate above takes.
+pub use laws::no_texts_are_without_an_answer;

@@ -16,8 +16,10 @@ mod premises;
 mod reading;
 mod trusting;
 
-pub use laws::the_first_refused_block_has_the_least_line;
 pub use ordering::open_order;
 pub use outside::Outside;
 pub use premises::Premises;
 pub use trusting::{Trust, add_tape, no_trust};
+
+// For users of the library: laws that no crate above takes.
+pub use laws::the_first_refused_block_has_the_least_line;

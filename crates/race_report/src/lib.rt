@@ -15,8 +15,11 @@ mod sought;
 mod table;
 mod writing;
 
-pub use laws::{a_pair_has_one_list_of_races, a_pair_without_races_has_one_outcome};
-pub use list::{RaceList, no_race};
+pub use list::RaceList;
 pub use race::Race;
 pub use racing::races;
 pub use writing::write_races;
+
+// For users of the library: laws that no crate above takes.
+pub use laws::{a_pair_has_one_list_of_races, a_pair_without_races_has_one_outcome};
+pub use list::no_race;

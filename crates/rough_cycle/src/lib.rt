@@ -9,6 +9,9 @@ mod form;
 mod law;
 
 pub use block::PlainBlock;
-pub use contour::inside;
 pub use form::RoughForm;
-pub use law::{an_end_is_the_least, no_move_enters_the_contour};
+pub use law::no_move_enters_the_contour;
+
+// For users of the library: what no crate above takes.
+pub use contour::inside;
+pub use law::an_end_is_the_least;

@@ -22,8 +22,10 @@ pub use bad_record::BadRecord;
 pub use edit::Edit;
 pub use entry::{Entry, EntryKind, LONGEST_RECORD, put_entry};
 pub use header::{Header, HeaderFault, put_header, take_header};
-pub use laws::{a_header_has_one_spelling, an_entry_has_one_spelling};
 pub use lists::{EntryList, StampList};
 pub use nc_number::{ByteList, NoMemory};
 pub use reading::take_entry;
 pub use version::Version;
+
+// For users of the library: laws that no crate above takes.
+pub use laws::{a_header_has_one_spelling, an_entry_has_one_spelling};

@@ -9,6 +9,8 @@
 mod laws;
 mod tape;
 
-pub use laws::{law_of_cuts, law_of_lines, law_of_sizes, law_of_waits};
 pub use nc_number::{NoMemory, Path};
 pub use tape::{LONGEST_MADE, make_tapes};
+
+// For users of the library: laws that no crate above takes.
+pub use laws::{law_of_cuts, law_of_lines, law_of_sizes, law_of_waits};

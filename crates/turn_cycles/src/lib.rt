@@ -9,6 +9,9 @@ mod end;
 mod pass;
 mod rectangle;
 
-pub use end::cycle_end;
 pub use pass::{CyclePass, cycle_pass};
-pub use rectangle::{CycleKind, cycle};
+pub use rectangle::CycleKind;
+
+// For users of the library: what no crate above takes.
+pub use end::cycle_end;
+pub use rectangle::cycle;

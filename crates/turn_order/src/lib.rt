@@ -11,5 +11,8 @@ mod ending;
 mod laws;
 mod turns;
 
-pub use laws::{one_run_in_turn, runs_in_turn_are_legal};
+pub use laws::one_run_in_turn;
 pub use turns::{InTurn, records_in_turn};
+
+// For users of the library: laws that no crate above takes.
+pub use laws::runs_in_turn_are_legal;

@@ -9,5 +9,8 @@
 mod line_turret;
 mod told;
 
-pub use line_turret::{LineTurret, line_turrets_cross};
+pub use line_turret::LineTurret;
 pub use told::Told;
+
+// For users of the library: laws that no crate above takes.
+pub use line_turret::line_turrets_cross;

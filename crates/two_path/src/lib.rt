@@ -24,9 +24,11 @@ mod walk;
 pub use again::Illegal;
 pub use laws::{
     a_machine_begins_without_waits, each_event_keeps_the_history, histories_are_runs,
-    no_block_says_that_waits_differ, no_legal_history_is_stuck, no_pair_is_stuck,
-    restarts_keep_the_history,
+    no_legal_history_is_stuck, no_pair_is_stuck,
 };
 pub use machine::Machine;
 pub use turn::{Answered, Turn, TurnAnswer, Turned};
 pub use walk::done_again;
+
+// For users of the library: laws that no crate above takes.
+pub use laws::{no_block_says_that_waits_differ, restarts_keep_the_history};

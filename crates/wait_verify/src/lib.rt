@@ -14,10 +14,13 @@ mod printing;
 mod tape;
 mod verifying;
 
-pub use laws::{
-    accepted_pairs_are_not_refused, accepted_pairs_do_not_wait_in_vain,
-    no_pair_is_without_an_answer, pairs_have_one_refusal, what_a_run_accepts_is_accepted,
-};
+pub use laws::{accepted_pairs_are_not_refused, pairs_have_one_refusal};
 pub use pair::WaitPair;
 pub use printing::push_waits;
 pub use verifying::verdict;
+
+// For users of the library: laws that no crate above takes.
+pub use laws::{
+    accepted_pairs_do_not_wait_in_vain, no_pair_is_without_an_answer,
+    what_a_run_accepts_is_accepted,
+};
