@@ -1,6 +1,7 @@
--- The items of a line, one after the other: their moves, marks and end, and what both ends of the
--- line keep with one item more. The functions of line.rt, line_in.rt and line_out.rt (src) rest on
--- it; path_worker takes the lemmas on two lists of items.
+-- The items of a line, one after the other: their moves, their marks (each asks the drive how many
+-- moves it took) and the end, and what both ends of the line keep with one item more. The functions
+-- of line.rt, line_in.rt and line_out.rt (src) rest on it; path_worker takes the lemmas on two
+-- lists of items.
 use Rattle.std.proofs.Common.{arith, ◌≡◌, ◌≤◌, ◌+◌, ℕ, suc, Bool, List, true, false, true≢false, [], ◌∷◌, ◌++◌, length, take, refl, ap, sym, ◌∙◌, subst, All, Contains}
 use Rattle.std.proofs.lemmas.List.{append-nil, take-append-le, length-append}
 use Rattle.std.proofs.lemmas.List.Elements.{All-nil, All-cons, All-append, All-weaker, All-contains, Contains-append_left, Contains-append_right, Contains-push}
@@ -23,7 +24,8 @@ end_of_both (Move what ∷ a) b open_ = end_of_both a b open_
 end_of_both (Mark ∷ a) b open_ = end_of_both a b open_
 end_of_both (End ∷ a) b open_ = absurd (true≢false open_)
 
--- the marks of two lists, which count the moves of both
+-- the numbers of moves at the marks of two lists, put together, are those at the marks of the
+-- first, and then those at the marks of the second, with the moves of the first counted
 counts_of_both : (n : ℕ) (a b : List Item) → mark_counts n (a ++ b) ≡ mark_counts n a ++ mark_counts (n + length (moves_among a)) b
 counts_of_both n [] b = let e : n ≡ n + 0 = omega arith in ap (λ k. mark_counts k b) e
 counts_of_both n (Move what ∷ a) b =
@@ -32,7 +34,7 @@ counts_of_both n (Move what ∷ a) b =
 counts_of_both n (Mark ∷ a) b = ap (λ l. n ∷ l) (counts_of_both n a b)
 counts_of_both n (End ∷ a) b = counts_of_both n a b
 
--- the marks of two lists, if n is the number of moves in the first
+-- the same, from no move on, if n is the number of moves in the first list
 counts_behind : (n : ℕ) (a b : List Item) → n ≡ length (moves_among a) → mark_counts 0 (a ++ b) ≡ mark_counts 0 a ++ mark_counts n b
 counts_behind n a b counted =
     let e : 0 + length (moves_among a) ≡ n = omega (arith, counted) in counts_of_both 0 a b ∙ ap (λ k. mark_counts 0 a ++ mark_counts k b) e

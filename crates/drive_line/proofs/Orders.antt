@@ -8,6 +8,7 @@ use Rattle.atomic_table.proofs.Lists.{at_set, at_snoc}
 use Rattle.drive_line.specs.declared.wire.Log.{Log}
 use Rattle.drive_line.specs.Wire.{log, IsInOrder}
 
+-- A channel of items of any type, and the logs of its passes: what each may do, sent and took.
 module _ {T : Type 0} where
   -- each pass has its log
   abbrev Each : (ℕ → Log T → Type 0) → List (Log T) → Type 0

@@ -12,11 +12,11 @@ use Rattle.drive_line.specs.declared.phase.Phase.TheVariants.{Moving, Still, Fai
 use Rattle.drive_line.specs.Driving.{DrivenState, fresh, has_failed, most, Serves}
 use Rattle.drive_line.proofs.Adding.{adds_none, adds_both}
 
--- a turret that is on its way does not stand still
+-- a turret that may be on its way does not count as standing still, so a settle need not have come
 on_its_way : {n : ℕ} → Moving ≡ Still → 1 ≤ n
 on_its_way is = absurd (cc is)
 
--- a turret that failed does not stand still
+-- a turret that failed does not count as standing still, so a settle need not have come
 broken : {n : ℕ} (phase : Phase) → has_failed phase ≡ true → phase ≡ Still → 1 ≤ n
 broken phase failed is = absurd (true≢false (sym failed ∙ ap has_failed is))
 

@@ -20,18 +20,18 @@ pub record DrivenState : Type 0 where
   -- how it stands
   pub phase : Phase
 
--- a turret that was handed nothing
+-- a turret that was handed nothing; it may be on its way still to where it was placed
 abbrev pub fresh : TurretState → DrivenState
 fresh state = record { state = state; taken = 0; missed = 0; phase = Moving }
 
--- the turret failed, whether the run was halted for that or not
+-- whether the turret failed, be the run halted for that or not
 abbrev pub has_failed : Phase → Bool
 has_failed Moving = false
 has_failed Still = false
 has_failed Failed = true
 has_failed Halted = true
 
--- the turret took so many moves and stands still behind them, or it failed and the run was halted
+-- the turret took just n moves and stands still behind them, or it failed and the run was halted
 -- for that
 abbrev pub IsAtRest : DrivenState → ℕ → Type 0
 IsAtRest driven n = ((driven.phase ≡ Still) × (driven.taken ≡ n)) ⊎ (driven.phase ≡ Halted)

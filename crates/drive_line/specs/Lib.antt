@@ -1,5 +1,5 @@
--- The words in which contracts speak of a drive line. Callers read Driving and Line.
+-- The words in which contracts speak of a drive line. Other crates cite Driving and Line.
 pub mod Driving
 pub mod Line
--- Words for this crate alone.
+-- No other crate cites Wire, but `LineId` of Line is made of its `WireId`.
 pub mod Wire

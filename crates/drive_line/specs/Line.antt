@@ -1,5 +1,6 @@
 -- What the two ends of a drive line mean: what was sent, taken and answered (src/line_in.rt,
--- src/line_out.rt). path_worker and turret_run cite it.
+-- src/line_out.rt). A mark is an item at which the drive answers how many moves it took, once its
+-- turret is at rest. path_worker and turret_run cite this file.
 use Rattle.std.specs.Prelude.{◌≡◌, ◌≤◌, ℕ, ◌+◌, suc, Bool, true, false, MatchBool, List, [], ◌∷◌, ◌++◌, length, take, All, Contains, if◌then◌else◌}
 use Rattle.nc_outside.specs.declared.lined_move.LinedMove.{LinedMove}
 use Rattle.drive_line.specs.declared.item.Item.{Item}
@@ -29,7 +30,7 @@ pub record Taking : Type 0 where
   pub line : LineId
   -- the items that it took
   pub items : List Item
-  -- the last item is a mark that is not answered yet
+  -- whether the last item is a mark that is not answered yet
   pub asked : Bool
 
 -- the moves among these items
@@ -39,21 +40,22 @@ moves_among (Move what ∷ items) = what ∷ moves_among items
 moves_among (Mark ∷ items) = moves_among items
 moves_among (End ∷ items) = moves_among items
 
--- for each mark among these items, how many moves stand before it, where n stand before them all
+-- for each mark among these items, how many moves stand before it, if n moves stand before all
+-- these items
 abbrev pub mark_counts : ℕ → List Item → List ℕ
 mark_counts n [] = []
 mark_counts n (Move what ∷ items) = mark_counts (suc n) items
 mark_counts n (Mark ∷ items) = n ∷ mark_counts n items
 mark_counts n (End ∷ items) = mark_counts n items
 
--- the end of the line is among these items
+-- whether the end of the line is among these items
 abbrev pub has_end : List Item → Bool
 has_end [] = false
 has_end (Move what ∷ items) = has_end items
 has_end (Mark ∷ items) = has_end items
 has_end (End ∷ items) = true
 
--- the item is a mark
+-- whether the item is a mark
 abbrev pub is_mark : Item → Bool
 is_mark (Move what) = false
 is_mark Mark = true
@@ -101,7 +103,8 @@ pub record IsDrained (old new : Sending) (n : ℕ) : Type 0 where
   -- the last answer that it received is that number
   pub received : (others : List ℕ) × (new.received ≡ old.received ++ (others ++ n ∷ []))
 
--- one `take` gives the next item; behind the end it gives the end once more
+-- one `take` gives the next item and lists it; once the end was taken it gives the end again, and
+-- the list stays
 abbrev pub Takes : List Item → List Item → Item → Type 0
 Takes old new item = MatchBool (has_end old) ((new ≡ old) × (item ≡ End)) (new ≡ old ++ item ∷ [])
 

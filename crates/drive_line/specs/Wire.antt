@@ -1,5 +1,6 @@
--- What goes through a wire: first in, first out, from one end to one other.
--- For this crate alone: the rule of the channel of src/wire.rt.
+-- What goes through a wire, one half of a drive line: first in, first out, from one end to one
+-- other. This is the rule of the channel of src/wire.rt. No other crate cites this file, but
+-- callers meet `WireId` in the `LineId` of a line (Line.antt).
 use Rattle.std.specs.Prelude.{◌≡◌, ℕ, Bool, true, List, ◌++◌}
 use mathlib.Core.Option.{some}
 use lib.ListN.{get_elem?}

@@ -28,7 +28,8 @@ impl Drain for Drained {
 }
 
 /// The end at which a worker sends. It means its line, the items that it sent and the answers that
-/// it received. Nothing is sent behind the end, and each mark that was sent has been answered.
+/// it received. Nothing is sent behind the item `End`, and each mark (the item by which a drain
+/// asks for an answer) has been answered.
 #[derive(Drop)]
 pub struct LineIn<'r, R> {
     /// What lets a call wait.

@@ -8,7 +8,8 @@ use Rattle.gate_file.specs.Gate.{Keeps}
 use Rattle.disk_model.proofs.Runs.{begun, goes_on}
 use Rattle.gate_file.proofs.Staged.{torn_behind, torn_gate, with_gate, written_behind, written_gate, opened, opened_place}
 
--- A file that keeps these bodies, and staged entries of more.
+-- A file that keeps these bodies, and staged entries of more: bytes that are to be written after
+-- its shut gate, and count once that is open.
 module _ (bodies more : List (List ℕ)) (staged : List ℕ) (end : ℕ) (first : DiskState) (is : IsStaged more staged) (keeps : Keeps bodies first end) where
   -- the bytes with the staged entries, after a gate of this byte
   abbrev gated : ℕ → List ℕ

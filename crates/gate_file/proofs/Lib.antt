@@ -1,4 +1,4 @@
--- The lemmas of this crate, each file by its subject. run_journal takes Ends, Reading and Unique.
+-- The lemmas of this crate, each file by its subject. run_journal takes Ends and Unique.
 pub mod Appending
 pub mod Beginning
 pub mod Bodies

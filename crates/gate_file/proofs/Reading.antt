@@ -1,5 +1,5 @@
 -- What is known of a file of gates once its entries were read up to an offset.
--- `read_all` (src/open.rt) rests on it, by Refusals too, and run_journal takes it.
+-- `read_all` (src/open.rt) rests on it, by Refusals too.
 use Rattle.std.proofs.Common.{◌≡◌, inr, ℕ, ◌+◌, ◌*◌, ◌≤◌, ◌<◌, List, length, drop, ◌∙◌, ap, subst, arith, length-drop}
 use Rattle.disk_model.specs.Device.{DiskState, Reads, IsSettled}
 use Rattle.disk_model.specs.Moments.{Unwritten, Uses}

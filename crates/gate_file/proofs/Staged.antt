@@ -1,5 +1,6 @@
 -- What a crash leaves of a file of gates in each of the two writes of an append: that of the staged
--- entries, and that of the open gate. Appending.antt rests on it.
+-- entries (after the shut gate, where they do not count yet), and that of the open gate.
+-- Appending.antt rests on it.
 use Rattle.std.proofs.Common.{◌≡◌, inl, inr, ℕ, ◌+◌, ◌-◌, ◌≤◌, ◌<◌, List, [], ◌∷◌, ◌++◌, length, take, drop, replicate, get_or, refl, sym, ◌∙◌, ap, subst, arith, append_assoc, length-append, length-drop, take-append-drop}
 use Rattle.std.proofs.lemmas.List.{take_at, drop_at, drop-drop, take-append-le, drop_more, length-take, get_or-take, get_or-drop}
 use Rattle.std.proofs.lemmas.Grind.{same_number_lists}

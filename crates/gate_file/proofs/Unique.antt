@@ -35,11 +35,11 @@ one_entry body other file rest more is also =
 pub length-file : (body file rest : List ℕ) → IsEntry body file rest → length file ≡ length body + length rest + 5
 length-file body file rest is = omega (arith, ap length is.bytes, length-append (entry body) rest, length-entry body)
 
--- no entry with a gate after it begins here
+-- The file begins with a shut gate, or with an entry that is cut short.
 abbrev Stops : List ℕ → Type 0
 Stops file = IsShut file ⊎ IsCutShort file
 
--- a file that stops has at least one byte
+-- a file that stops so (`Stops`) has at least one byte
 some_left : (file : List ℕ) → Stops file → 0 < length file
 some_left file (inl shut) = omega (arith, ap length shut.1)
 some_left file (inr cut) = omega (arith, ap length cut.bytes)

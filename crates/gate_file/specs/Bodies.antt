@@ -1,6 +1,6 @@
--- Bodies that are kept in one list of bytes as a file has them, each after a gate and its length,
--- five bytes, with the offsets where they end.
--- For this crate alone.
+-- Bodies that are kept in memory in one list of bytes as a file of gates has them, each after a
+-- gate and its length, five bytes, with the offsets where they end: what a `BodyList`
+-- (src/body_list.rt) is. No other crate cites this file.
 use Rattle.std.specs.Prelude.{◌≡◌, ℕ, ◌+◌, ◌-◌, ◌≤◌, List, [], ◌∷◌, length, take, drop}
 use Rattle.gate_file.specs.Chain.{Opens}
 

@@ -50,6 +50,7 @@ pub record IsCutShort (file : List ℕ) : Type 0 where
   pub rest : List ℕ
   -- the gate is open
   pub is_open : gate ≢ 0
+  -- the file is the gate and these bytes
   pub bytes : file ≡ gate ∷ rest
   -- the file ends inside the four bytes of the length, or inside the body with the next gate (the
   -- length says the bytes of the body: with its own four and one gate, five more)
@@ -70,7 +71,7 @@ pub record IsCutAt (at : ℕ) (file : List ℕ) : Type 0 where
   -- it is cut short itself
   pub cut : IsCutShort rest
 
--- the file spells these bodies, or these and more, all of them
+-- the file spells the first bodies alone, or these and then all of `more`
 abbrev pub IsBeforeOrAfter : List (List ℕ) → List (List ℕ) → List ℕ → Type 0
 IsBeforeOrAfter bodies more file = Spells bodies file ⊎ Spells (bodies ++ more) file
 

@@ -10,7 +10,8 @@ use Rattle.gate_file.specs.Chain.{IsRunThere, ends_at}
 use Rattle.gate_file.specs.Gate.{Keeps, IsCalm}
 use Rattle.gate_file.specs.First.{IsBeginning}
 
--- why a file is not begun, and what the disk is then: if no call of it failed it is as it was
+-- why a file is not begun, and what the disk is then: a call of it failed, or nothing was written,
+-- since a run is there or memory ran out; the other two faults are never the answer
 abbrev pub RefusesBeginning : GateFault → DiskState → DiskState → Type 0
 RefusesBeginning DiskFault old new = Rose old.faults new.faults
 RefusesBeginning RunThere old new =

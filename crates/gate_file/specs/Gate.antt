@@ -1,5 +1,6 @@
 -- A file of gates on a disk: what callers see of it, and when the disk holds bodies. run_journal,
--- run_branch, run_table and nc_restart say their disks by it.
+-- run_table and nc_restart say their disks by it, and the proofs of 4 more crates above
+-- (run_branch, run_edits, turret_run and lathe_top) cite it.
 use Rattle.std.specs.Prelude.{◌≡◌, ℕ, ◌+◌, ◌*◌, ◌≤◌, Bool, List, ◌∷◌, length, Result, Ok, Err}
 use Rattle.gate_file.specs.declared.fault.GateFault.{GateFault}
 use Rattle.gate_file.specs.declared.fault.GateFault.TheVariants.{DiskFault}
@@ -9,6 +10,7 @@ use Rattle.gate_file.specs.Chain.{Opens}
 -- what callers see of a file of gates: its disk, whether it may be written, and the offset of its
 -- shut gate
 pub record Gate (D : Type 0) : Type 0 where
+  -- the disk with the file
   pub disk : D
   -- whether it may be written: no append has failed
   pub live : Bool

@@ -1,5 +1,6 @@
 -- How a file of gates is opened: what a call promises, found or refused. The proofs of run_journal
--- cite `Finds` and `RefusesOpening`; the words about offsets at the end are for this crate alone.
+-- cite `Finds` and `RefusesOpening`; src/open.rt says by the words after `found_with` how it reads
+-- on from one gate to the next.
 use Rattle.std.specs.Prelude.{◌≡◌, ℕ, ◌+◌, ◌*◌, ◌≤◌, List, [], length, take, drop, Option, Some, None, Result, Ok, Err, IfOk, IfErr}
 use Rattle.disk_model.specs.Device.{DiskState, Reads, IsSettled}
 use Rattle.nc_number.specs.Faults.{Rose}
@@ -10,7 +11,9 @@ use Rattle.gate_file.specs.declared.open.Contents.{Contents}
 use Rattle.gate_file.specs.Chain.{Opens, Spells, IsShut, IsNoRun, IsCutShort, IsCutAt}
 use Rattle.gate_file.specs.Gate.{Gate, Keeps, OpeningUses, IsCalm}
 
--- why a file is not opened; what is said of the file is on the disk
+-- why a file is not opened: a call of the disk failed, or the file holds no run or an entry that is
+-- cut short (and then all that a read gives is on the disk), or memory ran out, of which nothing is
+-- said
 abbrev pub RefusesOpening : GateFault → DiskState → DiskState → Type 0
 RefusesOpening DiskFault old new = Rose old.faults new.faults
 RefusesOpening NoRun old new = IsSettled new × ((bytes : List ℕ) → Reads old bytes → IsNoRun bytes)
@@ -49,7 +52,7 @@ abbrev pub found_with : {D : Type 0} → Result (Gate D × List (List ℕ)) (D �
 found_with (Ok found) = Ok (found.1, found.0.end)
 found_with (Err fault) = Err fault.1
 
--- the file reads as these bytes, so many of them, and these bodies stand before an offset
+-- the file reads as these bytes, `len` of them, and these bodies stand before the offset `at`
 pub record IsBefore (at len : ℕ) (bodies : List (List ℕ)) (disk : DiskState) (bytes : List ℕ) : Type 0 where
   -- a read of the disk gives these bytes
   pub reads : Reads disk bytes
@@ -72,8 +75,8 @@ abbrev pub ReadsOn : ℕ → Option ℕ → List (List ℕ) → List ℕ → Typ
 ReadsOn at None bodies bytes = Opens bodies bytes (drop at bytes) × IsShut (drop at bytes)
 ReadsOn at (Some next) bodies bytes = Opens bodies bytes (drop next bytes)
 
--- the file reads as these bytes, so many of them, and those at an offset begin as what was seen of
--- them
+-- the file reads as these bytes, `len` of them, and those from the offset `at` on begin with the
+-- same five bytes as what was seen of them
 pub record IsSeen (seen : List ℕ) (at len : ℕ) (disk : DiskState) (bytes : List ℕ) : Type 0 where
   -- a read of the disk gives these bytes
   pub reads : Reads disk bytes

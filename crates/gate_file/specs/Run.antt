@@ -1,5 +1,5 @@
--- Many appends to a file of gates, one after another. For this crate alone: the law
--- `appends_leave_prefixes` (src/laws.rt) speaks of them.
+-- Many appends to a file of gates, one after another. The public law `appends_leave_prefixes`
+-- (src/laws.rt) speaks of them; no other crate cites this file.
 use Rattle.std.specs.Prelude.{ℕ, zero, suc, List, [], ◌∷◌, ◌++◌}
 
 -- the bodies that a file has at first, and the first k of those that are appended

@@ -1,5 +1,6 @@
 //! A list of bodies, which takes no memory for each: all stand in one list of bytes, as in a file
-//! of gates. `run_journal` puts the batches of a run into one.
+//! of gates. Opening a file gives one, which run_journal reads; it also puts the bodies of a whole
+//! journal into one, and run_branch begins a file with that.
 
 ghost use Rattle.std.specs.Prelude.{◌≡◌, ◌+◌, ◌*◌, ◌^◌, ◌<◌, ◌≤◌, ◌++◌, ◌==◌, [], ◌∷◌, List, ℕ, length, take, drop, get_or, IfOk, IfSome, IfNone, OnOk, OnErr, vec_capacity};
 ghost use Rattle.gate_file.specs.Bodies.{between, bodies_from, AreEnds};

@@ -18,11 +18,13 @@ use disk_model::{Disk, Failed};
 pub(crate) enum FirstGate {
     // The file has at most one byte.
     Missing,
+    // The first gate is shut.
     Shut,
 }
 
-/// Begins a file on the disk, with the staged entries as its first bodies. Errors: `RunThere` if
-/// there is a run, `DiskFault` if a call of the disk failed.
+/// Begins a file on the disk, with the staged entries as its first bodies: they are written after
+/// the shut first gate, and count once it is opened. Errors: `RunThere` if there is a run,
+/// `DiskFault` if a call of the disk failed.
 pub(crate) fn begin<D: Disk>(disk: &mut D, staged: &[u8]) -> Result<(), GateFault>
     ensures begun { (bodies : List (List ℕ)) → IsStaged bodies staged.now
         → Begins bodies (D.state disk.old) (D.state disk.new) result }

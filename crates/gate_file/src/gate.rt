@@ -19,7 +19,8 @@ use disk_model::{Disk, Failed};
 use std::alloc::Global;
 use std::marker::Model;
 
-/// The most bytes of a body that `append` takes: a count, and 64 records of 131 bytes.
+/// The most bytes of a body that `append` takes: a count of one byte, and 64 records of 131 bytes,
+/// which are `MOST_PENDING` of nc_number and `LONGEST_RECORD` of run_records.
 pub const LONGEST_BODY: usize = 8_385;
 
 /// The room of the longest body that `append` takes: its four bytes of length, the body, and the
@@ -217,8 +218,8 @@ fn stage(room: &mut Vec<u8>, body: &[u8])
     room.push(0).unwrap();
 }
 
-/// Writes staged entries after the shut gate, and then opens the gate: each of the two is on the
-/// disk before the next begins.
+/// Writes staged entries, which count once the gate before them is open, after the shut gate, and
+/// then opens the gate: each of the two is on the disk before the next begins.
 pub(crate) fn add_staged<D: Disk>(disk: &mut D, end: u64, staged: &[u8]) -> Result<(), Failed>
     requires { end < 2 ^ 62 }
     ensures small { OnOk result (end + 1 + length staged.now < 2 ^ 62) }

@@ -26,6 +26,7 @@ const WINDOW: usize = 65_536;
 /// What stands at a gate.
 #[derive(Clone, Copy, Debug, PartialEq, Eq)]
 pub(crate) enum Head {
+    // The gate is shut.
     Shut,
     // The gate is open, and a body of so many bytes is to follow.
     Open(u32),

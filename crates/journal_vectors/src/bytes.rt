@@ -11,7 +11,8 @@ const FOUR: &str = "010000000141010000000401010100010000000401020100010000000801
 /// The tape `%`, `O1`, `#500=#500+1`, `M30`, `%` of 23 bytes.
 const TAPE: &str = "250a4f310a233530303d233530302b310a4d33300a250a";
 
-/// What stands in a header behind its mark: no settings, and the tape twice.
+/// What stands in a header behind its mark (`TWIN` and the version): no settings, and the tape
+/// twice.
 const TEXTS: &str =
     "0000000000000017250a4f310a233530303d233530302b310a4d33300a250a00000017250a4f310a233530303d233530302b310a4d33300a250a";
 
@@ -23,8 +24,8 @@ const HEADER: &str =
 const HEADER2: &str =
     "01000000405457494e00020000000000000017250a4f310a233530303d233530302b310a4d33300a250a00000017250a4f310a233530303d233530302b310a4d33300a250a";
 
-/// What stands in a header of short texts behind its mark: the settings `s`, and the tapes `l1` and
-/// `r22`.
+/// What stands behind `TWIN` and the version in a header of short texts: the settings `s`, and the
+/// tapes `l1` and `r22`.
 const SHORT: &str = "0000000173000000026c3100000003723232";
 
 /// The entry of a header of version 2 with `SHORT`, which has 24 bytes itself.
@@ -33,7 +34,8 @@ const BRANCHED: &str = "01000000185457494e00020000000173000000026c31000000037232
 /// The record of an edit of path 1: its work offset 1, that of G54, gets X-1. Z5.
 const G54: &str = "0106010001fffffffffffffc180000000000001388";
 
-/// The record of an edit of path 1: #500 gets 7.
+/// The record of an edit of path 1: #500 gets 7. restart_vectors (src/journal_rows.rt) has the same
+/// bytes.
 const SEVEN: &str = "01060401f4000000000000000100000000006acfc0";
 
 /// The value of a hexadecimal digit.

@@ -2,7 +2,7 @@
 //! what a stop at each of its calls leaves, and why a file is refused.
 //!
 //! The bytes and the answers that are expected are worked by hand from the rules of the journal,
-//! and never from what a call answered.
+//! and never from what a call answered. No crate uses it.
 #![tactic(auto)]
 
 #[cfg(test)]

@@ -18,7 +18,9 @@ use std::thread::Threads;
 /// that it has made where another thread sees the count. It is slow.
 #[derive(Drop)]
 struct Queue<'a> {
+    /// How many moves it has made.
     made: &'a AtomicU64,
+    /// How many moves it was handed since it settled last.
     queued: u64,
 }
 
@@ -54,8 +56,11 @@ impl<'a> Turret for Queue<'a> {
 /// turret had made the moves before it.
 #[derive(Drop)]
 struct Watcher<'a> {
+    /// How many moves the turret has made.
     made: &'a AtomicU64,
+    /// How many steps there were.
     steps: u64,
+    /// Whether a drain was answered too early.
     early: bool,
 }
 

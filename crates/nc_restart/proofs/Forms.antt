@@ -24,6 +24,7 @@ use Rattle.path_state.specs.View.{PathView}
 use Rattle.path_state.specs.Effect.{Effect, block_of_words, block_of_statement, past_the_last, effect_of_body, effect_of_block, block_at, effect_of}
 use Rattle.two_path.specs.Turns.{Blocks, blocks_of}
 
+-- The block of a path of this tape, which has read these values.
 module _ (tape : List ControlProgram) (path : PathView) (reads : List Var) where
   -- what a block of this form and control does
   abbrev effect_of_form : Form → Control → Effect

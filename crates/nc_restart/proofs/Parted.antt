@@ -30,7 +30,8 @@ parted_alike (w ∷ before) (z ∷ other) after rest same size =
     let later = parted_alike before other after rest (ap (drop 1) same) (omega (arith, size)) in
     ((λ i. first_alike w z (before ++ after) (other ++ rest) same i ∷ later.0 i), later.1)
 
--- pieces with the same bytes and the same records are the same: the count of a batch is no mark
+-- pieces of two journals with the same bytes and the same records are the same: the raising mark
+-- begins with 255, which no batch counts
 pub pieces_alike : (version other : Version) (pieces others : List Piece) → ArePieces version pieces → ArePieces other others
     → map piece_bytes pieces ≡ map piece_bytes others → records_of pieces ≡ records_of others → pieces ≡ others
 pieces_alike version other [] [] are also bytes records = refl

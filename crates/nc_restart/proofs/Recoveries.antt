@@ -21,7 +21,7 @@ use Rattle.nc_restart.specs.Meaning.{IsBadReading, unread, misread}
 use Rattle.nc_restart.specs.Reading.{RefusesReading}
 use Rattle.nc_restart.specs.Recovered.{fault_of, RefusesRecovery, Recovers}
 
--- each piece has a record, but for the one mark
+-- in a journal of version 2, in which no raising mark stands, each piece has a record
 few_marked : (pieces : List Piece) → ArePieces Two pieces → length pieces ≤ length (records_of pieces)
 few_marked [] are = omega arith
 few_marked (a_batch batch ∷ pieces) are =

@@ -35,7 +35,7 @@ opening_by order cell path = record {
   fixed = record { home = point_of path cell.home; shared100 = cell.shared100; shared500 = cell.shared500 };
 }
 
--- the cell and what the tapes say are those of the texts
+-- texts that are accepted twice have the same cell, and their tapes say the same
 one_reading : (texts : Texts) (cell other : Cell) (left right left' right' : List ProgramForm) → AreAccepted texts cell left right
     → AreAccepted texts other left' right' → (cell ≡ other) × (left ≡ left') × (right ≡ right')
 one_reading texts cell other left right left' right' is also =

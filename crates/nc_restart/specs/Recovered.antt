@@ -43,11 +43,13 @@ fault_of (journal.Cut at) = Cut at
 fault_of (journal.BadRecord offset cause) = BadRecord offset cause
 fault_of journal.NoMemory = NoMemory
 
--- a read gives bytes that stand for this, all of them are on the disk
+-- what a read of the disk before gave stands for this, and after the call all that a read gives is
+-- on the disk
 abbrev pub IsMeant : Meaning → DiskState → DiskState → Type 0
 IsMeant meaning old new = IsSettled new × ((bytes : List ℕ) → Reads old bytes → StandsForRun meaning bytes)
 
--- why nothing is recovered; what is said of the file is on the disk
+-- why nothing is recovered: a call of the disk failed, or what the file stands for is no run (and
+-- then all that a read gives is on the disk), or memory ran out, of which nothing is said
 abbrev pub RefusesRecovery : RestartFault → DiskState → DiskState → Type 0
 RefusesRecovery DiskFault old new = Rose old.faults new.faults
 RefusesRecovery NoRun old new = IsMeant no_run old new
@@ -62,8 +64,8 @@ pub record FoundRun : Type 0 where
   -- the records, in order
   pub entries : List Entry
 
--- The file stands for what was found. It is read body by body: the header, the records, and the
--- mark where the journal was raised.
+-- The file stands for what was found. It is read body by body: the header, the batches of records,
+-- and the mark that raised the journal to version 2, if there is one.
 pub record IsFoundRun (old new : DiskState) (found : FoundRun) : Type 0 where
   -- what a read gives stands for the header and the records
   pub means : (bytes : List ℕ) → Reads old bytes → StandsForRun (a_run found.header found.entries) bytes

@@ -12,7 +12,8 @@ use nc_verify::{Verified, verdict};
 use run_records::{BadRecord, Header};
 use std::alloc::Global;
 
-/// Where the body of the header begins in a journal.
+/// Where the body of the header begins in a journal: after its gate and its length (`refused` of
+/// specs/Meaning.antt has the same number).
 const HEADER_OFFSET: u64 = 5;
 
 /// The pair that the texts of the header are, which are judged anew. Texts that are refused are

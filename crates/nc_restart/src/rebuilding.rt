@@ -19,7 +19,9 @@ use two_path::Machine;
 /// A pair, and its machine behind the records of a run.
 #[derive(Drop)]
 pub(crate) struct Rebuilt {
+    /// The pair that the texts of the header are.
     pub(crate) pair: Verified,
+    /// Its machine behind the records.
     pub(crate) machine: Machine,
 }
 

@@ -16,7 +16,9 @@ use two_path::{Illegal, Machine, histories_are_runs};
 /// The record of this index is the first that may not stand where it stands.
 #[derive(Drop)]
 pub(crate) struct OutOfPlace {
+    /// Its index, counted from 0.
     pub(crate) index: usize,
+    /// Why it may not stand there.
     pub(crate) cause: BadRecord,
 }
 

@@ -27,7 +27,7 @@ called_none (Some was) = ap Some (sym (append-nil was))
 pub move_behind : (items : List Item) (what : LinedMove) → moves_among (items ++ Move what ∷ []) ≡ moves_among items ++ what ∷ []
 move_behind items what = moves_of_both items (Move what ∷ [])
 
--- a mark adds no move
+-- a mark, the item that asks whether the turret is at rest, adds no move
 pub mark_behind : (items : List Item) → moves_among (items ++ Mark ∷ []) ≡ moves_among items
 mark_behind items = moves_of_both items (Mark ∷ []) ∙ append-nil (moves_among items)
 

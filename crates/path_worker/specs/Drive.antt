@@ -1,5 +1,6 @@
--- What the drive of a turret does at the items of its line, and how it halts the run at a fault
--- (src/drive.rt). turret_run cites `HasSettled`.
+-- What the drive of a turret does at the items of its line (moves, marks that ask whether the
+-- turret is at rest, and the end), and how it halts the run at a fault (src/drive.rt). turret_run
+-- cites `HasSettled`, and meets `halts_at` in the clauses of `run_lane`.
 use Rattle.std.specs.Prelude.{◌≡◌, ◌⊎◌, Bool, List, [], ◌∷◌, if◌then◌else◌}
 use Rattle.nc_number.specs.declared.path.Path.{Path}
 use Rattle.nc_outside.specs.declared.halt.Halt.TheVariants.{Turret}
@@ -10,25 +11,28 @@ use Rattle.drive_line.specs.declared.item.Item.TheVariants.{Move, Mark, End}
 use Rattle.drive_line.specs.declared.phase.Phase.{Phase}
 use Rattle.drive_line.specs.declared.phase.Phase.TheVariants.{Moving, Still, Failed, Halted}
 
--- the call of a drive at a fault of its turret: the run is halted by the path's turret
+-- the calls of a drive over its whole run: if its turret failed (true), one, which halts the run
+-- for the path's turret; else none
 abbrev pub halts_at : Path → Bool → List Call
 halts_at path fault = if fault then Halt (Turret path) ∷ [] else []
 
--- the call of a drive whose turret stands so: if it has just failed, the run is halted by it
+-- the calls of a drive behind one item, whose turret stands so: if it has just failed, the run is
+-- halted for it; else there is none
 abbrev pub halts_for : Path → Phase → List Call
 halts_for path Moving = []
 halts_for path Still = []
 halts_for path Failed = Halt (Turret path) ∷ []
 halts_for path Halted = []
 
--- how a turret stands once its fault has halted the run
+-- how a turret stands once its fault, if it has just failed, has halted the run
 abbrev pub once_halted : Phase → Phase
 once_halted Moving = Moving
 once_halted Still = Still
 once_halted Failed = Halted
 once_halted Halted = Halted
 
--- how a turret stands that served the item: at a mark and at the end it stands still, or it failed
+-- how a turret stands that served the item: after a move it may be on its way, at a mark and at the
+-- end it stands still, or it failed
 abbrev pub StandsAt : Item → Phase → Type 0
 StandsAt (Move what) phase = (phase ≡ Moving) ⊎ (phase ≡ Failed)
 StandsAt Mark phase = (phase ≡ Still) ⊎ (phase ≡ Failed)

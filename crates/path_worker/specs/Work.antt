@@ -1,5 +1,6 @@
 -- What the worker of a path does at the answers of its stepper: its calls, and what it sends along
--- the line (src/worker.rt, src/lane.rt). For this crate alone.
+-- the drive line (src/worker.rt, src/lane.rt). No other crate cites this file, but turret_run meets
+-- `calls_made` and `IsWhole` in the clauses of `run_lane`.
 use Rattle.std.specs.Prelude.{◌≡◌, ℕ, ◌+◌, List, [], ◌∷◌, ◌++◌, length, map, flat_map, Option, All}
 use Rattle.nc_number.specs.declared.path.Path.{Path}
 use Rattle.nc_outside.specs.declared.halt.Next.{Next}
@@ -13,7 +14,8 @@ use Rattle.drive_line.specs.declared.item.Item.TheVariants.{Move, Mark, End}
 use Rattle.drive_line.specs.Line.{moves_among}
 use Rattle.path_worker.specs.declared.worker.Why.{Why}
 
--- what a worker sends at an answer: its moves, a mark at Drain, and the end where it is the last
+-- what a worker sends at an answer: its moves; at Drain a mark, which the drive answers once its
+-- turret has every move before it and is at rest; and the end if the answer is the last
 abbrev pub items_at : Next → List Item
 items_at Silent = []
 items_at (Moves moves) = map Move (lined moves)
@@ -21,7 +23,8 @@ items_at Drain = Mark ∷ []
 items_at Finished = End ∷ []
 items_at (Halted why) = End ∷ []
 
--- the call at Drain: the line of the path was drained behind n moves
+-- the calls beside the step at an answer: at Drain one, that the line of the path was drained
+-- behind n moves; at any other answer none
 abbrev pub drained_at : Path → ℕ → Next → List Call
 drained_at path n Drain = Drained path n ∷ []
 drained_at path n _ = []
@@ -41,7 +44,7 @@ pub record Works (path : Path) (before after : Option (List Call)) (old new : Li
   -- the line got the items of these answers
   pub items : new ≡ old ++ flat_map items_at answers
 
--- the path goes on behind the answer
+-- the answer is not the last one of a worker: the path goes on after it
 abbrev pub GoesOn : Next → Type 0
 GoesOn Finished = ⊥
 GoesOn (Halted why) = ⊥

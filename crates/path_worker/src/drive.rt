@@ -1,5 +1,6 @@
-//! The drive of a turret: it takes the items of its line and hands the moves to the turret. lane.rt
-//! runs it in a thread, and tests run it alone.
+//! The drive of a turret: it takes the items of its line, hands the moves to the turret, and
+//! answers marks, by which the worker asks whether the turret is at rest. lane.rt runs it in a
+//! thread, and tests run it alone.
 ghost use Rattle.std.specs.Prelude.{◌≡◌, ◌++◌, [], ◌∷◌, List, true, false, length};
 ghost use Rattle.nc_outside.specs.Calls.{IsCalled};
 ghost use Rattle.nc_outside.specs.declared.lined_move.LinedMove.{LinedMove};

@@ -44,16 +44,22 @@ pub struct LaneEnd<S: Drop, H: Drop, T: Turret> {
 /// What the worker's thread gives back.
 #[derive(Drop)]
 struct Worked<'r, S: Drop, R> {
+    /// Why the worker ended.
     why: Why,
+    /// What made the steps of the path.
     stepper: S,
+    /// The worker's end of the line.
     line: LineIn<'r, R>,
 }
 
 /// What the drive's thread gives back.
 #[derive(Drop)]
 struct Drove<'r, H: Drop, T: Turret, R> {
+    /// What halted the run if the turret failed.
     halter: H,
+    /// The turret, and what it was told.
     driven: Driven<T>,
+    /// The drive's end of the line.
     line: LineOut<'r, R, T>,
 }
 

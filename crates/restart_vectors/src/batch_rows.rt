@@ -17,7 +17,7 @@ use std::test::Fail;
 /// A row: the version of the journal, after how many calls the disk stops, and what is recovered
 /// after a crash that keeps what was written, one that loses it, and one that fills it. The
 /// beginning makes 8 calls, and each flush 4: a write, a sync, a write of the gate, and a sync. The
-/// mark that raises version 1 makes 4 too, and changes no history.
+/// mark that raises a journal of version 1 makes 4 too, and changes no history.
 const ROWS: &str = "\
 2 0|no run|no run|no run
 2 7||no run|

@@ -138,7 +138,7 @@ H,02 010500 020400|bad record at 62: not legal
 H,02 010500 SEVEN|bad record at 62: not legal
 H,02 SEVEN 010500|1 edits #500 7000000, 1 alarmed";
 
-/// The record of an edit: #500 of path 1 gets 7.
+/// The record of an edit: #500 of path 1 gets 7. journal_vectors (src/bytes.rt) has the same bytes.
 const SEVEN: &str = "01060401f4000000000000000100000000006acfc0";
 
 /// The record of an edit: the work offset 1 of path 2, that of G54, gets X-1. Z5.
@@ -147,7 +147,9 @@ const G54: &str = "0206010001fffffffffffffc180000000000001388";
 /// The headers of a pair, in both versions.
 #[derive(Drop)]
 pub(crate) struct Headers {
+    /// The bytes of the header of version 1.
     one: Vec<u8>,
+    /// The bytes of the header of version 2.
     two: Vec<u8>,
 }
 

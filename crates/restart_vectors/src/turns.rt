@@ -12,7 +12,9 @@ use two_path::Turn;
 /// How many records each path has made.
 #[derive(Clone, Copy)]
 pub(crate) struct Count {
+    /// How many path 1 has made.
     one: usize,
+    /// How many path 2 has made.
     two: usize,
 }
 

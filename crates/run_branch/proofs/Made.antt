@@ -26,7 +26,7 @@ use Rattle.run_branch.specs.Faults.{IsFaultOf, IsOfBeginning}
 use Rattle.run_branch.specs.Meetings.{meetings, branch_point}
 use Rattle.run_branch.proofs.Points.{enough}
 
--- a prefix of the records has no more bytes than all of them
+-- a prefix of the records has no more bytes than all of them, six more counted for each record
 prefix_small : (entries : List Entry) (k : ℕ) → length (records_bytes (take k entries)) + 6 * length (take k entries)
     ≤ length (records_bytes entries) + 6 * length entries
 prefix_small entries k =

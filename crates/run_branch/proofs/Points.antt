@@ -13,12 +13,12 @@ mapped : (r : Option ℕ) (k : ℕ) → option_map suc r ≡ Some k → (j : ℕ
 mapped None k is = absurd cc
 mapped (Some j) k is = let same : suc j ≡ k = cc in (j, refl, same)
 
--- no number comes of none
+-- if there is no number that is one more than a given one, none is given
 unmapped : (r : Option ℕ) → option_map suc r ≡ None → r ≡ None
 unmapped None is = refl
 unmapped (Some j) is = absurd cc
 
--- one record more brings the meetings up to the number, whether or not it is one
+-- one record more brings the meetings up to the number, whether or not that record is a meeting
 reached : (b : Bool) (n rest : ℕ) → rest ≡ (if b then n else suc n) → (if b then 1 else 0) + rest ≡ suc n
 reached true n rest is = omega (arith, is)
 reached false n rest is = omega (arith, is)

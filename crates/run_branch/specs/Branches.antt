@@ -39,7 +39,7 @@ abbrev pub IsNewDisk : {A : Type 0} → Result A BranchFault → Type 0
 IsNewDisk (Ok answer) = ⊥
 IsNewDisk (Err fault) = fault ≡ NewDisk
 
--- why a branch is not made, and what the disk is then: where no call of it failed it is as it was
+-- why a branch is not made, and what the disk is then: a call of it failed, or nothing was written
 abbrev pub RefusesBranch : BranchFault → DiskState → DiskState → Type 0
 RefusesBranch NoMeeting old new = Unwritten old new
 RefusesBranch RunThere old new =

@@ -1,4 +1,5 @@
--- How a branch is opened: as its header and its records. The law of src/laws.rt says it.
+-- How a branch of a run is opened: as its header and its records. The public law
+-- `a_branch_opens_as_its_records` (src/laws.rt) says so; no other crate cites this file.
 use Rattle.std.specs.Prelude.{◌≡◌, ◌⊎◌, ℕ, List, take, Some, Result, Ok, Err}
 use Rattle.run_records.specs.declared.header.Header.{Header}
 use Rattle.run_records.specs.Entries.{Entry}
@@ -8,7 +9,7 @@ use Rattle.run_journal.specs.Filled.{newest}
 use Rattle.run_journal.specs.Opening.{Found}
 use Rattle.run_branch.specs.Meetings.{branch_point}
 
--- what is found is the branch
+-- what an opening found is the branch of this run up to its n-th meeting
 pub record IsBranchFound (header : Header) (entries : List Entry) (n : ℕ) (found : Found) : Type 0 where
   -- how many records the branch has
   pub k : ℕ
@@ -19,8 +20,8 @@ pub record IsBranchFound (header : Header) (entries : List Entry) (n : ℕ) (fou
   -- the records are that prefix
   pub entries_are : found.entries ≡ take k entries
 
--- An opening finds the branch, or is refused because the disk failed or memory ran out: there is a
--- run, and it is whole.
+-- An opening finds the branch, or is refused because the disk failed or memory ran out, and for no
+-- other cause.
 abbrev pub OpensAsBranch : Header → List Entry → ℕ → Result Found JournalFault → Type 0
 OpensAsBranch header entries n (Ok found) = IsBranchFound header entries n found
 OpensAsBranch header entries n (Err fault) = (fault ≡ DiskFault) ⊎ (fault ≡ NoMemory)

@@ -60,7 +60,7 @@ fn branch_point(entries: &EntryList, n: u32) -> Option<usize>
     Some(index)
 }
 
-/// How many of the meetings are left after a record of this kind.
+/// How many of the meetings that are still looked for are left after a record of this kind.
 fn left_behind(left: u32, kind: &EntryKind) -> u32
     requires { 0 < left }
     ensures { result ≡ (if is_meeting kind.now then left - 1 else left) }

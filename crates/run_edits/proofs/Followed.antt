@@ -1,5 +1,5 @@
--- The records of edits may follow any history behind which no alarm stands. `make_edits`
--- (src/making.rt) rests on it.
+-- The records of edits may follow any history behind which no alarm stands, if the settings allow
+-- so many records more. `make_edits` (src/making.rt) rests on it.
 use Rattle.std.proofs.Common.{◌≡◌, inr, ℕ, ◌+◌, ◌≤◌, None, List, [], ◌∷◌, ◌++◌, length, refl, sym, ap, subst, arith, ◌∙◌, length-append}
 use Rattle.std.proofs.lemmas.List.{length-map}
 use Rattle.nc_number.specs.declared.path.Path.{Path}

@@ -1,5 +1,5 @@
--- What writing edits leaves on the disk, from the raising of the journal and the flush of the
--- batch. `write_edits` and `make_all` (src/making.rt) rest on it.
+-- What writing edits leaves on the disk of a journal, from the raising of the journal and the flush
+-- of the batch. `write_edits` and `make_all` (src/making.rt) rest on it.
 use Rattle.std.proofs.Common.{◌≡◌, inl, ℕ, ◌+◌, ◌*◌, ◌≤◌, ◌==◌, false, List, [], ◌∷◌, ◌++◌, length, Ok, Err, sym, ap, subst, arith, ◌∙◌, length-append}
 use Rattle.std.proofs.lemmas.List.Concat.{flat_map-append}
 use Rattle.disk_model.specs.Device.{DiskState, Reads, Rose}
@@ -20,7 +20,8 @@ use Rattle.run_journal.specs.Stands.{Holds, Pends, Stands, StandsEither}
 use Rattle.run_records.specs.Spelling.{entry_bytes}
 use Rattle.run_edits.specs.Made.{MakesEdits, edits_end, records_of}
 
--- a journal before, once raised, with the records of the edits noted, and after the flush
+-- A journal before (`old`), once raised (`mid`), with the records of the edits noted (`noted`), and
+-- after the flush (`new`). The records of the edits are `made`.
 module _ {D : Type 0} (state : D → DiskState) (old mid noted : Log D) (new : Log D) (made : List Entry)
     (file : noted.file ≡ mid.file) (version : noted.version ≡ Two) (pends : Pends Two made noted.batch)
     (raised : (header : Header) (entries : List Entry) → Holds header old.version entries (state old.file.disk) old.file.end
@@ -50,7 +51,8 @@ module _ {D : Type 0} (state : D → DiskState) (old mid noted : Log D) (new : L
       (second header entries made pending (held header entries holds)))
       (λ x here. inl here) (λ x here. here)
 
-  -- after an Ok the disk holds the run that was found and all edits
+  -- after an Ok whatever a crash may leave of the disk stands for the run that was found and all
+  -- edits
   pub written_whole : ((disk : D) (header : Header) (version : Version) (entries : List Entry) (end : ℕ)
       → Holds header version entries (state disk) end → (c : List ℕ) → (state disk).image c → Stands header entries c)
       → ((header : Header) (entries pending : List Entry) → Pends noted.version pending noted.batch

@@ -1,5 +1,5 @@
 -- What making an operator's edits does to the disk of a journal (Made), which lathe_top cites.
 -- Writing is for this crate alone.
 pub mod Made
--- Words for this crate alone.
+-- The preconditions of private functions.
 pub mod Writing

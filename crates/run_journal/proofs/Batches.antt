@@ -101,7 +101,8 @@ is_batch version pending batch pends few some =
     let count = ap (λ (l : List ℕ). slice_index l 0) pends.bytes in
     record { some = omega (arith, count, some); few = omega (arith, count, few); are = pends.are }
 
--- the mark is written after the pieces that the disk holds: it holds the same records
+-- the mark that raises a journal is written after the pieces that the disk holds: the disk then
+-- holds the same records
 module _ (header : Header) (entries : List Entry) (old new : DiskState) (end : ℕ) (holds : Holds header One entries old end) where
   -- once the mark is kept, the disk holds the same records in a journal of version 2
   pub raised : (now : ℕ) → ((bodies : List (List ℕ)) → Keeps bodies old end → Keeps (bodies ++ raising_mark ∷ []) new now) → Holds header Two entries new now

@@ -1,6 +1,6 @@
--- Where a journal ends: five bytes and the header, six bytes beside its own for each record, and
--- eight for a mark. The law `a_held_journal_is_small` (src/laws.rt) rests on it, and run_branch
--- takes `pieces_end`.
+-- Where a journal ends at most: five bytes and the header, six bytes beside its own for each
+-- record, and eight for the raising mark. The law `a_held_journal_is_small` (src/laws.rt) rests on
+-- it, and run_branch takes `pieces_end`.
 use Rattle.std.proofs.Common.{◌≡◌, ℕ, ◌+◌, ◌*◌, ◌≤◌, List, [], ◌∷◌, length, map, ap, arith, length-append}
 use Rattle.std.proofs.lemmas.List.Concat.{flat_map-append}
 use Rattle.disk_model.specs.Device.{DiskState}
@@ -15,7 +15,7 @@ use Rattle.run_records.specs.Spelling.{entry_bytes}
 use Rattle.run_journal.specs.Batches.{records_bytes, Piece, a_batch, the_mark, piece_bytes, bodies_of, records_of, ArePieces}
 use Rattle.run_journal.specs.Stands.{Holds}
 
--- the bytes of a mark that may still come
+-- the bytes of a raising mark, which may still come in version 1 alone
 abbrev mark_size : Version → ℕ
 mark_size One = 8
 mark_size Two = 0

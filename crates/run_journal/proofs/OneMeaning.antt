@@ -142,7 +142,8 @@ module _ (version : Version) where
       let size : length batch ≡ length other = ap (λ (l : List ℕ). get_or l 0 0) same in
       (one_records batch other [] [] is.are also.are size (append-nil (records_bytes batch) ∙ ap (drop 1) same ∙ sym (append-nil (records_bytes other)))).0
 
--- a piece is read in one way: a batch counts 64 records at most, and the mark begins with 255
+-- a piece is read in one way: a batch counts 64 records at most, and the raising mark begins with
+-- 255
 one_piece : (version : Version) (piece other : Piece) → IsPiece version piece → IsPiece version other → piece_bytes piece ≡ piece_bytes other → piece ≡ other
 one_piece version (a_batch batch) (a_batch other) is also same = ap a_batch (one_batch version batch other is also same)
 one_piece version the_mark the_mark is also same = refl

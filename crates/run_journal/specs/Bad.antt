@@ -13,7 +13,7 @@ use Rattle.run_records.specs.Causes.{has_bad_path, is_edit, cause_of}
 use Rattle.run_records.specs.Headers.{header_bytes, IsShort}
 use Rattle.run_journal.specs.Batches.{Piece, records_bytes, raising_mark, bodies_of, version_behind, AreEntries, ArePieces}
 
--- the bytes begin with a path and the kind of an edit, and stand in a journal of version 1
+-- whether the journal is of version 1, and the bytes begin with a path and the kind of an edit
 abbrev pub is_early_edit : Version → List ℕ → Bool
 is_early_edit One bytes = not (has_bad_path bytes) && is_edit bytes
 is_early_edit Two bytes = false
@@ -35,7 +35,7 @@ pub record Begins (version : Version) (count : ℕ) (whole : List Entry) (rest b
   pub bytes : body ≡ count ∷ (records_bytes whole ++ rest)
 
 -- A body is no batch that may stand in a journal of this version, for this cause at this place of
--- it.
+-- the body, counted in bytes from its first.
 pub data IsBadBatch (version : Version) (body : List ℕ) : ℕ → BadRecord → Type 0 where
   -- it is empty
   empty : body ≡ [] → IsBadBatch version body 0 WrongCount
@@ -49,8 +49,8 @@ pub data IsBadBatch (version : Version) (body : List ℕ) : ℕ → BadRecord �
   late : (whole : List Entry) (rest : List ℕ) → Begins version (length whole) whole rest body → (rest ≡ [] → ⊥)
       → IsBadBatch version body 0 WrongLength
 
--- A body is no piece: it is not the mark in a journal of version 1, and it is no batch, for this
--- cause at this place of it.
+-- A body is no piece: it is not the mark that raises a journal of version 1, and it is no batch,
+-- for this cause at this place of the body.
 pub record IsBadPiece (version : Version) (body : List ℕ) (place : ℕ) (cause : BadRecord) : Type 0 where
   -- the body is not a mark that may stand there
   pub unmarked : version ≡ One → body ≡ raising_mark → ⊥
@@ -60,10 +60,11 @@ pub record IsBadPiece (version : Version) (body : List ℕ) (place : ℕ) (cause
 -- Bodies are no run, for this cause at this offset of their file: the first one that is bad
 -- decides.
 pub data IsBadRun (bodies : List (List ℕ)) : ℕ → BadRecord → Type 0 where
-  -- the first body is no header
+  -- the first body is no header: told at offset 5, behind its gate and its length
   unheaded : (first : List ℕ) (others : List (List ℕ)) → bodies ≡ first ∷ others
       → ((header : Header) → IsShort header → first ≡ header_bytes header → ⊥) → IsBadRun bodies 5 NoHeader
-  -- after a header and some pieces stands a body that is none
+  -- after a header and some pieces stands a body that is none: told at its place in that body,
+  -- which begins five bytes behind the end of those before
   broken : (header : Header) (before : List Piece) (body : List ℕ) (after : List (List ℕ)) (place : ℕ) (cause : BadRecord)
       → IsShort header → ArePieces header.version before → bodies ≡ bodies_of header before ++ body ∷ after
       → IsBadPiece (version_behind header.version before) body place cause

@@ -20,7 +20,8 @@ records_bytes entries = flat_map entry_bytes entries
 abbrev pub batch_bytes : List Entry → List ℕ
 batch_bytes batch = length batch ∷ records_bytes batch
 
--- the body that raises a journal to version 2: 255, which counts no batch, and 2 in two bytes
+-- the body that raises a journal to version 2: 255, which counts no batch, and 2 in two bytes. Its
+-- bytes stand in src/journal.rt (`RAISING_MARK`) and src/reading.rt (`is_mark`) too.
 abbrev pub raising_mark : List ℕ
 raising_mark = 255 ∷ 0 ∷ 2 ∷ []
 
@@ -67,7 +68,8 @@ pub record IsBatch (version : Version) (batch : List Entry) : Type 0 where
   -- a journal of this version may have them
   pub are : AreEntries version batch
 
--- a piece that may stand in a journal of this version: the mark stands in version 1 alone
+-- a piece that may stand in a journal that has this version so far: the mark stands in version 1
+-- alone
 abbrev pub IsPiece : Version → Piece → Type 0
 IsPiece version (a_batch batch) = IsBatch version batch
 IsPiece version the_mark = version ≡ One

@@ -47,7 +47,8 @@ pub record IsFlushed {D T E : Type 0} (old new : Log D) (result : Result T E) : 
   pub emptied : OnOk result (new.batch ≡ 0 ∷ [])
   -- after a fault the batch is as before
   pub stays : OnErr result (new.batch ≡ old.batch)
-  -- the file is longer by a gate, the four bytes of the length, and the body
+  -- after an Ok, if there was a record to be written, the file is longer by a gate, the four bytes
+  -- of the length, and the body
   pub moved : OnOk result (1 ≤ pending_in old.batch → new.file.end ≡ old.file.end + 5 + length old.batch)
   -- after a fault it may not be written again
   pub live : new.file.live ≡ is_ok result
@@ -62,7 +63,8 @@ pub record IsRaised {D T E : Type 0} (old new : Log D) (result : Result T E) : T
   pub version : OnOk result (new.version ≡ Two)
   -- after a fault the version is as before
   pub stays : OnErr result (new.version ≡ old.version)
-  -- the file is longer by a gate, the four bytes of the length, and the three bytes of the mark
+  -- after an Ok the file is longer by a gate, the four bytes of the length, and the three bytes of
+  -- the mark
   pub moved : OnOk result (new.file.end ≡ old.file.end + 8)
   -- the batch stays
   pub batch : new.batch ≡ old.batch

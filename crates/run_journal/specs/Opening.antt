@@ -19,7 +19,9 @@ use Rattle.run_journal.specs.Batches.{Piece, bodies_of, version_behind, IsRun}
 use Rattle.run_journal.specs.Places.{places}
 use Rattle.run_journal.specs.Bad.{IsBadAt}
 
--- why a journal is not opened; what is said of the file is on the disk
+-- why a journal is not opened: a call of the disk failed, or the file holds no run, an entry that
+-- is cut short or bodies that are no run (and then all that a read gives is on the disk), or memory
+-- ran out, of which nothing is said
 abbrev pub RefusesRun : JournalFault → DiskState → DiskState → Type 0
 RefusesRun DiskFault old new = Rose old.faults new.faults
 RefusesRun NoRun old new = IsSettled new × ((bytes : List ℕ) → Reads old bytes → IsNoRun bytes)
@@ -28,7 +30,7 @@ RefusesRun (BadRecord offset cause) old new =
     IsSettled new × ((bytes : List ℕ) → Reads old bytes → IsBadAt offset cause bytes)
 RefusesRun NoMemory old new = Unit {0}
 
--- a journal is refused as its file of gates is
+-- a journal is refused as its file of gates is (`RunThere` is no fault of an opening)
 abbrev pub IsFaultOf : GateFault → JournalFault → Type 0
 IsFaultOf GateDisk fault = fault ≡ DiskFault
 IsFaultOf GateNone fault = fault ≡ NoRun

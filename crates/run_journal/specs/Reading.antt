@@ -37,7 +37,8 @@ RefusesBodies bodies DiskFault = ⊥
 RefusesBodies bodies NoRun = ⊥
 RefusesBodies bodies (Cut place) = ⊥
 
--- records are read from these bytes, the first at an offset: so many, and others stand after them
+-- `count` records are read from these bytes, the first of which stands at the offset `at`; the rest
+-- is left
 pub record IsRecordsRead (version : Version) (count at : ℕ) (bytes rest : List ℕ) (old new : List Entry) (places_old places_new : List ℕ) : Type 0 where
   -- the records that are read
   pub batch : List Entry
@@ -52,7 +53,7 @@ pub record IsRecordsRead (version : Version) (count at : ℕ) (bytes rest : List
   -- their offsets are put after the offsets before
   pub offsets : places_new ≡ places_old ++ record_places at batch
 
--- after fewer than so many whole records stands none
+-- after fewer than `count` whole records, which take `place` bytes, stands none, for this cause
 pub record IsUnread (version : Version) (count : ℕ) (bytes : List ℕ) (place : ℕ) (cause : BadRecord) : Type 0 where
   -- the whole records
   pub whole : List Entry
@@ -69,7 +70,8 @@ pub record IsUnread (version : Version) (count : ℕ) (bytes : List ℕ) (place 
   -- what follows them is no record, for this cause
   pub none : cause_for version rest ≡ Some cause
 
--- the body at an offset is a batch, which is read
+-- the body at the offset `at` is a batch, which is read: the lists of records and of their offsets
+-- grow by those of the batch
 pub record IsBatchRead (version : Version) (at : ℕ) (body : List ℕ) (old new : List Entry) (places_old places_new : List ℕ) : Type 0 where
   -- the batch
   pub batch : List Entry
@@ -82,7 +84,8 @@ pub record IsBatchRead (version : Version) (at : ℕ) (body : List ℕ) (old new
   -- their offsets are put after those before; the count takes one byte
   pub offsets : places_new ≡ places_old ++ record_places (at + 1) batch
 
--- the body at an offset is a piece, which is read; this is the version after it
+-- the body at the offset `at` is a piece of a journal that has this version so far, and is read;
+-- `behind` is the version after the piece
 pub record IsPieceRead (version behind : Version) (at : ℕ) (body : List ℕ) (old new : List Entry) (places_old places_new : List ℕ) : Type 0 where
   -- the piece
   pub piece : Piece
@@ -97,8 +100,8 @@ pub record IsPieceRead (version behind : Version) (at : ℕ) (body : List ℕ) (
   -- their offsets are put after those before; the count takes one byte
   pub offsets : places_new ≡ places_old ++ record_places (at + 1) (records_in piece)
 
--- the bodies after the first one, up to an index, are pieces, which are read; this is the version
--- after them
+-- the bodies after the first one, up to an index, are pieces of a journal of this version, which
+-- are read; `behind` is the version after them
 pub record AreRead (version behind : Version) (bodies : List (List ℕ)) (index : ℕ) (entries : List Entry) (offsets : List ℕ) : Type 0 where
   -- the pieces so far
   pub pieces : List Piece

@@ -1,5 +1,6 @@
 //! The batch that is to be written next: the body of records that are not yet on the disk.
-//! For this crate alone: journal.rt gathers records in one, and filling.rt fills one after another.
+//! For this crate alone: journal.rt gathers records in one, opening.rt makes one that is empty, and
+//! filling.rt fills one after another.
 
 ghost use Rattle.std.specs.Prelude.{◌≡◌, ◌+◌, ◌≤◌, ◌<◌, ◌++◌, [], ◌∷◌, List, ℕ, length, drop, slice_index, IfOk, vec_capacity};
 ghost use Rattle.nc_number.specs.declared.limits.TheConstants.{MOST_PENDING};

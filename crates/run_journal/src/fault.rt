@@ -10,7 +10,7 @@ use gate_file::GateFault;
 use run_records::BadRecord;
 use thiserror::Error;
 
-/// The journal has 4,000,000 records, those to be written counted.
+/// The journal has 4,000,000 records (`MOST_RECORDS` of nc_number), those to be written counted.
 #[derive(Clone, Copy, Debug, PartialEq, Eq, Drop, Error)]
 #[error("journal full")]
 pub struct JournalFull;

@@ -14,7 +14,8 @@ use nc_number::{MOST_PENDING, NoMemory};
 use run_records::{EntryList, Header, Version, put_header};
 use std::alloc::Global;
 
-/// Where the low byte of the version stands in a header.
+/// Where the low byte of the version stands in a header, as run_records spells it (`header_mark` of
+/// its specs/Headers.antt).
 const VERSION_AT: usize = 5;
 
 /// The bodies of a journal of version 2 that has the texts of this header, whatever version that is

@@ -23,8 +23,8 @@ use run_records::{Entry, Header, Version, put_header};
 use std::alloc::Global;
 use std::marker::Model;
 
-/// The body that raises a journal to version 2. A batch counts 64 records at most, so that it is
-/// none.
+/// The body that raises a journal to version 2 (`raising_mark` of specs/Batches.antt; `is_mark` in
+/// reading.rt finds it). It is no batch, since a batch counts 64 records at most.
 pub(crate) const RAISING_MARK: [u8; 3] = [0xFF, 0, 2];
 
 /// A journal over a file of gates, with the records that are to be written next, at most 64. It may

@@ -163,7 +163,7 @@ fn wrong_count(at: u64) -> JournalFault
     JournalFault::BadRecord { offset: at, cause }
 }
 
-/// No record stands at a place after the count of a body, for this cause.
+/// No record stands at this place after the count of a body, for this cause.
 struct Unread {
     /// How many bytes of whole records stand before it.
     place: usize,
@@ -221,7 +221,8 @@ fn take_record(version: Version, bytes: &[u8]) -> Result<(Entry, usize), BadReco
     take_entry(bytes)
 }
 
-/// Whether the bytes begin with a path and the kind of an edit.
+/// Whether the bytes begin with a path and the kind of an edit: 1 or 2, and 6, as run_records
+/// spells them.
 fn begins_edit(bytes: &[u8]) -> bool
     ensures { result ≡ is_early_edit Version.One bytes.now }
 {

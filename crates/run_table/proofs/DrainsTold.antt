@@ -78,7 +78,7 @@ module _ {D : Type 0} (state : D → DiskState) (path : Path) (t t' : TableView 
   abbrev Told : TableStep → Type 0
   Told answer = AsksDrain asked (next_of answer) behind
 
-  -- who is to be drained, by why the table stopped and what bounds it
+  -- whether the path is to be drained before the step, by why the table stopped and what bounds it
   asked_is : (why bound : Option Halt) (drain : Bool) → t.halt ≡ why → bound_of t ≡ bound → drains t path ≡ drain → asked ≡ ((is_none why && is_none bound) && drain)
   asked_is why bound drain halts bounds drained = λ i. (is_none (halts i) && is_none (bounds i)) && drained i
 

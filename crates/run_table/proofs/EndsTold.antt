@@ -148,7 +148,7 @@ no_fault_by None false true spent is = cc
 no_fault_by None false false true is = cc
 no_fault_by None false false false is = cc
 
--- before its disk fails no table ends by a fault of the disk
+-- the end that a table comes to by its machine or a bound (`end_ahead`) is no fault of the disk
 no_fault_ahead : {D : Type 0} (t : TableView D) → end_ahead t ≡ Some cause.DiskFault → ⊥
 no_fault_ahead t is =
     no_fault_by t.machine.alarm (t.machine.paths.one.finished && t.machine.paths.two.finished) (length t.recording.history == t.verified.settings.records) (t.budget == 0) is

@@ -75,7 +75,7 @@ module _ {D : Type 0} (state : D → DiskState) (opened : Option (TableView D)) 
       go None of = absurd of
       go (Some start) of = halted_told state path start t t' result shown shown' table of held.lost step owed shown_is
 
--- who has to be drained changes nothing of what has come of the table
+-- to set which paths have to be drained changes nothing of what has come of the table
 pub of_owed : {D : Type 0} (state : D → DiskState) (opened : Option (TableView D)) (t : TableView D) (owed : Both Bool) → IsOf state opened t → IsOf state opened (record t { owed = owed })
 of_owed state None t owed of = absurd of
 of_owed state (Some start) t owed of =
@@ -110,7 +110,7 @@ first_disk (Some first) why turret is = is
 pub disk_first : (kept : Option Halt) (why : Halt) → kept ≡ Some halt.Disk → first_reason kept why ≡ Some halt.Disk
 disk_first kept why is = ap (λ (k : Option Halt). first_reason k why) is
 
--- what a table showed is still on the disk if only who has to be drained is set
+-- what a table showed is still on the disk if only it is set which paths have to be drained
 pub shows_owed : {D : Type 0} (opened : Option (TableView D)) (t : TableView D) (shown : Bool) (owed : Both Bool) → ShowsFlushed opened (held_of t shown) t
     → ShowsFlushed opened (held_of (record t { owed = owed }) shown) (record t { owed = owed })
 shows_owed None t shown owed is = is

@@ -1,5 +1,5 @@
 -- The lemmas of this crate, each file by its subject. The proofs of this crate use them, and no
--- other crate does.
+-- other crate does: not Then either, which other crates could name.
 mod AlarmsKept
 mod DrainsTold
 mod EndsTold

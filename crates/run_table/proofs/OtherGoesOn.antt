@@ -17,9 +17,12 @@ use Rattle.two_path.specs.Histories.{is_idle}
 use Rattle.two_path.specs.Stuck.{IsStuck}
 use Rattle.run_table.specs.Stepping.{GoesOn}
 
--- the turn is that of a block: it says neither that the path waits nor that it has ended
+-- The turn says neither that the path waits nor that it has ended. Each turn in which a block runs
+-- is so, and so is one that an alarm stops.
 pub record IsOfBlock (t : Turn) : Type 0 where
+  -- it does not say that the path waits
   pub waits : (code : ℕ) → t ≡ turn.Waiting code → ⊥
+  -- it does not say that the path has ended
   pub ended : t ≡ turn.Finished → ⊥
 
 -- the turn of a block that comes to a wait is that of a block
@@ -45,8 +48,11 @@ block_goes blocks path m = by_goes path (blocks.line m.paths.one.path.place) m (
 
 -- the first path waits: there is no alarm, it has not ended, and it is idle
 record Waits (m : MachineView) : Type 0 where
+  -- there is no alarm
   calm : m.alarm ≡ None
+  -- the path has not ended
   unfinished : m.paths.one.finished ≡ false
+  -- it waits or has ended
   idle : is_idle m.paths.one ≡ true
 
 -- if a turn that may do nothing says that the path waits, there is no alarm, the path has not
@@ -58,13 +64,13 @@ idle_waits m None true w rest code goes is = absurd cc
 idle_waits m None false (Some there) rest code goes is = (refl, refl, refl)
 idle_waits m None false None rest code goes is = absurd (goes.waits code is)
 
--- if a whole turn says that the path waits, it is such a path
+-- if a whole turn of the first path says that the path waits, that path waits so (`Waits`)
 own_waits : (blocks : Blocks) (path : Path) (m : MachineView) (code : ℕ) → (own_turn blocks path m).turn ≡ turn.Waiting code → Waits m
 own_waits blocks path m code is =
     let all = idle_waits m m.alarm m.paths.one.finished m.paths.one.waiting (block_turn blocks path m) code (block_goes blocks path m) is in
     record { calm = all.0; unfinished = all.1; idle = all.2 }
 
--- a path that is not idle makes the turn of its block
+-- without an alarm, a path that is not idle makes the turn of its block
 awake_goes : (m : MachineView) (a : Option Alarm) (f : Bool) (w : Option ℕ) (rest : TurnResult) → a ≡ None → (f || is_some w) ≡ false → IsOfBlock rest.turn
     → IsOfBlock (unless_idle m a f w rest).turn
 awake_goes m (Some alarm) f w rest calm awake goes = absurd cc
@@ -72,7 +78,7 @@ awake_goes m None true w rest calm awake goes = absurd cc
 awake_goes m None false (Some there) rest calm awake goes = absurd cc
 awake_goes m None false None rest calm awake goes = goes
 
--- the whole turn of a path that is not idle is that of its block
+-- without an alarm, the whole turn of a first path that is not idle is that of its block
 own_goes : (blocks : Blocks) (path : Path) (m : MachineView) → m.alarm ≡ None → is_idle m.paths.one ≡ false → IsOfBlock (own_turn blocks path m).turn
 own_goes blocks path m calm awake =
     awake_goes m m.alarm m.paths.one.finished m.paths.one.waiting (block_turn blocks path m) calm awake (block_goes blocks path m)

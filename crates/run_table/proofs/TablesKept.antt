@@ -84,7 +84,7 @@ turn_comes t = go (length t.recording.history == t.verified.settings.records) (t
     go false true full spent none = absurd cc
     go false false full spent none = (λ same. absurd (grind arith), grind arith)
 
--- the table of this pair, machine, history, reason, budget, and of who is to be drained
+-- the table of this pair, machine, history, reason, budget, and of which paths are to be drained
 abbrev pub table_of : {D : Type 0} → Verified → RoomyMachine → RecordingView D → Option Halt → ℕ → Both Bool → TableView D
 table_of v m r why budget owed = record { verified = v; machine = m.machine; turns = m.room; recording = r; halt = why; budget = budget; owed = owed }
 

@@ -1,5 +1,5 @@
--- A path's turn brings it to a wait just if its block stands on one, and the other path does not
--- wait at another code.
+-- A path's turn brings it to a wait just if no alarm came, it has not ended and does not wait, its
+-- block is a wait, and the other path does not wait at another code.
 -- For the proof of `Table::drains` (src/table.rt).
 use Rattle.std.proofs.Common.{◌≡◌, ℕ, ◌==◌, Bool, true, false, refl, sym, ◌∙◌, ap, subst, Option, Some, None}
 use Rattle.std.specs.Prelude.{slice_get}

@@ -44,7 +44,7 @@ block_tells (turn.Alarm alarm) Q R goes r = r
 block_tells (turn.Halted alarm) Q R goes r = r
 block_tells turn.Edited Q R goes r = r
 
--- a path waits: no alarm, no end, and a code at which it waits
+-- whether a path waits: there is no alarm and no end, but a code at which it waits
 abbrev waits_by : Option Alarm → Bool → Option ℕ → Bool
 waits_by alarm finished waiting = (is_none alarm && not finished) && is_some waiting
 
@@ -97,7 +97,7 @@ other_tells turn.Edited Q R waits tells = tells
 -- a step of a path from the table t to t'
 module _ {D : Type 0} (state : D → DiskState) (path : Path) (t t' : TableView D) (result : TableStep) (shown : Bool) (table : IsTable state t)
     (step : IsStep state (step_of t path) t t' result) where
-  -- the path waits, and nothing has stopped the table
+  -- whether the path waits, and nothing has stopped or bounds the table
   abbrev waits : Bool
   waits = waits_at (held_of t shown) path
 

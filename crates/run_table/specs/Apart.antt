@@ -1,6 +1,7 @@
 -- A step that answers in two parts: an answer without moves, and the list of moves that the caller
 -- lends. This joins them to the step of which the other specs speak.
--- For this crate alone: the contracts of `step_into` and its parts.
+-- No other crate cites this file, but callers meet `step_with` in the clauses of
+-- `Table::step_into` (src/table.rt).
 use Rattle.std.specs.Prelude.{List, []}
 use Rattle.nc_moves.specs.declared.motion.Move.{Move}
 use Rattle.two_path.specs.Made.{moves_of_turn, turn_with}

@@ -15,12 +15,19 @@ use Rattle.run_table.specs.Kept.{TableView, opening_of}
 
 -- a new table of the pair: without records, and with no leave to make any
 pub record IsBegun {D : Type 0} (verified : Verified) (t : TableView D) : Type 0 where
+  -- it is of the pair
   pub pair : t.verified ≡ verified
+  -- the machine stands before its first turn
   pub machine : t.machine ≡ opening_of verified
+  -- it has no record
   pub history : t.recording.history ≡ []
+  -- no record is on the disk
   pub flushed : t.recording.flushed ≡ 0
+  -- nothing has stopped it
   pub halt : t.halt ≡ None
+  -- it may make no record yet
   pub budget : t.budget ≡ 0
+  -- no moves were answered that a turret may not have
   pub owed : t.owed ≡ none_owed
 
 -- the disk in the answer of `begin`: that of the new table's journal, or that given back with a
@@ -50,21 +57,34 @@ recovered_table verified m entries log = record {
 -- it was. Nothing else changes but room. That there is room for the budget is part of `IsTable`
 -- (Kept).
 pub record IsPrepared {D T E : Type 0} (n : ℕ) (old new : TableView D) (result : Result T E) : Type 0 where
+  -- after an Ok it may make n records
   pub budget : OnOk result (new.budget ≡ n)
   -- without memory the leave is what it was
   pub stays : OnErr result (new.budget ≡ old.budget)
+  -- the pair stays
   pub verified : new.verified ≡ old.verified
+  -- the machine stays
   pub machine : new.machine ≡ old.machine
+  -- the records stay
   pub history : new.recording.history ≡ old.recording.history
+  -- as many records are on the disk as before
   pub flushed : new.recording.flushed ≡ old.recording.flushed
+  -- the journal stays
   pub log : new.recording.log ≡ old.recording.log
+  -- the reason to stop stays
   pub halt : new.halt ≡ old.halt
+  -- the same paths have to be drained before they come to a wait
   pub owed : new.owed ≡ old.owed
 
 -- what is left of a table that is taken apart: its pair, machine, records, reason and disk
 pub record IsLeft {D : Type 0} (t : TableView D) (verified : Verified) (m : RoomyMachine) (entries : Entries) (halt : Option Halt) (disk : D) : Type 0 where
+  -- the pair is that of the table
   pub verified_is : verified ≡ t.verified
+  -- the machine is that of the table
   pub machine : m.machine ≡ t.machine
+  -- the records are all of the table, also those that pend
   pub entries_are : entries.items ≡ t.recording.history
+  -- the reason is the one that the table keeps
   pub halt_is : halt ≡ t.halt
+  -- the disk is that of the journal
   pub disk_is : disk ≡ t.recording.log.file.disk

@@ -71,17 +71,18 @@ held_of t shown = record {
 abbrev pub bound_at : {D : Type 0} → HeldView D → Option Halt
 bound_at h = bound_by (length h.history) h.verified.settings.records h.budget
 
--- the path waits, and nothing has stopped the table
+-- whether the path waits, nothing has stopped the table, and neither a full journal nor a spent
+-- budget does
 abbrev pub waits_at : {D : Type 0} → HeldView D → Path → Bool
 waits_at h path = (is_none h.halt && is_none (bound_at h)) && is_waiting path h.machine
 
--- the path's next turn brings it to a wait, it has to be drained first, and nothing has stopped the
--- table
+-- whether the path's next turn brings it to a wait, it has to be drained first, nothing has stopped
+-- the table, and neither a full journal nor a spent budget does
 abbrev pub drains_at : {D : Type 0} → HeldView D → Path → Bool
 drains_at h path =
     (is_none h.halt && is_none (bound_at h)) && (of_path h.owed path && is_wait (turn_of (tapes_in h.verified) path h.machine).turn)
 
--- the table is what has come of the one that was opened
+-- the table is what has come of the one that was opened; if none was, no table is
 abbrev pub IsOf : {D : Type 0} → (D → DiskState) → Option (TableView D) → TableView D → Type 0
 IsOf state None t = ⊥
 IsOf state (Some start) t = Since state start t
@@ -108,7 +109,7 @@ records_since (Some start) h path =
     path h.shown (drop (length start.recording.history) h.history)
 
 -- The moves that were answered since the opening are those of the records that the disk has: a
--- record that pends, or that was lost, shows none.
+-- record that pends, or that was lost, shows none. Without an opening this never holds.
 abbrev pub ShowsFlushed : {D : Type 0} → Option (TableView D) → HeldView D → TableView D → Type 0
 ShowsFlushed None h t = ⊥
 ShowsFlushed (Some start) h t = (path : Path) → moves_in (records_since (Some start) h path)
@@ -136,7 +137,8 @@ pub record IsHeld {D : Type 0} (state : D → DiskState) (opened : Option (Table
 abbrev pub handed : Moves → Next
 handed moves = if length moves.list == 0 then next.Silent else next.Moves moves
 
--- a turn as it is handed on to the worker of its path; None if the path waits
+-- a turn as it is handed on to the worker of its path; None if the path waits (no step answers
+-- `Edited`, which stands here since it is a turn)
 abbrev pub next_of_turn : Turn → Option Next
 next_of_turn (turn.Read variable stamp) = Some next.Silent
 next_of_turn (turn.Did moves) = Some (handed moves)
@@ -147,7 +149,7 @@ next_of_turn (turn.Waiting code) = None
 next_of_turn turn.Finished = Some next.Finished
 next_of_turn (turn.Alarm alarm) = Some (next.Halted (halt.Alarm alarm))
 next_of_turn (turn.Halted alarm) = Some (next.Halted (halt.Alarm alarm))
-next_of_turn turn.Edited = Some next.Silent  -- an edit is no turn of a step
+next_of_turn turn.Edited = Some next.Silent
 
 -- a step as it is handed on to the worker of its path; None if the path waits
 abbrev pub next_of : TableStep → Option Next
@@ -156,8 +158,8 @@ next_of step.Drain = Some next.Drain
 next_of step.DiskFault = Some (next.Halted halt.Disk)
 next_of (step.Halted why) = Some (next.Halted why)
 
--- the step lost a record: the disk failed in it, and the numbers of records before and after it
--- differ
+-- whether the step lost a record: the disk failed in it, and the numbers of records before and
+-- after it differ
 abbrev pub is_lost : TableStep → ℕ → ℕ → Bool
 is_lost step.DiskFault before after = not (before == after)
 is_lost other before after = false
@@ -187,12 +189,19 @@ without_turret why = why
 -- A table that is taken out of a held one: the same pair, machine, records, file and budget, and
 -- the same reason to stop unless it is a turret's fault.
 pub record IsTaken {D : Type 0} (held : HeldView D) (t : TableView D) : Type 0 where
+  -- the pair is the same
   pub verified : t.verified ≡ held.verified
+  -- the machine is the same
   pub machine : t.machine ≡ held.machine
+  -- the records are the same
   pub history : t.recording.history ≡ held.history
+  -- as many of them are on the disk
   pub flushed : t.recording.flushed ≡ held.flushed
+  -- the journal has the same file
   pub file : t.recording.log.file ≡ held.file
+  -- it may make as many records more
   pub budget : t.budget ≡ held.budget
+  -- the reason is the same, unless it is a turret's fault
   pub halt : t.halt ≡ without_turret held.halt
 
 -- A table that was held may be held again under its opening, with the same answered moves since.

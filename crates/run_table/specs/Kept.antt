@@ -21,13 +21,20 @@ use Rattle.run_table.specs.Recording.{RecordingView, IsJournaled}
 
 -- what callers see of a table
 pub record TableView (D : Type 0) : Type 0 where
-  pub verified : Verified  -- the accepted pair
-  pub machine : MachineView  -- the machine after all records
-  pub turns : ℕ  -- for how many turns the machine has room
-  pub recording : RecordingView D  -- the history and the journal
-  pub halt : Option Halt  -- why the table has stopped
-  pub budget : ℕ  -- how many records it may still make
-  pub owed : Both Bool  -- which paths have to be drained before they come to a wait
+  -- the accepted pair
+  pub verified : Verified
+  -- the machine after all records
+  pub machine : MachineView
+  -- for how many turns the machine has room
+  pub turns : ℕ
+  -- the history and the journal
+  pub recording : RecordingView D
+  -- why the table has stopped, if it keeps a reason
+  pub halt : Option Halt
+  -- how many records it may still make
+  pub budget : ℕ
+  -- which paths have to be drained before they come to a wait
+  pub owed : Both Bool
 
 -- the blocks of both tapes of the pair
 abbrev pub tapes_in : Verified → Tapes

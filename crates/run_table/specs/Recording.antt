@@ -115,12 +115,17 @@ pub record Records {D : Type 0} (state : D → DiskState) (made : List Entry) (o
 
 -- A recording to which these records were added. They pend, and the disk is not touched.
 pub record IsNoted {D : Type 0} (state : D → DiskState) (made : List Entry) (old new : RecordingView D) : Type 0 where
-  -- no more records were flushed than there were
+  -- if a record was added, no more records were flushed than there were
   pub within : 1 ≤ length made → old.flushed ≤ length old.history
+  -- the records made stand after the old ones
   pub history : new.history ≡ old.history ++ made
+  -- the file of the journal stays, with its disk
   pub file : new.log.file ≡ old.log.file
+  -- no more records are on the disk
   pub flushed : new.flushed ≡ old.flushed
+  -- the journal is not raised
   pub version : new.log.version ≡ old.log.version
+  -- the room for records stays
   pub room : new.room ≡ old.room
   -- the journal stays that of the history
   pub journal : (header : Header) → IsJournaled state header old → IsJournaled state header new

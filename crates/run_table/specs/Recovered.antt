@@ -27,7 +27,9 @@ HoldsAll state header entries log =
 pub record IsRecovered {D : Type 0} (state : D → DiskState) (verified : Verified) (machine : MachineView) (entries : List Entry) (log : Log D) : Type 0 where
   -- the records are a legal history of the pair
   pub legal : IsLegal (tapes_in verified) (opening_of verified) entries
+  -- there are no more than the settings allow
   pub few : length entries ≤ verified.settings.records
+  -- the machine is the fold of the records, without block reads
   pub machine_is : machine ≡ fold (tapes_in verified) (opening_of verified) entries
   -- each waiting path stands on a wait
   pub waits : AreAtTheirWaits verified.left.order verified.right.order machine

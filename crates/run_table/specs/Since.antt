@@ -11,6 +11,7 @@ use Rattle.run_table.specs.Kept.{TableView}
 -- The new table came of the old one by records of the same pair, each within its budget. If it
 -- keeps that the disk failed, and the old one did not, a call of the disk has failed.
 pub record Since {D : Type 0} (state : D → DiskState) (old new : TableView D) : Type 0 where
+  -- the pair stays
   pub verified : new.verified ≡ old.verified
   -- the records made since
   pub made : List Entry

@@ -1,6 +1,7 @@
 -- What a step of a table comes to. A row for each case: a kept reason, a full journal, a spent
 -- budget, a drain, or the path's turn.
--- For this crate alone.
+-- No other crate cites this file, but callers meet `IsStep`, `step_of`, `waits_in` and `GoesOn` in
+-- the clauses of `Table` (src/table.rt), and turret_run meets `IsStep` in `HasStepped` of Holding.
 use Rattle.std.specs.Prelude.{◌≡◌, ℕ, ◌+◌, ◌==◌, ◌||◌, ◌&&◌, not, nat_lt, is_some, is_none, Bool, true, false, List, [], ◌++◌, length, Option, Some, None, IsTrue, if◌then◌else◌}
 use Rattle.disk_model.specs.Device.{DiskState, Rose}
 use Rattle.nc_number.specs.declared.path.Path.{Path}
@@ -20,8 +21,9 @@ use Rattle.run_table.specs.Recording.{RecordingView, Records}
 use Rattle.run_table.specs.Draining.{is_wait}
 use Rattle.run_table.specs.Kept.{TableView, tapes_in}
 
--- what a turn shows: moves, that a path waits, goes on or has ended, or an alarm; a block without
--- moves shows nothing
+-- whether a turn shows something to the outside: moves, that the path comes to a wait, that it goes
+-- on from one, that it ends, or that it raises an alarm. A block without moves shows nothing, nor
+-- does a turn that only reads, or that finds the path waiting, ended or stopped, nor an edit.
 abbrev pub is_shown : Turn → Bool
 is_shown (turn.Read variable stamp) = false
 is_shown (turn.Did moves) = not (length moves.list == 0)
@@ -43,11 +45,12 @@ bound_by count most budget = if count == most then Some halt.Full else if budget
 abbrev pub bound_of : {D : Type 0} → TableView D → Option Halt
 bound_of t = bound_by (length t.recording.history) t.verified.settings.records t.budget
 
--- the path is at a wait, and no alarm came
+-- whether the path waits: no alarm came, it has not ended, and it stands at a wait
 abbrev pub is_waiting : Path → MachineView → Bool
 is_waiting path m = (is_none m.alarm && not (of_path m.paths path).finished) && is_some (of_path m.paths path).waiting
 
--- the path waits, nothing has stopped the table, and neither a full journal nor a spent budget does
+-- whether the path waits, nothing has stopped the table, and neither a full journal nor a spent
+-- budget does
 abbrev pub waits_in : {D : Type 0} → TableView D → Path → Bool
 waits_in t path = (is_none t.halt && is_none (bound_of t)) && is_waiting path t.machine
 
@@ -62,7 +65,8 @@ pub record StepResult : Type 0 where
   -- whether all records are to be on the disk before the answer
   pub due : Bool
 
--- all records are to be on the disk before an answer that shows something, and at 64 that pend
+-- whether all records are to be on the disk before the answer: if the turn shows something, or 64
+-- pend
 abbrev pub is_due : {D : Type 0} → RecordingView D → List Entry → Turn → Bool
 is_due r made turn = is_shown turn || r.flushed + MOST_PENDING == length (r.history ++ made)
 
@@ -75,7 +79,7 @@ turn_step t result made = record {
   due = is_due t.recording made result.turn;
 }
 
--- the path's next turn brings it to a wait, and it has to be drained first
+-- whether the path's next turn brings it to a wait, and it has to be drained first
 abbrev pub drains : {D : Type 0} → TableView D → Path → Bool
 drains t path = of_path t.owed path && is_wait (turn_of (tapes_in t.verified) path t.machine).turn
 
@@ -147,13 +151,17 @@ pub record IsStep {D : Type 0} (state : D → DiskState) (step : StepResult) (ol
   pub answer : Answers state step.due step.answer old.recording new.recording result
   -- the recording has the step's record, and may be flushed
   pub records : Records state step.made old.recording new.recording
+  -- the machine is the one after the step
   pub machine : new.machine ≡ step.machine
+  -- the step's record, if it made one, is taken off the budget
   pub budget : new.budget + length step.made ≡ old.budget
   -- the table keeps its reason, or gets that of the result
   pub halt : new.halt ≡ reason_behind old.halt result
+  -- the pair stays
   pub verified : new.verified ≡ old.verified
 
--- the path's turn is that of a block: it neither waits nor has ended
+-- The path's turn does not find that it waits or has ended. Without an alarm the turn is then that
+-- of a block.
 pub record GoesOn (tapes : Tapes) (path : Path) (m : MachineView) : Type 0 where
   -- the turn does not say that the path waits
   pub waits : (code : ℕ) → (turn_of tapes path m).turn ≡ turn.Waiting code → ⊥

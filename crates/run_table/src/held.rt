@@ -38,9 +38,11 @@ impl<D> Opening<D> for Brand {
 /// A table of the opening O, of which two paths take turns. It is what has come of the table as it
 /// was then: a run of the same pair, with more records.
 pub struct Held<D: Disk, O: Opening<D>> {
+    /// The table as it is now.
     table: Table<D>,
     /// Whether the moves of its last record were answered.
     shown: bool,
+    /// The opening.
     of: PhantomData<O>,
 }
 

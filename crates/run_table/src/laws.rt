@@ -1,5 +1,6 @@
 //! What holds of every table. A function here does nothing; who calls it may use what it ensures.
-//! lathe_top and turret_run call these laws, and table.rt calls `who_is_waited_for_goes_on`.
+//! lathe_top calls `a_record_makes_seven_moves_at_most`, turret_run the two laws after it, and
+//! table.rt `who_is_waited_for_goes_on`.
 ghost use Rattle.std.specs.Prelude.{◌≡◌, ◌≢◌, ℕ, ◌-◌, ◌*◌, ◌≤◌, List, length, Some};
 ghost use Rattle.nc_number.specs.declared.path.Path.{Path};
 ghost use Rattle.nc_number.specs.Path.{other_of};
@@ -44,7 +45,8 @@ pub fn who_is_waited_for_goes_on()
     kept_paths_are_not_stuck();
 }
 
-/// The records of a path make seven moves each at most.
+/// The records of a path make seven moves each at most. On this number rests the law of lathe_top
+/// `a_session_hands_eight_moves_a_record_at_most`.
 pub fn a_record_makes_seven_moves_at_most()
     ensures { (pair : Verified) (path : Path) (from upto : ℕ) (history : List Entry)
         → length (moves_made pair path from upto history) ≤ 7 * (upto - from) }

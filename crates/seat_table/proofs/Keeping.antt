@@ -46,26 +46,26 @@ bool_cases : {X : Type 0} (b : Bool) → (b ≡ true → X) → (b ≡ false →
 bool_cases true y n = y refl
 bool_cases false y n = n refl
 
--- A seat knows one thing.
+-- What a list has at one index is one thing.
 same_view : (vs : List Knows) (i : ℕ) (v w : Knows) → get_elem? vs i ≡ some v → get_elem? vs i ≡ some w → v ≡ w
 same_view vs i v w e f = some-injective v w (sym e ∙ f)
 
--- Who knows a stop knows it of what the table has come to.
+-- If a table that had halted keeps its stop, stops that were the table's still are.
 stops_on : (stop stop' : Option Stop) → ((s : Stop) → stop ≡ Some s → stop' ≡ Some s) → (stops : List Stop) → AreStops stop stops → AreStops stop' stops
 stops_on stop stop' on [] are = tt
 stops_on stop stop' on (s ∷ stops) are = (on s are.0, stops_on stop stop' on stops are.1)
 
--- Two lists of the same stop are together one.
+-- Two lists of stops that are all the table's are together such a list.
 stops_both : (stop : Option Stop) (first second : List Stop) → AreStops stop first → AreStops stop second → AreStops stop (first ++ second)
 stops_both stop [] second are others = others
 stops_both stop (s ∷ first) second are others = (are.0, stops_both stop first second are.1 others)
 
--- A list of the same stop is one in each of two parts.
+-- If all stops of two lists together are the table's, those of each list are.
 stops_first : (stop : Option Stop) (first second : List Stop) → AreStops stop (first ++ second) → AreStops stop first × AreStops stop second
 stops_first stop [] second are = (tt, are)
 stops_first stop (s ∷ first) second are = let t = stops_first stop first second are.1 in ((are.0, t.0), t.1)
 
--- The stop as a list is one of that stop.
+-- The stop as a list is one whose stops are all that stop.
 stops_listed : (stop : Option Stop) → AreStops stop (listed stop)
 stops_listed None = tt
 stops_listed (Some s) = (refl, tt)
@@ -508,7 +508,7 @@ module _ {C : Type 0} (records : C → Path → Records) (reason : C → Option 
   reason_of_stop None l s is = none_some s is
   reason_of_stop (Some why) l s is = let e : record { why = why; records = l } ≡ s = cc in (ap (λ (x : Stop). Some x.why) e, ap (λ (x : Stop). x.records) e)
 
-  -- A table that has halted stays so.
+  -- If a table that has halted keeps its reason and its records, it keeps its stop.
   pub stop_stays : (c c' : C) → ((why : Halt) → reason c ≡ Some why → (reason c' ≡ Some why) × ((p : Path) → records c' p ≡ records c p))
       → (s : Stop) → stop_of records reason c ≡ Some s → stop_of records reason c' ≡ Some s
   stop_stays c c' stays s is =
@@ -543,7 +543,7 @@ module _ {C : Type 0} (records : C → Path → Records) (reason : C → Option 
       subst (λ (x : C). IsStill records reason x (first_stop first) × IsStill records reason x (first_stop second) × IsStill records reason x (first_stop third)
       × IsStill records reason x (first_stop fourth)) same (still c first d.0, still c second d.1, still c third b.1, still c fourth a.1)
 
-  -- A seat that gives the table back knows what it knew before, if the table kept it.
+  -- If each stop of a list is the table's, and the first of them is `s`, the table's stop is `s`.
   pub first_known : (stop : Option Stop) (stops : List Stop) (s : Stop) → AreStops stop stops → first_stop stops ≡ Some s → stop ≡ Some s
   first_known stop [] s are is = none_some s is
   first_known stop (x ∷ stops) s are is = are.0 ∙ is

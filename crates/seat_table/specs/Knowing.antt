@@ -1,6 +1,8 @@
 -- What the seats of a table know, the rule of the table, and what each step on its words tells. The
--- table has three words (0: who has the turn, 1: how many waits ended, 2: how many seats sleep) and
--- one slot for itself. For this crate alone.
+-- table has one slot for itself and three words. Word 0 tells whether a seat has the turn: it is 0
+-- if none has, 1 if one has, 2 if one has and another sleeps until it is given back. Word 1 counts
+-- the waits that ended, word 2 the seats that sleep in a wait. No other crate cites this file, but
+-- callers meet `KeepsStop` in the clauses of `SeatTable` (src/seats.rt).
 use Rattle.std.specs.Prelude.{◌≡◌, ◌≢◌, ⊤, ℕ, ◌<◌, Bool, true, false, ◌||◌, ◌&&◌, not, if◌then◌else◌}
 use Rattle.std.specs.Prelude.{List, [], ◌∷◌, ◌++◌, length, slice_index, Option, Some, None}
 use mathlib.Core.Option.{some}
@@ -18,14 +20,16 @@ use Rattle.seat_table.specs.declared.knowing.Rights.{Rights}
 use Rattle.seat_table.specs.declared.knowing.Stop.{Stop}
 use Rattle.seat_table.specs.declared.knowing.Knows.{Knows}
 
--- What a seat may do: step a path, or halt the run for the turret of a path.
+-- What a seat is for: to step a path, or to halt the run for the turret of a path. (A seat that
+-- steps a path may halt the run too, and tell that the path was drained: who has any right may tell
+-- the table so.)
 pub data Right : Type 0 where
   -- to step this path
   steps : Path → Right
   -- to halt the run for the turret of this path
   halts : Path → Right
 
--- The right is one of these.
+-- Whether the right is one of these rights.
 abbrev pub has : Right → Rights → Bool
 has (steps path) r = of_path r.steps path
 has (halts path) r = of_path r.halts path
@@ -38,21 +42,21 @@ Lists = Both Records
 abbrev pub lists_of : {C : Type 0} → (C → Path → Records) → C → Lists
 lists_of records c = record { one = records c One; two = records c Two }
 
--- That a table with these records has halted, if it has a reason.
+-- The stop of a table with these records, if it has a reason to halt.
 abbrev pub stop_by : Option Halt → Lists → Option Stop
 stop_by None l = None
 stop_by (Some why) l = Some (record { why = why; records = l })
 
--- That this table has halted, if it has: why, and its records.
+-- The stop of this table, if it has halted: why, and its records.
 abbrev pub stop_of : {C : Type 0} → (C → Path → Records) → (C → Option Halt) → C → Option Stop
 stop_of records reason c = stop_by (reason c) (lists_of records c)
 
--- Each of these is that stop.
+-- Each stop of the list is the stop of the table; if the table has not halted, the list is empty.
 abbrev pub AreStops : Option Stop → List Stop → Type 0
 AreStops stop [] = ⊤
 AreStops stop (s ∷ stops) = (stop ≡ Some s) × AreStops stop stops
 
--- The stop as a list.
+-- The stop as a list, which is empty if there is none.
 abbrev pub listed : Option Stop → List Stop
 listed None = []
 listed (Some stop) = stop ∷ []
@@ -62,19 +66,21 @@ abbrev pub first_stop : List Stop → Option Stop
 first_stop [] = None
 first_stop (stop ∷ stops) = Some stop
 
--- A table with these records, halted or not, whose rights these seats own, and one of its seats.
+-- A table with these records `now`, halted or not. Seat `owner r` has the right `r`. If a seat has
+-- the turn, it is `holder`; `word` is the word of the turn. `id` is the seat that is spoken of.
 module _ (now : Lists) (stop : Option Stop) (owner : Right → ℕ) (holder word : ℕ) (id : ℕ) where
-  -- What a seat knows is so of the table. A right is that of one seat. Who may step a path has its
-  -- records, and who has the turn has found all of them. Who knows that the table has halted knows
-  -- its records.
+  -- What a seat knows, if it is so of the table: a right is that of one seat, a seat that may step
+  -- a path has the path's records, the seat that has the turn has found all records, and a seat
+  -- that knows of a halt knows what the table has come to.
   pub record Fits (v : Knows) : Type 0 where
     -- Each right of the seat is its own.
     pub owns : (r : Right) → has r v.rights ≡ true → id ≡ owner r
-    -- It has the records of each path that it may step.
+    -- It has the table's records of each path that it may step.
     pub lists : (p : Path) → has (steps p) v.rights ≡ true → of_path v.lists p ≡ of_path now p
     -- What it knows of a halt is what the table has come to.
     pub stops : AreStops stop v.stops
-    -- If it has the turn, it has found the table's records, and it has some right.
+    -- If it has the turn, it is the holder, it has found the table's records, the word of the turn
+    -- is not 0, and it has some right.
     pub busy : v.busy ≡ true → (id ≡ holder) × (v.found ≡ now) × (0 < word) × (r : Right) × (has r v.rights ≡ true)
     -- If it has the turn, it has found whether the table has halted.
     pub busy_stop : v.busy ≡ true → v.found_stop ≡ stop
@@ -84,7 +90,7 @@ module _ (now : Lists) (stop : Option Stop) (owner : Right → ℕ) (holder word
 pub record Kept {C : Type 0} (records : C → Path → Records) (reason : C → Option Halt) (s : State (Option C) Knows) : Type 0 where
   -- The records of the table.
   pub now : Lists
-  -- That it has halted, if it has.
+  -- The stop of the table, if it has halted.
   pub stop : Option Stop
   -- Which seat has a right.
   pub owner : Right → ℕ
@@ -107,7 +113,7 @@ pub record Kept {C : Type 0} (records : C → Path → Records) (reason : C → 
 abbrev pub no_lists : Lists
 no_lists = record { one = []; two = [] }
 
--- What a seat knows that does not have the turn.
+-- What a seat knows that does not have the turn: its rights, lists, stops and calls are these.
 abbrev pub idle : Rights → Lists → List Stop → List Call → Knows
 idle r l stops calls = record {
   rights = r;
@@ -140,7 +146,7 @@ all_rights = record { steps = for_both; halts = for_both }
 abbrev pub no_rights : Rights
 no_rights = record { steps = for_none; halts = for_none }
 
--- This one right alone.
+-- The rights of a seat that has just this one.
 abbrev pub right_of : Right → Rights
 right_of (steps path) = record { steps = for_one path; halts = for_none }
 right_of (halts path) = record { steps = for_none; halts = for_one path }
@@ -169,30 +175,34 @@ joint_of r m = record { one = r.one || m.one; two = r.two || m.two }
 abbrev pub plus : Rights → Rights → Rights
 plus r m = record { steps = joint_of r.steps m.steps; halts = joint_of r.halts m.halts }
 
--- A seat that is cut off: it has these rights alone.
+-- What a seat knows that is cut off from one that knows `v`: it has these rights alone, the same
+-- lists, no stop and no call.
 abbrev pub only : Rights → Knows → Knows
 only m v = idle m v.lists [] []
 
--- The seat that it is cut off from: it has the other rights.
+-- What a seat that knew `v` knows once a seat with these rights was cut off from it: it has its
+-- other rights, and keeps its lists, stops and calls.
 abbrev pub without : Rights → Knows → Knows
 without m v = idle (minus v.rights m) v.lists v.stops v.calls
 
--- Of each path the records that the one has which may step it.
+-- Of each path the records that the first seat lists, if it may step the path; else those of the
+-- second seat.
 abbrev pub picked : Knows → Knows → Lists
 picked v w = record {
   one = if v.rights.steps.one then v.lists.one else w.lists.one;
   two = if v.rights.steps.two then v.lists.two else w.lists.two;
 }
 
--- The seat that took another one in: it has the rights, records and stops of both.
+-- What a seat that knew `v` knows once it took in one that knew `w`: it has the rights and stops of
+-- both, of each path the records of the one that may step it, and its own calls alone.
 abbrev pub joined : Knows → Knows → Knows
 joined v w = idle (plus v.rights w.rights) (picked v w) (v.stops ++ w.stops) v.calls
 
--- A stepper over the seat had these calls besides.
+-- What the seat knows once a stepper over it had these calls besides.
 abbrev pub called : List Call → Knows → Knows
 called calls v = record v { calls = v.calls ++ calls }
 
--- The seat has the turn, and found these records, and this stop.
+-- What a seat that knew `v` knows with the turn, once it found these records and this stop.
 abbrev pub holding : Knows → Lists → Option Stop → Knows
 holding v l stop = record {
   rights = v.rights;
@@ -233,13 +243,14 @@ module _ {C : Type 0} (records : C → Path → Records) (reason : C → Option 
   lists_at ((k, Some c) ∷ xs) = lists_of records c
   lists_at ((k, None) ∷ xs) = no_lists
 
-  -- That the table in hand has halted, as a list.
+  -- The stop of the table in hand as a list, which is empty if it has not halted.
   abbrev pub stops_at : List (ℕ × Option C) → List Stop
   stops_at [] = []
   stops_at ((k, Some c) ∷ xs) = listed (stop_of records reason c)
   stops_at ((k, None) ∷ xs) = []
 
-  -- The seat gave the table back, and has its records.
+  -- The seat gave the table back: it keeps its rights and calls, and lists the table's records of
+  -- both paths, and its stop if it has halted.
   abbrev pub gave : Step (Option C) → Sat → ℕ → Sat → Type 0
   gave st m n m' = (m'.0 ≡ idle m.0.rights (lists_at m.1) (stops_at m.1) m.0.calls) × (m'.1 ≡ [])
 
@@ -267,7 +278,7 @@ pub record Took {C : Type 0} (records : C → Path → Records) (reason : C → 
 abbrev pub list_at : {C : Type 0} → Path → Me (Option C) Knows → Records
 list_at p m = of_path m.0.lists p
 
--- That the table has halted, as the seat knows.
+-- The stop of the table that the seat knows, if it knows one.
 abbrev pub stop_at : {C : Type 0} → Me (Option C) Knows → Option Stop
 stop_at m = first_stop m.0.stops
 
@@ -279,6 +290,7 @@ IsOf r m = (m.0.busy ≡ false) × (m.1 ≡ []) × (m.0.rights ≡ right_of r)
 abbrev pub Keeps : {C : Type 0} → Me (Option C) Knows → Me (Option C) Knows → Type 0
 Keeps m m' = (m'.0.rights ≡ m.0.rights) × (m'.0.calls ≡ m.0.calls)
 
--- Who knew that the table has halted knows the same.
+-- Whoever knew that the table has halted knows the same stop after. Callers meet this in the
+-- clauses `stop` of `SeatTable` (src/seats.rt).
 abbrev pub KeepsStop : Option Stop → Option Stop → Type 0
 KeepsStop before after = (s : Stop) → before ≡ Some s → after ≡ Some s

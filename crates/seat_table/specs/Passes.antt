@@ -10,9 +10,8 @@ use Rattle.nc_outside.specs.declared.stepper.Call.{Call}
 use Rattle.seat_table.specs.Turning.{Records}
 use Rattle.seat_table.specs.declared.knowing.Stop.{Stop}
 
--- The pass of a path: its table, its path, and the records that it lists; that the table had
--- halted, if it had when the pass last gave the turn back; and the calls that a stepper over it
--- had.
+-- The pass of a path: its table, its path, and the records that it lists; the halt of the table, if
+-- it had halted when the pass last gave the turn back; and the calls that a stepper over it had.
 pub record Pass : Type 0 where
   -- The table at which it has a seat.
   pub table : TableId
@@ -20,7 +19,7 @@ pub record Pass : Type 0 where
   pub path : Path
   -- The records of the path that its steps made.
   pub records : Records
-  -- What the table was when the pass found or made it halted.
+  -- What the table was when the pass found or made it halted, if it did.
   pub stop : Option Stop
   -- The calls that a stepper over the pass had.
   pub calls : List Call
@@ -55,7 +54,7 @@ pub record HasStopped {C : Type 0} (records : C → Path → Records) (reason : 
 abbrev pub IsStill : {C : Type 0} → (C → Path → Records) → (C → Option Halt) → C → Option Stop → Type 0
 IsStill records reason c stop = IfSome stop (HasStopped records reason c)
 
--- There is a halt among these calls.
+-- Whether there is a halt among these calls.
 abbrev pub has_halt : List Call → Bool
 has_halt [] = false
 has_halt (Call.Step path answer ∷ calls) = has_halt calls

@@ -21,7 +21,9 @@ moves_in (moves ∷ records) = moves ++ moves_in records
 abbrev pub MayRecord : Records → Records → Type 0
 MayRecord before after = (after ≡ before) ⊎ (after ≡ before ++ [] ∷ [])
 
--- The moves that are answered are those of one record more; a drain and an end add none.
+-- What a step adds to the records of its path by what it answers: moves are those of one record
+-- more; a silent step and a halt add no record, or one of which no move was answered; a drain and
+-- an end add none.
 abbrev pub Answers : Records → Next → Records → Type 0
 Answers before Silent after = MayRecord before after
 Answers before (Moves moves) after = after ≡ before ++ lined moves ∷ []
@@ -29,8 +31,8 @@ Answers before Drain after = after ≡ before
 Answers before Finished after = after ≡ before
 Answers before (Halted why) after = MayRecord before after
 
--- A path that is to be drained is asked for that, and has no turn until it is; no other path is
--- asked.
+-- A path that is to be drained before a step (the first flag) is answered `Drain`, and is still to
+-- be drained after the step (the second flag). No other path is answered so.
 abbrev pub AsksDrain : Bool → Option Next → Bool → Type 0
 AsksDrain true answer after = (answer ≡ Some Drain) × (after ≡ true)
 AsksDrain false answer after = answer ≢ Some Drain

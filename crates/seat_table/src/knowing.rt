@@ -1,6 +1,6 @@
 //! What a seat at the table knows, the rule of the table, and what each step on its words tells.
 //! These types are for proofs alone, and no value of most of them is made. What the seats do is in
-//! `taking`.
+//! `taking`. seats.rt and taking.rt name these types.
 ghost use Rattle.std.specs.Prelude.{◌≡◌, List, []};
 ghost use Rattle.nc_number.specs.declared.path.Path.TheVariants.{One, Two};
 ghost use Rattle.nc_outside.specs.declared.stepper.Call.{Call as Called};
@@ -16,7 +16,7 @@ use std::marker::{Brand, PhantomData};
 /// The records of a path: of each its moves, with the line of their block.
 pub type Records = LinkedList<LinkedList<LinedMove>>;
 
-/// That the table has halted: why, and its records.
+/// A halt of the table: why, and its records. (Specs call it the table's stop.)
 pub struct Stop {
     /// Why the table has halted.
     pub why: Halt,
@@ -24,11 +24,11 @@ pub struct Stop {
     pub records: Both<Records>,
 }
 
-/// What a seat may do: step a path, and halt for the turret of a path.
+/// What a seat is for: to step paths, and to halt the run for the turrets of paths.
 pub struct Rights {
-    /// For each path: it may step that path.
+    /// For each path: whether it may step that path.
     pub steps: Both<bool>,
-    /// For each path: it may halt the run for that path's turret.
+    /// For each path: whether it is the seat that halts the run for that path's turret.
     pub halts: Both<bool>,
 }
 
@@ -36,16 +36,17 @@ pub struct Rights {
 pub struct Knows {
     /// What the seat may do.
     pub rights: Rights,
-    /// The records of the paths that it may step.
+    /// Records of both paths. Those of a path that it may step are the table's; those of another
+    /// path may be out of date.
     pub lists: Both<Records>,
-    /// That the table has halted, as it was when the seat gave the turn back. A seat that took
-    /// others in has what they knew too.
+    /// The halt of the table, if it had halted when the seat last gave the turn back. A seat that
+    /// took others in has what they knew too.
     pub stops: LinkedList<Stop>,
-    /// It has the turn, and found these records, and that the table has halted, if it has.
+    /// Whether it has the turn. Then the next two fields tell what it found.
     pub busy: bool,
     /// The records that it found as it took the turn.
     pub found: Both<Records>,
-    /// That the table had halted then.
+    /// The halt of the table, if it had halted then.
     pub found_stop: Option<Stop>,
     /// The calls that a stepper over it had.
     pub calls: LinkedList<Call>,
@@ -75,7 +76,8 @@ impl<C: Turns> Play<Option<C>, Knows> for Give {
     ghost then = { gave C.records C.reason };
 }
 
-/// The step that counts a change: the seat knows what it knew.
+/// The step that counts the end of a wait, or a seat that falls asleep or wakes: the seat knows
+/// what it knew.
 pub struct Count;
 
 impl<S> Play<S, Knows> for Count {
@@ -100,6 +102,7 @@ impl Noted for Brand {
 
 /// The step that notes calls of a stepper over the seat.
 pub struct Note<N> {
+    /// The calls that are noted.
     of: PhantomData<N>,
 }
 
@@ -134,7 +137,8 @@ impl Split<Knows> for CutSecondHalt {
     ghost right = { only (right_of (halts Two)) };
 }
 
-/// Puts two seats together: one has what both had, the other nothing.
+/// Puts two seats together: one has the rights, records and stops of both and its own calls, the
+/// other nothing.
 pub struct Glue;
 
 impl Join<Knows> for Glue {

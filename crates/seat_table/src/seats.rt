@@ -64,7 +64,8 @@ impl<C> Model for SeatPass<C> {
     ghost invariant = { λ p. IsOf (steps p.path) p.place.me };
 }
 
-/// The right to halt the run for the turret of a path. It has what the table was when it halted it.
+/// The right to halt the run for the turret of a path. It has what the table was when the pass
+/// found or made it halted.
 #[derive(Drop)]
 pub struct HaltPass<C> {
     /// The seat at the table.

@@ -20,9 +20,11 @@ use std::sync::Wait;
 /// those of the records that the pass lists. Each step is one of the path of the pass.
 #[derive(Drop)]
 pub struct SeatStepper<'a, C: Turns, R> {
+    /// The table at which the pass has its seat.
     table: &'a SeatTable<C>,
     /// The runtime that lets the thread sleep.
     rt: &'a R,
+    /// The pass of the path.
     pass: SeatPass<C>,
 }
 
@@ -40,12 +42,15 @@ impl<'a, C: Turns, R> Model for SeatStepper<'a, C, R> {
 }
 
 /// A stepper over the pass of a drive, which is for halts alone: its steps are silent, and take no
-/// turn. It tells its calls, and if a halt is among them the pass has what the table was then.
+/// turn. It tells its calls, and if a halt is among them the pass has what the table was when the
+/// pass found or made it halted.
 #[derive(Drop)]
 pub struct HaltStepper<'a, C: Turns, R> {
+    /// The table at which the pass has its seat.
     table: &'a SeatTable<C>,
     /// The runtime that lets the thread sleep.
     rt: &'a R,
+    /// The pass of the drive.
     pass: HaltPass<C>,
 }
 

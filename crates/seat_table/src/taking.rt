@@ -1,6 +1,6 @@
 //! One turn: the table is taken out of its slot, does one thing, and is put back. The table has
-//! three words: 0 says who has the turn, 1 counts the waits that ended, 2 counts the seats that
-//! sleep in a wait. For this crate alone.
+//! three words: 0 tells whether a seat has the turn, and whether another sleeps for it; 1 counts
+//! the waits that ended; 2 counts the seats that sleep in a wait. For seats.rt of this crate.
 ghost use Rattle.std.specs.Prelude.{◌≡◌, ◌≢◌, ◌&&◌, ◌||◌, not, true, false, [], ◌∷◌, MatchOption, IsTrue, is_some, Some, None};
 ghost use Rattle.nc_number.specs.declared.path.Path.TheVariants.{One, Two};
 ghost use Rattle.nc_outside.specs.declared.halt.Next.TheVariants.{Halted};
@@ -119,9 +119,10 @@ fn count_change<C: Turns>(shared: &Shared<Option<C>, Knows, (), Law>, place: &mu
     }
 }
 
-/// Sleeps until a wait is over, unless one has ended since before the turn in which the path waited
-/// (`seen` is the count of then). A seat that counts an end looks for sleepers after that, and a
-/// sleeper is counted before it looks at the count: so one of the two sees the other.
+/// Sleeps until a wait is over, unless one has ended since just before the turn in which the path
+/// waited (`seen` is what word 1 counted then). A seat that counts an end looks for sleepers after
+/// that, and a sleeper is counted before it looks at the count of ends: so one of the two sees the
+/// other.
 fn await_change<C: Turns, R: Wait>(
     rt: &R,
     shared: &Shared<Option<C>, Knows, (), Law>,
@@ -282,7 +283,7 @@ pub(crate) fn step_until<C: Turns, R: Wait>(
     unreachable!()
 }
 
-/// Tells the table, once the seat has the turn.
+/// Gives the table this notice, once the seat has the turn.
 pub(crate) fn tell_until<C: Turns, R: Wait>(
     rt: &R,
     shared: &Shared<Option<C>, Knows, (), Law>,

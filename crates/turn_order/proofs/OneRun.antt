@@ -28,7 +28,8 @@ record IsStill (m : MachineView) (r : TurnResult) : Type 0 where
   -- there is no record
   none : kind_of r.turn ≡ None
 
--- an own turn of a machine that has ended, by its alarm and its ends
+-- a turn of the first path of a machine that has ended leaves it as it is, and makes no record: by
+-- its alarm, and by whether each path has ended
 still_by : (m : MachineView) (a : Option Alarm) (f second : Bool) (w : Option ℕ) (rest : TurnResult) → (end_by a (f && second) ≡ None → ⊥) → IsStill m (unless_idle m a f w rest)
 still_by m (Some alarm) f second w rest over = record { same = refl; none = refl }
 still_by m None true second w rest over = record { same = refl; none = refl }
@@ -42,7 +43,7 @@ swap None true false over is = over refl
 swap None false true over is = over refl
 swap None false false over is = over refl
 
--- each own turn of a path leaves a machine that has ended as it is, and makes no record
+-- each turn of the first path leaves a machine that has ended as it is, and makes no record
 own_still : (blocks : Blocks) (path : Path) (m : MachineView) → IsOver m → IsStill m (own_turn blocks path m)
 own_still blocks path m over = still_by m m.alarm m.paths.one.finished m.paths.two.finished m.paths.one.waiting (block_turn blocks path m) over
 
@@ -71,15 +72,17 @@ none_more tapes path m (suc n) over =
     ∙ ap (λ (x : MachineView). history tapes x (in_turn (other_of path) n)) it.same
     ∙ none_more tapes (other_of path) m n over
 
--- the path whose turn it is after so many
+-- the path whose turn it is after so many turns, the first of which was that of this path
 abbrev path_after : Path → ℕ → Path
 path_after path zero = path
 path_after path (suc n) = path_after (other_of path) n
 
--- the records of some turns, and those of further ones
+-- the records of `more` further turns, after n turns from this path on
 unfoldable further : Tapes → MachineView → Path → ℕ → ℕ → List Entry
 further tapes m path n more = history tapes (run tapes m (in_turn path n)) (in_turn (path_after path n) more)
 
+-- the records of n turns and `more` further ones are those of the n turns, and then those of the
+-- further ones
 in_two_parts : (tapes : Tapes) (m : MachineView) (path : Path) (n more : ℕ)
     → history tapes m (in_turn path (n + more)) ≡ history tapes m (in_turn path n) ++ further tapes m path n more
 unfolding further

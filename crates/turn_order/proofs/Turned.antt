@@ -24,7 +24,7 @@ use Rattle.two_path.specs.Turns.{Blocks, Tapes, TurnResult, blocks_of, tapes_of,
 use Rattle.two_path.specs.Histories.{list_of, is_idle, AsksFrom, and_next, IsLawful, AreLawful}
 use Rattle.two_path.specs.Stuck.{IsStuck}
 
--- how many reads blocks have made that are not done
+-- how many reads of shared variables the unfinished blocks of both paths have made
 abbrev pub reads_of : MachineView → ℕ
 reads_of m = length m.paths.one.stamps + length m.paths.two.stamps
 
@@ -151,7 +151,8 @@ other_awake One m free calm some idle =
 other_awake Two m free calm some idle =
     only_false (is_idle m.paths.one) (λ both. free (record { calm = calm; unfinished = unfinished m.paths.one.finished m.paths.two.finished some; first = both; second = idle }))
 
--- how many turns are left
+-- the same number (`turns_left`) by its parts: how many records may still come, how many reads were
+-- made, and whether the path whose turn it is will be passed over (1) or not (0)
 abbrev left : ℕ → ℕ → ℕ → ℕ
 left budget reads flag = 2 * (65 * (budget + 1) - reads) + flag
 

@@ -42,7 +42,7 @@ use Rattle.path_state.specs.Effect.{Effect, Moved, after_motion, motion_with, ac
 use Rattle.path_state.specs.Effect as effect
 use Rattle.two_path.proofs.NoCrossing.{either}
 
--- a statement leaves its path where it stands
+-- What the statement comes to, if it comes to anything, leaves its path where it stands.
 abbrev StaysAt : PathView → Outcome After → Type 0
 StaysAt path (Gives after left) = after.path.position ≡ path.position
 StaysAt path (Needs variable) = Unit {0}
@@ -118,7 +118,8 @@ module _ (fixed : Fixed) (path : PathView) where
   statement_stays tape (DoOnly name) reads = refl
   statement_stays tape (EndLoop name) reads = move_stays (place_of_head tape path.place) reads
 
--- what a block does leaves its path, which stood at this point, at the end of its moves
+-- What a block comes to, if it is done, leaves its path, which stood at this point, at the end of
+-- its moves.
 abbrev pub LeadsOn : Point → Effect → Type 0
 LeadsOn at (effect.Done path write moves) = path.position ≡ last_end at moves
 LeadsOn at (effect.AtEnd path moves) = path.position ≡ last_end at moves

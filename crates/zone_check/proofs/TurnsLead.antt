@@ -29,7 +29,8 @@ use Rattle.zone_check.specs.Kept.{moves_by}
 use Rattle.zone_check.proofs.Folded.{what_by}
 use Rattle.zone_check.proofs.MovesLead.{LeadsOn, block_leads}
 
--- a turn leaves the first path at the end of its moves, and the other where it stood
+-- The turn that came to this leaves the first path at the end of its moves, and the other where it
+-- stood.
 abbrev LeadsBy : MachineView → TurnResult → Type 0
 LeadsBy m r = (r.machine.paths.one.path.position ≡ last_end m.paths.one.path.position (moves_of_turn r.turn))
     × (r.machine.paths.two.path.position ≡ m.paths.two.path.position)
@@ -48,7 +49,8 @@ effect_leads path line m (effect.AtWait code) is = wait_leads path line m code m
 effect_leads path line m (effect.AtEnd after moves) is = (is, refl)
 effect_leads path line m (effect.Alarm number value) is = (refl, refl)
 
--- a turn of a path that can't go on moves no path
+-- a turn that may do nothing, for an alarm, an end or a wait, leads the first path to the end of
+-- its moves, if the turn of its block does
 idle_leads : (m : MachineView) (alarm : Option Alarm) (finished : Bool) (waiting : Option ℕ) (rest : TurnResult) → LeadsBy m rest
     → LeadsBy m (unless_idle m alarm finished waiting rest)
 idle_leads m (Some alarm) finished waiting rest is = (refl, refl)

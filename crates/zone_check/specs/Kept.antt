@@ -19,7 +19,8 @@ use Rattle.zone_area.specs.Area.{SweptView, swept_at, swept_along}
 use Rattle.zone_cell.specs.declared.cell.Zone.{Zone}
 use Rattle.zone_cell.specs.Zones.{ZonesView, zone_of_areas}
 
--- what both paths have swept where a segment begins: the places where the machine has them
+-- what both paths have swept where a segment begins: each only the point at which it stands in this
+-- machine
 abbrev pub standing_at : MachineView → Both SweptView
 standing_at m = both_of (λ (part : Part). swept_at part.path.position) m.paths
 

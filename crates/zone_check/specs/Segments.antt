@@ -1,5 +1,5 @@
--- The segments of a history, which lie between its meetings, and their zones. lathe_looks and
--- lathe_top cite `zones_of_history`.
+-- The segments of a history and their zones. A segment reaches from the beginning or a meeting to
+-- the next meeting or the end. lathe_looks and lathe_top cite `zones_of_history`.
 use Rattle.std.specs.Prelude.{List, [], ◌∷◌, ◌++◌, map, if◌then◌else◌}
 use Rattle.nc_number.specs.declared.path.Path.{Path}
 use Rattle.nc_number.specs.declared.path.Path.TheVariants.{One, Two}
@@ -15,7 +15,7 @@ use Rattle.zone_area.specs.Area.{area_of}
 use Rattle.zone_cell.specs.declared.cell.Zone.{Zone}
 use Rattle.zone_cell.specs.Zones.{ZonesView, zone_of_areas}
 
--- what both paths do between two meetings: where each begins, and its moves
+-- what both paths do in a segment: where each stands when it begins, and its moves
 pub record Segment : Type 0 where
   -- where path 1 stands when the segment begins
   pub left_at : Point

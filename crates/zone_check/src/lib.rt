@@ -1,5 +1,5 @@
-//! The zones of a run: for each stretch between two meetings the areas that both paths may pass, in
-//! one cell.
+//! The zones of a run: for each segment of it, up to a meeting or the end, the areas that both
+//! paths may pass, in one cell.
 //!
 //! [`boxes`] does the records of a legal history again, once, and answers a zone for each segment.
 //! The layer above leans on this: the list is that of the history's segments, each of which begins

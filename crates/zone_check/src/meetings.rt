@@ -1,5 +1,5 @@
 //! The zones of a run's history, whose records are done again one by one: an area of each path for
-//! each stretch between two meetings. lathe_looks and tests call `boxes`.
+//! each segment, up to a meeting or the end. lathe_looks and tests call `boxes`.
 ghost use Rattle.std.specs.Prelude.{◌≡◌, ◌≤◌, [], length, IfOk};
 ghost use Rattle.nc_number.specs.declared.limits.TheConstants.{MOST_RECORDS};
 ghost use Rattle.two_path.specs.Turns.{tapes_of};
@@ -50,7 +50,7 @@ fn kept_boxes(
 /// The zones of a history of the pair: one for each segment, in order, the first before the first
 /// meeting. The records are done again once.
 ///
-/// It asks for a legal history of at most 4,000,000 records.
+/// It asks for a legal history of at most 4,000,000 records (`MOST_RECORDS` of nc_number).
 pub fn boxes(
     alloc: Global,
     verified: &Verified,

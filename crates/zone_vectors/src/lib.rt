@@ -2,7 +2,7 @@
 //! one place or not.
 //!
 //! The answers that are expected are worked by hand from the rules of zones, and never from what a
-//! call answered.
+//! call answered. No crate uses it.
 #![tactic(auto)]
 
 #[cfg(test)]

@@ -23,15 +23,15 @@ pub struct CodeTable<'a> {
     pub first: Vec<u16>,
     /// The auxiliary codes of path 2's records.
     pub second: Vec<u16>,
-    // How many records path 1 and path 2 make.
+    /// How many records path 1 and path 2 make.
     pub goals: (usize, usize),
-    // How many steps there were.
+    /// How many steps there were.
     pub steps: &'a AtomicU64,
-    // Whether each record is to be drained.
+    /// Whether each record is to be drained.
     pub drains: bool,
-    // Whether a record was made that is not drained.
+    /// Whether a record was made that is not drained.
     pub owed: bool,
-    // How many drains it was told.
+    /// How many drains it was told.
     pub drained: u64,
     /// Why the table was halted.
     pub halt: Option<Halt>,

@@ -24,13 +24,13 @@ pub struct MemoryTable {
     pub first: Vec<u16>,
     /// The auxiliary codes of path 2's records.
     pub second: Vec<u16>,
-    // How many records each path makes.
+    /// How many records each path makes.
     pub goal: usize,
-    // How long a turn lasts, in yields.
+    /// How long a turn lasts, in yields.
     pub lasts: u32,
-    // How often a turn found its path waiting.
+    /// How often a turn found its path waiting.
     pub looks: AtomicU64,
-    // How many drains it was told.
+    /// How many drains it was told.
     pub drains: u64,
     /// Why the table was halted.
     pub halt: Option<Halt>,

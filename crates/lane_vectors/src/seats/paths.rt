@@ -21,6 +21,7 @@ use std::thread::Threads;
 /// A proof of a drain, as a stepper takes it: so many moves were sent.
 #[derive(Drop)]
 struct Sent {
+    /// How many moves were sent before the drain.
     count: u64,
 }
 
@@ -120,8 +121,11 @@ fn look_on<R: Wait + Sync>(
 /// The table after a run, and the codes that each path got.
 #[derive(Drop)]
 struct Ran {
+    /// The table after the run.
     table: MemoryTable,
+    /// The codes that path 1 got.
     first: Vec<u16>,
+    /// The codes that path 2 got.
     second: Vec<u16>,
 }
 

@@ -1,5 +1,6 @@
--- Whichever call of the disk fails, the answer and what a crash may leave are as a beginning of a
--- file of gates promises (`begin`, src/create.rt).
+-- Whether the disk fails as the first gate is shut, as the entries are added, or not at all, the
+-- answer and what a crash may leave are as a beginning of a file of gates promises (`begin`,
+-- src/create.rt).
 use Rattle.std.proofs.Common.{rules, [], refl, ◌∙◌, arith}
 use Rattle.std.proofs.lemmas.Result.{err_from_is_err_and}
 use Rattle.gate_file.proofs.Beginning.{not_there, moments_shut, moments_added, kept_anew, begun_used, shut_used}

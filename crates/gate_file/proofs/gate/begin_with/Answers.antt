@@ -1,5 +1,5 @@
--- A file of gates that was begun with the staged entry of one body begins with this body
--- (`begin_with`, src/gate.rt).
+-- A file of gates that is begun, or refused, with the staged entry of one body is begun or refused
+-- with this body (`begin_with`, src/gate.rt).
 use Rattle.std.proofs.Common.{[], ◌∷◌, sym, subst}
 use Rattle.gate_file.specs.Chain.{IsStaged}
 use Rattle.gate_file.proofs.gate.begin_with.Goals as goal

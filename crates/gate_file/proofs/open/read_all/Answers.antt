@@ -1,5 +1,5 @@
--- Whichever call of the disk fails, the answer is as the opening of a file of gates promises
--- (`read_all`, src/open.rt).
+-- Whether memory runs out, a call of the disk fails, there is no run, or all is read: the answer is
+-- as the opening of a file of gates promises (`read_all`, src/open.rt).
 use Rattle.std.proofs.Common.{rules, ◌+◌, ◌*◌, [], length, refl, ◌∙◌, arith}
 use Rattle.std.proofs.lemmas.Result.{err_from_is_err_and}
 use Rattle.disk_model.proofs.Runs.{unwritten_none, uses_none, uses_widened, peeks_more, settled_kept}

@@ -1,5 +1,6 @@
 -- A turret that served the moves of the items so far has served those with the next item too: a
--- move is handed to it, and a mark and the end add none (`serve`, src/drive.rt).
+-- move is handed to it, and a mark (which asks whether it is at rest) and the end add none
+-- (`serve`, src/drive.rt).
 use Rattle.std.proofs.Common.{◌++◌, ◌∷◌, [], sym, subst}
 use Rattle.drive_line.specs.declared.item.Item.{Item}
 use Rattle.drive_line.specs.Driving.{Serves}

@@ -1,4 +1,5 @@
--- So far the path went on behind each answer (loop of `run_path`, src/worker.rt).
+-- So far the path went on behind each answer, the calls and the items sent are those of the
+-- answers, and the line has no end yet (loop of `run_path`, src/worker.rt).
 use Rattle.std.proofs.Common.{◌≡◌, List, All, false}
 use Rattle.nc_outside.specs.declared.halt.Next.{Next}
 use Rattle.drive_line.specs.Line.{has_end}

@@ -1,5 +1,5 @@
--- What the worker's side keeps holds still after a mark that got its answer, and the line is open
--- (`LineIn::drain`, src/line_in.rt).
+-- What the worker's side of a line keeps holds still after the mark of a drain that got its answer,
+-- and the line has no end yet (`LineIn::drain`, src/line_in.rt).
 use Rattle.std.proofs.Common.{◌≡◌, false, ap, ◌∙◌}
 use Rattle.drive_line.specs.Line.{has_end}
 use Rattle.drive_line.proofs.Items.{kept_mark, open_mark}

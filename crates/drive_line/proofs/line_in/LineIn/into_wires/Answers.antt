@@ -1,5 +1,5 @@
--- Each mark that the worker sent has its answer among those received (`LineIn::into_wires`,
--- src/line_in.rt).
+-- Each mark that the worker sent along its line, one for a drain, has its answer among those
+-- received (`LineIn::into_wires`, src/line_in.rt).
 use Rattle.std.proofs.Common.{subst, All, Contains}
 use Rattle.drive_line.specs.Line.{Sending, mark_counts}
 use Rattle.drive_line.proofs.line_in.LineIn.into_wires.Goals as goal

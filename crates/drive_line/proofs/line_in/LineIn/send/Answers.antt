@@ -1,4 +1,4 @@
--- A move that is sent is counted, and the line is open still (`LineIn::send`, src/line_in.rt).
+-- A move that is sent is counted, and the line has no end yet (`LineIn::send`, src/line_in.rt).
 use Rattle.std.proofs.Common.{◌≡◌, false, ap, ◌∙◌}
 use Rattle.drive_line.specs.Line.{has_end}
 use Rattle.drive_line.proofs.Items.{kept_move, open_move}

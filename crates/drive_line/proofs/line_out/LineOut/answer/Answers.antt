@@ -1,5 +1,5 @@
--- The answer to a mark is the one that was owed: the number of the moves taken (`LineOut::answer`,
--- src/line_out.rt).
+-- The answer to a mark, the item by which a drain asks, is the one that was owed: the number of the
+-- moves taken (`LineOut::answer`, src/line_out.rt).
 use Rattle.std.proofs.Common.{◌≡◌, true, ap, ◌∙◌, subst}
 use Rattle.drive_line.specs.Line.{Taking, IsTaking}
 use Rattle.drive_line.proofs.Items.{answered}

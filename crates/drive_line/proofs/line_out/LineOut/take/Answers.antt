@@ -1,5 +1,5 @@
--- What the drive's side keeps holds still: a move that was taken is counted, a mark is owed an
--- answer, the end is known (`LineOut::take`, src/line_out.rt).
+-- What the drive's side of a line keeps holds still: a move that was taken is counted, a mark, by
+-- which a drain asks, is owed an answer, the end is known (`LineOut::take`, src/line_out.rt).
 use Rattle.std.proofs.Common.{◌≡◌, true, false, ap, sym, ◌∙◌, subst}
 use Rattle.drive_line.specs.Line.{Taking, IsTaking}
 use Rattle.drive_line.proofs.Items.{took_move, took_mark, took_end}

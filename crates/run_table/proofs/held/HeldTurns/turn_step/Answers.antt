@@ -1,5 +1,5 @@
 -- For the proof of `turn_step` of a held table (src/held.rt): one step, its answer for the worker
--- of the path, and that it tells who waits and who is to be drained.
+-- of the path, and that it tells whether the path waits and whether it is to be drained.
 use Rattle.std.proofs.Common.{◌≡◌, ◌≢◌, refl, sym, ◌∙◌, subst, true, false, Option, Some}
 use Rattle.std.specs.Prelude.{MatchOption}
 use Rattle.nc_number.specs.declared.path.Path.{Path}

@@ -1,5 +1,5 @@
--- For the proof of `Table::step` (src/table.rt): one step with its moves in the answer, who is to
--- be drained after it, and that the other path goes on while this one waits.
+-- For the proof of `Table::step` (src/table.rt): one step with its moves in the answer, which paths
+-- are to be drained after it, and that the other path goes on while this one waits.
 use Rattle.std.proofs.Common.{◌≡◌, subst, sym, ◌∙◌}
 use Rattle.run_table.specs.declared.answer.TableStep.{TableStep}
 use Rattle.run_table.specs.Draining.{owed_behind}
