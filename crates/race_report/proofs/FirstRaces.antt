@@ -198,10 +198,6 @@ pub record IsLeft (lines : Both PathLines) (v after total : ℕ) : Type 0 where
   pub all : after + count ≡ total
   pub same : first_from lines v count after ≡ first_from lines v total 0
 
-    go : (count : ℕ) → after + count ≡ total → race_at lines v after ≡ first_from lines v count after
-    go zero all = absurd (omega arith)
-    go (suc c) all = by (race_at lines v after) c refl
-
 -- if the part at hand has none, the first race is in the later parts
 pub left_next : (lines : Both PathLines) (v after total : ℕ) → IsLeft lines v after total → after < total
     → is_some (race_at lines v after) ≡ false → IsLeft lines v (after + 1) total

@@ -5,6 +5,7 @@ use Rattle.block_order.specs.Order.{blocks, control_at}
 use Rattle.block_forms.specs.declared.block.FlowBlock.{FlowBlock}
 use Rattle.tape_flow.specs.declared.flow.Flow.{Flow}
 use Rattle.tape_flow.specs.Places.{flow_block}
+use Rattle.tape_flow.proofs.Seen.{stands_in}
 use Rattle.named_vars.specs.Names.{found_names, found_may_write}
 use Rattle.part_lines.specs.PartLines.{LineInPart}
 use Rattle.race_order.specs.Races.{PartNames, PartMayWrite}
