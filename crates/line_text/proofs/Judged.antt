@@ -1,5 +1,5 @@
--- A line that says something has none of the refusals of a line by itself.
--- For ShapeOfLine; open_forms and tape_relation take it too.
+-- A line of a tape that no refusal by itself refuses has allowed bytes and whole words.
+-- For ShapeOfLine; open_forms and tape_relation take `judged_ok`, tape_relation also `least`.
 use Rattle.std.proofs.Common.{◌≡◌, Bool, true, false, cond, not, ◌&&◌, Result, Ok, Err, refl}
 use Rattle.line_text.specs.declared.refusal.Refusal.{Refusal}
 use Rattle.line_text.specs.declared.refusal.Refusal.TheVariants.{TooManyDigits, BadCharacter, NoNumber, OpenComment}
@@ -8,22 +8,23 @@ use Rattle.line_text.specs.declared.said.Said.TheVariants as said
 use Rattle.line_text.specs.declared.said.Reading.{Reading}
 use Rattle.line_text.specs.Said.{judged}
 
--- the least refusal of a line, or what it says; the flags: too many digits, a bad byte, a broken
--- word, an open comment, a skipped block
+-- the least refusal of a line by itself, or what it says; the flags: too many digits in a block
+-- that is not skipped, a bad byte, something where no word can stand or an O not alone, an open
+-- comment, a skipped block
 abbrev pub least : Bool → Bool → Bool → Bool → Bool → Said → Result Said Refusal
 least long bad broken unclosed skipped what =
     cond long (Err TooManyDigits) (cond bad (Err BadCharacter) (cond broken (Err NoNumber) (cond unclosed (Err OpenComment) (cond skipped (Ok said.Nothing) (Ok what)))))
 
--- a line that can be read has allowed bytes and whole words, and says this
+-- a line with allowed bytes and whole words that says `says`; `what` is what its reading says
 pub record IsReadable (skipped allowed broken : Bool) (what says : Said) : Type 0 where
   -- each byte outside comments is a character of a tape
   pub allowed_is : allowed ≡ true
-  -- each word is whole
+  -- each word is whole, and an O stands alone
   pub whole : broken ≡ false
-  -- it says nothing if it is skipped, and else this
+  -- it says nothing if it is skipped, and else what its reading says
   pub says_is : says ≡ cond skipped said.Nothing what
 
--- if the least refusal is none, no refusal holds
+-- a line without a least refusal is readable
 least_ok : (long allowed broken unclosed skipped : Bool) (what says : Said) → least long (not allowed) broken unclosed skipped what ≡ Ok says → IsReadable skipped allowed broken what says
 least_ok true allowed broken unclosed skipped what says e = absurd cc
 least_ok false false broken unclosed skipped what says e = absurd cc
@@ -32,6 +33,7 @@ least_ok false true false true skipped what says e = absurd cc
 least_ok false true false false true what says e = record { allowed_is = refl; whole = refl; says_is = cc }
 least_ok false true false false false what says e = record { allowed_is = refl; whole = refl; says_is = cc }
 
--- a line that says something has none of the refusals
+-- a line that is not refused by itself has allowed bytes and whole words, and says what its reading
+-- says, or nothing if it is skipped
 pub judged_ok : (skipped allowed unclosed : Bool) (reading : Reading) (says : Said) → judged skipped allowed unclosed reading ≡ Ok says → IsReadable skipped allowed reading.broken reading.said says
 judged_ok skipped allowed unclosed reading says e = least_ok (reading.long && not skipped) allowed reading.broken unclosed skipped reading.said says e

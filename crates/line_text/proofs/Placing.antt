@@ -1,5 +1,5 @@
--- What is left of a line after its comments and its skip sign keeps its places below 2 ^ 32.
--- For the proof of `read_head` (src/line.rt).
+-- What is left of a line of a tape after its comments and its skip sign keeps its places below
+-- 2 ^ 32. For the proof of `read_head` (src/line.rt).
 use Rattle.std.proofs.Common.{◌+◌, ◌<◌, ◌^◌, Bool, true, false, cond, List, [], ◌∷◌}
 use Rattle.std.proofs.lemmas.List.Elements.{All-drop, All-tail}
 use Rattle.line_text.specs.declared.sign.Sign.{Sign}

@@ -1,4 +1,4 @@
--- What one byte more adds to the signs of a line. For the loop of `scan` (src/sign.rt).
+-- What one byte more adds to the signs of a line of a tape. For the loop of `scan` (src/sign.rt).
 use Rattle.std.proofs.Common.{◌≡◌, ℕ, suc, ◌+◌, ◌<◌, ◌≤◌, ◌^◌, Bool, true, false, not, ◌&&◌, List, [], ◌∷◌, ◌++◌, length, drop, get_or, refl, ap, sym, subst, ◌∙◌, append_assoc, arith}
 use Rattle.std.proofs.Math.Seq.{drop-cons}
 use Rattle.std.proofs.lemmas.List.{append-nil, length-append}
@@ -33,7 +33,7 @@ line_here line i within =
     let e : i + 1 ≡ suc i = omega arith in
     ap (λ (k : ℕ). get_or line i 0 ∷ drop k line) e ∙ sym (drop-cons line i 0 within)
 
--- whether a byte counts: it stands outside comments and is no blank
+-- whether a byte counts: it is no blank and stands outside comments, which the flag says
 abbrev counts : Bool → ℕ → Bool
 counts inside b = not inside && not (is_blank b)
 

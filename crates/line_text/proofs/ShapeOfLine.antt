@@ -1,6 +1,6 @@
--- What a line says has the shape of a block or of an O number (`IsSaid`), and its texts are no
--- longer than the line. nc_text takes `line_said`. The first facts are on lengths, then come
--- numbers, words and statements, as a line is read.
+-- What a line of a tape says, if nothing by itself refuses it, has the shape of a block or of an O
+-- number (`IsSaid`), and its texts are no longer than the line. nc_text takes `line_said`. The
+-- first facts are on lengths, then come numbers, words and statements, as a line is read.
 use Rattle.std.proofs.Common.{◌≡◌, ℕ, ◌+◌, ◌-◌, ◌≤◌, ◌==◌, Bool, true, false, cond, not, ◌&&◌, ltb, leb, List, [], ◌∷◌, length, take, drop, map, filter, get_or, slice_index, Option, Some, None, is_some, Result, Ok, Err, refl, sym, subst, ◌∙◌, arith, ℤ, pos, negsuc}
 use Rattle.std.specs.Prelude.{All, IfSome}
 use Rattle.std.specs.Char.{is_ascii_uppercase}
@@ -212,7 +212,7 @@ words_are : (most : ℕ) (pieces : List Piece) → All (IsGood most) pieces → 
 words_are most [] all = All-nil (IsWordShape most)
 words_are most (piece ∷ pieces) all = words_first (is_sequence piece) most piece pieces refl (All-head (IsGood most) piece pieces all) (words_are most pieces (All-tail (IsGood most) piece pieces all))
 
--- an O is among the words (79 is its letter)
+-- whether an O (79) is among the words
 abbrev has_o : List Word → Bool
 has_o words = list_any (λ word. word.letter == 79) words
 
@@ -269,7 +269,7 @@ programs_are slash (first ∷ second ∷ pieces) e off = no_letter (first ∷ se
 
 -- What is read of the words of a block.
 
--- an O number is from 1 to 9,999
+-- the O number that pieces write, if it is in its range, is from 1 to 9,999
 program_said : (most : ℕ) (slash : Bool) (pieces : List Piece) → IsSaid most (said.Program (program_number pieces))
 program_said most slash [] = tt
 program_said most slash (piece ∷ pieces) = some (number_in 1 9999 piece.text) (number_is 1 9999 piece.text)
@@ -294,7 +294,7 @@ said_first false most slash pieces e are sound alone = record {
   );
 }
 
--- a reading that is not broken says something of the right shape
+-- if the reading is not broken, what it says has the right shape
 abbrev IsRead : ℕ → Reading → Type 0
 IsRead most reading = reading.broken ≡ false → IsSaid most reading.said
 

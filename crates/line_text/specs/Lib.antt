@@ -1,5 +1,6 @@
 -- What a line of a tape says, in the order in which it is read: signs, pieces, front, values, said.
--- nc_text and the crates above cite Said, LineShape and Refusals; Places is for this crate alone.
+-- nc_text cites Signs, Refusals, Said and LineShape; open_forms Signs, Pieces, Front, Refusals and
+-- Said; flow_laws Said; tape_relation all but LineShape and Places. Places is for this crate alone.
 pub mod Signs
 pub mod Places
 pub mod Pieces

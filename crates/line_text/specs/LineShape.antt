@@ -1,5 +1,6 @@
--- The shape of what a line says. nc_text makes the shape of a tape of it (`IsTapeShape`), on which
--- the crates above count; proofs/ShapeOfLine shows it of each line.
+-- The shape of what a line of a tape says. nc_text makes the shape of a tape of it (`IsTapeShape`),
+-- on which the crates above count; proofs/ShapeOfLine shows it of each line that is not refused by
+-- itself.
 use Rattle.std.specs.Prelude.{◌≡◌, ℕ, ◌≤◌, ◌==◌, true, false, List, length, All, Option, None, Some, IfSome}
 use Rattle.std.specs.Char.{is_ascii_uppercase}
 use Rattle.std.specs.List.{list_any}
@@ -12,8 +13,9 @@ use Rattle.line_text.specs.declared.said.Said.TheVariants as said
 use Rattle.line_text.specs.Front.{is_statement}
 use Rattle.line_text.specs.Values.{is_value}
 
--- A letter and a whole value, on a line of at most so many bytes. N and O among the words are
--- computed: a literal N is the block's sequence number, and a literal O begins a program.
+-- A letter and a whole value, on a line of at most `most` bytes. N and O among the words are
+-- computed: an N with a literal is the block's sequence number, and an O with a literal begins a
+-- program.
 pub record IsWordShape (most : ℕ) (word : Word) : Type 0 where
   -- it begins with a letter, in upper case
   pub letter : is_ascii_uppercase word.letter ≡ true

@@ -1,5 +1,5 @@
--- The words that signs are cut into: each letter outside square brackets begins one. open_forms and
--- tape_relation cite it too.
+-- The words that the signs of a line of a tape are cut into: each letter outside square brackets
+-- begins one. src/cut.rt answers with these functions; open_forms and tape_relation cite them too.
 use Rattle.std.specs.Prelude.{ℕ, ◌+◌, ◌-◌, Bool, true, false, ◌&&◌, ◌==◌, List, [], ◌∷◌, length, map, drop, if◌then◌else◌}
 use Rattle.std.specs.Char.{is_ascii_uppercase}
 use Rattle.std.specs.List.{list_all, before_first}
@@ -10,7 +10,7 @@ use Rattle.line_text.specs.declared.piece.Piece.{Piece}
 abbrev pub is_comment : Sign → Bool
 is_comment sign = sign.byte == 40
 
--- a letter, and what stands after it up to the next one
+-- a letter outside square brackets, and what stands after it up to the next such letter
 pub record Group : Type 0 where
   -- the letter
   pub letter : Sign
@@ -19,21 +19,23 @@ pub record Group : Type 0 where
 
 -- what stands before the first letter outside brackets, and the groups from there on
 pub record Cut : Type 0 where
-  -- what stands before the first letter
+  -- what stands before the first letter outside brackets
   pub lead : List Sign
   -- the letters and what stands after them
   pub groups : List Group
 
 -- how many square brackets are open after the byte b, if so many were before: 91 opens one, 93
--- closes one
+-- closes one if one is open
 abbrev pub depth_behind : ℕ → ℕ → ℕ
 depth_behind depth b = if b == 91 then depth + 1 else (if b == 93 then depth - 1 else depth)
 
--- whether the byte b begins a word: it is a letter, and no square bracket is open
+-- whether the byte b begins a word, if `depth` square brackets are open: it is a letter, and none
+-- is open
 abbrev pub begins_word : ℕ → ℕ → Bool
 begins_word depth b = depth == 0 && is_ascii_uppercase b
 
--- a cut with one sign more in front: the sign begins a word, or stands before the first one
+-- a cut with one sign more in front; the flag says whether the sign begins a word, else it stands
+-- before the first word
 abbrev pub add_to_cut : Bool → Sign → Cut → Cut
 add_to_cut true sign cut = record { lead = []; groups = record { letter = sign; value = cut.lead } ∷ cut.groups }
 add_to_cut false sign cut = record { lead = sign ∷ cut.lead; groups = cut.groups }
@@ -67,7 +69,7 @@ piece_of group = record {
   whole = list_all is_comment (drop (length (value_part group.value)) group.value);
 }
 
--- the words of the signs; what stands before the first letter is none of them
+-- the words of the signs, not yet checked; what stands before the first letter is none of them
 abbrev pub pieces_of : List Sign → List Piece
 pieces_of signs = map piece_of (cut_at signs 0).groups
 

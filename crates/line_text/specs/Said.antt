@@ -1,5 +1,7 @@
--- What a line between the `%` lines says, and what makes it unreadable. The crates above cite
--- `line_says`; in this file 78 is the letter N and 79 the letter O.
+-- What a line between the `%` lines of a tape says, and what makes it unreadable. nc_text builds
+-- `tape_of` on `line_says`; open_forms, flow_laws and tape_relation cite these words too.
+-- 78 is the letter N, 79 the letter O; tape_relation (specs/Numbers) has the ranges of both numbers
+-- once more.
 use Rattle.std.specs.Prelude.{◌≡◌, ℕ, ◌<◌, ◌+◌, ◌/◌, ◌%◌, ◌^◌, Bool, true, false, not, ◌&&◌, ◌||◌, ◌==◌, nat_lt, List, [], ◌∷◌, length, map, filter, take, All, Option, Some, None, Result, Ok, Err, is_some, if◌then◌else◌}
 use Rattle.std.specs.List.{list_all, list_any, prefix_len}
 use Rattle.std.specs.Global.{Vec}
@@ -30,7 +32,8 @@ is_sequence piece = piece.letter == 78 && is_literal piece.text
 abbrev pub is_sound : Piece → Bool
 is_sound piece = piece.whole && is_value piece.text
 
--- whether the piece is an N or an O whose value begins with a literal of too many digits
+-- whether the piece is an N or an O whose value begins with a literal of too many digits; what
+-- follows the literal is not asked
 abbrev pub is_long : Piece → Bool
 is_long piece = (piece.letter == 78 || piece.letter == 79) && has_long_front piece.text
 
@@ -71,14 +74,16 @@ abbrev pub program_number : List Piece → Option ℕ
 program_number [] = None
 program_number (piece ∷ pieces) = number_in 1 9999 piece.text
 
--- what pieces say: an O number if they are one, else a block of their words
+-- what pieces say: an O number if they are one, else a block of their words; the flag says whether
+-- there is a skip sign
 abbrev pub said_by : Bool → List Piece → Said
 said_by slash pieces =
     if is_program slash pieces then said.Program (program_number pieces)
     else said.Block (record { sequence = sequence_from None pieces; in_range = list_all is_in_range pieces; body = Words (words_of pieces) })
 
 -- How pieces read: the first one that is not sound breaks the block, as an O that is not alone
--- does. Too many digits count only up to and in the first piece that is not sound.
+-- does. Too many digits count only up to and in the first piece that is not sound. The flag says
+-- whether there is a skip sign.
 abbrev pub read_pieces : Bool → List Piece → Reading
 read_pieces slash pieces = record {
   long = list_any is_long (take (prefix_len is_sound pieces + 1) pieces);
@@ -94,12 +99,14 @@ unreadable = record { long = false; broken = true; said = said.Nothing }
 unfoldable pub read_words : Bool → List Sign → Reading
 read_words slash signs = if value_len signs 0 == 0 then read_pieces slash (pieces_of signs) else unreadable
 
--- the literal after the first sign, N
+-- the bytes after the first sign that can belong to a literal: the literal after N, if the signs
+-- are a statement with a sequence number
 abbrev pub numbered_text : List Sign → List ℕ
 numbered_text [] = []
 numbered_text (sign ∷ signs) = bytes_of (number_part signs)
 
--- the text of the statement after the first sign, N, and its literal
+-- the text after the first sign and the bytes that can belong to its literal: the statement, if the
+-- signs are one with a sequence number
 abbrev pub numbered_sentence : List Sign → List ℕ
 numbered_sentence [] = []
 numbered_sentence (sign ∷ signs) = sentence_of (behind_number signs)
@@ -135,8 +142,9 @@ abbrev pub is_skipped : ℕ → Option ℕ → Bool
 is_skipped skips None = false
 is_skipped skips (Some switch) = (skips / 2 ^ switch) % 2 == 1
 
--- The least refusal of a line by itself, or what the line says. A skipped block says nothing; too
--- many digits do not refuse it, its other faults do.
+-- The least refusal of a line by itself, or what the line says, by how it reads. The flags say
+-- whether its block is skipped, whether all its signs are allowed, and whether it ends inside a
+-- comment. A skipped block says nothing; too many digits do not refuse it, its other faults do.
 abbrev pub judged : Bool → Bool → Bool → Reading → Result Said Refusal
 judged skipped allowed unclosed reading =
     if reading.long && not skipped then Err TooManyDigits

@@ -1,11 +1,12 @@
--- The bytes of a line that count: its signs. Of a comment only its opening bracket counts.
--- src/sign.rt computes `signs_of`; nc_text, open_forms and tape_relation cite these words too.
+-- The bytes of a line of a tape that count: its signs. Of a comment only the opening bracket
+-- counts. src/sign.rt computes `signs_of`; nc_text, open_forms and tape_relation cite these words
+-- too.
 use Rattle.std.specs.Prelude.{ℕ, ◌+◌, ◌-◌, Bool, true, false, not, ◌&&◌, ◌||◌, ◌==◌, List, [], ◌∷◌, length, take, slice_index, if◌then◌else◌}
 use Rattle.std.specs.Char.{is_ascii_digit, is_ascii_uppercase, to_ascii_uppercase}
 use Rattle.std.specs.List.{list_all, suffix_len}
 use Rattle.line_text.specs.declared.sign.Sign.{Sign}
 
--- spaces (32) and tabs (9) are ignored
+-- whether a byte is a space (32) or a tab (9), which are ignored
 abbrev pub is_blank : ℕ → Bool
 is_blank b = b == 32 || b == 9
 
@@ -16,17 +17,17 @@ pub record Scan : Type 0 where
   -- the line ends inside a comment
   pub unclosed : Bool
 
--- a scan with the byte b at this place in front of it, if the byte counts
+-- a scan with the byte b at this place in front of it, if the byte counts, as the flag says
 abbrev pub add_sign : Bool → ℕ → ℕ → Scan → Scan
 add_sign true place b scan = record scan { list = record { place = place; byte = to_ascii_uppercase b } ∷ scan.list }
 add_sign false place b scan = scan
 
--- the byte b at this place as one sign, or no sign if it does not count
+-- the byte b at this place as one sign, or no sign if it does not count, as the flag says
 abbrev pub counted_sign : Bool → ℕ → ℕ → List Sign
 counted_sign true place b = record { place = place; byte = to_ascii_uppercase b } ∷ []
 counted_sign false place b = []
 
--- whether the byte after b stands in a comment, where b does or doesn't: 40 opens, 41 closes
+-- whether the byte after b stands in a comment; the flag says it of b. 40 opens, 41 closes.
 abbrev pub inside_behind : Bool → ℕ → Bool
 inside_behind true b = not (b == 41)
 inside_behind false b = b == 40
@@ -49,11 +50,13 @@ without_return line ended = if ended then without_last 13 line else line
 abbrev pub without_blanks : List ℕ → List ℕ
 without_blanks line = take (length line - suffix_len is_blank line) line
 
--- what is read of a line: blanks at its end and one `;` (59) before them are ignored
+-- what is read of a line: not the carriage return before its line feed, nor the blanks at its end,
+-- nor one `;` (59) before those; the flag says whether it has a line feed
 abbrev pub content_of : List ℕ → Bool → List ℕ
 content_of line ended = without_last 59 (without_blanks (without_return line ended))
 
--- the bytes that may stand outside comments: letters, digits and . + - / ( ) # [ ] = *
+-- whether a byte may stand outside comments: letters, digits and . + - / ( ) # [ ] = *
+-- src/sign.rt and tape_relation (`is_character`) have the same table.
 abbrev pub is_allowed : ℕ → Bool
 is_allowed b =
     is_ascii_uppercase b || is_ascii_digit b || b == 46 || b == 43 || b == 45 || b == 47 || b == 40 || b == 41 || b == 35 || b == 91

@@ -1,6 +1,6 @@
--- What may stand after an address letter, and which numbers are in range. src/values.rt computes
--- it; tape_relation shows that its own grammar says the same. 91 and 93 are square brackets, 35 is
--- `#`, 46 the point.
+-- What may stand after an address letter of a tape's block, and which numbers are in range.
+-- src/values.rt computes it; tape_relation cites it, and shows that its own grammar says the same.
+-- 91 and 93 are square brackets, 35 is `#`, 46 the point.
 use Rattle.std.specs.Prelude.{ℕ, ◌+◌, Bool, false, ◌&&◌, ◌||◌, ◌==◌, nat_le, List, [], ◌∷◌, length, take, drop, Option, Some, None, Result, Ok, Err, ℤ, pos, negsuc, if◌then◌else◌}
 use Rattle.std.specs.Char.{is_ascii_digit}
 use Rattle.std.specs.List.{list_all, prefix_len}
@@ -10,7 +10,7 @@ use Rattle.nc_number.specs.Arithmetic.{whole_of}
 use Rattle.nc_number.specs.Literals.{is_literal, is_sign, behind_sign, word_literal, has_too_many_digits}
 use Rattle.line_text.specs.Pieces.{depth_behind}
 
--- whether the bracket that is the last of so many open ones closes at the very end
+-- whether all of so many open brackets are closed at the very end of a text, and not before
 abbrev pub closes : List ℕ → ℕ → Bool
 closes [] depth = false
 closes (b ∷ bs) depth = if b == 93 && depth == 1 then length bs == 0 else closes bs (depth_behind depth b)

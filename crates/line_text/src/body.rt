@@ -1,5 +1,5 @@
-//! What stands in a block: words or a statement. nc_text puts it into its `Block`; what a word
-//! means is left to block_words and the crates above.
+//! What stands in a block of a tape: words or a statement. nc_text puts it into its `Block`, by
+//! which block_forms, open_forms and cycle_form read it; what a word means is left to them.
 use nc_number::{ByteList, ListOf};
 
 /// An address letter and its value.
@@ -11,8 +11,8 @@ pub struct Word {
     pub start: u32,
     /// The place after the value's last byte.
     pub end: u32,
-    /// The value: a literal, a variable or a bracketed expression, whole; without ignored bytes and
-    /// in upper case.
+    /// The value, whole: a literal, or a variable or a bracketed expression with a sign or without;
+    /// without ignored bytes and in upper case.
     pub text: ByteList,
 }
 
@@ -24,7 +24,7 @@ pub type WordList = ListOf<Word>;
 pub enum Body {
     /// The words without sequence numbers: none if the block has nothing else but a skip sign.
     Words(WordList),
-    /// An assignment, a jump or a loop: its text without N, blanks and comments, in upper case.
-    /// macro_expr reads it.
+    /// A text that begins as an assignment, a jump or a loop does, without skip sign, N, blanks and
+    /// comments, in upper case. What follows is not yet checked: macro_expr and open_forms read it.
     Statement(ByteList),
 }

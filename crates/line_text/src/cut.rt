@@ -1,5 +1,6 @@
-//! The words that the signs of a line are cut into: each letter outside square brackets begins one.
-//! line.rt cuts a block with it, values.rt counts brackets with it; words.rt checks what is cut.
+//! The words that the signs of a line of a tape are cut into: each letter outside square brackets
+//! begins one. line.rt cuts a block with it, values.rt counts brackets with it; words.rt checks
+//! what is cut. specs/Pieces defines it.
 ghost use Rattle.std.specs.Prelude.{◌≡◌, ◌+◌, ◌-◌, ◌^◌, ◌<◌, ◌≤◌, [], length, IfOk};
 ghost use Rattle.std.specs.List.{list_all, position_or_len};
 ghost use Rattle.line_text.specs.Pieces.{is_comment, depth_behind, begins_word, bytes_of, end_of, piece_of, pieces_of, value_len};
@@ -108,7 +109,8 @@ fn piece(alloc: Global, letter: Sign, value: &[Sign]) -> Result<Piece, AllocErro
     })
 }
 
-/// The words that signs are cut into. The first sign must begin a word (`lead`).
+/// The words that signs are cut into, not yet checked. No sign may stand before the first word
+/// (`lead`).
 pub(crate) fn pieces(alloc: Global, signs: &[Sign]) -> Result<Vec<Piece>, AllocError>
     requires short { length signs.now < 2 ^ 32 }
     requires placed { ArePlaced signs.now }

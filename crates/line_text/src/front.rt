@@ -1,5 +1,6 @@
-//! What a block may begin with: comments, a skip sign, a sequence number's literal, and the first
-//! word of a statement. line.rt asks it what kind of block a line is.
+//! What a block of a tape may begin with: comments, a skip sign, a sequence number's literal, and
+//! the first word of a statement. line.rt asks it what kind of block a line is. specs/Front defines
+//! it.
 ghost use Rattle.std.specs.Char.{is_ascii_digit};
 ghost use Rattle.std.specs.Prelude.{◌≡◌, ◌≤◌, ◌||◌, ◌==◌, nat_eq, length, IfOk, IfSome};
 ghost use Rattle.std.specs.List.{prefix_len, starts_with};
@@ -32,7 +33,8 @@ fn is_switch(byte: u8) -> bool
     b'1' <= byte && byte <= b'9'
 }
 
-/// The switch that a skip sign names by what stands after it, and what stands after that.
+/// The switch of a skip sign by the signs after it, and what stands after the digit that names it:
+/// without such a digit it is switch 1.
 fn skip_sign(signs: &[Sign]) -> (u8, &[Sign])
     ensures switch { result.0 ≡ switch_behind signs.now }
     ensures rest { result.1.now ≡ behind_digit signs.now }
@@ -50,7 +52,8 @@ fn skip_sign(signs: &[Sign]) -> (u8, &[Sign])
     }
 }
 
-/// The switch of the skip sign that a block may begin with, and what stands after it.
+/// The switch of the skip sign, if the signs begin with one, and what stands after the sign and its
+/// digit.
 pub(crate) fn front(signs: &[Sign]) -> (Option<u8>, &[Sign])
     ensures switch { result.0 ≡ switch_of signs.now }
     ensures rest { result.1.now ≡ behind_switch signs.now }

@@ -1,8 +1,9 @@
-//! What one line of a tape says, for nc_text, which reads a tape line by line.
+//! What one line of a tape says, for nc_text, which reads a tape line by line and passes the types
+//! on to the crates above.
 //!
-//! `read_line` takes the bytes of a line between the `%` lines, and answers with the O number or
-//! the block that it says, or with the least refusal of the line by itself. What stands before the
-//! line, how long it may be and how many blocks a tape may have is not asked here.
+//! `read_line` takes the bytes of a line between the `%` lines, and answers with what it says
+//! (nothing, an O number or a block), or with the least refusal of the line by itself. What stands
+//! before the line, how long it may be and how many blocks a tape may have is not asked here.
 #![tactic(auto)]
 
 mod body;

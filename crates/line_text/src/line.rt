@@ -1,5 +1,5 @@
-//! A whole line: which of the readings its signs have, and its least refusal by itself.
-//! nc_text calls `read_line` for each line between the `%` lines.
+//! A whole line of a tape: whether it is words, a statement or no block, and its least refusal by
+//! itself. nc_text calls `read_line` for each line between the `%` lines.
 ghost use Rattle.std.specs.Prelude.{◌≡◌, ◌-◌, ◌^◌, ◌<◌, length, IfOk, IfSome, ◌≤◌};
 ghost use Rattle.nc_number.specs.Answers.{Gives};
 ghost use Rattle.line_text.specs.Places.{ArePlaced};
@@ -60,7 +60,7 @@ fn numbered(alloc: Global, signs: &[Sign]) -> Result<Option<(Vec<u8>, Vec<u8>)>,
     }
 }
 
-/// A statement as a reading: never broken here, because its text is read by the layers above.
+/// A statement as a reading: never broken here, because macro_expr and open_forms read its text.
 fn statement(number: Option<u32>, in_range: bool, text: Vec<u8>, long: bool) -> Reading
     ensures { result ≡ statement_reading number in_range text.items long }
 {

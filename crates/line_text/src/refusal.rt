@@ -1,5 +1,10 @@
-//! Why a tape can't be read, and the number of each refusal. This crate raises the four that a line
-//! has by itself; the others, which need more than the line, nc_text raises.
+//! Why a tape can't be read, and the number of each refusal. This crate raises the first four,
+//! which a line has by itself. nc_text raises the others: those that need more than the line, and
+//! those for its length and for the range of its number, whose numbers rank behind them.
+//!
+//! open_forms, flow_laws and tape_relation cite the type too. A new variant needs its line in
+//! `cause` here and in `cause_of` (specs/Refusals), and in tape_relation in `Holds`
+//! (specs/Conditions), and in `order` and `each_in` (proofs/LeastNumber).
 ghost use Rattle.std.specs.Prelude.{◌≡◌};
 ghost use Rattle.line_text.specs.Refusals.{cause_of, refusal_number};
 
@@ -8,20 +13,22 @@ use nc_number::Cause;
 /// Why a tape can't be read: the refusals of a tape's text, each with a row in nc_number's `Cause`.
 #[derive(Clone, Copy, Debug, PartialEq, Eq)]
 pub enum Refusal {
-    /// A sequence number or an O number of more than 8 whole digits, zeros in front not counted, or
-    /// of more than 6 after the point.
+    /// In a block that is not skipped, a sequence number or an O number of more than 8 whole
+    /// digits, zeros in front not counted, or of more than 6 after the point.
     TooManyDigits,
-    /// A byte that may not stand there.
+    /// A byte outside comments that no line of the programs may have there.
     BadCharacter,
-    /// A letter without a value, something that begins no word, or a word beside an O number.
+    /// A letter without a whole value, something that begins no word, or an O word with another
+    /// word or a sequence number beside it, or with a skip sign before it.
     NoNumber,
     /// A line that ends inside a comment.
     OpenComment,
-    /// The first block is no O number, or there is none.
+    /// A block stands before the first O number, or the tape has no O number.
     NoProgramNumber,
     /// There is no second `%` line.
     NoEnd,
-    /// More than 512 bytes before the line feed.
+    /// A line of the programs, or one of the two `%` lines, has more than 512 bytes, its line feed
+    /// not counted.
     LineTooLong,
     /// More than 20,000 blocks.
     TooManyBlocks,
@@ -32,7 +39,7 @@ pub enum Refusal {
 }
 
 impl Refusal {
-    /// Its row in the table of causes.
+    /// The row of this refusal in nc_number's table of causes.
     fn cause(self) -> Cause
         ensures { result ≡ cause_of self }
     {
@@ -50,7 +57,8 @@ impl Refusal {
         }
     }
 
-    /// The number under which the refusal is printed. Of several on one line the least counts.
+    /// The number under which the refusal is printed. Of several on one line that with the least
+    /// number is answered.
     pub fn number(self) -> u8
         ensures { result ≡ refusal_number self }
     {

@@ -1,5 +1,5 @@
-//! What a line says: nothing, an O number or a block. `read_line` answers it, and nc_text puts the
-//! blocks into programs.
+//! What a line of a tape says: nothing, an O number or a block. `read_line` answers it, and nc_text
+//! puts the blocks into programs. Laws of open_forms, flow_laws and tape_relation speak of it too.
 use crate::body::Body;
 
 /// A block without the number of its line, which nc_text adds.
@@ -18,11 +18,11 @@ pub struct SaidBlock {
 /// What a line says.
 #[derive(Debug, Drop)]
 pub enum Said {
-    /// No block: the line is empty, holds comments alone, or is skipped.
+    /// No block: the line has nothing but blanks, comments and a `;` at its end, or is skipped.
     Nothing,
     /// An O number alone in its block: none if it is out of its range, 1 to 9,999.
     Program(Option<u32>),
-    /// A block.
+    /// A block. Of a skipped one `read_line` says nothing.
     Block(SaidBlock),
 }
 
@@ -30,9 +30,9 @@ pub enum Said {
 /// it has none.
 #[derive(Debug, Drop)]
 pub struct Reading {
-    /// A sequence number or an O number has too many digits.
+    /// A sequence number or an O number has too many digits, and all before it can be read.
     pub long: bool,
-    /// Something stands where no word can.
+    /// Something stands where no word can, or an O word does not stand alone.
     pub broken: bool,
     /// What the line says, if no fault refuses it.
     pub said: Said,

@@ -1,5 +1,6 @@
-//! The bytes of a line that count: its signs. line.rt reads them into the line's buffer; front.rt
-//! and cut.rt cut blocks and words out of them.
+//! The bytes of a line of a tape that count: its signs. line.rt reads them into the line's buffer;
+//! front.rt and cut.rt cut blocks and words out of them. specs/Signs defines what is computed here;
+//! its table of characters has a copy in tape_relation (specs/Characters).
 ghost use Rattle.std.specs.Prelude.{◌≡◌, ◌+◌, ◌-◌, ◌^◌, ◌<◌, ◌≤◌, ◌++◌, ◌&&◌, false, not, length, IfOk, OnOk};
 ghost use Rattle.line_text.specs.Signs.{is_blank, is_allowed, inside_behind, counted_sign, scan_of, without_return, without_blanks, without_last, signs_of, are_allowed};
 ghost use Rattle.line_text.specs.Places.{ArePlaced};
@@ -24,7 +25,7 @@ fn is_blank(byte: u8) -> bool
     byte == b' ' || byte == b'\t'
 }
 
-/// Whether the byte is a character of a tape outside comments, in upper case.
+/// Whether the byte, in upper case, is a character that a tape may have outside comments.
 fn is_allowed(byte: u8) -> bool
     ensures { result ≡ is_allowed byte }
 {
@@ -43,14 +44,15 @@ fn is_allowed(byte: u8) -> bool
         || byte == b'*'
 }
 
-/// Whether each sign is a character that a tape may have.
+/// Whether each sign is a character that a tape may have outside comments.
 pub(crate) fn are_allowed(signs: &[Sign]) -> bool
     ensures { result ≡ are_allowed signs.now }
 {
     signs.iter().all(|sign| is_allowed(sign.byte))
 }
 
-/// A line without the carriage return before its line feed.
+/// A line without the carriage return directly before its line feed; `ended` says whether it has a
+/// line feed.
 fn without_return(line: &[u8], ended: bool) -> &[u8]
     ensures { result.now ≡ without_return line.now ended }
 {
@@ -128,7 +130,8 @@ fn scan(list: &mut Vec<Sign>, line: &[u8]) -> Result<bool, AllocError>
     Ok(inside)
 }
 
-/// Puts what counts of a line into the list, and answers whether the line ends inside a comment.
+/// Puts the signs of a line into the list, and answers whether the line ends inside a comment;
+/// `ended` says whether a line feed ends the line.
 #[tactic(auto, unfolding(crate::specs::Signs::signs_of))]
 pub(crate) fn read_signs(list: &mut Vec<Sign>, line: &[u8], ended: bool) -> Result<bool, AllocError>
     requires { length line.now < 2 ^ 32 - 1 }

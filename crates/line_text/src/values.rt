@@ -1,6 +1,6 @@
-//! What may stand after an address letter: a literal, a variable or an expression in brackets.
-//! words.rt checks the value of each word with it, line.rt a sequence number. macro_expr reads
-//! what stands in the brackets.
+//! What may stand after an address letter of a tape: a literal, a variable or an expression in
+//! brackets. words.rt checks the value of each word with it, line.rt a sequence number. macro_expr
+//! reads what stands in the brackets.
 ghost use Rattle.std.specs.Prelude.{◌≡◌, ◌+◌, ◌^◌, ◌<◌, ◌≤◌, length, IfSome};
 ghost use Rattle.std.specs.Char.{is_ascii_digit};
 ghost use Rattle.std.specs.List.{list_all};
@@ -11,7 +11,7 @@ ghost use Rattle.line_text.specs.Values.{closes, is_variable, is_reference, is_v
 use crate::cut::depth_behind;
 use nc_number::{is_literal, parse_word};
 
-/// Whether the bracket that is open before the text closes at its very end.
+/// Whether the one bracket that is open before the text closes at its very end and not before.
 fn closes(text: &[u8]) -> bool
     requires { length text.now < 2 ^ 32 }
     ensures { result ≡ closes text.now 1 }

@@ -1,5 +1,7 @@
-//! A block of words: its sequence number, its words, or the O number that it is. line.rt calls
-//! `read_pieces` for each block that is no statement.
+//! A block of words of a tape: its sequence number, its words, or the O number that it is. line.rt
+//! calls `read_pieces` for each block that is no statement. The ranges of both numbers stand in
+//! line.rt, specs/Said and specs/LineShape too, in nc_text (specs/Shape) and in tape_relation
+//! (specs/Numbers).
 ghost use Rattle.std.specs.Prelude.{◌≡◌, ◌^◌, ◌<◌, ◌≤◌, None, ◌+◌, length, take, if◌then◌else◌, IfOk, IsTrue};
 ghost use Rattle.std.specs.List.{list_all, list_any, prefix_len};
 ghost use Rattle.line_text.specs.Values.{number_in};
@@ -27,7 +29,8 @@ fn is_sound(piece: &Piece) -> bool
     piece.whole && is_value(piece.text.as_slice())
 }
 
-/// Whether the piece is an N or an O whose value begins with a literal of too many digits.
+/// Whether the piece is an N or an O whose value begins with a literal of too many digits; what
+/// follows the literal is not asked.
 fn is_long(piece: &Piece) -> bool
     ensures { result ≡ is_long piece.now }
 {

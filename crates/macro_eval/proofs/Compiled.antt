@@ -1,6 +1,6 @@
--- The code of a tree makes of it what the tree means, and fits the stack: it needs one operand more
--- at once than right operands are deep inside one another. For `compile` (src/code.rt) and
--- `evaluate` (src/running.rt).
+-- The code of a macro expression's tree makes of it what the tree means, and fits the stack: it
+-- needs one operand more at once than right operands are deep inside one another. For `compile`
+-- (src/code.rt) and `evaluate` (src/running.rt).
 use Rattle.std.proofs.Common.{◌≡◌, ℕ, suc, ◌+◌, ◌-◌, ◌<◌, List, [], ◌∷◌, Result, refl, sym, ◌∙◌, ap, arith}
 use Rattle.std.proofs.lemmas.Bool.Decides.{nat_tests}
 use Rattle.nc_number.specs.declared.value.Var.{Var}
@@ -26,6 +26,7 @@ then_ends (Got v, left) = refl
 then_ends (Need n, left) = refl
 then_ends (Fault n, left) = refl
 
+-- `table` says what is known of each variable.
 module _ (table : ℕ → Result Look VarFault) where
   -- The code of a tree leaves its value on the stack, and goes on.
   runs : (t : Tree) (code : List Instr) (stack reads : List Var) → run table (code_before t code) stack reads
@@ -47,6 +48,7 @@ module _ (table : ℕ → Result Look VarFault) where
   pub run_is_meaning : (t : Tree) (reads : List Var) → run table (postfix t) [] reads ≡ meaning table t reads
   run_is_meaning t reads = runs t [] [] reads ∙ then_ends (meaning table t reads)
 
+-- `most` is how many operands the stack may hold.
 module _ (most : ℕ) where
   -- An instruction that finds its operands leaves one in their place.
   goes_on : (i : Instr) (code : List Instr) (before height : ℕ) → before ≡ takes i + height → height < most

@@ -1,5 +1,5 @@
--- Code that needs no stack: an operand alone, and two operands with their operator. For the two
--- short ways of `evaluate` (src/running.rt).
+-- Code of macro expressions that needs no stack: an operand alone, and two operands with their
+-- operator. For the two short ways of `evaluate` (src/running.rt).
 use Rattle.std.proofs.Common.{◌≡◌, ℕ, ◌≤◌, ◌<◌, List, [], ◌∷◌, length, get_or, Result, refl, ◌∙◌, ap, arith}
 use Rattle.nc_number.specs.declared.value.Var.{Var}
 use Rattle.macro_eval.specs.declared.code.Instr.{Instr}

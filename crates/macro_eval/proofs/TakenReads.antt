@@ -1,5 +1,6 @@
--- Each variable of a tree takes at most one read, and a read is needed only if fewer were given
--- than the tree names variables. For the law of src/running.rt; path_state takes it too.
+-- Each variable of a macro expression takes at most one read of a shared variable, and a read is
+-- needed only if fewer were given than it names variables. For the law of src/running.rt;
+-- path_state takes it too.
 use Rattle.std.proofs.Common.{◌≡◌, ℕ, suc, ◌+◌, ◌<◌, ◌≤◌, List, [], ◌∷◌, length, Result, Ok, Err, ℤ, ap, arith}
 use Rattle.nc_number.specs.declared.cause.Cause.{Cause}
 use Rattle.nc_number.specs.declared.fault.NumberFault.{NumberFault}
@@ -48,6 +49,7 @@ seen_takes (Ok look.Shared) n [] = omega arith
 seen_takes (Ok look.Shared) n (v ∷ left) = omega arith
 seen_takes (Err fault) n reads = omega arith
 
+-- `table` says what is known of each variable.
 module _ (table : ℕ → Result Look VarFault) where
   -- A look at a variable whose number was calculated takes one read at most.
   by_takes : (number : Result ℕ Cause) (reads : List Var) → Takes 1 reads (looked_by table number reads)

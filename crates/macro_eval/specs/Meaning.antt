@@ -1,6 +1,7 @@
--- What an expression means: its value, the shared variable that must be read next, or an alarm; and
--- the reads that are left. Numbers are in 0.000001. The contract of `evaluate` (src/running.rt);
--- path_state, block_values, named_vars and two_path cite it.
+-- What a macro expression means: its value, the shared variable that must be read next, or an
+-- alarm; and the reads (values of shared variables that were read and not yet taken) that are left.
+-- Numbers are in 0.000001. The contract of `evaluate` (src/running.rt); path_state, block_values,
+-- named_vars and two_path cite it.
 use Rattle.std.specs.Prelude.{ℕ, Bool, List, [], ◌∷◌, Option, Some, None, Result, Ok, Err, ℤ, pos, unsigned_abs, if◌then◌else◌}
 use Rattle.std.specs.Int.{is_negative}
 use Rattle.nc_number.specs.declared.cause.Cause.{Cause}
@@ -72,12 +73,12 @@ whole_or_alarm None = Err NotWhole
 abbrev pub whole_number : Var → Result ℤ Cause
 whole_number v = whole_or_alarm (whole_of (or_zero v))
 
--- The number of a variable, or alarm 30 if it is below 0.
+-- The number of a variable, or alarm 30 if it is below 0; an alarm stays.
 abbrev pub named_by : Result ℤ Cause → Result ℕ Cause
 named_by (Ok n) = if is_negative n then Err VariableRange else Ok (unsigned_abs n)
 named_by (Err cause) = Err cause
 
--- The number of the variable that a calculated value names.
+-- The number of the variable that a calculated value names, or alarm 4 or 30.
 abbrev pub variable_number : Var → Result ℕ Cause
 variable_number v = named_by (whole_number v)
 
@@ -96,6 +97,7 @@ seen (Ok (look.Is v)) n reads = (Got v, reads)
 seen (Ok look.Shared) n reads = next_read n reads
 seen (Err fault) n reads = (alarm VariableRange, reads)
 
+-- `table` says what is known of each variable.
 module _ (table : ℕ → Result Look VarFault) where
   -- What variable n gives, by what is known of each variable.
   abbrev pub looked_at : ℕ → List Var → Answer
@@ -117,7 +119,7 @@ then_with (Need n, left) next = (Need n, left)
 then_with (Fault n, left) next = (Fault n, left)
 
 -- The meaning of a tree, read from left to right. `table` says what is known of each variable, and
--- `reads` are the values of shared variables that were read so far.
+-- `reads` are the values of shared variables that were read and not yet taken.
 abbrev pub meaning : (ℕ → Result Look VarFault) → Tree → List Var → Answer
 meaning table (Number z) reads = (Got (Is z), reads)
 meaning table (Variable n) reads = looked_at table n reads

@@ -1,6 +1,6 @@
--- Postfix code (each operator after its operands), and what a machine with a stack of operands
--- makes of it. The contracts of src/code.rt, src/stepping.rt and src/running.rt; race_report cites
--- it. A new instruction needs its row in each function here.
+-- Postfix code of macro expressions (each operator after its operands), and what a machine with a
+-- stack of operands makes of it. The contracts of src/code.rt, code_list.rt, stepping.rt and
+-- running.rt; race_report cites it. A new instruction needs its row in each function here.
 use Rattle.std.specs.Prelude.{◌≡◌, ℕ, ◌+◌, ◌-◌, ◌==◌, ◌&&◌, nat_le, Bool, true, List, [], ◌∷◌, Result, pos, refl}
 use Rattle.std.proofs.Common.{◌∙◌, ap}
 use Rattle.nc_number.specs.declared.value.Var.{Var}
@@ -27,7 +27,8 @@ code_before (Joined op a b) code = code_before a (code_before b (instr.Join op �
 abbrev pub postfix : Tree → List Instr
 postfix t = code_before t []
 
--- What an instruction makes of the trees on a stack, of which the last one is first.
+-- What an instruction makes of the trees on a stack, of which the last one is first; without its
+-- operands it leaves them.
 abbrev pub put : Instr → List Tree → List Tree
 put (instr.Number z) trees = Number z ∷ trees
 put (instr.Variable n) trees = Variable n ∷ trees

@@ -1,5 +1,6 @@
-//! The codes of a statement, in the order in which they are evaluated. block_forms makes them, a
-//! list for each statement of a tape; block_values says what is done with their values.
+//! The codes of a macro statement, in the order in which they are evaluated. block_forms makes
+//! them, a list for each statement of a tape; path_state runs the statement, and block_values
+//! evaluates its codes.
 ghost use Rattle.std.specs.Prelude.{◌≡◌, ◌≤◌, [], ◌∷◌, ◌++◌, length, IfOk, OnOk};
 ghost use Rattle.macro_expr.specs.Tree.{tree_of, variable_of, test_of, aim_of, sentence_of, evaluated, evaluated_name, evaluated_test, evaluated_aim};
 

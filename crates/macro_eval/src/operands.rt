@@ -1,5 +1,5 @@
-//! The stack of an evaluation: room for 16 values (`OPERANDS`, code.rt), without any memory.
-//! running.rt and stepping.rt use it.
+//! The stack of the evaluation of a macro expression: room for 16 values (`OPERANDS`, code.rt),
+//! without any memory. running.rt and stepping.rt use it.
 ghost use Rattle.std.specs.Prelude.{◌≡◌, ◌<◌, [], ◌∷◌, length};
 
 use crate::code::OPERANDS;

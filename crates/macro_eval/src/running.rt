@@ -1,5 +1,6 @@
-//! The evaluation of a code; stepping.rt does one instruction. block_values calls `evaluate` for
-//! each word and each operand; `eval` and `count_reads` are for tests.
+//! The evaluation of the code of a macro expression; stepping.rt does one instruction. block_values
+//! calls `evaluate` for each word, each argument of a call and each operand of a statement that is
+//! computed; `eval` and `count_reads` are for tests.
 ghost use Rattle.std.specs.Prelude.{◌≡◌, ◌+◌, ◌-◌, ◌<◌, ◌≤◌, ℕ, List, [], true, length, Result};
 ghost use Rattle.nc_number.specs.declared.value.Var.{Var};
 ghost use Rattle.macro_expr.specs.Tree.{Tree, variables};
@@ -36,8 +37,8 @@ fn run<'a, S: Scope>(instrs: &[Instr], scope: &S, reads: &'a [Var]) -> (Eval, &'
 }
 
 /// The value of the expression, the shared variable that must be read next, or an alarm; and the
-/// reads that are left. Each shared variable takes the next of `reads`, from left to right in the
-/// text. An operand alone, or two and their operator, need no stack.
+/// reads that are left. Each shared variable takes the next of `reads`, in the order of the code.
+/// An operand alone, or two and their operator, need no stack.
 ///
 /// Alarms: 1 a result past the range, 2 a division by 0, 3 the root of a negative value, 4 what
 /// must be a whole number is none, 30 a variable that does not exist or can't be read.

@@ -1,4 +1,5 @@
-//! One instruction of an evaluation, as specs/Postfix defines it. running.rt calls it in order.
+//! One instruction of the evaluation of a macro expression, as specs/Postfix defines it. running.rt
+//! calls it in order.
 ghost use Rattle.std.specs.Prelude.{◌≡◌, ◌≤◌, ◌==◌, [], ◌∷◌, List, length};
 ghost use Rattle.nc_number.specs.declared.value.Var.{Var};
 ghost use Rattle.macro_eval.specs.Meaning.{made, signed, function_value, operator_value, looked_at, looked_up};
@@ -77,7 +78,7 @@ fn looked_at<'a, S: Scope>(scope: &S, variable: u32, reads: &'a [Var]) -> (Eval,
 }
 
 /// What the variable gives whose number was calculated, and the reads that are left. Alarm 4 if the
-/// number has a fraction, 30 if it is below 0.
+/// number has a fraction, 30 if it is below 0 or that variable can't be read.
 fn looked_up<'a, S: Scope>(scope: &S, number: &Var, reads: &'a [Var]) -> (Eval, &'a [Var])
     ensures { (result.0, result.1.now) ≡ looked_up (S.table scope.now) number.now reads.now }
 {

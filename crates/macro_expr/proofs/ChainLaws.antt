@@ -1,5 +1,5 @@
--- A chain of operators reads exactly the chains of the grammar. For Sound and Complete;
--- macro_limits takes `chained`.
+-- A chain of operators of a macro expression reads exactly the chains of the grammar. For Sound and
+-- Complete; macro_limits takes `chained`.
 use Rattle.std.proofs.Common.{◌≡◌, ℕ, zero, suc, ◌+◌, ◌-◌, ◌≤◌, List, ◌++◌, length, None, Ok, ◌∙◌, ap, arith, append_assoc, length-append}
 use Rattle.std.proofs.lemmas.Bool.{leb-true}
 use Rattle.macro_expr.specs.declared.tree.Op.{Op}
@@ -22,6 +22,8 @@ IsRead {A} Quiet Is reader =
 abbrev pub chained : Rank → (List ℕ → Read Tree) → (List ℕ → Read Tree) → List ℕ → Read Tree
 chained rank first operand text = first text >>= λ x. chain (operator rank) operand (length x.1) x.0 x.1
 
+-- The operators are those of `rank`. `First` is the grammar of the first operand and `Operand` of
+-- the others; `first` and `operand` read them.
 module _ (rank : Rank) (First Operand : List ℕ → Tree → Type 0) (first operand : List ℕ → Read Tree) where
   -- a text is a chain of this rank, from its first operand on
   abbrev IsOne : List ℕ → Tree → Type 0
@@ -47,6 +49,8 @@ module _ (rank : Rank) (First Operand : List ℕ → Tree → Type 0) (first ope
       step _ (first_sound text) (λ t rest e is stands.
       chain_sound operand_sound (length rest) text t rest e stands (one t e is))
 
+  -- `Quiet` says of a text that no operand goes on into it. Both readers read each operand before
+  -- such a text, and what begins with an operator is one.
   module _ (Quiet : List ℕ → Type 0)
       (first_reads : IsRead Quiet First first) (operand_reads : IsRead Quiet Operand operand)
       (quiets : (word : List ℕ) (op : Op) → IsWord (operator_words rank) word op

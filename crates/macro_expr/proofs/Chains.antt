@@ -1,5 +1,5 @@
--- One operator of a chain, and its end. For the loop of `chain_at` (src/reading.rt), and for
--- ChainLaws.
+-- One operator of a chain in a macro expression, and its end. For the loop of `chain_at`
+-- (src/reading.rt), and for ChainLaws.
 use Rattle.std.proofs.Common.{◌≡◌, ℕ, zero, suc, ◌+◌, ◌-◌, ◌<◌, ◌≤◌, List, Option, None, Some, Result, Ok, Err, refl, sym, ◌∙◌, ap, arith}
 use Rattle.macro_expr.specs.declared.stop.Stop.{Stop}
 use Rattle.macro_expr.specs.declared.tree.Op.{Op}
@@ -14,6 +14,7 @@ use Rattle.macro_expr.specs.Reading.{Read, chain, joined_by}
 abbrev pub ok_tree : Tree → Result Tree Stop
 ok_tree t = Ok t
 
+-- `operator` finds an operator at the head of a text, `operand` reads what it joins.
 module _ (operator : List ℕ → Option (Op × List ℕ)) (operand : List ℕ → Read Tree) where
   -- a chain ends if no operator stands at the head of the text
   pub chain_stops : (n : ℕ) (left : Tree) (text : List ℕ) → operator text ≡ None

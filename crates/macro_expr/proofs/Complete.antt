@@ -1,5 +1,5 @@
--- What has a tree by the grammar is read as that tree. For StatementsComplete and Sound;
--- macro_limits takes `first_at`, `looked` and `sum_is`.
+-- A macro expression that has a tree by the grammar is read as that tree. For StatementsComplete
+-- and Sound; macro_limits takes `first_at`, `looked` and `sum_is`.
 use Rattle.std.proofs.Common.{◌≡◌, ℕ, zero, suc, ◌/◌, ◌==◌, Bool, true, false, cond, List, [], ◌∷◌, ◌++◌, None, Some, Result, Ok, Err, ℤ, unsigned_abs, refl, sym, ◌∙◌, ap, arith, append_assoc}
 use Rattle.std.specs.Prelude.{codes}
 use Rattle.std.specs.Char.{is_ascii_digit}
@@ -24,7 +24,7 @@ use Rattle.macro_expr.proofs.ChainLaws.{IsRead, chained, chain_read}
 abbrev pub NoNumber : List ℕ → Type 0
 NoNumber rest = begins is_number_byte rest ≡ false
 
--- the text begins with no operator of a term
+-- the text begins with nothing that could go on a number, nor with an operator of a product
 abbrev pub NoProduct : List ℕ → Type 0
 NoProduct rest = NoNumber rest × (operator Product rest ≡ None)
 
@@ -117,6 +117,7 @@ sum_is inner text = bind_bind (signed_at inner text) _ _
 abbrev pub looked : Named × List ℕ → Read Tree
 looked v = Ok (look v.0, v.1)
 
+-- `Inner` says what may stand in brackets, and `inner` reads it before a bracket that closes.
 module _ (inner : List ℕ → Read Tree) (Inner : List ℕ → Tree → Type 0)
     (inner_reads : (t : List ℕ) (e : Tree) → Inner t e → (rest : List ℕ)
     → inner (t ++ (codes "]" ++ rest)) ≡ Ok (e, codes "]" ++ rest)) where
@@ -145,6 +146,7 @@ module _ (inner : List ℕ → Read Tree) (Inner : List ℕ → Tree → Type 0)
   Names name f = (rest : List ℕ) → (sign (name ++ (codes "[" ++ rest)) ≡ None)
       × (prim_at inner (name ++ (codes "[" ++ rest)) ≡ applied inner (Some f) (codes "[" ++ rest))
 
+  -- the name of each function begins a text as `Names` says
   names_it : (name : List ℕ) (f : Fun) → IsWord function_words name f → Names name f
   unfolding sign prim_at function_at function_of function_word
   names_it =

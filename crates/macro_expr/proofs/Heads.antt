@@ -1,5 +1,6 @@
--- Words and runs at the head of a text: what a search in a table of words finds. For the other
--- lemmas of this crate; macro_limits and open_forms take lemmas from here.
+-- Words and runs at the head of the text of a macro expression or statement: what a search in a
+-- table of words finds. For the other lemmas of this crate; macro_limits and open_forms take lemmas
+-- from here.
 use Rattle.std.proofs.Common.{◌≡◌, ℕ, suc, ◌+◌, ◌==◌, ◌&&◌, not, Bool, true, false, cond, List, [], ◌∷◌, ◌++◌, length, take, drop, Option, None, Some, refl, sym, ◌∙◌, ap, subst, arith, inl, inr, eqb-true}
 use Rattle.std.specs.Prelude.{nat_le}
 use Rattle.std.specs.Option.{option_or, option_map}
@@ -51,7 +52,7 @@ meant {A} G words name found none = leading (λ o. G (all_of o)) words name go n
         let some : (length (b ∷ rest) == 0) ≡ false = grind (arith, nat_tests) in
         subst (λ t. G (cond t (Some m) None)) (sym some) none
 
--- what holds of each word of a table, word by word
+-- the statement holds of each word of the table with its meaning, word by word
 abbrev pub Each : {A : Type 0} → List (List ℕ × A) → (List ℕ → A → Type 0) → Type 0
 Each [] P = Unit {0}
 Each (w ∷ words) P = P w.0 w.1 × Each words P

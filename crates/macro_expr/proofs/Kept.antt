@@ -1,6 +1,6 @@
--- What holds of each tree by the grammar: how deep its right operands stand, and how many variables
--- it names. For `parse_expr` and `parse_statement` (src/parse.rt); path_state takes
--- `variables-append`.
+-- What holds of each tree of a macro expression or statement by the grammar: how deep its right
+-- operands stand, and how many variables it names. For `parse_expr` and `parse_statement`
+-- (src/parse.rt); path_state takes `variables-append`.
 use Rattle.std.proofs.Common.{◌≡◌, ℕ, zero, suc, ◌+◌, ◌*◌, ◌≤◌, List, [], ◌∷◌, ◌++◌, arith}
 use Rattle.std.specs.Prelude.{codes}
 use Rattle.std.specs.List.{All}
@@ -35,7 +35,7 @@ signs-append t u = sum_by-append _ t u
 behind : (a : ℕ) (front t : List ℕ) → a ≤ variable_signs t → a ≤ variable_signs (front ++ t)
 behind a front t named = rw (signs-append front t) (omega arith)
 
--- a chain of operators: its right operands stand one deeper
+-- in a chain of operators the right operands stand one deeper than in its operands
 chain_kept : (rank : Rank) (First Operand : List ℕ → Tree → Type 0) (most : ℕ)
     → AreKept most First → AreKept most Operand → AreKept (suc most) (IsChain rank First Operand)
 chain_kept rank First Operand most first operand _ _ (one t e is) =
@@ -48,6 +48,7 @@ chain_kept rank First Operand most first operand _ _ (more t word u op left righ
       named = omega (arith, before.named, kept.named, signs-append t (word ++ u), signs-append word u);
     }
 
+-- `Inner` says what may stand in brackets; its trees are kept with right operands `most` deep.
 module _ (Inner : List ℕ → Tree → Type 0) (most : ℕ) (inner : AreKept most Inner) where
   -- These four: brackets, a variable, an operand and one with a sign keep it.
   bracket_kept : AreKept most (IsBracketed Inner)
@@ -91,7 +92,8 @@ within_kept (suc n) t e is =
     let kept = sum_kept (IsWithin n) (2 * n) (within_kept n) t e is in
     record { deep = omega (arith, kept.deep); named = kept.named }
 
--- an expression has them at most 12 deep, and names no more variables than its text has `#`
+-- an expression has right operands at most 12 deep, and names no more variables than its text has
+-- `#`
 pub expression_kept : AreKept 12 IsExpression
 expression_kept = within_kept 6
 
@@ -110,7 +112,7 @@ pub record AllKept (t : List ℕ) (trees : List Tree) : Type 0 where
   -- all together name no more variables than the text has `#`
   pub named : variables_in trees ≤ variable_signs t
 
--- no trees are kept by any text
+-- the list without trees is kept by any text
 no_tree : (t : List ℕ) → AllKept t []
 no_tree t = record { shallow = All-nil IsShallow; named = omega arith }
 

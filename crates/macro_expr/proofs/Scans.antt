@@ -1,4 +1,5 @@
--- One byte of a scan over the text. For `has_deep_brackets` and `has_long_number` (src/limits.rt).
+-- One byte of a scan over the text of a macro expression for its limits. For `has_deep_brackets`
+-- and `has_long_number` (src/limits.rt).
 use Rattle.std.proofs.Common.{◌≡◌, ℕ, ◌+◌, ◌<◌, ◌||◌, true, false, List, [], ◌∷◌, ◌++◌, length, get_or, take, drop, refl, sym, ◌∙◌, ap}
 use Rattle.std.proofs.lemmas.List.{drop_more, take_more}
 use Rattle.macro_expr.specs.Limits.{begins_long, long_behind, too_deep}

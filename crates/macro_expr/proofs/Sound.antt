@@ -1,4 +1,4 @@
--- What is read of an expression has its tree by the grammar. For StatementsSound; macro_limits
+-- What is read of a macro expression has its tree by the grammar. For StatementsSound; macro_limits
 -- takes lemmas from here.
 use Rattle.std.proofs.Common.{◌≡◌, ℕ, zero, suc, ◌/◌, ◌==◌, Bool, true, false, cond, List, [], ◌++◌, Ok, Err, ℤ, unsigned_abs, refl, sym, subst, append_assoc}
 use Rattle.std.specs.Prelude.{codes}
@@ -47,6 +47,7 @@ digits-sound =
     run-sound is_ascii_digit (λ m. unsigned_abs m / 1000000)
     (λ t all is short. record { bytes = all; literal = is; short = short; value = refl })
 
+-- `Inner` says what may stand in brackets, and what `inner` reads is such a text.
 module _ (inner : List ℕ → Read Tree) (Inner : List ℕ → Tree → Type 0) (inner-sound : Reads Inner inner) where
   -- what is read in brackets stands there by the grammar
   pub bracket-sound : Reads (IsBracketed Inner) (bracket_at inner)

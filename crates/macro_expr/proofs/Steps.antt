@@ -1,5 +1,6 @@
--- Steps of a reading: what is read stands at the head of the text by the grammar. For ChainLaws,
--- Sound and StatementsSound; macro_limits takes `Reads`, `Sound`, `found` and `stops`.
+-- Steps of the reading of a macro expression: what is read stands at the head of the text by the
+-- grammar. For ChainLaws, Sound and StatementsSound; macro_limits takes `Reads`, `Sound`, `found`
+-- and `stops`.
 use Rattle.std.proofs.Common.{◌≡◌, ℕ, List, ◌++◌, Ok, Err, append_assoc}
 use Rattle.macro_expr.specs.declared.stop.Stop.{Stop}
 use Rattle.macro_expr.specs.declared.stop.Stop.TheVariants as stop
@@ -9,7 +10,9 @@ use Rattle.macro_expr.proofs.Heads.{behind_word}
 
 -- what is read stands at the head of the text, or reading stops
 pub data Sound {A : Type 0} (Is : List ℕ → A → Type 0) (text : List ℕ) : Read A → Type 0 where
+  -- a value was read of the front of the text, and the rest is left
   found : (t rest : List ℕ) (x : A) → Is t x → text ≡ t ++ rest → Sound Is text (Ok (x, rest))
+  -- reading stops
   stops : (s : Stop) → Sound Is text (Err s)
 
 -- at each text, what this reader reads stands at the head by the grammar

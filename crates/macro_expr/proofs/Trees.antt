@@ -1,5 +1,6 @@
--- From what reading gives to what a call answers: a tree is answered exactly if it was read and the
--- text names at most 32 variables. For `parse_expr` and `parse_statement` (src/parse.rt).
+-- From what the reading of a macro expression or statement gives to what a call answers: a tree is
+-- answered exactly if it was read and the text names at most 32 variables. For `parse_expr` and
+-- `parse_statement` (src/parse.rt).
 use Rattle.std.proofs.Common.{◌≡◌, ◌≤◌, ℕ, Bool, true, false, cond, List, Result, Ok, Err, IfOk, refl, ◌∙◌, ap, subst}
 use Rattle.std.proofs.lemmas.Bool.{ltb-false, le-ltb}
 use Rattle.nc_number.specs.declared.cause.Cause.TheVariants.{TooManyVariables}

@@ -1,6 +1,6 @@
--- The grammar of expressions and statements: which trees a cleaned text has. The reader gives
--- exactly these trees (proofs/Sound and Complete). block_forms, macro_limits and open_forms cite
--- it.
+-- The grammar of macro expressions and statements: which trees a cleaned text has. The reader gives
+-- exactly these trees (proofs/Sound, Complete, StatementsSound and StatementsComplete).
+-- block_forms, macro_limits and open_forms cite it.
 use Rattle.std.specs.Prelude.{◌≡◌, ℕ, zero, suc, ◌/◌, ◌≤◌, Bool, true, false, List, [], ◌∷◌, ◌++◌, ℤ, unsigned_abs, codes, ◌⊎◌}
 use Rattle.std.specs.Char.{is_ascii_digit}
 use Rattle.std.specs.List.{list_all}
@@ -43,30 +43,41 @@ pub record IsWhole (t : List ℕ) (n : ℕ) : Type 0 where
 
 -- "[" expr "]", if Inner says what may stand in brackets
 pub data IsBracketed (Inner : List ℕ → Tree → Type 0) : List ℕ → Tree → Type 0 where
+  -- the brackets and what stands in them
   closed : (t : List ℕ) (e : Tree) → Inner t e → IsBracketed Inner (codes "[" ++ (t ++ codes "]")) e
 
 -- var = "#" digits | "#" "[" expr "]"
 pub data IsVariable (Inner : List ℕ → Tree → Type 0) : List ℕ → Named → Type 0 where
+  -- `#` and digits
   fixed : (t : List ℕ) (n : ℕ) → IsWhole t n → IsVariable Inner (codes "#" ++ t) (Fixed n)
+  -- `#` and an expression in brackets
   computed : (t : List ℕ) (e : Tree) → IsBracketed Inner t e → IsVariable Inner (codes "#" ++ t) (Computed e)
 
 -- prim = literal without sign | var | "[" expr "]" | fun "[" expr "]"
 pub data IsPrim (Inner : List ℕ → Tree → Type 0) : List ℕ → Tree → Type 0 where
+  -- a literal
   number : (t : List ℕ) (micro : ℤ) → IsNumber t micro → IsPrim Inner t (Number micro)
+  -- a variable
   variable : (t : List ℕ) (v : Named) → IsVariable Inner t v → IsPrim Inner t (look v)
+  -- an expression in brackets, which leave no trace in the tree
   bracket : (t : List ℕ) (e : Tree) → IsBracketed Inner t e → IsPrim Inner t e
+  -- the name of a function, and an expression in brackets
   function : (name t : List ℕ) (f : Fun) (e : Tree) → IsWord function_words name f → IsBracketed Inner t e
       → IsPrim Inner (name ++ t) (Applied f e)
 
 -- a prim with a sign in front, or without
 pub data IsSigned (Inner : List ℕ → Tree → Type 0) : List ℕ → Tree → Type 0 where
+  -- without a sign
   plain : (t : List ℕ) (e : Tree) → IsPrim Inner t e → IsSigned Inner t e
+  -- with a plus or a minus
   signed : (word t : List ℕ) (minus : Bool) (e : Tree) → IsWord sign_words word minus → IsPrim Inner t e
       → IsSigned Inner (word ++ t) (Signed minus e)
 
 -- first { operator operand }, from left to right, the operators all of one rank
 pub data IsChain (rank : Rank) (First Operand : List ℕ → Tree → Type 0) : List ℕ → Tree → Type 0 where
+  -- the first operand alone
   one : (t : List ℕ) (e : Tree) → First t e → IsChain rank First Operand t e
+  -- a chain, and one operator and operand more
   more : (t word u : List ℕ) (op : Op) (left right : Tree) → IsChain rank First Operand t left
       → IsWord (operator_words rank) word op → Operand u right
       → IsChain rank First Operand (t ++ (word ++ u)) (Joined op left right)
@@ -84,37 +95,49 @@ abbrev pub IsWithin : ℕ → List ℕ → Tree → Type 0
 IsWithin zero t e = ⊥
 IsWithin (suc n) t e = IsSum (IsWithin n) t e
 
--- an expression: its brackets nest at most five deep
+-- the text is an expression, whose brackets nest at most five deep, with this tree
 abbrev pub IsExpression : List ℕ → Tree → Type 0
 IsExpression t e = IsWithin (suc MOST_BRACKETS) t e
 
 -- cond = "[" expr rel expr "]"
 pub data IsTest : List ℕ → Test → Type 0 where
+  -- two expressions with a relation between them, in brackets
   compares : (t word u : List ℕ) (rel : Rel) (left right : Tree) → IsWithin MOST_BRACKETS t left → IsWord relation_words word rel
       → IsWithin MOST_BRACKETS u right
       → IsTest (codes "[" ++ (t ++ (word ++ (u ++ codes "]")))) (record { left = left; rel = rel; right = right })
 
 -- target = digits | var | "[" expr "]", with digits that are at most 99,999
 pub data IsTarget : List ℕ → Aim → Type 0 where
+  -- digits
   line : (t : List ℕ) (n : ℕ) → IsWhole t n → n ≤ 99999 → IsTarget t (ToNumber n)
+  -- a variable
   line_of : (t : List ℕ) (v : Named) → IsVariable (IsWithin MOST_BRACKETS) t v → IsTarget t (ToNumberOf (look v))
+  -- an expression in brackets
   line_in : (t : List ℕ) (e : Tree) → IsBracketed (IsWithin MOST_BRACKETS) t e → IsTarget t (ToNumberOf e)
 
 -- assign = var "=" expr
 pub data IsAssignment : List ℕ → Named → Tree → Type 0 where
+  -- a variable, `=` and an expression
   assigns : (t u : List ℕ) (v : Named) (e : Tree) → IsVariable (IsWithin MOST_BRACKETS) t v → IsExpression u e
       → IsAssignment (t ++ (codes "=" ++ u)) v e
 
 -- a statement: an assignment, a jump, a condition with a jump or an assignment, or the begin or end
 -- of a loop
 pub data IsStatement : List ℕ → Sentence → Type 0 where
+  -- `#i = expr`
   assign : (t : List ℕ) (v : Named) (e : Tree) → IsAssignment t v e → IsStatement t (Assign v e)
+  -- `GOTO n`
   goto : (t : List ℕ) (aim : Aim) → IsTarget t aim → IsStatement (codes "GOTO" ++ t) (Goto aim)
+  -- `IF [cond] GOTO n`
   if_goto : (c t : List ℕ) (test : Test) (aim : Aim) → IsTest c test → IsTarget t aim
       → IsStatement (codes "IF" ++ (c ++ (codes "GOTO" ++ t))) (IfGoto test aim)
+  -- `IF [cond] THEN #i = expr`
   if_then : (c t : List ℕ) (test : Test) (v : Named) (e : Tree) → IsTest c test → IsAssignment t v e
       → IsStatement (codes "IF" ++ (c ++ (codes "THEN" ++ t))) (IfThen test v e)
+  -- `WHILE [cond] DO m`
   while_do : (c word : List ℕ) (test : Test) (m : ℕ) → IsTest c test → IsWord loop_words word m
       → IsStatement (codes "WHILE" ++ (c ++ (codes "DO" ++ word))) (WhileDo test m)
+  -- `DO m`
   do_only : (word : List ℕ) (m : ℕ) → IsWord loop_words word m → IsStatement (codes "DO" ++ word) (DoOnly m)
+  -- `END m`
   end_loop : (word : List ℕ) (m : ℕ) → IsWord loop_words word m → IsStatement (codes "END" ++ word) (EndLoop m)

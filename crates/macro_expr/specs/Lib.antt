@@ -1,6 +1,6 @@
--- The words of the contracts of macro_expr. Tree, Grammar, Answers and Limits are what the crates
--- above cite; Reading and Statements say how a text is read, and macro_limits compares them with
--- the grammar.
+-- The words of the contracts of macro_expr. Crates above cite Tree, Grammar, Answers and Limits.
+-- Reading and Statements say how a text is read; macro_limits compares them with the grammar, and
+-- block_forms and open_forms take Statements too. macro_limits and open_forms also cite Words.
 pub mod Tree
 pub mod Words
 pub mod Reading

@@ -1,5 +1,6 @@
--- The limits of a text, and which refusal is answered if several hold. src/limits.rt and
--- src/parse.rt compute it; block_forms, macro_limits and open_forms cite it.
+-- The limits of the text of a macro expression or statement, and which refusal is answered if
+-- several hold. src/limits.rt, parse.rt and stop.rt compute it; block_forms, macro_limits and
+-- open_forms cite it.
 -- Bytes: 9 is the tab, 32 the space, 35 `#`, 40 `(`, 41 `)`, 46 the point, 91 `[`, 93 `]`.
 use Rattle.std.specs.Prelude.{ℕ, suc, Bool, true, false, ◌-◌, ◌==◌, ◌&&◌, ◌||◌, not, nat_eq, nat_lt, List, [], ◌∷◌, ◌++◌, length, slice_index, count_by, codes, Result, Ok, Err, if◌then◌else◌}
 use Rattle.std.specs.Char.{is_ascii_digit, to_ascii_uppercase}
@@ -33,7 +34,7 @@ cleaned false (b ∷ text) =
     else if b == 32 || b == 9 then cleaned false text
     else to_ascii_uppercase b ∷ cleaned false text
 
--- whether the text has a last byte, and it passes
+-- whether the text has a last byte, and that byte passes the test
 abbrev pub ends : (ℕ → Bool) → List ℕ → Bool
 ends p text = nat_lt 0 (length text) && p (slice_index text (length text - 1))
 
@@ -66,7 +67,7 @@ long_behind before (b ∷ text) = begins_long before (b ∷ text) || long_behind
 unfoldable pub has_long_number : List ℕ → Bool
 has_long_number text = long_behind [] text
 
--- how many brackets are open after a byte, if so many were open before it
+-- how many square brackets are open after a byte, if so many were open before it
 abbrev pub open_behind : ℕ → ℕ → ℕ
 open_behind opened b = if b == 91 then suc opened else if b == 93 then opened - 1 else opened
 
@@ -79,7 +80,7 @@ too_deep opened (b ∷ text) = nat_lt MOST_BRACKETS opened || too_deep (open_beh
 unfoldable pub has_deep_brackets : List ℕ → Bool
 has_deep_brackets text = too_deep 0 text
 
--- how many variables the text names
+-- how many `#` the text has: one for each variable that it names
 abbrev pub variable_signs : List ℕ → ℕ
 variable_signs text = count_by (λ b. b == 35) text
 

@@ -1,6 +1,6 @@
--- Reading a text from left to right: its tree, or the cause at the first place where reading fails.
--- src/reading.rt computes it. The proofs of this crate show that the trees are exactly those of the
--- grammar; macro_limits says what stands where reading stops.
+-- Reading a macro expression from left to right: its tree, or the cause at the first place where
+-- reading fails. src/reading.rt computes it. The proofs of this crate show that the trees are
+-- exactly those of the grammar; macro_limits cites it, and says what stands where reading stops.
 -- Bytes: 35 is `#`, 91 `[`.
 use Rattle.std.specs.Prelude.{ℕ, zero, suc, ◌/◌, ◌==◌, Bool, List, length, Option, Some, None, Result, Ok, Err, ℤ, unsigned_abs, codes, if◌then◌else◌}
 use Rattle.std.specs.Char.{is_ascii_digit}
@@ -41,7 +41,7 @@ number_at text = do
   micro ← literal_of (run is_number_byte text)
   Ok (Number micro, behind_run is_number_byte text)
 
--- a whole number without sign and point
+-- a whole number without sign and point, and the text after it
 unfoldable pub digits_at : List ℕ → Read ℕ
 digits_at text = do
   micro ← literal_of (run is_ascii_digit text)
@@ -68,7 +68,7 @@ variable_at inner text = do
   rest ← word_at (codes "#") text
   variable_behind inner rest
 
--- a function's brackets, once its name was read
+-- a function's brackets, once its name was read; letters that name none stop the reading
 abbrev pub applied : (List ℕ → Read Tree) → Option Fun → List ℕ → Read Tree
 applied inner None text = Err stop.Function
 applied inner (Some f) text = do

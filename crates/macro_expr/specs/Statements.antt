@@ -1,5 +1,5 @@
--- Reading a statement from left to right: its tree, or the cause at the first place where reading
--- fails. src/statements.rt computes it; block_forms, macro_limits and open_forms cite it.
+-- Reading a macro statement from left to right: its tree, or the cause at the first place where
+-- reading fails. src/statements.rt computes it; block_forms, macro_limits and open_forms cite it.
 -- Byte 35 is `#`.
 use Rattle.std.specs.Prelude.{ℕ, suc, ◌==◌, nat_lt, List, length, Option, Some, None, Result, Ok, Err, codes, if◌then◌else◌}
 use Rattle.std.specs.Char.{is_ascii_digit}
@@ -122,6 +122,6 @@ statement_at text =
     if begins (λ b. b == 35) text then (assignment_at text >>= λ a. Ok (Assign a.0.0 a.0.1, a.1))
     else statement_by (keyword text)
 
--- what was read, if nothing stands after it; else the text is no expression
+-- what was read, if nothing stands after it; else the text is no expression or statement
 abbrev pub whole : {A : Type 0} → Read A → Result A Stop
 whole read = read >>= λ x. if length x.1 == 0 then Ok x.0 else Err stop.Expression

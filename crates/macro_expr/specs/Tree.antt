@@ -1,6 +1,6 @@
--- Trees of expressions and statements, without where they lie in memory: what contracts see of
--- src/tree.rt. macro_eval says what they mean; block_forms, block_values, path_state, named_vars
--- and others cite them.
+-- Trees of macro expressions and statements, without where they lie in memory: what contracts see
+-- of src/tree.rt. macro_eval says what they mean; macro_eval, block_forms, path_state and 8 more
+-- crates above cite them.
 use Rattle.std.specs.Prelude.{ℕ, suc, ◌+◌, ◌≤◌, max, ℤ, Bool, List, [], ◌∷◌, ◌++◌}
 use Rattle.macro_expr.specs.declared.tree.Fun.{Fun}
 use Rattle.macro_expr.specs.declared.tree.Op.{Op}
@@ -47,9 +47,11 @@ variables (Signed minus e) = variables e
 variables (Applied f e) = variables e
 variables (Joined op a b) = variables a + variables b
 
--- a variable that is named: the one of this number, or the one whose number the tree gives
+-- how a text names a variable: by this number, or by the tree that gives its number
 pub data Named : Type 0 where
+  -- the variable of this number
   Fixed : ℕ → Named
+  -- the variable whose number the tree gives
   Computed : Tree → Named
 
 -- the variable as an expression
@@ -57,8 +59,9 @@ abbrev pub look : Named → Tree
 look (Fixed n) = Variable n
 look (Computed e) = VariableOf e
 
--- an expression of the code as a tree, and a variable of the code as it is named
+-- the expressions and the variables of the code as trees, each defined by the other
 abbrev mutual
+  -- an expression of the code as a tree
   pub tree_of : Expr → Tree
   tree_of (Lit z) = Number z
   tree_of (Look v) = look (variable_of v)
@@ -66,6 +69,7 @@ abbrev mutual
   tree_of (Call' f p e) = Applied f (tree_of e)
   tree_of (Two' op p e q f) = Joined op (tree_of e) (tree_of f)
 
+  -- a variable of the code as it is named
   pub variable_of : VarRef → Named
   variable_of (FixedRef n) = Fixed n
   variable_of (ComputedRef p e) = Computed (tree_of e)
@@ -85,7 +89,9 @@ test_of c = record { left = tree_of c.left; rel = c.rel; right = tree_of c.right
 
 -- where a jump leads: to a sequence number, or to one that is computed
 pub data Aim : Type 0 where
+  -- this sequence number
   ToNumber : ℕ → Aim
+  -- the sequence number that the tree gives
   ToNumberOf : Tree → Aim
 
 -- the target of a jump of the code as a tree
@@ -96,12 +102,19 @@ aim_of (LineOf e) = ToNumberOf (tree_of e)
 -- a statement: an assignment, a jump, a condition with a jump or an assignment, a loop that begins,
 -- with a condition or without, or one that ends
 pub data Sentence : Type 0 where
+  -- `#i = expr`
   Assign : Named → Tree → Sentence
+  -- `GOTO n`
   Goto : Aim → Sentence
+  -- `IF [cond] GOTO n`
   IfGoto : Test → Aim → Sentence
+  -- `IF [cond] THEN #i = expr`
   IfThen : Test → Named → Tree → Sentence
+  -- `WHILE [cond] DO m`
   WhileDo : Test → ℕ → Sentence
+  -- `DO m`
   DoOnly : ℕ → Sentence
+  -- `END m`
   EndLoop : ℕ → Sentence
 
 -- a statement of the code as a tree

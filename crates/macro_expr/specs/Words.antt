@@ -1,5 +1,6 @@
--- The words of the grammar as tables, and runs of letters and digits. src/words.rt finds them at
--- the head of a text; macro_limits and open_forms cite them. 65 is A, 90 Z, 46 the point.
+-- The words of macro expressions and statements as tables, and runs of letters and digits.
+-- src/words.rt finds them at the head of a text, by tables of its own; macro_limits and open_forms
+-- cite them. 65 is A, 90 Z, 46 the point.
 use Rattle.std.specs.Prelude.{ℕ, Bool, true, false, ◌==◌, ◌&&◌, ◌||◌, nat_le, List, [], ◌∷◌, length, take, drop, not, Option, None, Some, codes, if◌then◌else◌}
 use Rattle.std.specs.Option.{option_or, option_map}
 use Rattle.std.specs.List.{position_or_len}
@@ -36,7 +37,7 @@ abbrev pub relation_words : List (List ℕ × Rel)
 relation_words =
     (codes "EQ", Eq) ∷ (codes "NE", Ne) ∷ (codes "GT", Gt) ∷ (codes "GE", Ge) ∷ (codes "LT", Lt) ∷ (codes "LE", Le) ∷ []
 
--- the signs, and whether each turns the value round
+-- the signs, and whether each is a minus
 abbrev pub sign_words : List (List ℕ × Bool)
 sign_words = (codes "+", false) ∷ (codes "-", true) ∷ []
 
@@ -87,7 +88,7 @@ abbrev pub all_of : {A : Type 0} → Option (A × List ℕ) → Option A
 all_of None = None
 all_of (Some found) = if length found.1 == 0 then Some found.0 else None
 
--- the function of this name
+-- the function of this name, if there is one
 unfoldable pub function_of : List ℕ → Option Fun
 function_of name = all_of (function_word name)
 

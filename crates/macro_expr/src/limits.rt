@@ -1,6 +1,6 @@
-//! The limits of an expression or statement (digits of a number, brackets, variables), and the text
-//! as it is read, without blanks and comments. parse.rt asks them of a text; macro_limits shows
-//! that each has its refusal.
+//! The limits of a macro expression or statement (digits of a number, brackets, variables), and the
+//! text as it is read, without blanks and comments. parse.rt asks them of a text; macro_limits
+//! shows that each has its refusal.
 ghost use Rattle.std.specs.Prelude.{◌≡◌, ◌==◌, nat_eq, false, IfOk};
 ghost use Rattle.std.specs.Char.{is_ascii_digit};
 ghost use Rattle.macro_expr.specs.Limits.{cleaned, ends, is_loop_head, are_too_many, begins_long, has_long_number, has_deep_brackets, has_many_variables};
@@ -94,7 +94,8 @@ pub(crate) fn has_long_number(text: &[u8]) -> bool
     false
 }
 
-/// Whether more than five square brackets are open at once.
+/// Whether more than five square brackets are open at once; one that closes nothing counts for
+/// nothing.
 #[tactic(auto, unfolding(crate::specs::Limits::has_deep_brackets))]
 pub(crate) fn has_deep_brackets(text: &[u8]) -> bool
     ensures { result ≡ has_deep_brackets text.now }

@@ -1,5 +1,6 @@
-//! From a text to its tree, or to the least refusal that holds of it: the public functions of this
-//! crate. block_forms calls them for each value and each statement of a block; tests do too.
+//! From the text of a macro expression or statement to its tree, or to the least refusal that holds
+//! of it: the public functions of this crate. block_forms calls them for each value and each
+//! statement of a block; tests do too.
 ghost use Rattle.std.specs.Prelude.{◌≡◌, ◌≤◌, ◌==◌, ℕ, List, false, length, IfOk, Ok, Err, if◌then◌else◌};
 ghost use Rattle.std.specs.List.{All};
 ghost use Rattle.nc_number.specs.declared.fault.Failing.TheVariants.{Fault};
@@ -47,7 +48,7 @@ fn answer<T: Drop>(text: &[u8], read: Result<T, Failing<Stop>>) -> Result<T, Fai
     }
 }
 
-/// What was read, if nothing stands after it; else the text is no expression.
+/// What was read, if nothing stands after it; else the text is no expression or statement.
 fn alone<T: Drop>(tree: T, rest: &[u8]) -> Result<T, Failing<Stop>>
     ensures { result ≡ (if length rest.now == 0 then Ok tree else Err (Fault Expression)) }
 {
@@ -145,7 +146,7 @@ pub fn parse_statement(alloc: Global, text: &[u8]) -> Result<Statement, Failing<
     answer_statement(alloc, text)
 }
 
-/// No text has two trees, as an expression or as a statement.
+/// A law: no text has two trees, as an expression or as a statement.
 pub fn no_text_has_two_trees()
     ensures expressions { (text : List ℕ) (a b : Tree) → IsExpression text a → IsExpression text b → a ≡ b }
     ensures statements { (text : List ℕ) (a b : Sentence) → IsStatement text a → IsStatement text b → a ≡ b }

@@ -1,6 +1,6 @@
-//! Expressions, read from left to right: a function for each rule of the grammar, which gives what
-//! it read and the text after it. Its functions call one another, as deep as brackets nest.
-//! parse.rt and statements.rt read with it.
+//! Macro expressions, read from left to right: a function for each rule of the grammar, which gives
+//! what it read and the text after it. Its functions call one another, as deep as brackets nest:
+//! `levels` counts the brackets that may still open. parse.rt and statements.rt read with it.
 ghost use Rattle.std.specs.Prelude.{◌-◌, ◌<◌, Ok};
 ghost use Rattle.macro_expr.specs.Tree.{tree_of, variable_of, Joined};
 ghost use Rattle.nc_number.specs.Answers.{Gives};

@@ -1,5 +1,5 @@
-//! Statements, read from left to right: assignments, jumps, loops. Each function gives what it read
-//! and the text after it. parse.rt calls `statement_at`.
+//! Macro statements, read from left to right: assignments, jumps, loops. Each function gives what
+//! it read and the text after it. parse.rt calls `statement_at`.
 ghost use Rattle.macro_expr.specs.Tree.{tree_of, variable_of, test_of, aim_of, sentence_of};
 ghost use Rattle.nc_number.specs.Answers.{Gives};
 ghost use Rattle.macro_expr.specs.Statements.{relation_at, condition_at, test_at, target_at, loop_at, assignment_at, branch_at, if_at, while_at, statement_for, statement_at};
@@ -13,7 +13,9 @@ use crate::words::{
 use nc_number::{Failing, MOST_BRACKETS};
 use std::alloc::Global;
 
-/// The greatest sequence number.
+/// The greatest sequence number to which a jump may lead. specs/Statements, Grammar and Tree have
+/// it too, macro_limits (specs/Refusals), open_forms (specs/Statements), and line_text for the
+/// sequence numbers of blocks.
 const MOST_SEQUENCE: u32 = 99_999;
 
 /// The comparison that stands at the head, such as `EQ`.
@@ -40,7 +42,8 @@ fn condition_at(alloc: Global, text: &[u8]) -> Result<(Cond, &[u8]), Failing<Sto
     Ok((Cond { left, rel, right }, text))
 }
 
-/// The condition after IF or WHILE; if it does not read, reading stops for want of a condition.
+/// The condition after IF or WHILE; if it does not read, reading stops because there is none,
+/// whatever the cause.
 #[tactic(auto, unfolding(crate::specs::Statements::test_at))]
 fn test_at(alloc: Global, text: &[u8]) -> Result<(Cond, &[u8]), Failing<Stop>>
     ensures { Gives (λ x. (test_of x.0, x.1.now)) result (test_at text.now) }

@@ -1,6 +1,7 @@
-//! Why reading stops, and the refusal that this is. reading.rt and statements.rt stop so, parse.rt
-//! makes the refusal of it. macro_limits says of each `Stop` what stands there, for the laws of
-//! block_forms. A new one needs its row in specs/Limits and in macro_limits/specs/Refusals.
+//! Why the reading of a macro expression or statement stops, and the refusal that this is.
+//! reading.rt and statements.rt stop so, parse.rt makes the refusal of it. macro_limits says of
+//! each `Stop` what stands there, for the laws of block_forms. A new one needs its row in
+//! specs/Limits and in macro_limits/specs/Refusals.
 ghost use Rattle.std.specs.Prelude.{◌≡◌};
 ghost use Rattle.macro_expr.specs.Limits.{refusal, cause_beside};
 

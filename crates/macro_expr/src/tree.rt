@@ -1,6 +1,7 @@
-//! The trees of expressions and statements. macro_eval makes code of them; block_forms,
+//! The trees of expressions and statements of a tape. macro_eval makes code of them; block_forms,
 //! block_values, path_state and race_report go by their variants. A new variant needs its line in
-//! specs/Tree, in specs/Grammar, and in macro_eval.
+//! specs/Tree and specs/Grammar, in the readers (specs/Reading, Statements and Words, and src), and
+//! in macro_eval.
 ghost use Rattle.std.specs.Prelude.{◌≡◌};
 ghost use Rattle.macro_expr.specs.Limits.{refusal};
 
@@ -62,7 +63,7 @@ pub enum Fun {
     Abs,
     /// The fraction dropped, towards zero.
     Fix,
-    /// The magnitude raised to a whole number.
+    /// The magnitude raised to a whole number, with the sign of the value.
     Fup,
     /// The nearest whole number, halves away from zero.
     Round,
@@ -121,7 +122,8 @@ pub enum Target {
     Computed(Expr),
 }
 
-/// A statement: what stands in a block in place of words.
+/// A statement: what stands in a block in place of words. `#i` is a variable, `n` the target of a
+/// jump, `m` the number of a loop, 1 to 3.
 #[derive(Drop)]
 pub enum Statement {
     /// `#i = expr`
@@ -140,11 +142,11 @@ pub enum Statement {
     EndLoop(u8),
 }
 
-/// Why a text has no tree.
+/// Why a text is given no tree.
 ///
-/// 5: too many digits; 20: no expression or statement; 21: more than five brackets; 22: no
-/// condition behind IF or WHILE; 23: an unknown function; 24: a loop number other than 1, 2 and 3;
-/// 25: more than 32 variables; 64: a sequence number out of its range.
+/// 5: too many digits; 20: no expression or statement; 21: more than five brackets open at once;
+/// 22: no condition behind IF or WHILE; 23: an unknown function; 24: a loop number other than 1, 2
+/// and 3; 25: more than 32 variables; 64: a sequence number out of its range.
 #[derive(Clone, Copy, Debug, PartialEq, Eq, Error)]
 #[error("refusal {number}")]
 pub struct ExprFault {

@@ -1,6 +1,7 @@
-//! The words of expressions and statements at the head of a text: keywords, operators, functions,
-//! and runs of letters or digits. reading.rt, statements.rt and limits.rt read with it; proofs of
-//! macro_limits and open_forms speak of `Keyword` and `Rank`.
+//! The words of macro expressions and statements at the head of a text: keywords, operators,
+//! functions, and runs of letters or digits. reading.rt, statements.rt and limits.rt read with it;
+//! proofs of macro_limits and open_forms speak of `Keyword` and `Rank`. Each table of words stands
+//! in specs/Words too.
 ghost use Rattle.std.specs.Prelude.{◌≡◌, ◌≤◌, ◌==◌, not, length, take, drop, position, unwrap_or, IfSome};
 ghost use Rattle.std.specs.Option.{option_map};
 ghost use Rattle.std.specs.Char.{is_ascii_digit};
@@ -88,7 +89,7 @@ fn function_word(text: &[u8]) -> Option<(Fun, &[u8])>
     first_word!(text: b"SQRT" Fun::Sqrt, b"ABS" Fun::Abs, b"FIX" Fun::Fix, b"FUP" Fun::Fup, b"ROUND" Fun::Round)
 }
 
-/// The function of this name.
+/// The function of this name, if there is one.
 #[tactic(auto, unfolding(crate::specs::Words::function_of))]
 pub(crate) fn function_of(name: &[u8]) -> Option<Fun>
     ensures { result ≡ function_of name.now }
@@ -118,7 +119,7 @@ fn loop_word(text: &[u8]) -> Option<(u8, &[u8])>
     first_word!(text: b"1" 1, b"2" 2, b"3" 3)
 }
 
-/// The loop of this number.
+/// The number of a loop that these digits write, if it is 1, 2 or 3 by one digit alone.
 #[tactic(auto, unfolding(crate::specs::Words::loop_of))]
 pub(crate) fn loop_of(number: &[u8]) -> Option<u8>
     ensures { result ≡ loop_of number.now }

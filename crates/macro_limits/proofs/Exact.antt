@@ -1,5 +1,5 @@
--- Which refusal is answered, by the cases of what is read and of which limits are passed. For the
--- law `each_limit_has_its_refusal` (src/law.rt).
+-- Which refusal is answered for a macro expression or statement, by the cases of what is read and
+-- of which limits are passed. For the law `each_limit_has_its_refusal` (src/law.rt).
 use Rattle.std.proofs.Common.{◌≡◌, ◌↔◌, ℕ, ◌==◌, ◌&&◌, Bool, true, false, not, cond, List, Result, Ok, Err, refl, sym, ◌∙◌, ap, eqb-true, eq-eqb}
 use Rattle.std.proofs.lemmas.Bool.{and_parts, and_from, true≢false}
 use Rattle.nc_number.proofs.Bools.{not_true}

@@ -1,5 +1,5 @@
--- Each text of the grammar passes no limit: by induction over its parts. For both laws of
--- src/law.rt, by way of Exact too.
+-- Each macro expression and statement of the grammar passes no limit: by induction over its parts.
+-- For both laws of src/law.rt, by way of Exact too.
 use Rattle.std.proofs.Common.{◌≡◌, ℕ, zero, suc, ◌+◌, ◌≤◌, Bool, true, false, cond, List, [], ◌∷◌, ◌++◌, length, nat_lt, refl, sym, ◌∙◌, ap, subst, arith, append_assoc}
 use Rattle.std.specs.Prelude.{codes}
 use Rattle.std.specs.Char.{is_ascii_digit}
@@ -63,6 +63,8 @@ chain_passes rank First Operand opened few first operand _ _ (more t word u op l
     then t (word ++ u) opened (chain_passes rank First Operand opened few first operand t left chain)
     (word_opens word u opened few (operator_plain rank word op is_word) (operand u right is))
 
+-- `opened` brackets are open before the text. `Inner` says what may stand in brackets, and passes
+-- no limit with one more bracket open.
 module _ (Inner : List ℕ → Tree → Type 0) (opened : ℕ) (few : opened ≤ 5)
     (inner : (t : List ℕ) (e : Tree) → Inner t e → (suc opened ≤ 5) × Passes (suc opened) t) where
   -- The next six: brackets, a variable, an operand, one with a sign and a sum pass no limit, if

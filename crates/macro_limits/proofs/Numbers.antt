@@ -1,5 +1,5 @@
--- Words and numbers pass no limit, wherever they stand. A limit is too many digits in a number, or
--- a sixth open bracket. For Grammar.
+-- Words and numbers of macro expressions pass no limit, wherever they stand. A limit is too many
+-- digits in a number, or a sixth open bracket. For Grammar.
 use Rattle.std.proofs.Common.{◌≡◌, ℕ, suc, ◌+◌, ◌-◌, ◌<◌, ◌≤◌, ◌==◌, ◌&&◌, ◌||◌, not, Bool, true, false, cond, ℤ, List, [], ◌∷◌, ◌++◌, length, get_or, take, nat_lt, ◌⊎◌, inl, inr, refl, sym, ◌∙◌, ap, arith, append_assoc}
 use Rattle.std.specs.Char.{is_ascii_digit}
 use Rattle.std.specs.List.{list_all, position_or_len, before_first, after_first}

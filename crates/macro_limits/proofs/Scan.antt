@@ -1,5 +1,5 @@
--- One walk over a text sees both limits. Of what stands before a byte it keeps the last byte and
--- how many brackets are open. For Numbers and Grammar.
+-- One walk over the text of a macro expression sees both limits. Of what stands before a byte it
+-- keeps the last byte and how many brackets are open. For Numbers and Grammar.
 use Rattle.std.proofs.Common.{◌≡◌, ℕ, ◌+◌, ◌-◌, ◌==◌, ◌&&◌, ◌||◌, not, Bool, true, false, cond, List, [], ◌∷◌, ◌++◌, length, slice_index, nat_lt, refl, ◌∙◌, ap, arith, if◌then◌else◌}
 use Rattle.std.specs.Char.{is_ascii_digit}
 use Rattle.std.proofs.lemmas.Bool.{or_parts, or_from, lt-ltb}

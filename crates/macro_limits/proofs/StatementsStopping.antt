@@ -1,4 +1,4 @@
--- Where the reading of a statement stops its cause stands; where a cause of statements alone
+-- Where the reading of a macro statement stops its cause stands; where a cause of statements alone
 -- stands, it stops for that. For the law `reading_stops_for_a_cause` (src/refusals.rt).
 use Rattle.std.proofs.Common.{◌≡◌, ℕ, ◌==◌, nat_lt, Bool, true, false, cond, List, [], ◌∷◌, ◌++◌, length, Some, Ok, Err, pos, refl, sym, ◌∙◌, ap, subst, arith, append_assoc}
 use Rattle.std.specs.Prelude.{codes}
@@ -63,6 +63,7 @@ digits_step {B} G text f next fails =
     (λ is short. next _ (record { bytes = run_all is_ascii_digit text; literal = is; short = short; value = refl }))
     fails
 
+-- `Other` says what stands where reading stops for a cause that only statements have.
 module _ (Other : Stop → Type 0) where
   -- The next three: a target and an assignment stop where a cause stands; for the latter, `0` is an
   -- expression.
@@ -234,14 +235,14 @@ target_fails u past =
     ap target_at past.stands ∙ digits_target past.digits past.rest past.number past.whole past.ends
     ∙ ap (λ x. cond x (Err stop.Sequence) (Ok (ToNumber past.number, past.rest))) (lt-ltb 99999 past.number past.large)
 
--- reading stops behind a word without a condition,
+-- if no condition stands at the head of the text, the step that reads one stops for a condition
 test_fails : {B : Type 0} (u : List ℕ) (f : Test × List ℕ → Read B) → HasNo IsTest u
     → (test_at u >>= f) ≡ Err stop.Condition
 test_fails u f lacks =
     test_step (λ r. r ≡ Err stop.Condition) u f (λ c rest test is stands. absurd (lacks c rest test stands is))
     (λ none. refl)
 
--- a loop without its number stops it
+-- if no number of a loop stands at the head of the text, the step that reads one stops for a loop
 loop_fails : {B : Type 0} (u : List ℕ) (f : ℕ × List ℕ → Read B) → HasNoLoop u → (loop_at u >>= f) ≡ Err stop.Loop
 loop_fails u f lacks = loop_step (λ r. r ≡ Err stop.Loop) u f (λ m is. absurd (lacks m is)) (λ none. refl)
 

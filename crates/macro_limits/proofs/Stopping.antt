@@ -1,4 +1,4 @@
--- Where the reading of an expression stops its cause stands. For StatementsStopping.
+-- Where the reading of a macro expression stops its cause stands. For StatementsStopping.
 use Rattle.std.proofs.Common.{◌≡◌, ℕ, zero, suc, ◌+◌, ◌==◌, not, Bool, true, false, cond, List, [], ◌∷◌, ◌++◌, length, drop, None, Some, Ok, Err, refl, sym, ◌∙◌, ap, subst, arith, append_assoc}
 use Rattle.std.specs.Prelude.{codes}
 use Rattle.std.specs.Char.{is_ascii_digit}
@@ -24,9 +24,9 @@ use Rattle.macro_limits.specs.Refusals.{Lacks, IsPlain}
 -- reading goes on, or its cause stands where it stops; Other says it of the places that only a
 -- statement has
 pub data Caused {A : Type 0} (Is : List ℕ → A → Type 0) (Other : Stop → Type 0) (text : List ℕ) : Read A → Type 0 where
-  -- it went on
+  -- reading went on
   went : (x : A × List ℕ) → Caused Is Other text (Ok x)
-  -- it stopped for this cause
+  -- reading stopped for this, and its cause stands in the text
   stopped : (s : Stop) → Lacks Is Other text s → Caused Is Other text (Err s)
 
 -- a reader goes on, or stops where a cause stands, at each text
@@ -131,6 +131,9 @@ run_ends p (b ∷ text) = go (run_ends p text) (p b) refl
         ap (λ n. begins p (drop n (b ∷ text))) e ∙ further
     go further false other = other
 
+-- The operators are those of `rank`. `First` is the grammar of the first operand and `Operand` of
+-- the others; `first` and `operand` read them. `Other` is what only a statement lacks where it
+-- stops.
 module _ (Other : Stop → Type 0) (rank : Rank) (First Operand : List ℕ → Tree → Type 0)
     (first operand : List ℕ → Read Tree)
     (operand-sound : Reads Operand operand) (operand-stops : Stops Other Operand operand) where
@@ -166,6 +169,8 @@ module _ (Other : Stop → Type 0) (rank : Rank) (First Operand : List ℕ → T
       after _ [] refl (λ t e is. ([], t, e, simp append-nil, one t e is)) (first-sound text) (first-stops text)
       (λ t rest e is stands. chain_stops (length rest) text t rest e stands (one t e is))
 
+-- `Inner` says what may stand in brackets, and `inner` reads it. `Other` is what only a statement
+-- lacks where it stops.
 module _ (Other : Stop → Type 0) (inner : List ℕ → Read Tree) (Inner : List ℕ → Tree → Type 0)
     (inner-sound : Reads Inner inner) (inner-stops : Stops Other Inner inner) where
   -- the reading of brackets stops where a cause stands

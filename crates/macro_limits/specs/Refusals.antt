@@ -1,6 +1,6 @@
--- Why a text that no limit refuses has no tree, over the grammar of macro_expr: what stands where
--- reading stops. For the law `reading_stops_for_a_cause` (src/refusals.rt); block_forms cites it in
--- its own laws.
+-- Why a macro expression or statement does not read, over the grammar of macro_expr: what stands
+-- where reading stops. For the law `reading_stops_for_a_cause` (src/refusals.rt); block_forms cites
+-- it in its own laws.
 use Rattle.std.specs.Prelude.{◌≡◌, ◌<◌, ℕ, true, false, List, ◌++◌, codes}
 use Rattle.std.specs.Char.{is_ascii_digit}
 use Rattle.std.specs.List.{list_all}
@@ -11,12 +11,12 @@ use Rattle.macro_expr.specs.Tree.{Tree, Test}
 use Rattle.macro_expr.specs.Words.{function_words, loop_words, is_letter, run, begins}
 use Rattle.macro_expr.specs.Grammar.{IsWord, IsWhole, IsPrim, IsTest}
 
--- an operand without brackets
+-- the text is an operand without brackets, with this tree
 abbrev pub IsPlain : List ℕ → Tree → Type 0
 IsPlain = IsPrim (λ _ _. ⊥)
 
 -- Letters that name no function stand where an operand must: in their place each operand without
--- brackets could stand.
+-- brackets could stand. `Is` is the grammar of what is read, `A` its trees.
 pub record HasUnknown (A : Type 0) (Is : List ℕ → A → Type 0) (text : List ℕ) : Type 0 where
   -- what stands before the letters
   pub before : List ℕ
@@ -34,10 +34,11 @@ pub record HasUnknown (A : Type 0) (Is : List ℕ → A → Type 0) (text : List
   pub ends : begins is_letter rest ≡ false
   -- no function has this name
   pub unknown : (f : Fun) → IsWord function_words name f → ⊥
-  -- any operand without brackets could stand in its place
+  -- any operand without brackets could stand in the place of the letters, with some ending after it
   pub place : (p : List ℕ) (e : Tree) → IsPlain p e → (ending : List ℕ) × (x : A) × Is (before ++ (p ++ ending)) x
 
--- what stands where reading stops for this; Other says it of the stops that only a statement has
+-- what stands where reading stops for this; `Other` says it of the stops that only a statement has.
+-- Of a stop for no expression nothing is said.
 abbrev pub Lacks : {A : Type 0} → (List ℕ → A → Type 0) → (Stop → Type 0) → List ℕ → Stop → Type 0
 Lacks Is Other text stop.Expression = Unit {0}
 Lacks {A} Is Other text stop.Function = HasUnknown A Is text
@@ -86,7 +87,7 @@ pub record IsPast (text : List ℕ) : Type 0 where
   pub stands : text ≡ digits ++ rest
   -- the digits are a whole number
   pub whole : IsWhole digits number
-  -- and all digits that stand there
+  -- no further digit follows
   pub ends : begins is_ascii_digit rest ≡ false
   -- sequence numbers go up to 99,999
   pub large : 99999 < number

@@ -1,6 +1,6 @@
--- Which texts are refused for a limit: 5 is a number of too many digits, 21 a sixth open bracket,
--- 25 too many variables. 22, 23 and 24 (a condition, a function, a loop) come before 25. For the
--- laws of src/law.rt alone.
+-- Which macro expressions and statements are refused for a limit: 5 is a number of too many digits,
+-- 21 a sixth open bracket, 25 too many variables. 22, 23 and 24 (a condition, a function, a loop)
+-- come before 25. For the laws of src/law.rt alone.
 use Rattle.std.specs.Prelude.{◌≡◌, ◌↔◌, ℕ, Bool, true, false, List, Result, Ok, Err}
 use Rattle.nc_number.specs.declared.cause.Cause.TheVariants.{TooManyDigits, TooManyBrackets, TooManyVariables}
 use Rattle.macro_expr.specs.declared.tree.ExprFault.{ExprFault}

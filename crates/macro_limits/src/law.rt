@@ -1,5 +1,6 @@
-//! The laws of the limits, over what `macro_expr` answers for a text: refusals 5 (too many digits),
-//! 21 (too many brackets) and 25 (too many variables). No proof of another crate rests on them.
+//! The laws of the limits, over what `macro_expr` answers for the text of a macro expression or
+//! statement: refusals 5 (too many digits), 21 (too many brackets) and 25 (too many variables). No
+//! proof of another crate rests on them.
 
 ghost use Rattle.std.specs.Prelude.{ℕ, false, List};
 ghost use Rattle.macro_expr.specs.Tree.{Tree, Sentence};

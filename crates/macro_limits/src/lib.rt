@@ -1,5 +1,5 @@
-//! The laws of the refusals of a text, over its grammar: each limit has its refusal, and no other
-//! text has it; and where reading stops its cause stands.
+//! The laws of the refusals of a macro expression or statement, over its grammar: each limit has
+//! its refusal, and no other text has it; and where reading stops its cause stands.
 //!
 //! No code stands on this crate; block_forms takes `reading_stops_for_a_cause` for its own laws.
 //! The parser of `macro_expr` looks for a number with too many digits and for a sixth open bracket

@@ -1,5 +1,5 @@
--- If a line has ended and nothing is refused, nothing is decided: two texts that may follow have
--- different answers. So a reader that has refused nothing has missed no refusal.
+-- If a line of a tape has ended and nothing is refused, nothing is decided: two texts that may
+-- follow have different answers. So a reader that has refused nothing has missed no refusal.
 -- For the proof of `feed` (src/reader.rt).
 use Rattle.std.proofs.Common.{◌≡◌, ◌==◌, ℕ, ◌+◌, ◌≤◌, Bool, true, false, cond, List, [], ◌∷◌, ◌++◌, length, None, Ok, Err, refl, sym, ap, ◌∙◌, append_assoc, lit≤, arith}
 use Rattle.std.proofs.Math.ListN.{replicate}
@@ -28,7 +28,7 @@ abbrev number_of : Answer → ℕ
 number_of (Ok programs) = 0
 number_of (Err fault) = fault.number
 
--- a byte is no line feed (10)
+-- the byte is no line feed (10)
 abbrev InLine : ℕ → Type 0
 InLine b = (b == 10) ≡ false
 

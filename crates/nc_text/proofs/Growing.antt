@@ -1,4 +1,5 @@
--- What is read after a mark leaves what was read up to it, and going back leads there again.
+-- What is read of a tape after a mark (a moment of the reading to which the reader can go back)
+-- leaves what was read up to it, and going back leads there again.
 -- For the proofs of src/going_back.rt, src/feed.rt and src/progress.rt.
 use Rattle.std.proofs.Common.{◌≡◌, ℕ, Bool, List, [], ◌∷◌, ◌++◌, length, Option, Some, None, refl, sym, ap, subst, ◌∙◌, append_assoc}
 use Rattle.std.specs.Option.{option_to_list}

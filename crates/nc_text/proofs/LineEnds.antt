@@ -1,5 +1,5 @@
--- How a line feed or the end of a text ends a line, and what is kept of a line with further bytes.
--- For Standing and Deciding; tape_relation takes `line_ends` and `text_ends`.
+-- How a line feed or the end of a tape's text ends a line, and what is kept of a line with further
+-- bytes. For Standing and Deciding; tape_relation takes `line_ends` and `text_ends`.
 use Rattle.std.proofs.Common.{◌≡◌, ◌==◌, ℕ, Bool, true, false, cond, not, ◌&&◌, List, [], ◌∷◌, ◌++◌, refl, ap}
 use Rattle.std.proofs.lemmas.List.Elements.{All-head, All-tail}
 use Rattle.nc_text.specs.Lines.{Line, IsOneLine, lines_of, onto_line}
@@ -32,7 +32,7 @@ nothing_either_way : (test : Bool) → cond test nothing nothing ≡ nothing
 nothing_either_way true = refl
 nothing_either_way false = refl
 
--- nothing is kept of no line
+-- of a line without bytes nothing is kept
 pub kept_none : (stage : Stage) → kept_of stage [] ≡ []
 kept_none stage = nothing_either_way (is_body stage && true)
 

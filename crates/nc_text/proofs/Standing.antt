@@ -1,5 +1,6 @@
--- A reader stands for the bytes that it was given: what `HasRead` says holds after each piece, in
--- whatever pieces they come. For the proofs of src/feed.rt, src/step.rt and src/reader.rt.
+-- A reader of a tape stands for the bytes that it was given: what `HasRead` says holds after each
+-- piece, in whatever pieces they come. For the proofs of src/feed.rt, src/step.rt and
+-- src/reader.rt.
 use Rattle.std.proofs.Common.{◌≡◌, ◌==◌, ℕ, ◌+◌, Bool, true, false, List, [], ◌∷◌, ◌++◌, length, take, refl, sym, ap, subst, ◌∙◌, append_assoc, arith}
 use Rattle.std.proofs.Math.Seq.{take-append_seam}
 use Rattle.std.proofs.lemmas.List.{length-append, append-nil, nil_from_length}

@@ -1,5 +1,6 @@
--- What the lines that have ended decide: the contract of `feed` (src/reader.rt) says that it
--- refuses such a text at once. For this crate alone.
+-- What the lines of a tape that have ended decide: the contract of `feed` (src/reader.rt) says that
+-- it refuses such a text at once. No other crate cites it; nc_verify and tape_expand meet it in
+-- that contract.
 use Rattle.std.specs.Prelude.{◌≡◌, ℕ, List, [], ◌∷◌, ◌++◌, Result, Ok, Err}
 use Rattle.nc_number.specs.declared.fault.Failing.{Failing}
 use Rattle.nc_text.specs.declared.fault.TextFault.{TextFault}
@@ -17,7 +18,7 @@ pub record IsDecided (skips : ℕ) (bytes : List ℕ) (fault : TextFault) : Type
   -- a text that begins with these lines is refused so, whatever follows
   pub refused : IsRefused skips (lines ++ 10 ∷ []) fault
 
--- a call answers this refusal, or that memory ran out
+-- a call answers this refusal or that memory ran out, and nothing else
 abbrev pub AnswersFault : {A : Type 0} → Result A (Failing TextFault) → TextFault → Type 0
 AnswersFault (Ok x) fault = ⊥
 AnswersFault (Err error) fault = FaultIs error (λ answered. answered ≡ fault)

@@ -1,5 +1,5 @@
--- What a reader keeps, as the contracts of src/feed.rt and src/reader.rt see it: its `State`.
--- For this crate alone.
+-- What a reader of a tape keeps, as the contracts of src/feed.rt and src/reader.rt see it: its
+-- `State` (Reading). No other crate cites it; it is what callers of `Reader` see of it.
 use Rattle.nc_text.specs.declared.feed.Feed.{Feed}
 use Rattle.nc_text.specs.View.{before_of}
 use Rattle.nc_text.specs.Reading.{State}

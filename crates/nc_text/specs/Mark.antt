@@ -1,6 +1,6 @@
--- What was read up to a mark, and what was read since: what it takes to go back when memory runs
--- out in a piece. The contracts of src/going_back.rt, progress.rt, step.rt and feed.rt speak of it;
--- tape_relation takes `with_blocks`.
+-- What was read of a tape up to a mark, the moment of the reading to which the reader goes back if
+-- memory runs out in a piece, and what was read since. The contracts of src/going_back.rt,
+-- progress.rt, step.rt and feed.rt speak of it; tape_relation takes `with_blocks`.
 use Rattle.std.specs.Prelude.{◌≡◌, ℕ, List, [], ◌∷◌, ◌++◌, length, take, Option, Some, None}
 use Rattle.std.specs.Option.{option_to_list}
 use Rattle.nc_text.specs.declared.tape.Block.{Block}
@@ -19,9 +19,9 @@ block_count (Some program) = Some (length program.blocks)
 pub record IsMarkOf (mark : Mark) (start : Before) : Type 0 where
   -- how many lines were read
   pub lines_are : mark.lines ≡ start.lines
-  -- how many bytes they had
+  -- how many bytes these lines had, with their line feeds
   pub bytes_are : mark.bytes ≡ start.bytes
-  -- the number of the first `%` line
+  -- the number of the first `%` line, or 0 before it
   pub percent_is : mark.percent ≡ start.percent
   -- how many blocks there were, of all programs
   pub blocks_are : mark.blocks ≡ start.blocks
@@ -30,12 +30,12 @@ pub record IsMarkOf (mark : Mark) (start : Before) : Type 0 where
   -- how many blocks that program had, if there was one
   pub current_is : mark.current ≡ block_count start.current
 
--- the program with so many of its first blocks
+-- the program, if there is one, with so many of its first blocks
 abbrev pub first_blocks : ℕ → Option Program → Option Program
 first_blocks count None = None
 first_blocks count (Some program) = Some (record program { blocks = take count program.blocks })
 
--- a program with this many of its first blocks; with none given, no program
+-- the program, if there is one, with this many of its first blocks; without a number, no program
 abbrev pub cut_program : Option ℕ → Option Program → Option Program
 cut_program None program = None
 cut_program (Some count) program = first_blocks count program
@@ -55,8 +55,8 @@ abbrev pub GoesOn : Option Program → List Program → Type 0
 GoesOn None programs = Unit {0}
 GoesOn (Some program) programs = (more : List Block) × (others : List Program) × (programs ≡ with_blocks program more ∷ others)
 
--- what is read now begins with what was read at the start: its programs stand, and the one that was
--- being read goes on
+-- What is read now begins with the programs that were read at the start: those that were done
+-- stand, and the one that was being read, if any, has its blocks and perhaps more.
 abbrev pub Follows : Before → Before → Type 0
 Follows start now = (programs : List Program) × (now.done ≡ start.done ++ programs) × GoesOn start.current (programs ++ option_to_list now.current)
 

@@ -1,6 +1,7 @@
--- A reader stands for the bytes that it was given, whatever pieces they came in: `HasRead` is what
--- the contracts of src/reader.rt and src/feed.rt keep, `LeadsTo` what those of src/step.rt add.
--- RefusedAtEnd carries it to the crates above.
+-- A reader of a tape stands for the bytes that it was given, whatever pieces they came in.
+-- `HasRead` is what the contracts of src/reader.rt and src/feed.rt keep, `LeadsTo` what those of
+-- src/step.rt add. No other crate cites these words, but nc_verify and tape_expand meet them in the
+-- contract of `Reader`, and take RefusedAtEnd (proofs), which speaks in them.
 use Rattle.std.specs.Prelude.{◌≡◌, ℕ, ◌+◌, Bool, true, false, not, ◌&&◌, ◌==◌, List, [], ◌∷◌, ◌++◌, length, take, min, Option, Some, None, Result, Ok, Err, if◌then◌else◌}
 use Rattle.nc_number.specs.declared.fault.Failing.{Failing}
 use Rattle.nc_number.specs.declared.fault.Failing.TheVariants.{Fault, NoMemory}
@@ -12,13 +13,14 @@ use Rattle.nc_text.specs.Lines.{Line, IsOneLine, lines_of, is_percent}
 use Rattle.line_text.specs.Said.{line_says}
 use Rattle.nc_text.specs.Tape.{Before, Answer, after_outer, after_percent, after_said, begun, goes_on, in_leader, in_body, in_rest, tape_of}
 
--- what a reader keeps: where it stands, the present line and what was read before it
+-- what a reader keeps: where it stands, the present line (begun and not ended) and what was read
+-- before it
 pub record State : Type 0 where
   -- bit n is skip switch n
   pub skips : ℕ
-  -- where in the tape it stands
+  -- where in the tape it stands: before, between or after the two `%` lines, or at a refusal
   pub stage : Stage
-  -- of the present line only what is needed
+  -- of the present line only what is needed (`kept_of`)
   pub kept : List ℕ
   -- how many bytes the present line has, counted up to one more than a tape may have
   pub len : ℕ
@@ -39,7 +41,7 @@ refusal_of stages.Body = None
 refusal_of stages.Rest = None
 refusal_of (stages.Refused fault) = Some fault
 
--- of a line of the programs all is kept, of any other the first byte
+-- what is kept of a line at this stage: all of a line of the programs, of any other the first byte
 abbrev pub kept_of : Stage → List ℕ → List ℕ
 kept_of stage bytes = if is_body stage && not (is_percent bytes) then bytes else take 1 bytes
 
@@ -48,7 +50,7 @@ abbrev pub more_kept : Stage → List ℕ → List ℕ → List ℕ
 more_kept stage [] bytes = kept_of stage bytes
 more_kept stage (b ∷ kept) bytes = if is_body stage && not (b == 37) then bytes else []
 
--- bytes are counted up to one more than a tape may have
+-- a length as it is counted: at most one more than the bytes that a tape may have
 abbrev pub counted : ℕ → ℕ
 counted len = min len (LONGEST_TAPE + 1)
 
@@ -58,7 +60,7 @@ pub record IsOpenLine (stage : Stage) (kept : List ℕ) (len : ℕ) (bytes : Lis
   pub one_line : IsOneLine bytes
   -- of the bytes just what is needed is kept
   pub kept_is : kept ≡ kept_of stage bytes
-  -- they are counted up to one more than a tape may have
+  -- the bytes are counted up to one more than a tape may have
   pub len_is : len ≡ counted (length bytes)
 
 -- the answer of a text of which this was read up to this stage, and of which these lines are left
@@ -69,7 +71,8 @@ continued skips stages.Rest lines before = in_rest lines before
 continued skips (stages.Refused fault) lines before = Err fault
 
 -- the answer of a text of which this was read up to this stage, and of which a line of this length,
--- of which this is kept, and then these lines are left
+-- of which this is kept, and then these lines are left; the flag says whether a line feed ends that
+-- line
 abbrev pub line_continued : ℕ → Stage → List ℕ → ℕ → Bool → List Line → Before → Answer
 line_continued skips stages.Leader kept len ended lines before =
     if is_percent kept then goes_on before (after_percent before len ended) (λ after. in_body skips lines (begun after))
@@ -100,7 +103,7 @@ pub record IsAt (state : State) (bytes : List ℕ) (line : List ℕ) : Type 0 wh
   -- the state has all that the bytes before the present line say
   pub whole : (more : List ℕ) → tape_of state.skips (front ++ more) ≡ continued state.skips state.stage (lines_of more) state.before
 
--- a reader with these switches was given these bytes
+-- a reader with these switches was given these bytes: bit n is switch n
 abbrev pub HasRead : State → ℕ → List ℕ → Type 0
 HasRead state skips bytes = (state.skips ≡ skips) × ((line : List ℕ) × IsAt state bytes line)
 
@@ -112,7 +115,7 @@ HasRefused state fault = state.stage ≡ stages.Refused fault
 abbrev pub IsRefused : ℕ → List ℕ → TextFault → Type 0
 IsRefused skips bytes fault = (more : List ℕ) → tape_of skips (bytes ++ more) ≡ Err fault
 
--- the refusal that a call answers is one of these; out of memory says nothing
+-- if a call failed by a refusal, it is one of these; out of memory is taken as it is
 abbrev pub FaultIs : Failing TextFault → (TextFault → Type 0) → Type 0
 FaultIs (Fault fault) P = P fault
 FaultIs NoMemory P = Unit {0}

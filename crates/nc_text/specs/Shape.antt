@@ -20,8 +20,8 @@ lines_in tape = flat_map lines_of_program tape
 abbrev pub blocks_in : List Program → List Block
 blocks_in tape = flat_map (λ program. program.blocks) tape
 
--- a block with a sequence number in range or none, and with words or a statement that fit on a line
--- of 512 bytes
+-- a block with a sequence number of at most 99,999 or none, and with words of their shape or the
+-- text of a statement, each no longer than a line of 512 bytes
 abbrev pub IsBlockShape : Block → Type 0
 IsBlockShape block = IsSaidShape LONGEST_LINE block.sequence block.body
 

@@ -1,8 +1,9 @@
 -- A tape: lines before the first that begins with `%`, that line, the lines of the programs, the
 -- next line that begins with `%`, and lines after it. The answer is the programs, or the fault of
 -- the first line that has one, and there of the least number.
--- The reader computes `tape_of`, and the layers above cite it: nc_verify, wait_verify, tape_expand.
--- What a single line says is defined in line_text; tape_relation says the same without a reader.
+-- The reader computes `tape_of`; nc_verify, wait_verify, tape_expand, open_forms, flow_laws and
+-- tape_relation cite it. What a single line says is defined in line_text; tape_relation says
+-- without a reader what tape a text is, and shows that it is `tape_of`.
 use Rattle.std.specs.Prelude.{ℕ, ◌+◌, Bool, true, false, not, ◌&&◌, nat_lt, nat_le, List, [], ◌∷◌, ◌++◌, length, Option, Some, None, Result, Ok, Err, is_some, if◌then◌else◌}
 use Rattle.std.specs.Option.{option_to_list, is_none}
 use Rattle.nc_number.specs.declared.limits.TheConstants.{LONGEST_LINE, LONGEST_TAPE, MOST_BLOCKS}
@@ -24,7 +25,7 @@ pub record Before : Type 0 where
   pub lines : ℕ
   -- how many bytes these lines have, with their line feeds
   pub bytes : ℕ
-  -- the number of the first line that begins with `%`, or 0 before it
+  -- the number of the first line that begins with `%`, counted from 1, or 0 before it
   pub percent : ℕ
   -- how many blocks there are, of all programs
   pub blocks : ℕ
@@ -69,13 +70,13 @@ is_block said.Nothing = false
 is_block (said.Program number) = false
 is_block (said.Block block) = true
 
--- whether the O number, or each sequence number of the block, is in its range
+-- whether the O number, or each sequence number of the block, is in its range; nothing always is
 abbrev pub is_said_in_range : Said → Bool
 is_said_in_range said.Nothing = true
 is_said_in_range (said.Program number) = is_some number
 is_said_in_range (said.Block block) = block.in_range
 
--- the least refusal of a line that is readable by itself
+-- the least refusal of a line of the programs that no refusal by itself refuses and that says this
 abbrev pub said_refusal : Before → ℕ → Bool → Said → Option Refusal
 said_refusal before len ended said =
     if is_block said && is_none before.current then Some NoProgramNumber
@@ -128,7 +129,8 @@ after_line skips before bytes ended = after_said before (length bytes) ended (li
 abbrev pub after_percent : Before → ℕ → Bool → Result Before Refusal
 after_percent before len ended = unless_refused (percent_refusal before len ended) (next before len ended)
 
--- what was read after one line more outside the `%` lines, or its least refusal
+-- what was read after one line more before the first or after the second `%` line, or its least
+-- refusal
 abbrev pub after_outer : Before → ℕ → Bool → Result Before Refusal
 after_outer before len ended = unless_refused (outer_refusal before len ended) (next before len ended)
 
@@ -160,7 +162,8 @@ abbrev pub goes_on : Before → Result Before Refusal → (Before → Answer) �
 goes_on before (Ok after) rest = rest after
 goes_on before (Err refusal) rest = Err (fault_behind before refusal)
 
--- the answer of a text whose second `%` line has been read, and of which these lines are left
+-- the answer of a text whose second `%` line has been read, and of which these lines are left,
+-- after what was read
 abbrev pub in_rest : List Line → Before → Answer
 in_rest [] before = finished before
 in_rest (line ∷ lines) before = goes_on before (after_outer before (length line.bytes) line.ended) (in_rest lines)
@@ -173,7 +176,7 @@ in_body skips (line ∷ lines) before =
     if is_percent line.bytes then goes_on before (after_percent before (length line.bytes) line.ended) (in_rest lines)
     else goes_on before (after_line skips before line.bytes line.ended) (in_body skips lines)
 
--- what was read, after its last line, the first `%` line
+-- what was read, if its last line is the first `%` line
 abbrev pub begun : Before → Before
 begun before = record before { percent = before.lines }
 

@@ -1,5 +1,5 @@
--- What was read, as the contracts of src/progress.rt, going_back.rt, step.rt and feed.rt see it.
--- For this crate alone.
+-- What was read of a tape, as the contracts of src/progress.rt, going_back.rt, step.rt and feed.rt
+-- see it. For this crate alone.
 use Rattle.std.specs.Prelude.{◌≡◌, Result, Ok, Err}
 use Rattle.line_text.specs.declared.refusal.Refusal.{Refusal}
 use Rattle.nc_text.specs.declared.progress.Progress.{Progress}
@@ -16,7 +16,8 @@ before_of progress = record {
   current = progress.current;
 }
 
--- a call that takes a line answers as the definition: what was read with it, or its refusal
+-- a call that takes a line answers as the definition does: with what was read after it, which is
+-- `new`, or with its refusal
 abbrev pub Passes : {A : Type 0} → Result A Refusal → Before → Result Before Refusal → Type 0
 Passes (Ok x) new read = read ≡ Ok new
 Passes (Err refusal) new read = read ≡ Err refusal

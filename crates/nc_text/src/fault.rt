@@ -2,12 +2,12 @@
 //! A reader answers it; nc_verify, wait_verify and tape_expand pass it on.
 use thiserror::Error;
 
-/// A refusal of a tape: its number, and the line that it is about, counted from 1.
+/// A refusal of a tape's text: its number, and the line that it is about.
 #[derive(Clone, Copy, Debug, PartialEq, Eq, Error)]
 #[error("refusal {number} at line {line}")]
 pub struct TextFault {
     /// The number of the refusal, a row of nc_number's table of causes.
     pub number: u8,
-    /// The line, from 1.
+    /// The line, counted from 1.
     pub line: u32,
 }

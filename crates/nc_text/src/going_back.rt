@@ -1,6 +1,7 @@
-//! Back to what was read at a mark, if memory ran out in a piece: so a piece is taken whole or not
-//! at all. feed.rt calls it. The mark itself is in mark.rt; each of its fields needs its line here
-//! and in specs/Mark.
+//! Going back in the reading of a tape if memory runs out in a piece of its text: so a piece is
+//! taken whole or not at all. A mark is the moment of the reading to which it goes back. feed.rt
+//! calls both functions. The mark itself is in mark.rt; each of its fields needs its line here and
+//! in specs/Mark.
 ghost use Rattle.std.specs.Prelude.{◌≡◌, ◌++◌, List, Some, length};
 ghost use Rattle.std.specs.Option.{option_to_list};
 ghost use Rattle.nc_text.specs.declared.tape.Program.{Program};
@@ -29,7 +30,7 @@ impl Progress {
         }
     }
 
-    /// Goes back to what was read at the mark. It takes no memory.
+    /// Goes back to what was read at the mark, if that still stands. It takes no memory.
     pub(crate) fn cut_back(&mut self, mark: &Mark)
         requires { StoodAt mark.now (before_of self.old) }
         ensures { (start : Before) → IsMarkOf mark.now start → Follows start (before_of self.old)
@@ -54,7 +55,8 @@ fn block_count(program: &Option<Program>) -> Option<usize>
     }
 }
 
-/// Leaves the first `count` programs done, and makes the next one the current one again.
+/// Leaves the first `count` programs done, and makes the next one the current one again, if there
+/// is one.
 fn reopen(done: &mut Vec<Program>, current: &mut Option<Program>, count: usize)
     ensures { (stood : List Program) (since : List Program) → length stood ≡ count → done.old.items ≡ stood ++ since →
         (done.new.items ≡ stood) × (current.new ≡ first_of (since ++ option_to_list current.old)) }

@@ -1,4 +1,4 @@
-//! Where a line ends: the first line feed of a text.
+//! Where a line of a tape ends: the first line feed of a text.
 //! feed.rt cuts a piece with it, step.rt the lines of a piece.
 ghost use Rattle.std.specs.Prelude.{◌≡◌, ◌<◌, ◌∷◌, ◌++◌, length, MatchOption, IfSome};
 ghost use Rattle.nc_text.specs.Lines.{IsOneLine};

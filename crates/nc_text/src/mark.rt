@@ -1,10 +1,10 @@
-//! A moment of a reading, as far as a reader must know it to go back there when memory runs out in
-//! a piece. going_back.rt makes marks and goes back to them; each field needs its line there and in
-//! specs/Mark.
+//! A mark: a moment of a tape's reading, as far as a reader must know it to go back there when
+//! memory runs out in a piece of the text. going_back.rt makes marks and goes back to them; each
+//! field needs its line there and in specs/Mark.
 ghost use Rattle.std.specs.Prelude.{◌≤◌};
 ghost use Rattle.nc_number.specs.declared.limits.TheConstants.{LONGEST_TAPE, MOST_BLOCKS};
 
-/// The sizes of what was read up to some moment; going back cuts off what was read since.
+/// The sizes of what was read of a tape up to some moment; going back cuts off what was read since.
 #[derive(Drop)]
 pub(crate) struct Mark {
     /// How many lines were read.

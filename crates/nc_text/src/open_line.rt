@@ -1,4 +1,4 @@
-//! The line that is being read: its length, and of its bytes those that are needed.
+//! The line of a tape that is being read: its length, and of its bytes those that are needed.
 //! feed.rt keeps one from piece to piece; step.rt counts whole lines in the same way.
 ghost use Rattle.std.specs.Prelude.{◌≡◌, ◌≤◌, ◌<◌, ◌+◌, ◌++◌, [], List, ℕ, length, take, IfOk, OnOk, OnErr};
 ghost use Rattle.nc_number.specs.declared.limits.TheConstants.{LONGEST_TAPE};
@@ -19,10 +19,11 @@ const KEPT: usize = 4_294_967_294;
 /// The line that is being read.
 #[derive(Debug, Drop)]
 pub(crate) struct OpenLine {
-    /// Where in the tape the line stands.
+    /// Where in the tape the line stands: before, between or after the two `%` lines, or at a
+    /// refusal.
     pub stage: Stage,
     /// Of its bytes only what is needed: all of a line of the programs, the first byte of any
-    /// other.
+    /// other, the `%` lines among these.
     pub kept: Vec<u8>,
     /// How many bytes it has, counted up to one more than a tape may have.
     pub len: u32,
@@ -111,7 +112,8 @@ pub(crate) fn kept_whole(stage: Stage, bytes: &[u8]) -> Result<&[u8], NoMemory>
     Ok(kept)
 }
 
-/// What is kept of these bytes at the beginning of a line: all in the programs, else the first.
+/// What is kept of these bytes at the beginning of a line: all of a line of the programs, else the
+/// first.
 fn kept_of(stage: Stage, bytes: &[u8]) -> &[u8]
     ensures value { result.now ≡ kept_of stage bytes.now }
     ensures short { length result.now ≤ length bytes.now }

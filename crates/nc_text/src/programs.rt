@@ -1,5 +1,5 @@
 //! The programs of a tape while they are read: one more begins, or the last one gets a block.
-//! The only error is that memory runs out, and then all is as before.
+//! The only error is that memory runs out, and then all programs are as before.
 //! progress.rt calls it at an O number and at a block.
 ghost use Rattle.std.specs.Prelude.{◌≡◌, ◌++◌, Some, OnOk, OnErr};
 ghost use Rattle.std.specs.Option.{option_to_list};

@@ -42,7 +42,7 @@ pub(crate) struct Progress {
 impl Progress {
     ghost use Rattle.nc_text.specs.View.{before_of, Passes};
 
-    /// What is known before the first line.
+    /// What was read before the first line: nothing.
     pub(crate) fn new(alloc: Global) -> Self
         ensures { before_of result ≡ nothing_read }
     {
@@ -56,7 +56,8 @@ impl Progress {
         }
     }
 
-    /// Whether a line of this length holds the first byte that is too many.
+    /// Whether a line of this length, with its line feed if it has one, makes the text longer than
+    /// 4 MiB.
     fn is_past_end(&self, len: u32, ended: bool) -> bool
         ensures { result ≡ is_past_end (before_of self.now) len ended }
     {
@@ -217,8 +218,8 @@ impl Progress {
         Ok(())
     }
 
-    /// The refusal of a tape without a second `%` line: 13 if it has no O number, else 14, at its
-    /// last line.
+    /// The refusal of a tape without a second `%` line: 13 at its first `%` line if it has no O
+    /// number, else 14 at its last line.
     pub(crate) fn unfinished(&self) -> TextFault
         ensures { unfinished (before_of self.now) ≡ Err result }
     {
@@ -276,7 +277,8 @@ fn size_of(len: u32, ended: bool) -> u64
     }
 }
 
-/// Whether the line says a block. Only a block needs a program before it, and counts.
+/// Whether the line says a block. Only a block needs an O number before it, and counts among the
+/// 20,000 of a tape.
 fn is_block(said: &Said) -> bool
     ensures { result ≡ is_block said.now }
 {
@@ -287,8 +289,8 @@ fn is_block(said: &Said) -> bool
     }
 }
 
-/// Whether each number of the line is in its range. This is the last of the refusals, so it is
-/// asked last.
+/// Whether the O number, or each sequence number of the block, is in its range. That refusal has
+/// the greatest number, so it is asked last.
 fn is_in_range(said: &Said) -> bool
     ensures { result ≡ is_said_in_range said.now }
 {

@@ -47,8 +47,8 @@ impl Reader {
         })
     }
 
-    /// Takes the next piece of the tape. It refuses where a line that has ended decides the answer,
-    /// whatever follows; from then on every call gives the same refusal. Where memory ran out the
+    /// Takes the next piece of the tape. It refuses if the lines that have ended decide the answer,
+    /// whatever follows; from then on every call gives the same refusal. If memory ran out, the
     /// piece was not taken, and can be given again.
     pub fn feed(&mut self, piece: &[u8]) -> Result<(), Failing<TextFault>>
         ensures reads { (skips : ℕ) (bytes : List ℕ) → HasRead self.old skips bytes
@@ -75,8 +75,9 @@ impl Reader {
         Ok(())
     }
 
-    /// Ends the tape, and answers its programs or its refusal: the least line at which one holds,
-    /// and there the least number.
+    /// Ends the tape, and answers its programs or its refusal: that of the least line at which one
+    /// holds, and there the least number. That it has no O number or no second `%` line counts only
+    /// if no line is refused.
     pub fn finish(self) -> Result<Tape, Failing<TextFault>>
         ensures exact { (skips : ℕ) (bytes : List ℕ) → HasRead self skips bytes
             → Gives (λ tape. tape) result (tape_of skips bytes) }

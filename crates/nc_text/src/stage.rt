@@ -18,7 +18,8 @@ pub(crate) enum Stage {
     Refused(TextFault),
 }
 
-/// Whether the reader stands in the programs. Only there lines are kept whole.
+/// Whether the reader stands in the programs. Only there lines are kept whole, but for the `%` line
+/// that ends them.
 pub(crate) fn is_body(stage: Stage) -> bool
     ensures { result ≡ is_body stage }
 {

@@ -1,5 +1,6 @@
-//! Where the reader stands after one line more, at each stage of a tape. feed.rt reads its lines
-//! with it. `len` counts the bytes of a line without its line feed; `ended` says that it has one.
+//! Where the reader stands after one line more, at each stage of a tape: before, between and after
+//! its two `%` lines, and at a refusal. feed.rt reads its lines with it. `len` counts the bytes of
+//! a line without its line feed; `ended` says whether it has one.
 ghost use Rattle.std.specs.Prelude.{◌≡◌, ◌∷◌, ◌<◌, ◌-◌, ◌^◌, List, ℕ, true, length, ◌≤◌, IfOk, Ok};
 ghost use Rattle.nc_number.specs.Answers.{Gives};
 ghost use Rattle.nc_text.specs.Lines.{Line, IsOneLine, is_percent, size_of};
@@ -92,7 +93,7 @@ fn last_percent(progress: &mut Progress, len: u32, ended: bool) -> Stage
     }
 }
 
-/// Takes a line of the programs. Errors: its least refusal, or memory.
+/// Takes a line of the programs that does not begin with `%`. Errors: its least refusal, or memory.
 fn program_line(
     progress: &mut Progress,
     buffer: &mut LineBuffer,
@@ -190,7 +191,7 @@ fn behind_whole_line(
     behind_line(stage, progress, buffer, skips, kept, len, true)
 }
 
-/// What is left to read of a text: nothing if it is refused.
+/// What is left to read of a text at this stage: all of it, or nothing if the text is refused.
 fn left_to_read(stage: Stage, text: &[u8]) -> &[u8]
     ensures same { (skips : ℕ) (before : Before) → LeadsTo skips stage before text.now stage before result.now }
     ensures short { length result.now ≤ length text.now }
@@ -201,8 +202,8 @@ fn left_to_read(stage: Stage, text: &[u8]) -> &[u8]
     }
 }
 
-/// Where the reader stands after the lines that end in a text, and what follows the last of them.
-/// The only error is that memory runs out.
+/// Where the reader stands after the lines that end in a text, and what follows the last of them:
+/// nothing if the text is refused. The only error is that memory runs out.
 pub(crate) fn behind_lines<'a>(
     stage: Stage,
     progress: &mut Progress,

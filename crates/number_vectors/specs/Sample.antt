@@ -1,5 +1,5 @@
--- The variables of the tests: #0 and #1 are vacant, #2 is 2.5, #3 is 3, #500 is shared, and there
--- is no other. `Sample` (src/values.rt) has this table; its rows count on it.
+-- The variables of the tests of macro expressions: #0 and #1 are vacant, #2 is 2.5, #3 is 3, #500
+-- is shared, and there is no other. `Sample` (src/values.rt) has this table; its rows count on it.
 use Rattle.std.specs.Prelude.{ℕ, ◌==◌, ◌||◌, Result, Ok, Err, pos, if◌then◌else◌}
 use Rattle.nc_number.specs.declared.value.Var.TheVariants.{Vacant, Is}
 use Rattle.macro_eval.specs.declared.scope.Look.{Look}

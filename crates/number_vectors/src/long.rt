@@ -6,8 +6,8 @@ use crate::values::{answer, is_due};
 use std::alloc::{AllocError, Global};
 use std::test::Fail;
 
-/// `FIRST..OPERATORS -> VALUE`: half a million times the two operators of a rank behind the first
-/// operand.
+/// `FIRST..OPERATORS -> VALUE`: half a million times two operators of one rank, with their
+/// operands, behind the first operand.
 const LONG: &str = "\
 1..+1-1 -> 1
 -1..-1-1 -> -1000001
@@ -52,7 +52,8 @@ fn a_million_operators_take_no_stack(rt: HostRuntime) {
     }
 }
 
-/// A long sum in five brackets, each the last operand of a product that ends a long sum.
+/// A long sum in five brackets, each of them the last operand of a long product that ends a long
+/// sum.
 fn enclosed(alloc: Global) -> Result<String, AllocError> {
     let sum = chained(alloc, "2", "+1-1", 100_000, "+2")?;
     let product = chained(alloc, sum.as_str(), "*2/2", 100_000, "*[")?;

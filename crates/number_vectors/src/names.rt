@@ -11,8 +11,9 @@ use nc_number::{Cause, Path};
 use std::alloc::{AllocError, Global};
 
 /// `NOUN NUMBER = WHAT IT STANDS FOR`, or `none`: a cause by its number and name; the place of a
-/// path and the number of the one beside it; a variable and what can be done with it; the kind and
-/// the group of a code, and whether the control refuses it, or it is an arc or a cycle.
+/// path and the number of the one beside it; a variable and what can be done with it; by the letter
+/// of its system the kind and the group of a code, and whether the control refuses it, or it is an
+/// arc or a cycle.
 const NAMES: &str = "\
 cause 1 = 1 Overflow
 cause 5 = 5 TooManyDigits
@@ -229,7 +230,7 @@ fn system_named(letter: &str) -> System {
     if letter == "B" { System::B } else { System::A }
 }
 
-/// What a code stands for, behind the letter of its system.
+/// What a code stands for; `words` are the letter of its system and its number.
 fn code_text(alloc: Global, words: &str) -> Result<String, AllocError> {
     let (letter, number) = words.split_once(' ').unwrap_or((words, ""));
     let code = number.parse::<u16>().unwrap_or(u16::MAX);

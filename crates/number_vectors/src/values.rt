@@ -58,8 +58,8 @@ ABS[#1] -> 0
 #[#1] -> vacant
 #[-1] -> alarm 30";
 
-/// `COUNT TEXT -> ANSWER, TAKEN`: so many reads of the shared variable stand ready, 2, 500 and
-/// vacant, and so many are taken.
+/// `COUNT TEXT -> ANSWER, TAKEN`: the first so many of the reads 2, 500 and vacant stand ready, and
+/// so many are taken.
 const READS: &str = "\
 0 #500+#500 -> needs #500, 0
 1 #500+#500 -> needs #500, 1
@@ -87,7 +87,8 @@ IF [1/0 EQ 2] GOTO #3 -> alarm 2 -> 2 -> 3
 WHILE [2 LT #3] DO 1 -> 2 -> 3
 GOTO 5";
 
-/// `#0` and `#1` are vacant, `#2` is 2.5, `#3` is 3, `#500` is shared, and there is no other.
+/// The variables of the tests: `#0` and `#1` are vacant, `#2` is 2.5, `#3` is 3, `#500` is shared,
+/// and there is no other. specs/Sample has the same table.
 struct Sample;
 
 impl Scope for Sample {

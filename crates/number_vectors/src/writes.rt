@@ -50,7 +50,8 @@ fn the_first_ones_from_each_hundred_on_are_shared(rt: HostRuntime) {
     }
 }
 
-/// A search that passed each later write would take ten thousand million steps here.
+/// Each moment of 200,000 writes is asked for. A search that passed each later write would take
+/// about twenty thousand million steps here.
 #[test]
 fn early_moments_of_many_writes_are_found_at_once(rt: HostRuntime) -> Result<(), Fail> {
     let mut shared = Shared::new(rt.alloc(), 0, 500)?;

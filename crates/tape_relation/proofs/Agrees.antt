@@ -30,14 +30,21 @@ record Opened (skips : ℕ) (lines : List Line) (before : Before) : Type 0 where
   opening : Line
   -- what was read up to that line, and with it
   there : Before
+  -- the lines are those before it, that line, and those after it
   lines_are : lines ≡ (before_percent lines ++ opening ∷ []) ++ behind_percent lines
+  -- that line begins with `%`
   is_percent : begins_percent opening ≡ true
+  -- no line before it does
   leader_is : has_percent (before_percent lines) ≡ false
   -- the answer from the first line on is the answer from the body on
   ends : leader_end skips lines before ≡ body_end skips (behind_percent lines) there
+  -- the lines up to that one, and with it, were read
   count : there.lines ≡ before.lines + length (before_percent lines) + 1
+  -- the number of that line is kept as that of the first `%` line
   percent_is : there.percent ≡ there.lines
+  -- the program that is being read, if any, is as before
   current_is : there.current ≡ before.current
+  -- the programs that are done are as before
   done_is : there.done ≡ before.done
 
 -- If the lines after one more leader line are opened, so are all; and if that line begins with `%`,

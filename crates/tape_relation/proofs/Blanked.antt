@@ -1,5 +1,6 @@
--- A blank put into a line changes nothing but the places of words: without its blanks the line is
--- the same. For the law `a_blank_changes_only_places` (src/edits.rt).
+-- A blank put into a line of a tape, where it may stand, changes nothing but the places of words:
+-- without its blanks the line is the same. For the law `a_blank_changes_only_places`
+-- (src/edits.rt).
 use Rattle.std.proofs.Common.{◌≡◌, ◌==◌, ℕ, ◌<◌, ◌≤◌, Bool, true, false, cond, not, List, [], ◌∷◌, ◌++◌, length, refl, sym, ap, ◌∙◌, append-nil, append_assoc, length-append, arith}
 use Rattle.std.specs.Prelude.{All}
 use Rattle.std.proofs.lemmas.Bool.{le-ltb}
@@ -31,8 +32,11 @@ no_return b blank = grind (arith, nat_tests)
 
 -- the last byte of a line that has one
 record Last (line : List ℕ) : Type 0 where
+  -- the bytes before the last one
   front : List ℕ
+  -- the last byte
   byte : ℕ
+  -- the line is these two
   is : line ≡ front ++ byte ∷ []
 
 -- a line with a byte has a last one
@@ -104,7 +108,7 @@ without : (P : ℕ → Type 0) (b : ℕ) (left right : List ℕ) → All P (left
 without P b [] right all = All-tail P b right all
 without P b (c ∷ left) right all = All-cons P c (left ++ right) (All-head P c (left ++ b ∷ right) all) (without P b left right (All-tail P c (left ++ b ∷ right) all))
 
--- a blank in a line that others follow changes nothing but the places of words
+-- a blank where it may stand, in a line with a line feed, changes nothing but the places of words
 pub blank_put : (skips blank : ℕ) (front left right back : List ℕ) → is_blank blank ≡ true → MayHaveBlank left right → IsLine front (left ++ blank ∷ right) back
     → forget_places (tape_of skips (with_line front (left ++ blank ∷ right) back)) ≡ forget_places (tape_of skips (with_line front (left ++ right) back))
 blank_put skips b front left right back blank may is =
@@ -113,7 +117,8 @@ blank_put skips b front left right back blank may is =
     omega (arith, length-append front ((left ++ right) ++ 10 ∷ back), length-append (left ++ right) (10 ∷ back), length-append left right, length-append front ((left ++ b ∷ right) ++ 10 ∷ back), length-append (left ++ b ∷ right) (10 ∷ back), length-append left (b ∷ right)) in
     line_in_place skips without_place front (left ++ b ∷ right) (left ++ right) back is.whole is.one_line (without (λ (x : ℕ). (x == 10) ≡ false) b left right is.one_line) (blank_alike skips b left right true blank may is.short) fits shorter
 
--- a blank in the last line changes nothing but the places of words
+-- a blank where it may stand, in a last line without a line feed, changes nothing but the places of
+-- words
 pub blank_put_last : (skips blank : ℕ) (front left right : List ℕ) → is_blank blank ≡ true → MayHaveBlank left right → IsLastLine front (left ++ blank ∷ right) → 0 < length (left ++ right)
     → forget_places (tape_of skips (front ++ (left ++ blank ∷ right))) ≡ forget_places (tape_of skips (front ++ (left ++ right)))
 blank_put_last skips b front left right blank may is some =

@@ -1,5 +1,5 @@
--- When two lines have the same text, places aside: a blank counts for nothing; and a line of closed
--- comments says nothing. For Blanked, Packed, Placeless and Removed.
+-- When two lines of a tape have the same text, places aside: a blank counts for nothing; and a line
+-- of closed comments says nothing. For Blanked, Packed, Placeless and Removed.
 use Rattle.std.proofs.Common.{◌≡◌, ◌==◌, ℕ, suc, ◌+◌, Bool, true, false, cond, not, ◌&&◌, List, [], ◌∷◌, drop, Ok, refl, ap, ◌∙◌, arith}
 use Rattle.std.specs.Char.{to_ascii_uppercase}
 use Rattle.std.specs.List.{list_all, prefix_len}

@@ -1,6 +1,6 @@
--- The words into which the reader cuts a line are the words that the grammar says it spells, and
--- the other way round. For the law `a_line_is_cut_into_its_words` (src/law.rt), and for the files
--- on sentences and numbers (Heads, Found, Sentences, Statements, LongNumbers).
+-- The words into which the reader cuts a line of a tape are the words that the grammar says it
+-- spells, and the other way round. For the law `a_line_is_cut_into_its_words` (src/law.rt), and for
+-- the files on sentences and numbers (Heads, Found, Sentences, Statements, LongNumbers).
 use Rattle.std.proofs.Common.{◌≡◌, ℕ, zero, suc, ◌+◌, ◌-◌, ◌<◌, ◌==◌, Bool, true, false, cond, not, ◌&&◌, ◌||◌, List, [], ◌∷◌, ◌++◌, length, take, drop, map, refl, ap, sym, subst, ◌∙◌, arith, append_assoc}
 use Rattle.std.specs.Char.{is_ascii_digit, is_ascii_uppercase}
 use Rattle.std.specs.List.{list_all, list_any, position_or_len}
@@ -31,7 +31,8 @@ is_plain b = not (is_ascii_uppercase b) && (not (b == 91) && not (b == 93))
 abbrev pub onto : List Sign → Cut → Cut
 onto value cut = record { lead = value ++ cut.lead; groups = cut.groups }
 
--- a cut of these signs and a rest is the cut of the rest, with the signs before its first word
+-- no word begins in the signs of `value`: the cut of them and the rest is the cut of the rest, with
+-- these signs before its first word
 abbrev Passes : List Sign → List Sign → Type 0
 Passes value rest = cut_at (value ++ rest) 0 ≡ onto value (cut_at rest 0)
 
@@ -47,7 +48,7 @@ pass_plain : (value rest : List Sign) → list_all is_plain (bytes_of value) ≡
 pass_plain [] rest e = refl
 pass_plain (sign ∷ value) rest e = let p = both (is_plain sign.byte) (list_all is_plain (bytes_of value)) e in pass_one sign value rest p.0 (pass_plain value rest p.1)
 
--- inside brackets
+-- no word begins in signs whose text closes all open brackets at its very end
 pass_closing : (value rest : List Sign) (depth : ℕ) → 0 < depth → closes (bytes_of value) depth ≡ true → cut_at (value ++ rest) depth ≡ onto value (cut_at rest 0)
 pass_closing [] rest depth some e = absurd cc
 pass_closing (sign ∷ value) rest depth some e = go (sign.byte == 91) refl (sign.byte == 93) refl (depth == 1) refl (depth == 0) refl e (pass_closing value rest (depth + 1)) (pass_closing value rest (depth - 1)) (pass_closing value rest depth)
@@ -74,13 +75,14 @@ pass_closing (sign ∷ value) rest depth some e = go (sign.byte == 91) refl (sig
         several d some off = grind arith
     go false e91 false e93 one e1 false e0 h more less same = ap (add_to_cut false sign) (same some h)
 
+-- no word begins in a text in square brackets
 pass_bracket : (sign : Sign) (value rest : List Sign) → sign.byte ≡ 91 → closes (bytes_of value) 1 ≡ true → Passes (sign ∷ value) rest
 pass_bracket sign value rest e h =
     let P : ℕ → Type 0 = λ b. add_to_cut (begins_word 0 b) sign (cut_at (value ++ rest) (depth_behind 0 b)) ≡ onto (sign ∷ value) (cut_at rest 0) in
     let here : add_to_cut false sign (cut_at (value ++ rest) 1) ≡ onto (sign ∷ value) (cut_at rest 0) = ap (add_to_cut false sign) (pass_closing value rest 1 (omega arith) h) in
     subst P (sym e) here
 
--- These four: digits, signs and the point are plain.
+-- These four: a digit, a sign, the point and a text of digits are plain.
 digit_plain : (b : ℕ) → is_ascii_digit b ≡ true → is_plain b ≡ true
 digit_plain b digit = grind (arith, nat_tests)
 
@@ -93,6 +95,8 @@ point_plain b is = grind (arith, nat_tests)
 digits_plain : (text : List ℕ) → list_all is_ascii_digit text ≡ true → list_all is_plain text ≡ true
 digits_plain text e = digits_pass is_plain digit_plain point_plain sign_plain text e
 
+-- These three: no word begins in what follows the `#` of a variable, in a variable or an expression
+-- in brackets, nor in one of these with a sign or without.
 pass_variable : (value rest : List Sign) → is_variable (bytes_of value) ≡ true → Passes value rest
 pass_variable [] rest e = absurd cc
 pass_variable (sign ∷ value) rest e = go (sign.byte == 91) refl e
@@ -179,10 +183,11 @@ word_same letter value word is =
     let end : is.last.place + 1 ≡ end_of (letter.place + 1) value = sym (ap (end_of (letter.place + 1)) is.value_is ∙ end_last (letter.place + 1) is.front is.last) in
     is.word_is ∙ ap (λ (n : ℕ). record { letter = letter.byte; start = letter.place + 1; end = n; text = bytes_of value; whole = true }) end
 
--- a list of signs has a last one
+-- the signs are some signs and a last one
 abbrev HasEnd : List Sign → Type 0
 HasEnd value = (front : List Sign) × (last : Sign) × (value ≡ front ++ last ∷ [])
 
+-- each list with a sign has a last one
 has_end : (sign : Sign) (value : List Sign) → HasEnd (sign ∷ value)
 has_end sign [] = ([], sign, refl)
 has_end sign (next ∷ value) = let (front, last, is) = has_end next value in (sign ∷ front, last, ap (λ (ss : List Sign). sign ∷ ss) is)

@@ -48,6 +48,7 @@ ended_by false tape last = Err (fault_at NoEnd last)
 ended_same : (closed : Bool) (a b : List Program) (m n : ℕ) → a ≡ b → m ≡ n → ended_by closed a m ≡ ended_by closed b n
 ended_same closed a b m n e f = ap (λ (ps : List Program). ended_by closed ps m) e ∙ ap (ended_by closed b) f
 
+-- Bit n of `skips` is switch n.
 module _ (skips : ℕ) where
   -- lines after the first blocks of a program: its own further lines, the programs after it, and
   -- the answer they make
@@ -58,8 +59,11 @@ module _ (skips : ℕ) where
     others : List Line
     -- the programs of those lines
     programs : List Program
+    -- both are the lines of the body
     body_is : before_percent lines ≡ own ++ others
+    -- no line of the first part says an O number
     own_is : list_any (says_program skips) own ≡ false
+    -- the lines from the next O number on say these programs
     are : SayPrograms skips (before.lines + length own) others programs
     -- the answer is all these programs, with an end or without
     ends : body_end skips lines before ≡ ended_by (has_percent lines) (before.done ++ (with_blocks program (blocks_on skips before.lines own) ∷ programs)) (before.lines + length lines)
@@ -267,7 +271,8 @@ module _ (skips : ℕ) where
         ends = end_is lines line before (said.Program (Some number)) (before.done ++ (begun_program ∷ h.programs)) is other (h.ends ∙ ended_same (has_percent lines) _ _ _ _ same refl);
       }
 
-  -- no program has begun
+  -- step of `starts`: before any program, the lines from this one on begin programs or say nothing
+  -- at all, whether or not the line begins with `%`
   starts_first : (test : Bool) (lines front : List Line) (line : Line) (before : Before) → begins_percent line ≡ test → IsBehind front → NoneHolds skips front (line ∷ lines) → before.current ≡ None
       → list_any (says_something skips) (behind_percent front) ≡ false → (s : Said) → says skips line ≡ s
       → (begins_percent line ≡ false → (after before line).current ≡ None → list_any (says_something skips) (behind_percent (front ++ line ∷ [])) ≡ false → Begins lines (after before line) ⊎ SaysNone lines (after before line))

@@ -1,5 +1,5 @@
 -- The reader comes to the first fault that the relation says, or, if no condition holds at any
--- line, to the answer that the lines make. For Agrees; Ends says what that answer is.
+-- line, to the answer that the lines make. For Agrees and Ends; Ends says what that answer is.
 use Rattle.std.proofs.Common.{◌≡◌, ℕ, ◌+◌, ◌≤◌, Bool, true, false, cond, not, ◌||◌, ltb, List, [], ◌∷◌, ◌++◌, length, filter, Option, Some, None, Err, ◌⊎◌, inl, inr, refl, ap, sym, ◌∙◌, arith}
 use Rattle.std.specs.Option.{is_none}
 use Rattle.std.specs.List.{list_any}
@@ -40,6 +40,7 @@ said_bytes before (said.Program None) = refl
 said_bytes before (said.Program (Some number)) = refl
 said_bytes before (said.Block block) = refl
 
+-- Bit n of `skips` is switch n.
 module _ (skips : ℕ) where
   -- the answer from a line of the body on, if no line is refused
   abbrev pub body_end : List Line → Before → Answer

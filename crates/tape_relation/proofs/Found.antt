@@ -1,5 +1,5 @@
--- A line that the reader takes is a sentence of the grammar. Each lemma in `_found` makes the
--- sentence from one stage of the reader. For LineSays; LongNumbers takes `digit_is`.
+-- A line of a tape that the reader takes is a sentence of the grammar. Each lemma in `_found` makes
+-- the sentence from one step of the reader. For LineSays; LongNumbers takes `digit_is`.
 use Rattle.std.proofs.Common.{◌≡◌, ◌==◌, ℕ, suc, ◌+◌, ◌-◌, ◌<◌, ◌≤◌, Bool, true, false, cond, not, ◌&&◌, ◌||◌, List, [], ◌∷◌, ◌++◌, length, Option, Some, None, refl, sym, subst, append-nil, arith}
 use Rattle.std.specs.Prelude.{nat_lt, nat_le, is_some}
 use Rattle.std.specs.List.{list_all, prefix_len}

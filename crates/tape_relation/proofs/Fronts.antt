@@ -1,5 +1,5 @@
--- What one line more at the end changes in the parts, the size and the number of lines. For
--- FirstFault, Steps, Ends and Agrees, which go through a text line by line.
+-- What one line more at the end changes in the parts of a tape's text, the size and the number of
+-- lines. For FirstFault, Steps, Ends and Agrees, which go through a text line by line.
 use Rattle.std.proofs.Common.{◌≡◌, ℕ, ◌+◌, Bool, true, false, cond, ◌||◌, List, [], ◌∷◌, ◌++◌, length, refl, ap, ◌∙◌, arith}
 use Rattle.std.specs.List.{flat_map}
 use Rattle.std.proofs.lemmas.List.{length-append}
@@ -27,7 +27,8 @@ pub behind_more : (front more : List Line) → has_percent front ≡ true → be
 behind_more [] more e = absurd cc
 behind_more (line ∷ front) more e = behind_first (begins_percent line) front more e (behind_more front more)
 
--- step of `behind_none`
+-- step of `behind_none`: without a `%` line nothing stands after one, whether or not the first line
+-- is tested to be one
 none_first : (test : Bool) (front : List Line) → (test || has_percent front) ≡ false → (has_percent front ≡ false → behind_percent front ≡ []) → cond test front (behind_percent front) ≡ []
 none_first true front e later = absurd cc
 none_first false front e later = later e
@@ -37,7 +38,8 @@ pub behind_none : (front : List Line) → has_percent front ≡ false → behind
 behind_none [] e = refl
 behind_none (line ∷ front) e = none_first (begins_percent line) front e (behind_none front)
 
--- step of `behind_last`
+-- step of `behind_last`: with one line more nothing stands after a `%` line either, whether or not
+-- the first line is tested to be one
 opened_first : (test : Bool) (front : List Line) (line : Line) → (test || has_percent front) ≡ false → (has_percent front ≡ false → behind_percent (front ++ line ∷ []) ≡ [])
     → cond test (front ++ line ∷ []) (behind_percent (front ++ line ∷ [])) ≡ []
 opened_first true front line e later = absurd cc

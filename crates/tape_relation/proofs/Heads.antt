@@ -1,5 +1,5 @@
--- The head of a block, as the reader and the grammar see it: comments, and N with a literal before
--- a statement. For Found, Sentences and LongNumbers.
+-- The head of a block of a tape, as the reader and the grammar see it: comments, and N with a
+-- literal before a statement. For Found, Sentences and LongNumbers.
 use Rattle.std.proofs.Common.{◌≡◌, ◌==◌, ℕ, suc, ◌+◌, Bool, true, false, cond, ◌&&◌, ◌||◌, List, [], ◌∷◌, ◌++◌, length, take, drop, refl, sym, ap, subst, ◌∙◌, append-nil, append_assoc, arith}
 use Rattle.std.specs.Char.{is_ascii_digit, is_ascii_uppercase}
 use Rattle.std.specs.List.{list_all, prefix_len}

@@ -15,7 +15,8 @@ abbrev pub signs_on : Bool → List ℕ → Bool → ℕ → Scan
 signs_on ended [] inside place = record { list = []; unclosed = inside }
 signs_on ended (b ∷ bytes) inside place = add_sign (not inside && not (is_ignored ended b bytes)) place b (signs_on ended bytes (inside_behind inside b) (place + 1))
 
--- a line is empty or has a last byte
+-- what holds of xs, and goes on holding with each byte more at the end, holds with all of ys at the
+-- end
 pub by_last : (P : List ℕ → Type 0) → ((xs : List ℕ) (x : ℕ) → P xs → P (xs ++ x ∷ [])) → (ys xs : List ℕ) → P xs → P (xs ++ ys)
 by_last P push [] xs p = subst P (sym (append-nil xs)) p
 by_last P push (y ∷ ys) xs p = subst P (append_assoc xs (y ∷ []) ys) (by_last P push ys (xs ++ y ∷ []) (push xs y p))
@@ -111,7 +112,7 @@ abbrev at_end : Bool → List ℕ
 at_end true = 13 ∷ []
 at_end false = []
 
--- a carriage return stands at the end only before a line feed
+-- if the line ends with a carriage return (`last`), it has a line feed (`ended`)
 abbrev Ends : Bool → Bool → Type 0
 Ends ended last = last ≡ true → ended ≡ true
 
@@ -195,10 +196,11 @@ neither true b f g = absurd (f refl)
 neither false true f g = absurd (g refl)
 neither false false f g = refl
 
--- a text is empty or has a last byte
+-- the text is empty, or it is a front and a last byte
 abbrev HasLast : List ℕ → Type 0
 HasLast xs = (xs ≡ []) ⊎ ((front : List ℕ) × (x : ℕ) × (xs ≡ front ++ x ∷ []))
 
+-- each text is empty or has a last byte
 has_last : (xs : List ℕ) → HasLast xs
 has_last xs = by_last HasLast (λ front x before. inr (front, x, refl)) xs [] (inl refl)
 
@@ -214,6 +216,8 @@ none_left : (xs ys : List ℕ) → xs ++ ys ≡ [] → (xs ≡ []) × (ys ≡ []
 none_left [] ys e = (refl, e)
 none_left (x ∷ xs) ys e = absurd cc
 
+-- A line is `content`, then a `;` if `stop` says so, `blanks`, and a carriage return if `last` says
+-- so; `ended` says whether a line feed follows.
 module _ (ended stop last : Bool) (content blanks : List ℕ) where
   -- The content is what is left of a line: it ends with no blank if no `;` was taken off, with no
   -- `;` then either, and a carriage return was taken off if there was one.

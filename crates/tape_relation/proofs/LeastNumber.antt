@@ -1,5 +1,5 @@
--- A search through the refusals in the order of their numbers finds the least one that holds. For
--- Steps and FirstFault: the reader asks in that order.
+-- A search through the refusals of a tape in the order of their numbers finds the least one that
+-- holds. For Steps and FirstFault: the reader asks in that order.
 use Rattle.std.proofs.Common.{◌≡◌, ℕ, ◌≤◌, Bool, true, false, cond, ◌&&◌, leb, List, [], ◌∷◌, Option, Some, None, ◌⊎◌, inl, inr, refl, ap, sym, subst, ◌∙◌, arith}
 use Rattle.std.proofs.lemmas.Bool.{leb-true}
 use Rattle.nc_number.proofs.Bools.{both}
@@ -56,7 +56,8 @@ least_later : (test : Refusal → Bool) (found r : Refusal) (rs : List Refusal) 
 least_later test found r rs off later s (inl e) holds = let bad : true ≡ false = sym holds ∙ ap test e ∙ off in absurd cc
 least_later test found r rs off later s (inr is) holds = later s is holds
 
--- the first refusal in the order that the test passes is the least one
+-- in a list whose numbers rise, the first refusal that passes the test has the least number of
+-- those that pass
 found_by : (test : Refusal → Bool) (rs : List Refusal) (r : Refusal) → rise rs ≡ true → first_of test rs ≡ Some r → IsFound test rs r
 found_by test [] r up e = absurd cc
 found_by test (x ∷ rs) r up e = go (test x) refl e (found_by test rs r (both (all_from (refusal_number x) rs) (rise rs) up).1)

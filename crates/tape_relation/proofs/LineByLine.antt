@@ -1,6 +1,7 @@
--- Two texts whose lines say the same, but for lines of the second that say nothing, have the same
--- answer, as far as it is looked at: line numbers and words may be changed by maps f, g and w. For
--- the laws of edits (src/edits.rt), by way of OneLine.
+-- Two texts of tapes whose lines say the same, but for lines of the second that say nothing, have
+-- the same answer, as far as it is looked at: line numbers and words may be changed by maps f, g
+-- and w. For OneLine, WholeLines, Removed, Blanked and Placeless, which show the laws of edits
+-- (src/edits.rt).
 use Rattle.std.proofs.Common.{◌≡◌, ℕ, ◌+◌, ◌≤◌, Bool, true, false, cond, ltb, List, [], ◌∷◌, ◌++◌, length, map, Option, Some, None, Result, Ok, Err, refl, sym, ap, ◌∙◌, arith}
 use Rattle.std.specs.Option.{option_map, option_to_list, is_none}
 use Rattle.std.proofs.lemmas.Bool.{le-ltb}
@@ -130,6 +131,8 @@ body_alone skips b y ys nothing past = rw (nothing.percent, nothing.says, nothin
 leader_alone : (skips : ℕ) (b : Before) (y : Line) (ys : List Line) → SaysNothing skips y → is_past_end b (length y.bytes) y.ended ≡ false → in_leader skips (y ∷ ys) b ≡ in_leader skips ys (next b (length y.bytes) y.ended)
 leader_alone skips b y ys nothing past = rw (nothing.percent, past) refl
 
+-- Bit n of `skips` is switch n. `f` maps the line numbers of the first text, `g` those of the
+-- second, and `w` the words of both.
 module _ (skips : ℕ) (f g : ℕ → ℕ) (w : Word → Word) where
   -- the rows say the same, if m lines of the first text and n of the second stand before them; the
   -- maps of line numbers agree
@@ -145,10 +148,15 @@ module _ (skips : ℕ) (f g : ℕ → ℕ) (w : Word → Word) where
   -- after m lines of c bytes of the first text, and n lines of d bytes of the second, the same has
   -- been read
   record Agree (m n c d : ℕ) (a b : Before) : Type 0 where
+    -- m lines of the first text were read
     lines_a : a.lines ≡ m
+    -- n lines of the second text were read
     lines_b : b.lines ≡ n
+    -- the lines of the first text have c bytes
     bytes_a : a.bytes ≡ c
+    -- the lines of the second text have d bytes
     bytes_b : b.bytes ≡ d
+    -- all else that was read is the same, with its changes
     same : seen f a ≡ seen g b
 
   -- both answers look the same with their changes
@@ -195,6 +203,7 @@ module _ (skips : ℕ) (f g : ℕ → ℕ) (w : Word → Word) where
       let percent : f a.lines ≡ g b.lines = ap f agree.lines_a ∙ last ∙ sym (ap g agree.lines_b) in
       record { lines_a = agree.lines_a; lines_b = agree.lines_b; bytes_a = agree.bytes_a; bytes_b = agree.bytes_b; same = λ i. record (agree.same i) { percent = percent i } }
 
+  -- after these lines and bytes of both texts the same has been read, as `Agree` says
   module _ (m n c d : ℕ) (a b : Before) (agree : Agree m n c d a b) where
     none_agree : is_none a.current ≡ is_none b.current
     none_agree = sym (none_same F a.current) ∙ (λ i. is_none (agree.same i).current) ∙ none_same G b.current
@@ -213,6 +222,7 @@ module _ (skips : ℕ) (f g : ℕ → ℕ) (w : Word → Word) where
         chosen (is_none a.current) (is_none b.current) _ _ _ _ none_agree (refused_same (refusal_number NoProgramNumber) a.percent b.percent (λ i. (agree.same i).percent))
         (λ some. refused_same (refusal_number NoEnd) a.lines b.lines (ap f agree.lines_a ∙ last ∙ sym (ap g agree.lines_b)))
 
+    -- the maps give the next line of both texts the same number
     module _ (here : f (m + 1) ≡ g (n + 1)) where
       number_here : f (a.lines + 1) ≡ g (b.lines + 1)
       number_here = ap (λ (k : ℕ). f (k + 1)) agree.lines_a ∙ here ∙ sym (ap (λ (k : ℕ). g (k + 1)) agree.lines_b)

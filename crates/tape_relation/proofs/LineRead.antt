@@ -1,6 +1,6 @@
 -- What the reader takes from a line: short names for parts of nc_text's and line_text's
--- definitions. LineSays shows that they are what the relation says; Steps, FirstFault, Ends and
--- ProgramsSay speak in them.
+-- definitions. LineSays and LongNumbers show that they are what the relation says; Steps,
+-- FirstFault, Ends, ProgramsSay, OneAnswer and Agrees speak in them.
 use Rattle.std.proofs.Common.{◌≡◌, ℕ, ◌+◌, Bool, true, false, cond, ◌||◌, List, [], ◌∷◌, ◌++◌, length, Some}
 use Rattle.std.specs.List.{list_any}
 use Rattle.line_text.specs.declared.said.Said.{Said}

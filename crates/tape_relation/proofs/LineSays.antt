@@ -1,6 +1,6 @@
 -- What a line says by the grammar is what the reader takes from it. Lemmas in `_read` go from the
 -- relation to the reader, those in `_found` from the reader to the relation. For Steps, Ends,
--- ProgramsSay and OneAnswer, which go through the lines.
+-- ProgramsSay, OneAnswer and Agrees, which go through the lines, and for LongNumbers.
 use Rattle.std.proofs.Common.{◌≡◌, ◌==◌, ℕ, Bool, true, false, not, ◌&&◌, ◌||◌, List, [], ◌∷◌, ◌++◌, length, filter, Option, Some, None, ◌⊎◌, inl, inr, refl, sym, ap, subst, ◌∙◌, arith}
 use Rattle.std.specs.Prelude.{All, is_some}
 use Rattle.std.specs.List.{list_all, list_any}

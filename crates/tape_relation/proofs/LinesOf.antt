@@ -1,5 +1,5 @@
--- The lines of a text are those that, written one after the other, are the text. For the part
--- `lines` of the law `the_reader_reads_the_relation` (src/law.rt), and for Agrees.
+-- The lines of a tape's text are those that, written one after the other, are the text. For the
+-- part `lines` of the law `the_reader_reads_the_relation` (src/law.rt), and for Agrees.
 use Rattle.std.proofs.Common.{◌≡◌, ℕ, ◌<◌, ◌==◌, Bool, true, false, cond, List, [], ◌∷◌, ◌++◌, length, refl, ap, sym, ◌∙◌, subst, arith, append_assoc}
 use Rattle.std.specs.List.{All, flat_map}
 use Rattle.std.proofs.lemmas.Bool.{true≢false, eqb-true}

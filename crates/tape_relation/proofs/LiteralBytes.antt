@@ -1,5 +1,5 @@
--- What holds of digits, the point and the signs holds of each byte of a literal. For Cuts and
--- Heads.
+-- What holds of digits, the point and the signs holds of each byte of a literal of a tape. For Cuts
+-- and Heads.
 use Rattle.std.proofs.Common.{◌≡◌, ℕ, suc, ◌+◌, Bool, true, false, cond, not, ◌&&◌, List, [], ◌∷◌, take, drop, refl, arith}
 use Rattle.std.specs.Char.{is_ascii_digit}
 use Rattle.std.specs.List.{list_all, position_or_len, before_first, after_first}

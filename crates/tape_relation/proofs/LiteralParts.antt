@@ -1,5 +1,5 @@
--- The parts of a literal, and what too many digits are, by the grammar and to the reader. For
--- Values, Ranges, LongFronts and the files on sentences.
+-- The parts of a literal of a tape, and what too many digits are, by the grammar and to the reader.
+-- For Values, Ranges, LongFronts, LongNumbers, Found, Sentences and LineSays.
 use Rattle.std.proofs.Common.{◌≡◌, ◌==◌, ℕ, suc, ◌+◌, ◌<◌, ◌≤◌, Bool, true, false, not, ◌&&◌, ◌||◌, List, [], ◌∷◌, ◌++◌, length, ◌⊎◌, inl, inr, refl, sym, ap, subst, ◌∙◌, arith}
 use Rattle.std.specs.Prelude.{nat_lt}
 use Rattle.std.specs.Char.{is_ascii_digit}

@@ -1,6 +1,6 @@
--- A line has a sequence number or an O number of too many digits by the grammar exactly if it has
--- one to the reader. Lemmas in `_read` go from the grammar to the reader, those in `_found` from
--- the reader to the grammar. For Steps, the condition of refusal 5.
+-- A line of a tape has a sequence number or an O number of too many digits by the grammar exactly
+-- if it has one to the reader. Lemmas in `_read` go from the grammar to the reader, those in
+-- `_found` from the reader to the grammar. For Steps, the condition of refusal 5.
 use Rattle.std.proofs.Common.{◌≡◌, ◌==◌, ℕ, suc, ◌+◌, ◌-◌, Bool, true, false, cond, ◌&&◌, ◌||◌, List, [], ◌∷◌, ◌++◌, length, map, take, drop, Option, Some, None, ◌⊎◌, inl, inr, refl, sym, ap, subst, ◌∙◌, append-nil, append_assoc, arith}
 use Rattle.std.specs.Prelude.{is_some}
 use Rattle.std.specs.Char.{is_ascii_uppercase}

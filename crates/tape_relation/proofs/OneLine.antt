@@ -1,5 +1,6 @@
--- What changes in the answer of a text if one of its lines is replaced or taken out. For the laws
--- of edits (src/edits.rt), by way of Removed, Returns and Blanked.
+-- What changes in the answer of a tape's text if one of its lines is replaced or taken out. For the
+-- laws of edits (src/edits.rt): for `lines_that_say_the_same_read_the_same` itself, for others by
+-- way of Removed, Returns and Blanked.
 use Rattle.std.proofs.Common.{◌≡◌, ℕ, ◌+◌, ◌-◌, ◌≤◌, ◌<◌, Bool, true, false, cond, List, [], ◌∷◌, ◌++◌, length, map, Ok, Err, refl, sym, ap, ◌∙◌, append-nil, length-append, arith}
 use Rattle.std.proofs.lemmas.Bool.{lt-ltb, le-ltb}
 use Rattle.std.specs.List.{AllZip}
@@ -55,8 +56,11 @@ zip_rows (x ∷ xs) (y ∷ ys) = Both x y ∷ zip_rows xs ys
 
 -- two lists of lines that say the same one by one, as rows
 record AreZipped (skips : ℕ) (xs ys : List Line) : Type 0 where
+  -- the first lines of the rows are the first list
   firsts_are : firsts (zip_rows xs ys) ≡ xs
+  -- the second lines of the rows are the second list
   seconds_are : seconds (zip_rows xs ys) ≡ ys
+  -- the rows say the same, however many lines stand before both
   rows : (m : ℕ) → Rows skips same_line same_line same_word m m (zip_rows xs ys)
 
 -- The next two: lines that are alike say the same, and so do all rows of them.

@@ -1,4 +1,5 @@
--- A line without its blanks has the same signs, but for their places. For Blanked and Removed.
+-- A line of a tape without its blanks has the same signs, but for their places. For Blanked and
+-- Removed.
 use Rattle.std.proofs.Common.{◌≡◌, ◌==◌, ℕ, ◌+◌, Bool, true, false, cond, not, ◌&&◌, List, [], ◌∷◌, ◌++◌, refl, sym, ap, subst, ◌∙◌, append-nil}
 use Rattle.std.specs.Prelude.{filter}
 use Rattle.std.proofs.lemmas.List.Elements.{filter-append}

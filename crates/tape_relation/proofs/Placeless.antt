@@ -1,6 +1,6 @@
--- What a line says depends on the bytes of its signs; only the places of its words depend on the
--- places of signs. Each lemma in `_bare` says that one step of the reader gives the same with signs
--- or words whose places are 0. For Blanked.
+-- What a line of a tape says depends on the bytes of its signs; only the places of its words depend
+-- on the places of signs. Each lemma in `_bare` says that one step of the reader gives the same
+-- with signs or words whose places are 0. For Blanked.
 use Rattle.std.proofs.Common.{◌≡◌, ◌==◌, ℕ, ◌+◌, Bool, true, false, cond, not, ◌&&◌, List, [], ◌∷◌, length, map, take, drop, Option, None, refl, sym, ap, ◌∙◌}
 use Rattle.std.specs.Prelude.{filter}
 use Rattle.std.specs.Option.{is_some}
@@ -43,6 +43,7 @@ bare_piece piece = record piece { start = 0; end = 0 }
 abbrev bare_reading : Reading → Reading
 bare_reading reading = record reading { said = changed_said without_place reading.said }
 
+-- signs have the same bytes without their places
 bytes_bare : (signs : List Sign) → bytes_of (bare signs) ≡ bytes_of signs
 bytes_bare signs = map-map (λ (sign : Sign). sign.byte) unplaced signs
 

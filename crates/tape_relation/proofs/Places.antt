@@ -1,5 +1,5 @@
--- Where a condition holds at the lines behind a front, seen one line further on. For FirstFault,
--- Ends and Agrees.
+-- Where a condition holds at the lines of a tape behind a front, seen one line further on. For
+-- FirstFault, Ends and Agrees.
 use Rattle.std.proofs.Common.{◌≡◌, ℕ, ◌+◌, List, [], ◌∷◌, ◌++◌, length, refl, ap, sym, subst, ◌∙◌, append_assoc}
 use Rattle.std.proofs.lemmas.List.{append-nil}
 use Rattle.nc_text.specs.declared.fault.TextFault.{TextFault}

@@ -1,5 +1,5 @@
--- The signs of a line by the grammar are those that the reader has; so are bad characters and open
--- comments. For LineSays, LongNumbers and Steps.
+-- The signs of a line of a tape by the grammar are those that the reader has; so are bad characters
+-- and open comments. For LineSays, LongNumbers and Steps.
 use Rattle.std.proofs.Common.{◌≡◌, ◌==◌, ℕ, ◌+◌, Bool, true, false, not, ◌&&◌, ◌||◌, List, [], ◌∷◌, ◌++◌, length, ◌⊎◌, inl, inr, refl, sym, ap, subst, ◌∙◌, append_assoc, arith}
 use Rattle.std.specs.Char.{is_ascii_digit, is_ascii_uppercase, to_ascii_uppercase}
 use Rattle.std.specs.List.{list_any}
@@ -10,6 +10,7 @@ use Rattle.line_text.specs.Signs.{Scan, add_sign, is_allowed, are_allowed, signs
 use Rattle.tape_relation.specs.Characters.{is_ignored, is_character, IsRemark, IsOutside, nothing, byte, comment, HasBadCharacter, EndsInComment, sign_at, AreSigns, ignored, counted, remark, left_open}
 use Rattle.tape_relation.proofs.Ignored.{signs_on, signs_are}
 
+-- `ended` says whether the line has a line feed.
 module _ (ended : Bool) where
   -- The next two: in a comment each byte is passed, up to its `)` or to the end.
   in_remark : (text rest : List ℕ) (place : ℕ) → IsRemark text → signs_on ended (text ++ 41 ∷ rest) true place ≡ signs_on ended rest false (place + (length text + 1))
@@ -142,11 +143,11 @@ module _ (ended : Bool) where
   abbrev IsOpenHere : List ℕ → Type 0
   IsOpenHere back = (text : List ℕ) × (back ≡ 40 ∷ text) × IsRemark text
 
-  -- a sign is refused
+  -- some sign of the scan is no allowed byte
   abbrev HasBad : Scan → Type 0
   HasBad scan = are_allowed scan.list ≡ false
 
-  -- the line ends in a comment
+  -- the scan ends inside a comment
   abbrev IsLate : Scan → Type 0
   IsLate scan = scan.unclosed ≡ true
 

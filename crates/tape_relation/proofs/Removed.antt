@@ -1,5 +1,5 @@
--- A line that says nothing may be emptied or taken out. For the laws of lines of comments, skipped
--- blocks and empty lines (src/edits.rt).
+-- A line of a tape that says nothing may be emptied or taken out. For the laws of lines that say
+-- nothing, lines of comments, skipped blocks and empty lines (src/edits.rt).
 use Rattle.std.proofs.Common.{◌≡◌, ◌==◌, ℕ, suc, ◌-◌, ◌<◌, ◌≤◌, Bool, true, false, cond, List, [], ◌∷◌, ◌++◌, length, take, get_or, Result, Ok, refl, sym, ap, ◌∙◌, length-append, arith}
 use Rattle.std.specs.List.{list_all}
 use Rattle.std.proofs.lemmas.Bool.{eqb-true, le-ltb}

@@ -1,5 +1,5 @@
--- A carriage return before each line feed changes nothing; nor does one before the line feed of one
--- line. Byte 13 is the carriage return. For the law `a_carriage_return_changes_nothing`
+-- A carriage return before each line feed of a tape changes nothing; nor does one before the line
+-- feed of one line. Byte 13 is the carriage return. For the law `a_carriage_return_changes_nothing`
 -- (src/edits.rt).
 use Rattle.std.proofs.Common.{◌≡◌, ◌==◌, ℕ, ◌+◌, ◌-◌, ◌<◌, ◌≤◌, Bool, true, false, cond, List, [], ◌∷◌, ◌++◌, length, map, take, refl, sym, ap, ◌∙◌, length-append, arith}
 use Rattle.std.specs.Prelude.{All}

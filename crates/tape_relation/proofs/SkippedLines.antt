@@ -1,5 +1,5 @@
--- Two facts on one line: a readable block that is skipped says nothing, and a carriage return
--- before a line feed is not read. For Removed and Returns.
+-- Two facts on one line of a tape: a readable block that is skipped says nothing, and a carriage
+-- return before a line feed is not read. For Removed and Returns.
 use Rattle.std.proofs.Common.{◌≡◌, ℕ, Bool, true, false, cond, List, [], ◌∷◌, ◌++◌, Ok, ap, ◌∙◌}
 use Rattle.line_text.specs.declared.said.Said.{Said}
 use Rattle.line_text.specs.declared.said.Said.TheVariants as said

@@ -1,5 +1,5 @@
--- Which texts are statements, and that no list of words is one. For Heads, Found, Sentences and
--- LongNumbers.
+-- Which texts of a tape's lines are statements, and that no list of words is one. For Heads, Found,
+-- Sentences and LongNumbers.
 use Rattle.std.proofs.Common.{◌≡◌, ◌==◌, ℕ, Bool, true, false, not, ◌||◌, List, [], ◌∷◌, ◌++◌, length, take, inl, inr, refl, sym, ap, subst, ◌∙◌, append-nil, arith}
 use Rattle.std.specs.Prelude.{nat_eq, codes}
 use Rattle.std.specs.Char.{is_ascii_uppercase}

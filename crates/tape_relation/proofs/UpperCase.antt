@@ -1,6 +1,6 @@
--- Lower case reads as upper case. Each lemma in `_up`, and each that begins with `up_`, says that
--- one step of the reader gives the same in upper case. For the law `lower_case_reads_as_upper_case`
--- (src/edits.rt).
+-- In a tape lower case reads as upper case. Each lemma in `_up`, and each that begins with `up_`,
+-- says that one step of the reader gives the same in upper case. For the law
+-- `lower_case_reads_as_upper_case` (src/edits.rt).
 use Rattle.std.proofs.Common.{◌≡◌, ◌==◌, ℕ, zero, suc, ◌+◌, ◌-◌, ◌<◌, Bool, true, false, cond, not, ◌&&◌, ◌||◌, List, [], ◌∷◌, ◌++◌, length, map, take, get_or, refl, sym, ap, ◌∙◌, arith}
 use Rattle.std.specs.Prelude.{reverse}
 use Rattle.std.specs.Char.{to_ascii_uppercase}

@@ -1,5 +1,5 @@
--- What the reader takes for a value is one of the grammar, and the other way round. For the law
--- `a_value_has_the_grammar` (src/law.rt), and for Cuts, Heads and Statements.
+-- What the reader takes for the value of a tape's word is one of the grammar, and the other way
+-- round. For the law `a_value_has_the_grammar` (src/law.rt), and for Cuts, Heads and Statements.
 use Rattle.std.proofs.Common.{◌≡◌, ℕ, ◌+◌, ◌-◌, ◌<◌, ◌==◌, Bool, true, false, cond, ◌&&◌, ◌||◌, List, [], ◌∷◌, ◌++◌, length, ◌⊎◌, inl, inr, refl, ap, sym, subst, ◌∙◌, arith}
 use Rattle.std.specs.Char.{is_ascii_digit}
 use Rattle.std.specs.List.{list_all}
@@ -19,9 +19,13 @@ times_cons k b text false e = rw e (let z : times k text ≡ 0 + times k text = 
 
 -- so many brackets are open before the text, and the last of them closes at its very end
 record IsClosing (depth : ℕ) (text : List ℕ) : Type 0 where
+  -- the text without its last byte
   inner : List ℕ
+  -- the last byte is `]` (93)
   text_is : text ≡ inner ++ 93 ∷ []
+  -- before the last byte, all brackets but one are closed; 91 is `[`
   same : times 91 inner + depth ≡ times 93 inner + 1
+  -- up to any place before the last byte, a bracket is still open
   open_first : (front back : List ℕ) → inner ≡ front ++ back → times 93 front < times 91 front + depth
 
 -- The next two are the steps of `closed`: a byte more in front, and no bytes.

@@ -1,4 +1,5 @@
--- The sizes of a text's lines, and where a text may be taken apart into lines. For OneLine.
+-- The sizes of the lines of a tape's text, and where a text may be taken apart into lines. For
+-- OneLine.
 use Rattle.std.proofs.Common.{◌≡◌, ◌==◌, ℕ, suc, ◌<◌, Bool, true, false, cond, List, [], ◌∷◌, ◌++◌, length, refl, ap, ◌∙◌, arith}
 use Rattle.std.specs.List.{list_all}
 use Rattle.nc_text.specs.Lines.{IsOneLine, Line, lines_of, onto_line, size_of}

@@ -1,12 +1,13 @@
--- When two lines say the same: what the law `lines_that_say_the_same_read_the_same` asks of the
--- lines of two texts. The other laws of edits (src/edits.rt) are shown by it. For this crate alone.
+-- When two lines of a tape say the same: what the law `lines_that_say_the_same_read_the_same` asks
+-- of the lines of two texts. The law of carriage returns is shown by it too, and `Fits` is a
+-- premise of most laws of edits (src/edits.rt). For this crate alone.
 use Rattle.std.specs.Prelude.{◌≡◌, ℕ, ◌≤◌, false, nat_lt, List, length}
 use Rattle.nc_number.specs.declared.limits.TheConstants.{LONGEST_LINE, LONGEST_TAPE}
 use Rattle.nc_text.specs.Lines.{Line, is_percent}
 use Rattle.line_text.specs.Said.{line_says}
 
--- both lines begin with `%` or neither does; if not, they say the same, or are both refused by the
--- same number; both are too long or neither is
+-- both lines begin with `%` or neither does; if neither does, they say the same, or have the same
+-- refusal by themselves; both are too long or neither is
 pub record IsAlike (skips : ℕ) (a b : Line) : Type 0 where
   -- both begin with `%`, or neither does
   pub percent : is_percent a.bytes ≡ is_percent b.bytes

@@ -1,4 +1,4 @@
--- The answer of a text with other line numbers or other words: what the laws of edits
+-- The answer of a tape's text with other line numbers or other words: what the laws of edits
 -- (src/edits.rt) say that an edit changes. For this crate alone.
 use Rattle.std.specs.Prelude.{ℕ, ◌-◌, nat_lt, map, Ok, Err, if◌then◌else◌}
 use Rattle.line_text.specs.declared.body.Word.{Word}

@@ -2,7 +2,8 @@
 -- line's signs.
 -- Bytes: 9 is the tab, 10 the line feed, 13 the carriage return, 32 the space, 40 `(`, 41 `)`, 59
 -- `;`.
--- The lowest part of the relation: the other files of this grammar speak of signs alone.
+-- The lowest part of the relation: Words and LineGrammar go on from the signs, Conditions and
+-- LineAlone take the refusals of bytes. No other crate cites it.
 use Rattle.std.specs.Prelude.{◌≡◌, ℕ, ◌+◌, Bool, true, false, ◌&&◌, ◌||◌, ◌==◌, List, [], ◌∷◌, ◌++◌, length, map, codes}
 use Rattle.std.specs.Char.{is_ascii_digit, is_ascii_uppercase, to_ascii_uppercase}
 use Rattle.std.specs.List.{list_any}
@@ -17,17 +18,20 @@ is_space b = b == 32 || b == 9
 abbrev pub is_return : Bool → ℕ → List ℕ → Bool
 is_return ended b behind = b == 13 && (ended && length behind == 0)
 
--- whether bytes at the end of a line are spaces, tabs and the carriage return before its line feed
+-- whether bytes at the end of a line are only spaces, tabs and the carriage return before its line
+-- feed; the flag says whether it has a line feed
 abbrev pub are_spaces : Bool → List ℕ → Bool
 are_spaces ended [] = true
 are_spaces ended (b ∷ behind) = (is_space b || is_return ended b behind) && are_spaces ended behind
 
 -- whether a byte outside comments, with these bytes after it in the line, does not count: a space,
--- a tab, the carriage return before the line feed, or a `;` after which only those stand
+-- a tab, the carriage return before the line feed, or a `;` after which only those stand; the flag
+-- says whether the line has a line feed
 abbrev pub is_ignored : Bool → ℕ → List ℕ → Bool
 is_ignored ended b behind = is_space b || (is_return ended b behind || (b == 59 && are_spaces ended behind))
 
--- whether a byte is a character of a tape: a capital letter, a digit or one of eleven others
+-- whether a byte is a character of a tape: a capital letter, a digit or one of eleven others;
+-- line_text (`is_allowed`) has the same table
 abbrev pub is_character : ℕ → Bool
 is_character b = is_ascii_uppercase b || (is_ascii_digit b || list_any (λ c. b == c) (codes ".+-/()#[]=*"))
 
@@ -68,16 +72,21 @@ bytes_of signs = map (λ sign. sign.byte) signs
 abbrev pub sign_at : ℕ → ℕ → Sign
 sign_at place b = record { place = place; byte = b }
 
--- the signs of bytes, the first at this place: each byte that counts, in upper case, and each
--- comment as its `(`
+-- The signs of bytes at the end of a line, the first byte at this place: each byte that counts, in
+-- upper case, and each comment as its `(`. `ended` says whether the line has a line feed.
 pub data AreSigns (ended : Bool) : ℕ → List ℕ → List Sign → Type 0 where
+  -- no bytes
   nothing : (place : ℕ) → AreSigns ended place [] []
+  -- a byte that does not count
   ignored : (place b : ℕ) (bytes : List ℕ) (signs : List Sign) → is_ignored ended b bytes ≡ true
       → AreSigns ended (place + 1) bytes signs → AreSigns ended place (b ∷ bytes) signs
+  -- a byte that counts and opens no comment
   counted : (place b : ℕ) (bytes : List ℕ) (signs : List Sign) → is_ignored ended b bytes ≡ false
       → (b == 40) ≡ false → AreSigns ended (place + 1) bytes signs
       → AreSigns ended place (b ∷ bytes) (sign_at place (to_ascii_uppercase b) ∷ signs)
+  -- a comment that is closed
   remark : (place : ℕ) (text bytes : List ℕ) (signs : List Sign) → IsRemark text
       → AreSigns ended (place + (length text + 2)) bytes signs
       → AreSigns ended place (40 ∷ (text ++ 41 ∷ bytes)) (sign_at place 40 ∷ signs)
+  -- a comment that is open at the end of the line
   left_open : (place : ℕ) (text : List ℕ) → IsRemark text → AreSigns ended place (40 ∷ text) (sign_at place 40 ∷ [])

@@ -1,6 +1,7 @@
--- The conditions under which a line is refused, one for each refusal. Each looks for itself at all
--- lines before the line; none asks for another. Relation takes the least line and number of them;
--- a refusal that nc_text can give needs its line in `Holds`.
+-- The conditions under which a line of a tape is refused, one for each refusal. Each looks for
+-- itself at all lines before the line; none asks for another. Relation takes the least line and
+-- number of them; a refusal that nc_text can give needs its line in `Holds`. No other crate cites
+-- it. The three limits are copies of nc_number's LONGEST_LINE, LONGEST_TAPE and MOST_BLOCKS.
 use Rattle.std.specs.Prelude.{◌≡◌, ℕ, ◌+◌, ◌<◌, ◌≤◌, ◌⊎◌, true, false, List, [], ◌∷◌, ◌++◌, length, All}
 use Rattle.line_text.specs.declared.refusal.Refusal.{Refusal}
 use Rattle.line_text.specs.declared.refusal.Refusal.TheVariants.{TooManyDigits, BadCharacter, NoNumber, OpenComment, NoProgramNumber, NoEnd, LineTooLong, TooManyBlocks, TapeTooLong, WordRange}
@@ -40,7 +41,8 @@ SayBlocks skips [] n = n ≡ 0
 SayBlocks skips (line ∷ lines) n = (SaysBlock skips line × ((m : ℕ) × (n ≡ m + 1) × SayBlocks skips lines m))
     ⊎ ((SaysBlock skips line → ⊥) × SayBlocks skips lines n)
 
--- the refusal's condition holds at this line behind these
+-- The refusal's condition holds at this line behind these. That a tape has no second `%` line holds
+-- at no line; Relation says it (`LacksEnd`), and of a tape without any O number `LacksProgram`.
 abbrev pub Holds : ℕ → List Line → Line → Refusal → Type 0
 Holds skips front line TooManyDigits = IsInBody front line × HasLongNumber skips line
 Holds skips front line BadCharacter = IsInBody front line × HasBadCharacter line
@@ -60,7 +62,7 @@ abbrev pub IsLeast : ℕ → List Line → Line → Refusal → Type 0
 IsLeast skips front line refusal = Holds skips front line refusal
     × ((other : Refusal) → Holds skips front line other → refusal_number refusal ≤ refusal_number other)
 
--- no refusal's condition holds at any of these lines, which stand behind the front
+-- no refusal's condition holds at any of `lines`, which stand behind the lines of the front
 abbrev pub NoneHolds : ℕ → List Line → List Line → Type 0
 NoneHolds skips front lines = (before behind : List Line) (line : Line) (refusal : Refusal)
     → lines ≡ before ++ line ∷ behind → Holds skips (front ++ before) line refusal → ⊥

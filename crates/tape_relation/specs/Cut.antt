@@ -1,5 +1,6 @@
--- The words into which the reader cuts a line: what the law `a_line_is_cut_into_its_words`
--- (src/law.rt) compares with the words of the grammar. For this crate alone.
+-- The words into which the reader cuts a line of a tape: what the law
+-- `a_line_is_cut_into_its_words` (src/law.rt) compares with the words of the grammar. For this
+-- crate alone.
 use Rattle.std.specs.Prelude.{◌≡◌, true, List}
 use Rattle.std.specs.List.{list_all}
 use Rattle.line_text.specs.declared.sign.Sign.{Sign}
@@ -7,9 +8,10 @@ use Rattle.line_text.specs.declared.piece.Piece.{Piece}
 use Rattle.line_text.specs.Pieces.{value_len, pieces_of}
 use Rattle.line_text.specs.Said.{is_sound}
 
--- the reader cuts the signs into these words: it starts at a letter, and each has a whole value
+-- the reader cuts the signs into these words: nothing stands before the first one, and each has a
+-- whole value
 pub record IsCut (signs : List Sign) (words : List Piece) : Type 0 where
-  -- the first sign begins a word
+  -- no sign stands before the first word
   pub at_letter : value_len signs 0 ≡ 0
   -- the reader's pieces are these words
   pub words_are : pieces_of signs ≡ words

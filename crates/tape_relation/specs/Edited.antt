@@ -1,5 +1,5 @@
--- One line of a text, and what may be put into a line or taken out of it: the conditions of the
--- laws of edits (src/edits.rt). Bytes: 10 is the line feed, 13 the carriage return.
+-- One line of a tape's text, and what may be put into a line or taken out of it: the conditions of
+-- the laws of edits (src/edits.rt). Bytes: 10 is the line feed, 13 the carriage return.
 -- For this crate alone.
 use Rattle.std.specs.Prelude.{◌≡◌, ℕ, ◌<◌, ◌≤◌, Bool, true, false, ◌==◌, List, [], ◌∷◌, ◌++◌, length, All, Option, Ok, if◌then◌else◌}
 use Rattle.std.specs.List.{list_all}
@@ -20,7 +20,8 @@ are_whole text = list_all (λ line. line.ended) (lines_of text)
 abbrev pub with_line : List ℕ → List ℕ → List ℕ → List ℕ
 with_line front line back = front ++ (line ++ 10 ∷ back)
 
--- the line is one line of the text, a line feed ends it, and neither is too long
+-- the line is one line of the text, a line feed ends it, and neither the line nor the text is too
+-- long
 pub record IsLine (front line back : List ℕ) : Type 0 where
   -- the lines before it all have their line feeds
   pub whole : are_whole front ≡ true
@@ -31,7 +32,8 @@ pub record IsLine (front line back : List ℕ) : Type 0 where
   -- the text has at most 4 MiB
   pub fits : Fits (with_line front line back)
 
--- the line is the last one of the text, without a line feed
+-- the line is the last one of the text, without a line feed, and neither the line nor the text is
+-- too long
 pub record IsLastLine (front line : List ℕ) : Type 0 where
   -- the line has a byte
   pub some : 0 < length line
@@ -44,7 +46,8 @@ pub record IsLastLine (front line : List ℕ) : Type 0 where
   -- the text has at most 4 MiB
   pub fits : Fits (front ++ line)
 
--- the switch of the block on a line, if it has the skip sign
+-- the switch of the block on a line, if it has the skip sign; the flag says whether a line feed
+-- ends the line
 abbrev pub line_switch : List ℕ → Bool → Option ℕ
 line_switch line ended = switch_of (behind_comments (signs_of line ended).list)
 
@@ -57,7 +60,7 @@ pub record IsSkipped (skips : ℕ) (line : List ℕ) (ended : Bool) : Type 0 whe
   -- the line has no refusal by itself
   pub readable : line_says skips line ended ≡ Ok says
 
--- nothing but comments counts on the line, and the last one is closed
+-- nothing but comments counts on the line, and none is open at its end
 pub record HasOnlyComments (line : List ℕ) (ended : Bool) : Type 0 where
   -- each byte of the line that counts belongs to a comment
   pub comments : list_all is_comment (signs_of line ended).list ≡ true
@@ -72,7 +75,8 @@ EndsWithoutReturn line = without_last 13 line ≡ line
 abbrev pub HasNoReturn : List ℕ → Type 0
 HasNoReturn text = All (λ b. (b == 13) ≡ false) text
 
--- each line of the text has at most 511 bytes: it has room for a carriage return
+-- each line of the text has at most 511 bytes, its line feed not counted: it has room for a
+-- carriage return
 abbrev pub HaveRoom : List ℕ → Type 0
 HaveRoom text = All (λ line. length line.bytes < LONGEST_LINE) (lines_of text)
 

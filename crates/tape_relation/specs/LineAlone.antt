@@ -1,5 +1,6 @@
--- What a line between the `%` lines says, and what is wrong with it, whatever stands before it.
--- Conditions and Programs put it into the relation. Bytes: 78 is the letter N, 79 the letter O.
+-- What a line between the `%` lines of a tape says, and what is wrong with it, whatever stands
+-- before it. Conditions and Programs put it into the relation; no other crate cites it.
+-- Bytes: 78 is the letter N, 79 the letter O.
 use Rattle.std.specs.Prelude.{◌≡◌, ℕ, ◌/◌, ◌%◌, ◌^◌, ◌⊎◌, ◌==◌, Bool, true, false, List, ◌∷◌, ◌++◌, Option, Some, None}
 use Rattle.std.specs.List.{list_all}
 use Rattle.line_text.specs.declared.sign.Sign.{Sign}
@@ -38,8 +39,8 @@ SaysProgram skips line = (text : List ℕ) × Says skips line (ProgramNumber tex
 abbrev pub SaysSomething : ℕ → Line → Type 0
 SaysSomething skips line = SaysBlock skips line ⊎ SaysProgram skips line
 
--- in a block that is not skipped, N or O with a literal of too many digits stands after words or at
--- the beginning; what follows need not be readable
+-- in a block that is not skipped, an N or an O whose value begins with a literal of too many digits
+-- stands after words or at the beginning; what follows need not be readable
 pub record IsLong (skips : ℕ) (signs : List Sign) : Type 0 where
   -- the comments that the line begins with
   pub before : List Sign
@@ -71,14 +72,15 @@ pub record IsLong (skips : ℕ) (signs : List Sign) : Type 0 where
   pub words_are : AreWords front words
   -- the letter is N (78) or O (79)
   pub letter_is : (letter.byte ≡ 78) ⊎ (letter.byte ≡ 79)
-  -- after the letter stands a literal of too many digits
+  -- what stands after the letter begins with a literal of too many digits
   pub long : BeginsLong (bytes_of rest)
 
 -- on the line, a sequence number or an O number of a block that is not skipped has too many digits
 abbrev pub HasLongNumber : ℕ → Line → Type 0
 HasLongNumber skips line = (signs : List Sign) × AreSigns line.ended 0 line.bytes signs × IsLong skips signs
 
--- the line is no sentence of the grammar: something stands where no word can
+-- the line is no sentence of the grammar: something stands where no word can, or an O word does not
+-- stand alone in its block
 abbrev pub IsBroken : Line → Type 0
 IsBroken line = (skip : Option ℕ) (sentence : Sentence) → IsLine line skip sentence → ⊥
 

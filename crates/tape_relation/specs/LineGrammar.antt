@@ -1,5 +1,5 @@
--- What a line is, as a grammar over its signs: comments, the skip sign, comments, and a statement
--- or words. LineAlone and Programs say by it what a line says.
+-- What a line of a tape is, as a grammar over its signs: comments, the skip sign, comments, and a
+-- statement or words. LineAlone and Programs say by it what a line says; no other crate cites it.
 -- Bytes: 47 is `/`, 48 the digit 0, 78 the letter N, 79 the letter O.
 use Rattle.std.specs.Prelude.{◌≡◌, ℕ, ◌+◌, ◌<◌, ◌≤◌, ◌==◌, ◌⊎◌, Bool, true, false, not, List, [], ◌∷◌, ◌++◌, length, filter, codes, Option, Some, None}
 use Rattle.std.specs.List.{list_all, list_any}
@@ -13,7 +13,7 @@ use Rattle.tape_relation.specs.Words.{AreWords}
 -- a line holds no block, an O number by its literal, words, or a statement behind the literal of
 -- its N
 pub data Sentence : Type 0 where
-  -- no block: the line is empty or holds comments alone
+  -- no block: the line has nothing but comments and ignored bytes
   NoBlock : Sentence
   -- an O number: its literal
   ProgramNumber : List ℕ → Sentence
@@ -24,8 +24,11 @@ pub data Sentence : Type 0 where
 
 -- a skip sign and its switch, or none: `/` alone names switch 1
 pub data IsSkip : List Sign → Option ℕ → Type 0 where
+  -- no skip sign
   none : IsSkip [] None
+  -- a `/` (47) without a digit, which names switch 1
   alone : (slash : Sign) → slash.byte ≡ 47 → IsSkip (slash ∷ []) (Some 1)
+  -- a `/` (47) and a digit from 1 to 9, which names the switch; 48 is the digit 0
   named : (slash digit : Sign) (switch : ℕ) → slash.byte ≡ 47 → digit.byte ≡ 48 + switch → 1 ≤ switch
       → switch ≤ 9 → IsSkip (slash ∷ (digit ∷ [])) (Some switch)
 

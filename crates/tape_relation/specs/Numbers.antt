@@ -1,7 +1,8 @@
--- The numbers of a line: literals, those of too many digits, and the ranges of sequence numbers and
--- O numbers.
+-- The numbers of a line of a tape: literals, those of too many digits, and the ranges of sequence
+-- numbers and O numbers.
 -- Bytes: 43 is `+`, 45 `-`, 46 the point, 48 the digit 0.
--- Value, LineGrammar, LineAlone and Programs cite it; no other crate does.
+-- Value, LineGrammar, LineAlone and Programs cite it; no other crate does. line_text (specs/Said)
+-- has both ranges too, and nc_number (specs/Literals) how many digits are too many.
 use Rattle.std.specs.Prelude.{◌≡◌, ℕ, ◌+◌, ◌<◌, ◌≤◌, ◌==◌, ◌⊎◌, true, false, List, [], ◌∷◌, ◌++◌, length}
 use Rattle.std.specs.Char.{is_ascii_digit}
 use Rattle.std.specs.List.{list_all}

@@ -45,17 +45,18 @@ begins_percent line = is_percent line.bytes
 abbrev pub has_percent : List Line → Bool
 has_percent lines = list_any begins_percent lines
 
--- the lines before the first that begins with `%`: the leader of a text
+-- the lines before the first that begins with `%`, all if none does
 abbrev pub before_percent : List Line → List Line
 before_percent [] = []
 before_percent (line ∷ lines) = if begins_percent line then [] else line ∷ before_percent lines
 
--- the lines after the first that begins with `%`
+-- the lines after the first that begins with `%`, none if none does
 abbrev pub behind_percent : List Line → List Line
 behind_percent [] = []
 behind_percent (line ∷ lines) = if begins_percent line then lines else behind_percent lines
 
--- the lines of the programs: those between the first and the second line that begin with `%`
+-- the lines of the programs: those between the first and the second line that begin with `%`, or up
+-- to the end if there is no second
 abbrev pub body_of : List Line → List Line
 body_of lines = before_percent (behind_percent lines)
 

@@ -27,7 +27,7 @@ abbrev pub IsSequence : Option (List ℕ) → Option ℕ → Type 0
 IsSequence None sequence = sequence ≡ None
 IsSequence (Some text) sequence = (n : ℕ) × (sequence ≡ Some n) × IsSequenceNumber text n
 
--- a word of the grammar as a word of the tape
+-- a piece, the grammar's word, as a word of the tape
 abbrev pub word_of : Piece → Word
 word_of word = record { letter = word.letter; start = word.start; end = word.end; text = word.text }
 
@@ -50,7 +50,7 @@ abbrev pub IsBlockOn : ℕ → ℕ → Line → Block → Type 0
 IsBlockOn skips number line block = (sentence : Sentence) × Says skips line sentence
     × HasBody sentence block.sequence block.body × (block.line ≡ number)
 
--- the blocks that these lines say, of which the first stands behind so many lines
+-- the blocks are those that these lines say; so many lines stand before these
 abbrev pub AreBlocks : ℕ → ℕ → List Line → List Block → Type 0
 AreBlocks skips before [] blocks = blocks ≡ []
 AreBlocks skips before (line ∷ lines) blocks =
@@ -62,8 +62,8 @@ AreBlocks skips before (line ∷ lines) blocks =
 abbrev pub SaysNumber : ℕ → Line → ℕ → Type 0
 SaysNumber skips line n = (text : List ℕ) × Says skips line (ProgramNumber text) × IsProgramNumber text n
 
--- these lines, behind so many, are the programs: each has its O number, and the blocks of the lines
--- up to the next
+-- these lines, behind so many, are the programs: each begins with the line of its O number, and has
+-- the blocks of the lines up to the next O number
 abbrev pub ArePrograms : ℕ → ℕ → List Line → List Program → Type 0
 ArePrograms skips before lines [] = lines ≡ []
 ArePrograms skips before lines (program ∷ programs) = (head : Line) × (own : List Line) × (others : List Line)

@@ -1,5 +1,6 @@
 -- The tape of a text, and the one fault of a text that is no tape, without any reader: `IsTape` and
--- `IsFault`, of which the law `the_reader_reads_the_relation` (src/law.rt) speaks.
+-- `IsFault`, of which the law `the_reader_reads_the_relation` (src/law.rt) speaks. No other crate
+-- cites them.
 use Rattle.std.specs.Prelude.{◌≡◌, ℕ, ◌+◌, ◌<◌, ◌⊎◌, true, false, List, [], ◌∷◌, ◌++◌, length}
 use Rattle.nc_text.specs.declared.fault.TextFault.{TextFault}
 use Rattle.line_text.specs.declared.refusal.Refusal.{Refusal}
@@ -35,7 +36,8 @@ pub record IsFirstFault (skips : ℕ) (front lines : List Line) (fault : TextFau
   -- the fault has its number and its line
   pub fault_is : fault ≡ fault_at refusal (length (front ++ before) + 1)
 
--- the tape has no block and no O number: told of its first line that begins with `%`
+-- the tape has no block and no O number: told of its first line that begins with `%`, or of line 1
+-- if none does
 abbrev pub LacksProgram : ℕ → List Line → TextFault → Type 0
 LacksProgram skips lines fault = SayNothing skips (body_of lines)
     × (fault ≡ fault_at NoProgramNumber (opening_line lines))

@@ -1,5 +1,5 @@
--- What may stand behind an address letter, as a grammar: no depth is counted and no bracket is
--- matched with another.
+-- What may stand behind an address letter of a tape's block, as a grammar: no depth is counted and
+-- no bracket is matched with another.
 -- Bytes: 35 is `#`, 91 `[`, 93 `]`.
 -- Words takes it for the values of words; the law `a_value_has_the_grammar` (src/law.rt) says that
 -- it is what the reader takes for a value.

@@ -1,6 +1,6 @@
--- The words of a line as a grammar, apart from the way in which the reader cuts them. LineGrammar
--- takes it for blocks of words; the law `a_line_is_cut_into_its_words` (src/law.rt) says that it is
--- what the reader cuts.
+-- The words of a line of a tape as a grammar, apart from the way in which the reader cuts them.
+-- LineGrammar takes it for blocks of words, LineAlone for the words before a long number; the law
+-- `a_line_is_cut_into_its_words` (src/law.rt) says that it is what the reader cuts.
 use Rattle.std.specs.Prelude.{◌≡◌, ℕ, ◌+◌, true, false, List, [], ◌∷◌, ◌++◌}
 use Rattle.std.specs.Char.{is_ascii_uppercase}
 use Rattle.std.specs.List.{list_all, list_any}

@@ -1,5 +1,6 @@
-//! Laws of edits: which changes of a text leave its tape as it is, in the words of a part
+//! Laws of edits: which changes of a tape's text leave its tape as it is, in the words of a part
 //! programmer. They speak of nc_text's `tape_of`. They are for readers: no other crate calls them.
+//! Bytes: 10 is the line feed, 13 the carriage return.
 
 ghost use Rattle.std.specs.Prelude.{◌≡◌, ◌∷◌, [], ◌++◌, true, false, map, List, ℕ, ◌<◌, Ok, length};
 ghost use Rattle.std.specs.Char.{to_ascii_uppercase};
@@ -19,14 +20,15 @@ pub fn lower_case_reads_as_upper_case()
     ensures { (skips : ℕ) (text : List ℕ) → tape_of skips (map to_ascii_uppercase text) ≡ tape_of skips text }
 {}
 
-/// A law: a tape is read line by line. Texts of at most 4 MiB whose lines say the same, one by one,
-/// have the same answer.
+/// A law: a tape is read line by line. Texts of at most 4 MiB with as many lines, which say the
+/// same one by one (`IsAlike`), have the same answer.
 pub fn lines_that_say_the_same_read_the_same()
     ensures { (skips : ℕ) (a b : List ℕ) → Fits a → Fits b → AllZip (IsAlike skips) (lines_of a) (lines_of b)
         → tape_of skips a ≡ tape_of skips b }
 {}
 
-/// A law: an empty line after others only raises the numbers of the lines after it by one.
+/// A law: an empty line after others, in a text of at most 4 MiB, only raises the numbers of the
+/// lines after it by one.
 pub fn an_empty_line_only_moves_lines()
     ensures { (skips : ℕ) (front back : List ℕ) → are_whole front ≡ true → 0 < length front
         → Fits (front ++ 10 ∷ back)
@@ -34,8 +36,9 @@ pub fn an_empty_line_only_moves_lines()
 {}
 
 /// A law: a line that says nothing reads as an empty line (`emptied`). If lines stand before it, it
-/// may be taken out: then only the lines after it are numbered one less. `last` is for the last
-/// line of a text, if no line feed ends it.
+/// may be taken out (`taken_out`): then only the lines after it are numbered one less. `last` is
+/// for the last line of a text, if no line feed ends it. `IsLine` and `IsLastLine` say how long the
+/// line and the text may be.
 pub fn a_line_that_says_nothing_reads_as_no_line()
     ensures emptied { (skips : ℕ) (front line back : List ℕ) → IsLine front line back
         → line_says skips line true ≡ Ok said.Nothing
@@ -49,8 +52,9 @@ pub fn a_line_that_says_nothing_reads_as_no_line()
         → tape_of skips front ≡ lowered (length (lines_of front)) (tape_of skips (front ++ line)) }
 {}
 
-/// A law: a line of nothing but closed comments and blanks is no block. It reads as an empty line,
-/// and if lines stand before it, it may be taken out.
+/// A law: a line of nothing but closed comments and ignored bytes is no block. It reads as an empty
+/// line (`emptied`), and if lines stand before it, it may be taken out (`taken_out`; `last` is for
+/// the last line, if no line feed ends it).
 pub fn a_line_of_comments_is_no_block()
     ensures emptied { (skips : ℕ) (front line back : List ℕ) → IsLine front line back
         → HasOnlyComments line true
@@ -64,8 +68,9 @@ pub fn a_line_of_comments_is_no_block()
         → tape_of skips front ≡ lowered (length (lines_of front)) (tape_of skips (front ++ line)) }
 {}
 
-/// A law: a readable block whose switch is set reads as an empty line, and if lines stand before
-/// it, it may be taken out.
+/// A law: a readable block whose switch is set reads as an empty line (`emptied`), and if lines
+/// stand before it, it may be taken out (`taken_out`; `last` is for the last line, if no line feed
+/// ends it).
 pub fn a_skipped_block_reads_as_no_line()
     ensures emptied { (skips : ℕ) (front line back : List ℕ) → IsLine front line back
         → IsSkipped skips line true
@@ -79,8 +84,9 @@ pub fn a_skipped_block_reads_as_no_line()
         → tape_of skips front ≡ lowered (length (lines_of front)) (tape_of skips (front ++ line)) }
 {}
 
-/// A law: a carriage return before a line feed changes nothing. Lines may end with both, or with
-/// the line feed alone: one line (`one_line`) or all of them (`each_line`).
+/// A law: a carriage return before a line feed changes nothing, if the line stays within 512 bytes
+/// and the text within 4 MiB. Lines may end with both, or with the line feed alone: one line
+/// (`one_line`) or all of them (`each_line`).
 pub fn a_carriage_return_changes_nothing()
     ensures one_line { (skips : ℕ) (front line back : List ℕ) → EndsWithoutReturn line
         → IsLine front (line ++ 13 ∷ []) back
@@ -89,8 +95,9 @@ pub fn a_carriage_return_changes_nothing()
         → Fits (with_returns text) → tape_of skips (with_returns text) ≡ tape_of skips text }
 {}
 
-/// A law: a space or a tab in a line changes nothing but the places of the words after it. It may
-/// not stand before the `%` of a line, nor after its carriage return (`MayHaveBlank`).
+/// A law: a space or a tab in a line changes nothing but places of words, which are not compared.
+/// It may not stand before the `%` of a line, nor after its carriage return (`MayHaveBlank`).
+/// `ended` is for a line with a line feed, `last` for the last line without one.
 pub fn a_blank_changes_only_places()
     ensures ended { (skips blank : ℕ) (front left right back : List ℕ) → is_blank blank ≡ true
         → MayHaveBlank left right → IsLine front (left ++ blank ∷ right) back

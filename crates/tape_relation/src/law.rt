@@ -1,5 +1,5 @@
-//! The laws that nc_text's definition of reading (`tape_of`) is the relation of this crate: for a
-//! whole text, for the words of a line, and for the value of a word.
+//! The laws that nc_text's definition of reading a tape (`tape_of`) is the relation of this crate:
+//! for a whole text, for the words of a line, and for the value of a word.
 //! They are for readers: no other crate calls them.
 
 ghost use Rattle.std.specs.Prelude.{◌≡◌, ◌↔◌, ℕ, true, List, Ok, Err};
@@ -26,13 +26,14 @@ pub fn the_reader_reads_the_relation()
         → (tape_of skips text ≡ Err fault) ↔ IsFault skips text fault }
 {}
 
-/// A law: what the reader takes for a value is a literal, or a variable or an expression whose
-/// brackets are balanced.
+/// A law: what the reader takes for a value is a literal, or, with a sign or without, a variable or
+/// a text in balanced brackets.
 pub fn a_value_has_the_grammar()
     ensures { (text : List ℕ) → (is_value text ≡ true) ↔ IsValue text }
 {}
 
-/// A law: the words into which the reader cuts a line are the words that the line spells.
+/// A law: the words into which the reader cuts signs are the words that the signs spell by the
+/// grammar.
 pub fn a_line_is_cut_into_its_words()
     ensures { (signs : List Sign) (words : List Piece) → IsCut signs words ↔ AreWords signs words }
 {}

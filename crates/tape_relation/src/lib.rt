@@ -6,8 +6,9 @@
 //! by line: which condition of which refusal holds at which line, that the answer is the least line
 //! and on it the least number, and which programs a text is. What one line says, and what makes it
 //! unreadable, it says by a grammar of its own: bytes have signs, and signs are a sentence, or
-//! none. Of `nc_text` it takes the types of its answer and the numbers of the refusals, and nothing
-//! that reads. The laws of edits speak of the reader's definition itself.
+//! none. Of `nc_text` and `line_text` it takes types (lines, signs, pieces, programs, faults) and
+//! the numbers of the refusals, and nothing that reads. The laws of edits speak of the reader's
+//! definition itself.
 #![tactic(auto)]
 
 mod edits;

@@ -1,4 +1,4 @@
--- The bytes so far are those of the signs so far (loop of `bytes`, src/cut.rt).
+-- The bytes so far are those of the signs of a line so far (loop of `bytes`, src/cut.rt).
 use Rattle.std.proofs.Common.{◌≡◌, ◌++◌, drop}
 use Rattle.line_text.specs.Pieces.{bytes_of}
 use Rattle.line_text.proofs.cut.bytes.Given as goal

@@ -1,4 +1,4 @@
--- The place after the last sign ends the word, or the start if there is no sign (`end_of`,
+-- If there is a sign, a word of a tape's line ends after the place of the last one (`end_of`,
 -- src/cut.rt).
 use Rattle.std.proofs.Common.{◌≡◌, ℕ, suc, ◌+◌, ◌-◌, ◌≤◌, List, [], ◌∷◌, length, get_or, refl, ap, ◌∙◌, arith}
 use Rattle.line_text.specs.declared.sign.Sign.{Sign}

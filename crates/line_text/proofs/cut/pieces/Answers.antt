@@ -1,4 +1,5 @@
--- One word more is cut off, and the rest begins with a word too (loop of `pieces`, src/cut.rt).
+-- One word more is cut off the signs of a line, and the rest begins with a word too (loop of
+-- `pieces`, src/cut.rt).
 use Rattle.std.proofs.Common.{◌≡◌, ◌+◌, ◌<◌, ◌^◌, ◌∷◌, length, sym, ap, subst, arith}
 use Rattle.std.proofs.lemmas.List.{length-drop}
 use Rattle.std.proofs.lemmas.List.Elements.{All-drop, All-tail, All-push}

@@ -1,5 +1,5 @@
--- The words so far and those of the rest are all words; the rest gets shorter (loop of `pieces`,
--- src/cut.rt).
+-- The words so far and those of the rest are all words of a line of a tape; the rest gets shorter
+-- (loop of `pieces`, src/cut.rt).
 use Rattle.std.proofs.Common.{◌≡◌, ◌^◌, ◌<◌, ◌++◌, length}
 use Rattle.line_text.specs.Pieces.{pieces_of, value_len}
 use Rattle.line_text.specs.Places.{ArePlaced}

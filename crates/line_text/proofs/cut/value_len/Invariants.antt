@@ -1,5 +1,5 @@
--- The signs so far and those of the rest before a letter outside brackets are counted (loop of
--- `value_len`, src/cut.rt).
+-- The signs of a line so far and those of the rest before a letter outside brackets are counted
+-- (loop of `value_len`, src/cut.rt).
 use Rattle.std.proofs.Common.{◌≡◌, ◌+◌, ◌≤◌, drop}
 use Rattle.line_text.specs.Pieces.{value_len}
 use Rattle.line_text.proofs.cut.value_len.Given as goal

@@ -1,5 +1,5 @@
--- The text agrees with the word so far, and what is left decides (loop of `begins_with`,
--- src/front.rt).
+-- The text of a tape's line agrees with the word so far, and what is left of both decides (loop of
+-- `begins_with`, src/front.rt).
 use Rattle.std.proofs.Common.{◌≡◌, drop}
 use Rattle.std.specs.Prelude.{nat_eq}
 use Rattle.std.specs.List.{starts_with}

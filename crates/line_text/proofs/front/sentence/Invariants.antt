@@ -1,4 +1,5 @@
--- The text so far is that of the signs so far without comments (loop of `sentence`, src/front.rt).
+-- The text of a statement so far is that of the signs so far without comments (loop of `sentence`,
+-- src/front.rt).
 use Rattle.std.proofs.Common.{◌≡◌, ◌++◌, drop}
 use Rattle.line_text.specs.Front.{sentence_of}
 use Rattle.line_text.proofs.front.sentence.Given as goal

@@ -1,5 +1,5 @@
--- Signs that go on after N and its literal with no statement are no numbered one (`numbered`,
--- src/line.rt).
+-- Signs of a line that go on after N and its literal with no statement are no statement with a
+-- sequence number (`numbered`, src/line.rt).
 use Rattle.std.proofs.Common.{◌≡◌, ℕ, ◌-◌, false, List, [], ◌∷◌, length, take, drop, refl, sym, ap, ◌∙◌, arith}
 use Rattle.std.proofs.Math.Seq.{take-length}
 use Rattle.std.specs.List.{prefix_len}

@@ -1,4 +1,4 @@
--- The places of a line after its skip sign and comments are below 2 ^ 32 (`read_head`,
+-- The places of the signs of a line after its skip sign and comments are below 2 ^ 32 (`read_head`,
 -- src/line.rt).
 use Rattle.line_text.proofs.Placing.{placed_behind}
 use Rattle.line_text.proofs.line.read_head.Goals as goal

@@ -1,4 +1,4 @@
--- One byte more is listed if it counts (loop of `scan`, src/sign.rt).
+-- One byte more of a tape's line is listed if it counts (loop of `scan`, src/sign.rt).
 use Rattle.std.proofs.Common.{◌+◌, ◌<◌, ◌^◌, not, ◌&&◌, length, get_or, ap, sym, subst, arith}
 use Rattle.line_text.specs.Places.{ArePlaced}
 use Rattle.line_text.specs.Signs.{is_blank}

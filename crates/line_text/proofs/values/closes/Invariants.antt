@@ -1,5 +1,5 @@
--- The rest closes the brackets open so far just if the text closes its own (loop of `closes`,
--- src/values.rt).
+-- The rest of a word's value closes the brackets that are open so far exactly if the text closes
+-- its one (loop of `closes`, src/values.rt).
 use Rattle.std.proofs.Common.{◌≡◌, ◌+◌, ◌≤◌, drop}
 use Rattle.line_text.specs.Values.{closes}
 use Rattle.line_text.proofs.values.closes.Given as goal

@@ -1,5 +1,5 @@
--- The sequence number so far is the last one of the words so far (loop of `sequence`,
--- src/words.rt).
+-- The sequence number so far, and the words that are left, give the last sequence number of the
+-- block (loop of `sequence`, src/words.rt).
 use Rattle.std.proofs.Common.{◌≡◌, drop}
 use Rattle.std.specs.Prelude.{None}
 use Rattle.line_text.specs.Said.{sequence_from}

@@ -1,5 +1,5 @@
--- The code so far, with that of the part of the tree that is left, is the tree's (loop of
--- `emit_backwards`, src/code.rt).
+-- The code so far, with that of the part of the expression's tree that is left, is the tree's (loop
+-- of `emit_backwards`, src/code.rt).
 use Rattle.std.proofs.Common.{◌≡◌, ◌≤◌, reverse}
 use Rattle.macro_expr.specs.Tree.{tree_of, right_depth}
 use Rattle.macro_eval.specs.Postfix.{code_before}

@@ -1,5 +1,5 @@
--- The instructions are the code of the tree, and the stack has room for its operands, as the type
--- `Code` asks (`compile`, src/code.rt).
+-- The instructions are the code of the expression's tree, and the stack has room for its operands,
+-- as the type `Code` asks (`compile`, src/code.rt).
 use Rattle.std.proofs.Common.{◌<◌, rules}
 use Rattle.macro_expr.specs.Tree.{tree_of, right_depth}
 use Rattle.macro_eval.proofs.Compiled.{is_code}

@@ -1,4 +1,5 @@
--- The two short ways answer what the code means (`evaluate`, src/running.rt).
+-- The two ways without a stack answer what the code of a macro expression means (`evaluate`,
+-- src/running.rt).
 use Rattle.std.proofs.Common.{◌≡◌, ◌∷◌, [], get_or, sym, ◌∙◌, ap}
 use Rattle.macro_eval.specs.Postfix.{run}
 use Rattle.macro_eval.proofs.Compiled.{run_is_meaning}

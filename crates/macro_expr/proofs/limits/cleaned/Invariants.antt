@@ -1,5 +1,5 @@
--- What is cleaned so far, with what the rest of the text gives, is the whole text cleaned (loop of
--- `cleaned`, src/limits.rt).
+-- What is cleaned so far of the text of a macro expression, with what the rest of the text gives,
+-- is the whole text cleaned (loop of `cleaned`, src/limits.rt).
 use Rattle.std.proofs.Common.{◌≡◌, ◌++◌, drop, false}
 use Rattle.macro_expr.specs.Limits.{cleaned}
 use Rattle.macro_expr.proofs.limits.cleaned.Given as goal

@@ -1,4 +1,5 @@
--- Six open brackets are too many, so the loop may end there (`has_deep_brackets`, src/limits.rt).
+-- Six open brackets in a macro expression are too many, so the loop may end there
+-- (`has_deep_brackets`, src/limits.rt).
 use Rattle.std.proofs.Common.{sym, ◌∙◌}
 use Rattle.macro_expr.proofs.Scans.{deep_here}
 use Rattle.macro_expr.specs.Limits.{has_deep_brackets}

@@ -1,5 +1,5 @@
--- One operator of a chain more is read, and at the end the chain is that of the definition (loop of
--- `chain_at`, src/reading.rt).
+-- One operator more of a chain in a macro expression is read, and at the end the chain is that of
+-- the definition (loop of `chain_at`, src/reading.rt).
 use Rattle.std.proofs.Common.{◌≡◌, ◌-◌, length, sym, ◌∙◌, ap, arith}
 use Rattle.std.proofs.lemmas.Result.{err_from_is_err_and}
 use Rattle.macro_expr.specs.Tree.{tree_of}

@@ -1,5 +1,6 @@
--- Reading ends: each function of src/reading.rt calls one that stands lower in the grammar, or one
--- with fewer brackets left to open. Each round of `chain_at` has less text left.
+-- The reading of a macro expression ends: each function of src/reading.rt calls one that stands
+-- lower in the grammar, or one with fewer brackets left to open. Each round of `chain_at` has less
+-- text left.
 use Rattle.std.proofs.Common.{◌≡◌, ℕ, ◌+◌, ◌-◌, ◌*◌}
 use Rattle.macro_expr.specs.declared.words.Rank.{Rank}
 use Rattle.macro_expr.specs.declared.words.Rank.TheVariants.{Product, Sum}
@@ -27,7 +28,8 @@ decreases-prim_at l = 10 * l.levels + 3
 abbrev pub decreases-signed_at : goal.decreases-signed_at
 decreases-signed_at l = 10 * l.levels + 4
 
--- a sum's operands are products
+-- by how much the measure is higher than for prims: the operands of a product are prims, those of a
+-- sum products
 abbrev pub above_prims : Rank → ℕ
 above_prims Product = 0
 above_prims Sum = 3

@@ -1,4 +1,4 @@
--- One line more of the text leads further (`behind_lines`, src/step.rt).
+-- One line more of a tape's text leads the reader further (`behind_lines`, src/step.rt).
 use Rattle.nc_text.specs.View.{before_of}
 use Rattle.nc_text.proofs.Standing.{line_read, leads_on}
 use Rattle.nc_text.proofs.step.behind_lines.Goals as goal

@@ -1,4 +1,4 @@
--- A text that is refused is refused without its rest too (`left_to_read`, src/step.rt).
+-- A tape's text that is refused is refused without its rest too (`left_to_read`, src/step.rt).
 use Rattle.nc_text.proofs.Standing.{nothing_left}
 use Rattle.nc_text.proofs.step.left_to_read.Goals as goal
 

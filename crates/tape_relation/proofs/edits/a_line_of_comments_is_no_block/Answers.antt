@@ -1,5 +1,5 @@
--- A line of nothing but closed comments and blanks is no block (`a_line_of_comments_is_no_block`,
--- src/edits.rt).
+-- A law: a line of a tape with nothing but closed comments and ignored bytes is no block
+-- (`a_line_of_comments_is_no_block`, src/edits.rt).
 use Rattle.std.proofs.Common.{true, false}
 use Rattle.tape_relation.proofs.Removed.{emptied, taken_out, last_out, comments_say}
 use Rattle.tape_relation.proofs.edits.a_line_of_comments_is_no_block.Goals as goal

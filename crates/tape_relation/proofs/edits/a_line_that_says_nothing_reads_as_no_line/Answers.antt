@@ -1,5 +1,5 @@
--- A line that says nothing reads as an empty line, and behind others as no line
--- (`a_line_that_says_nothing_reads_as_no_line`, src/edits.rt).
+-- A law: a line of a tape that says nothing reads as an empty line, and behind other lines as no
+-- line (`a_line_that_says_nothing_reads_as_no_line`, src/edits.rt).
 use Rattle.tape_relation.proofs.Removed.{emptied, taken_out, last_out}
 use Rattle.tape_relation.proofs.edits.a_line_that_says_nothing_reads_as_no_line.Goals as goal
 

@@ -1,5 +1,5 @@
--- A block whose switch is set reads as if its line was deleted, where it is readable
--- (`a_skipped_block_reads_as_no_line`, src/edits.rt).
+-- A law: a readable block whose switch is set reads as an empty line, and behind other lines as no
+-- line (`a_skipped_block_reads_as_no_line`, src/edits.rt).
 use Rattle.std.proofs.Common.{true, false}
 use Rattle.tape_relation.proofs.Removed.{emptied, taken_out, last_out, skipped_says}
 use Rattle.tape_relation.proofs.edits.a_skipped_block_reads_as_no_line.Goals as goal

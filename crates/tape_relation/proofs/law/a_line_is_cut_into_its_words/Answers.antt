@@ -1,5 +1,5 @@
--- A law: the words into which the reader cuts a line are the words that the line spells
--- (`a_line_is_cut_into_its_words`, src/law.rt).
+-- A law: the words into which the reader cuts the signs of a line are the words that the signs
+-- spell by the grammar (`a_line_is_cut_into_its_words`, src/law.rt).
 use Rattle.tape_relation.proofs.Cuts.{words_cut, cut_words}
 use Rattle.tape_relation.proofs.law.a_line_is_cut_into_its_words.Goals as goal
 

@@ -1,4 +1,5 @@
--- What is left to drop is no larger than the whole tree (loop of `drop`, src/tree.rt).
+-- What is left to drop of the tree of a macro expression is no larger than the whole tree (loop of
+-- `drop`, src/tree.rt).
 use Rattle.std.proofs.Common.{◌≤◌}
 use Rattle.macro_expr.proofs.tree.Expr.TheLaws.{the_size}
 use Rattle.macro_expr.proofs.tree.Expr.+drop.Given as goal

@@ -1,4 +1,4 @@
--- A new reader has read no bytes (`new`, src/feed.rt).
+-- A new reader of a tape has read no bytes (`new`, src/feed.rt).
 use Rattle.std.proofs.Common.{ap, sym}
 use Rattle.nc_text.specs.Lines.{lines_of}
 use Rattle.nc_text.specs.Tape.{tape_of, in_leader}

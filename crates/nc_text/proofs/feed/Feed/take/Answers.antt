@@ -1,5 +1,5 @@
--- A piece without a line feed goes on with the present line; another one ends it (`take`,
--- src/feed.rt).
+-- A piece of a tape's text without a line feed goes on with the present line; one with a line feed
+-- ends it (`take`, src/feed.rt).
 use Rattle.std.proofs.Common.{ℕ, List, ◌++◌, subst, sym}
 use Rattle.std.specs.Prelude.{OnOk}
 use Rattle.nc_text.specs.View.{before_of}

@@ -1,5 +1,5 @@
--- The lines of a piece are read; if memory runs out, all that was read is back (`take_lines`,
--- src/feed.rt).
+-- The lines of a piece of a tape are read; if memory runs out, the reader is back where it was
+-- before the piece (`take_lines`, src/feed.rt).
 use Rattle.std.proofs.Common.{◌≡◌, ◌∙◌, length, rules}
 use Rattle.nc_text.specs.View.{before_of}
 use Rattle.nc_text.proofs.Growing.{follows_itself}

@@ -1,4 +1,5 @@
--- Going back to a mark gives what was read there (`cut_back`, src/going_back.rt).
+-- Going back to a mark of a tape's reading gives what was read there (`cut_back`,
+-- src/going_back.rt).
 use Rattle.nc_text.specs.View.{before_of}
 use Rattle.nc_text.proofs.Growing.{cut_to_mark}
 use Rattle.nc_text.proofs.progress.Progress.cut_back.Goals as goal

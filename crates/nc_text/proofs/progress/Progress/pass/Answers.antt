@@ -1,4 +1,5 @@
--- A line that says nothing keeps the shape of what was read (`pass`, src/progress.rt).
+-- A line that adds no program and no block keeps the shape of what was read of a tape (`pass`,
+-- src/progress.rt).
 use Rattle.std.proofs.Common.{◌≤◌, ◌+◌, ◌++◌, arith}
 use Rattle.std.specs.Option.{option_to_list}
 use Rattle.nc_text.proofs.Shaping.{line_shaped}

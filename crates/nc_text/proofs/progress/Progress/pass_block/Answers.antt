@@ -1,4 +1,4 @@
--- A block more keeps the shape of what was read (`pass_block`, src/progress.rt).
+-- A block more keeps the shape of what was read of a tape (`pass_block`, src/progress.rt).
 use Rattle.std.proofs.Common.{refl}
 use Rattle.nc_text.proofs.Shaping.{block_added}
 use Rattle.nc_text.proofs.progress.Progress.pass_block.Goals as goal

@@ -1,4 +1,4 @@
--- A program more keeps the shape of what was read (`pass_program`, src/progress.rt).
+-- A program more keeps the shape of what was read of a tape (`pass_program`, src/progress.rt).
 use Rattle.nc_text.proofs.Shaping.{program_begun}
 use Rattle.nc_text.proofs.progress.Progress.pass_program.Goals as goal
 

@@ -1,4 +1,5 @@
--- A line that says a block leaves what was read before (`pass_said`, src/progress.rt).
+-- What was read of a tape before a line that says a block still stands after it (`pass_said`,
+-- src/progress.rt).
 use Rattle.line_text.specs.declared.said.Said.TheVariants as said
 use Rattle.nc_text.specs.View.{before_of}
 use Rattle.nc_text.proofs.Growing.{grows_said}

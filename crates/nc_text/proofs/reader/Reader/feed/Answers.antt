@@ -1,5 +1,5 @@
--- A piece is read, and what its ended lines decide is refused in the same call, else nothing
--- (`feed`, src/reader.rt).
+-- A piece of a tape is read, and what the lines that have ended decide is refused in the same call,
+-- and nothing else (`feed`, src/reader.rt).
 use Rattle.std.proofs.Common.{◌≡◌, ◌++◌, None, sym, subst}
 use Rattle.nc_text.specs.View.{before_of}
 use Rattle.nc_text.specs.FeedView.{state_of}
