@@ -1,5 +1,6 @@
--- Chains of calls of loud programs, and the frames of a place. For KeepsLabels; flow_laws takes
--- `chain_before`, part_order `counts_below` and `main_below`.
+-- Chains of calls of loud programs, which have a wait or an end or call one that has, and the
+-- frames of a place: the open programs of a path, the running one first. For KeepsLabels; flow_laws
+-- takes `chain_before`, part_order `counts_below` and `main_below`.
 use Rattle.std.proofs.Common.{◌≡◌, ◌≢◌, ℕ, zero, suc, ◌+◌, true, List, [], ◌∷◌, length, Some, refl, sym, subst, arith}
 use Rattle.block_order.specs.declared.control.Control.TheVariants.{Call}
 use Rattle.block_order.specs.declared.frame.Frame.{Frame}
@@ -11,7 +12,7 @@ use Rattle.block_order.specs.Faults.{IsReachedBy}
 use Rattle.block_order.specs.Steps.{IsPlace}
 use Rattle.block_order.proofs.LoudReaches.{AreLoud}
 
--- A program of a place that stands at the call of a loud program counts, so its labels come.
+-- A program that stands at the call of a loud program counts: its labels come.
 pub counts_below : (tape : List ControlProgram) → AreLoud tape → (g : Frame) (stack : List Frame) (q r : ℕ)
     → control_at (blocks tape g.program) g.block ≡ Some (Call q r) → loud tape q ≡ true
     → counts tape g.program stack ≡ true
@@ -28,7 +29,8 @@ place_calling tape are f (g ∷ stack) place e =
     let below = counts_below tape are g stack f.program place.0 place.1 e in
     (g.program, g.block, place.0, place_calling tape are g stack place.3 below, place.1, e)
 
--- Calls that lead to a program, and a chain that begins in it, are one chain.
+-- n calls of loud programs that lead from p to q, and a chain of m that begins in q, are one chain
+-- of n + m that begins in p.
 pub chain_before : (tape : List ControlProgram) (n m p q : ℕ) → IsReachedBy tape n p q → Chain tape m q
     → Chain tape (n + m) p
 chain_before tape zero m p q c chain =
@@ -49,7 +51,7 @@ chain_less tape (suc k) n p chain =
     let e : suc k + n ≡ suc (k + n) = omega arith in
     chain_less tape k n p (chain_front tape (k + n) p (subst (λ k. Chain tape k p) e chain))
 
--- A circle of calls is a chain of any length.
+-- A circle of calls of loud programs is a chain of any length.
 chain_round : (tape : List ControlProgram) (d m p : ℕ) → IsReachedBy tape (suc d) p p → Chain tape m p
 chain_round tape d zero p c = tt
 chain_round tape d (suc m) p c =

@@ -1,6 +1,8 @@
--- A tape without faults of waits has one list of labels. For the law
--- `a_tape_without_faults_is_unforked`; flow_laws and path_state take the results, wait_order takes
--- `block_of_control`.
+-- A tape without faults of waits has one list of labels: the law
+-- `a_tape_without_faults_is_unforked`. path_state takes `faultless_unforked`, flow_laws
+-- `nothing_strays` and `chains_are_short`, wait_order `block_of_control`. A program counts if it is
+-- the main one or loud: it has a wait or an end, or calls one that has. A stretch is the run of its
+-- blocks up to and with a wait, an end, an M99 without a number or a call of a loud program.
 use Rattle.std.proofs.Common.{◌≡◌, ◌≢◌, ℕ, zero, suc, ◌+◌, Bool, true, false, ◌==◌, List, [], ◌∷◌, Some, slice_get, refl, sym, subst, arith, eqb-true}
 use Rattle.std.proofs.lemmas.Bool.{eqb-false}
 use Rattle.nc_number.specs.declared.cause.Cause.TheVariants.{BranchAtWait, WaitTooDeep}
@@ -84,7 +86,7 @@ no_ninth tape free (suc m) n program eight reached (place, called, repeats, is, 
 pub chains_are_short : (tape : List ControlProgram) → IsFreeOf tape WaitTooDeep → Chain tape 9 (main_number tape) → ⊥
 chains_are_short tape free chain = no_ninth tape free 8 0 (main_number tape) refl refl chain
 
--- A tape without faults of waits is unforked.
+-- A tape without faults of waits is unforked: all its runs come to one list of labels.
 pub faultless_unforked : (tape : List ControlProgram) → IsClear tape Waiting → IsUnforked tape
 faultless_unforked tape clear = record {
   straight = nothing_strays tape (λ line. clear line BranchAtWait);

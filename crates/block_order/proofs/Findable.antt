@@ -119,8 +119,8 @@ blocks-more tape p n b at here clear place other cause l there fault =
     (λ (ne : place ≢ n). clear place other cause (omega arith) there fault)
     (cases_eq place n)
 
--- Where a fault of the second stage lies: at a block of a program of the tape, as that block's own
--- fault.
+-- The fault, if it is of the second stage, lies at a block of a program of the tape, as that
+-- block's own fault; of other stages nothing is said.
 abbrev pub Found : List ControlProgram → Stage → ℕ → Cause → Type 0
 Found tape Fitting line cause = Unit {0}
 Found tape Finding line cause =

@@ -1,5 +1,6 @@
--- Flags that are set of loud programs alone, and rounds that begin with them.
--- For the proofs of src/loud.rt.
+-- Flags that are set of loud programs alone, and rounds that begin with them. A program is loud if
+-- it has a wait or an end, or calls one that has. A round looks at all programs by what the round
+-- before it knew. For the proofs of src/loud.rt.
 use Rattle.std.proofs.Common.{◌≡◌, ℕ, zero, suc, ◌+◌, ◌<◌, inl, inr, Bool, true, false, List, [], length, map, Some, slice_set, refl, ap, sym, subst, ◌∙◌, arith}
 use Rattle.block_order.specs.declared.numbers.ProgramNumbers.{ProgramNumbers}
 use Rattle.block_order.specs.declared.program.ControlProgram.{ControlProgram}
@@ -11,13 +12,13 @@ use Rattle.block_order.specs.Heard.{flag_known}
 use Rattle.block_order.proofs.Flags.{flag_of_blocks, flag_set, known_is_flagged, none_known}
 use Rattle.block_order.proofs.LoudReaches.{IsWithin, has_within, loud-has}
 
--- A program with a block that is loud by sound flags is loud.
+-- A program with a block that is loud by a test that holds of loud programs alone is loud.
 look_is_loud : (tape : List ControlProgram) (known : ℕ → Bool) → IsWithin known (loud tape) → (q : ℕ)
     → has_loud_block known (blocks tape q) ≡ true → loud tape q ≡ true
 look_is_loud tape known within q e = loud-has tape q ∙ has_within known (loud tape) within (blocks tape q) e
 
--- If the flag of a program with a block that is loud by sound flags is set, the flags are still
--- only of loud programs.
+-- If only loud programs are flagged and one of them has a block that is loud by these flags, then
+-- with its flag set too still only loud programs are flagged.
 pub one_heard : (tape : List ControlProgram) (numbers : ProgramNumbers) (flags : List Bool) (number place : ℕ)
     → KnowsPlaces tape numbers → IsWithin (flagged tape flags) (loud tape)
     → has_loud_block (flag_known numbers flags) (blocks tape number) ≡ true

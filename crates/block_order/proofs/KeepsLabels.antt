@@ -1,5 +1,7 @@
--- Each step keeps the labels ahead, but for an M99 of the main program, at which the whole list
--- begins anew. For OnePath; part_order takes `Counts-from`.
+-- On an unforked tape each step keeps the labels ahead, but for an M99 of the main program, at
+-- which the whole list begins anew. For OnePath; part_order takes `Counts-from`. A program is loud
+-- if it has a wait or an end, or calls one that has. A mark is a block at which a program's labels
+-- change.
 use Rattle.std.proofs.Common.{◌≡◌, ℕ, zero, suc, ◌<◌, inl, inr, Bool, true, false, List, [], ◌∷◌, length, Some, Ok, refl, ap, sym, subst, ◌∙◌, arith}
 use Rattle.block_order.specs.declared.control.Control.{Control}
 use Rattle.block_order.specs.declared.control.Control.TheVariants.{Next, Goto, While, Do, EndLoop, Wait, End, Call, Back, BackTo}
@@ -30,7 +32,8 @@ next_kept : (tape : List ControlProgram) (f : Frame) (stack : List Frame) (c : C
 next_kept tape f stack c is none =
     moves_kept tape f stack (suc f.block) (λ _. from-next tape f.program f.block c is none)
 
--- A jump to a target in the same stretch keeps the labels ahead.
+-- A jump keeps the labels ahead: its target lies in the same stretch, or its program does not
+-- count.
 jump_kept : (tape : List ControlProgram) → IsUnforked tape → (f : Frame) (stack : List Frame)
     → IsPlace tape (f ∷ stack) → (c : Control) → control_at (blocks tape f.program) f.block ≡ Some c
     → (target : ℕ) → IsTarget tape f.program f.block c target

@@ -1,5 +1,7 @@
 -- The labels ahead of a place, as its running frame moves. For the proofs of the law of one path:
--- KeepsLabels and StepsStay.
+-- KeepsLabels and StepsStay. A program counts if its labels come: the main one does, and each loud
+-- one, which has a wait or an end or calls one that has. A mark is a block at which a program's
+-- labels change.
 use Rattle.std.proofs.Common.{◌≡◌, ℕ, suc, Bool, true, false, List, [], ◌∷◌, ◌++◌, drop, Some, refl, ap, sym, ◌∙◌}
 use Rattle.block_order.specs.declared.control.Control.{Control}
 use Rattle.block_order.specs.declared.control.Control.TheVariants.{Wait, End, Call, Back}
@@ -28,7 +30,8 @@ ahead-quiet tape f stack e = rw e
 abbrev pub from : List ControlProgram → ℕ → ℕ → List Mark
 from tape p block = marks (loud tape) (drop block (blocks tape p))
 
--- A frame that moves where its marks stay keeps the labels ahead; a quiet one may move anywhere.
+-- A running frame that moves to a block with the same marks from there on keeps the labels ahead; a
+-- frame that does not count may move anywhere.
 pub moves_kept : (tape : List ControlProgram) (f : Frame) (stack : List Frame) (block : ℕ)
     → (counts tape f.program stack ≡ true → from tape f.program block ≡ from tape f.program f.block)
     → ahead tape (at f block ∷ stack) ≡ ahead tape (f ∷ stack)
@@ -75,13 +78,13 @@ pub last_returns : (tape : List ControlProgram) (n p block : ℕ) (rest : List L
     → frame_labels tape n p block 0 rest ≡ rest
 last_returns tape n p block rest is = rw (marks-at (loud tape) (blocks tape p) block Back is) refl
 
--- At a wait the labels begin with it.
+-- At a wait the labels of the frame begin with that wait.
 pub wait_begins : (tape : List ControlProgram) (n p block left code : ℕ) (rest : List Label)
     → control_at (blocks tape p) block ≡ Some (Wait code)
     → frame_labels tape n p block left rest ≡ label.Wait code ∷ frame_labels tape n p (suc block) left rest
 wait_begins tape n p block left code rest is = rw (marks-at (loud tape) (blocks tape p) block (Wait code) is) refl
 
--- At an end the labels are End alone.
+-- At an end the labels of the frame are `End` alone.
 pub end_alone : (tape : List ControlProgram) (n p block left : ℕ) (rest : List Label)
     → control_at (blocks tape p) block ≡ Some End
     → frame_labels tape n p block left rest ≡ label.End ∷ []

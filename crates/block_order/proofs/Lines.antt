@@ -1,5 +1,6 @@
 -- The lines of a tape rise, so a later program or block has a greater line. For Located and
--- Findable; wait_order takes the lemmas on blocks.
+-- Findable, and for the proofs of src/fitting.rt and src/tables.rt (`blocks-few`). wait_order takes
+-- `rise-own`, `block-order` and `blocks-few`.
 use Rattle.std.proofs.Common.{◌≡◌, ℕ, zero, suc, ◌<◌, ◌≤◌, ◌⊎◌, inl, inr, List, [], ◌∷◌, ◌++◌, length, map, Some, sym, ap, arith, subst}
 use Rattle.std.specs.List.{slice_get}
 use Rattle.std.proofs.lemmas.List.{length-append}
@@ -85,7 +86,7 @@ rise-own (t ∷ ts) low zero p h at =
 rise-own (t ∷ ts) low (suc i) p h at =
     let cut = rise-cut low (lines_of_program t) (lines_in ts) h in rise-own ts cut.0 i p cut.1 at
 
--- If the lines of these blocks rise from a bound, each block's line is above it.
+-- If the lines of these blocks rise from a bound, each block's line is above that bound.
 pub block-over : (bs : List ControlBlock) (low place : ℕ) (b : ControlBlock) → RiseFrom low (map (λ x. x.line) bs)
     → slice_get bs place ≡ Some b → low < b.line
 block-over [] low place b h e = absurd cc

@@ -1,5 +1,6 @@
--- In which program a fault of the first stage lies, and which such fault is the first. For the
--- proofs of src/fitting.rt and src/tables.rt, and for Findable.
+-- In which program a fault of the first stage lies (programs and loops that don't fit together, 60
+-- and 52), and which such fault is the first. For the proofs of src/fitting.rt and src/tables.rt,
+-- and for Findable.
 use Rattle.std.proofs.Common.{◌≡◌, ◌≢◌, ℕ, zero, suc, ◌+◌, ◌<◌, ◌≤◌, ◌⊎◌, inl, inr, Bool, true, false, ◌||◌, nat_eq, eqb, List, [], ◌∷◌, ◌++◌, length, map, get_or, take, drop, Option, Some, None, refl, sym, ap, ◌∙◌, arith, subst, ⊎_elim}
 use Rattle.std.specs.List.{slice_get, Contains, list_any}
 use Rattle.std.proofs.lemmas.Bool.{cases_eq, cases_order, eqb-true}
@@ -26,7 +27,8 @@ pub data FitFault (tape : List ControlProgram) (i : ℕ) (p : ControlProgram) : 
   apart : (place : ℕ) (block : ControlBlock) → slice_get p.blocks place ≡ Some block → IsMismatch p.blocks place
       → FitFault tape i p block.line LoopMismatch
 
--- A fault of the first stage is one of a program of the tape.
+-- The fault, if it is of the first stage, is one of a program of the tape; of other stages nothing
+-- is said.
 abbrev pub Lies : List ControlProgram → Stage → ℕ → Cause → Type 0
 Lies tape Fitting line cause =
     (i : ℕ) × (p : ControlProgram) × (slice_get tape i ≡ Some p) × FitFault tape i p line cause

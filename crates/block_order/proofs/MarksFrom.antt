@@ -1,5 +1,6 @@
--- The marks of a program before and behind one of its blocks. For LabelsAhead; part_order takes
--- `marks-drop` and `marks-at`.
+-- The marks of a program before and behind one of its blocks. A mark is a block at which a
+-- program's labels change: a wait, an end, an M99 without a number or a call that leads to a wait
+-- or an end. For LabelsAhead; part_order takes `marks-drop` and `marks-at`.
 use Rattle.std.proofs.Common.{◌≡◌, ℕ, zero, suc, Bool, List, [], ◌∷◌, ◌++◌, take, drop, Some, refl, ap, sym, ◌∙◌, append_assoc}
 use Rattle.std.proofs.lemmas.List.{take-append-drop}
 use Rattle.std.proofs.Math.Seq.{drop-append_seam}
@@ -15,7 +16,8 @@ marks-append loud [] ys = refl
 marks-append loud (x ∷ xs) ys =
     rw (marks-append loud xs ys) (sym (append_assoc (mark_of loud x.control) (marks loud xs) (marks loud ys)))
 
--- The marks from a block on hang on its stretch alone.
+-- The marks from a block on are those of the program without the first ones, as many as the number
+-- of the block's stretch, which counts the marks before it.
 pub marks-drop : (loud : ℕ → Bool) (bs : List ControlBlock) (i : ℕ)
     → marks loud (drop i bs) ≡ drop (stretch loud bs i) (marks loud bs)
 marks-drop loud bs i =

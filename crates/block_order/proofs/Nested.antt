@@ -1,4 +1,5 @@
--- Loops whose heads and ends fit together are nested. For the law of src/fitting_law.rt.
+-- Loops whose heads and ends fit together are nested: of two loops one lies behind the other or
+-- inside it. For the law of src/fitting_law.rt.
 use Rattle.std.proofs.Common.{◌≡◌, ◌≢◌, ℕ, zero, suc, ◌-◌, ◌<◌, ◌≤◌, ◌⊎◌, inl, inr, List, [], ◌∷◌, length, Some, sym, ◌∙◌, arith}
 use Rattle.std.proofs.lemmas.Bool.{cases_lt}
 use Rattle.nc_number.proofs.Counts.{some_is}

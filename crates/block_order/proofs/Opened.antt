@@ -1,7 +1,7 @@
 -- Which loops are open where, in a program whose heads and ends fit together: an invariant of each
--- block. For the proofs of src/loops.rt, and for Mismatched, Nested and NotedEnds. part_lines,
--- path_state and wait_order take `within_control` and `close_within`. The file's name stands for
--- the loops that were opened.
+-- block. For the proofs of src/loops.rt and src/order.rt, and for Mismatched, Nested and NotedEnds.
+-- wait_order, part_lines and path_state take `within_control`, wait_order `close_within` too. The
+-- file's name stands for the loops that were opened.
 use Rattle.std.proofs.Common.{◌≡◌, ◌≢◌, ℕ, zero, suc, ◌+◌, ◌-◌, ◌<◌, ◌≤◌, ◌↔◌, ◌⊎◌, inl, inr, Bool, true, false, cond, eqb, List, [], ◌∷◌, length, take, Option, Some, None, refl, sym, ap, ◌∙◌, arith, subst, ⊎_elim}
 use Rattle.std.specs.List.{Contains}
 use Rattle.std.proofs.lemmas.Bool.{cases_eq, cases_lt}
@@ -23,7 +23,7 @@ pub data Kind (c : Control) : Type 0 where
   opening : (n : ℕ) → head_name (Some c) ≡ Some n
       → ((p : ℕ) (loops : List Open) → open_behind p c loops ≡ record { place = p; name = n } ∷ loops)
       → ((m : ℕ) → c ≢ EndLoop m) → Kind c
-  -- An END closes one.
+  -- An END closes the latest open loop of its name, if there is one.
   closing : (n : ℕ) → c ≡ EndLoop n → Kind c
   -- A control that is neither leaves them as they are.
   plain : head_name (Some c) ≡ None → ((p : ℕ) (loops : List Open) → open_behind p c loops ≡ loops)

@@ -1,5 +1,5 @@
--- What holds of the fault of a call that may also run out of memory. The contracts of label_list,
--- tape_flow, open_order, wait_order, the two verifiers and the commands say their refusals with it.
+-- What holds of the fault of a call that may also run out of memory. The contracts of this crate,
+-- wait_order, tape_flow, label_list and six more crates above say their refusals with it.
 use Rattle.nc_number.specs.declared.fault.Failing.{Failing}
 use Rattle.nc_number.specs.declared.fault.Failing.TheVariants.{Fault, NoMemory}
 

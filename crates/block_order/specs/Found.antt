@@ -1,5 +1,5 @@
--- The fault of one block in what its jump or call finds, and the first such fault of a program. For
--- src/finding.rt, which looks for them.
+-- The fault of one block in what its jump or call finds (50, 51 or 53), and the first such fault of
+-- a program. For src/finding.rt, which looks for them.
 use Rattle.std.specs.Prelude.{◌≡◌, ℕ, ◌≤◌, List, Option, Some, None, Err, slice_get}
 use Rattle.nc_number.specs.declared.cause.Cause.{Cause}
 use Rattle.nc_number.specs.declared.cause.Cause.TheVariants.{NoProgram}

@@ -1,5 +1,5 @@
--- A place as its code keeps it: where it begins, its callers, and the numbers of its blocks.
--- path_state cites this.
+-- A place (the open programs of a path, the running one first) as src/place.rt keeps it: where a
+-- path begins, the callers, and that a block's number has 32 bits. path_state cites this.
 use Rattle.std.specs.Prelude.{ℕ, suc, ◌^◌, ◌<◌, List, [], ◌∷◌}
 use Rattle.block_order.specs.declared.frame.Frame.{Frame}
 

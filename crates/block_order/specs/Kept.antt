@@ -1,4 +1,5 @@
--- What the types DraftOrder and BlockOrder keep. For this crate alone.
+-- What the types DraftOrder and BlockOrder keep of a tape's order of blocks. A program is loud if
+-- it has a wait or an end, or calls one that has. For src/draft.rt and src/order.rt alone.
 use Rattle.std.specs.Prelude.{List}
 use Rattle.block_order.specs.declared.loud.LoudPrograms.{LoudPrograms}
 use Rattle.block_order.specs.declared.program.ControlProgram.{ControlProgram}

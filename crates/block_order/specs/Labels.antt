@@ -1,6 +1,8 @@
--- The labels of a tape, and which tapes have one list of them, whatever the variables hold.
--- label_list, the verifiers, two_path and the crates of laws cite `list` and `IsUnforked`;
--- wait_order judges what `IsUnforked` asks.
+-- The labels of a tape, and which tapes have one list of them, whatever the variables hold. A
+-- program is loud if it has a wait or an end, or calls one that has; the others are quiet. A mark
+-- is a block at which a program's labels change, a stretch the run of blocks up to and with a mark.
+-- label_list, path_state, pair_order and eleven more crates above cite this. wait_order judges what
+-- `IsUnforked` asks.
 use Rattle.std.specs.Prelude.{◌≡◌, ℕ, zero, suc, ◌-◌, Bool, true, false, ◌⊎◌, List, [], ◌∷◌, length, drop, Some, if◌then◌else◌}
 use Rattle.block_order.specs.declared.control.Control.{Control}
 use Rattle.block_order.specs.declared.control.Control.TheVariants.{Goto, Call, BackTo}
@@ -18,8 +20,9 @@ abbrev pub times : ℕ → (List Label → List Label) → List Label → List L
 times zero f rest = rest
 times (suc n) f rest = f (times n f rest)
 
--- The labels of these marks. `called` gives the labels of a called program, and `rest` follows
--- behind the return.
+-- The labels of these marks, up to the first that ends the path or returns. `called` gives the
+-- labels of a called program, and `rest` follows after a return. Marks without an end or a return
+-- lead past the program's last block: `Off`.
 abbrev pub labels : (ℕ → List Label → List Label) → List Mark → List Label → List Label
 labels called [] rest = Off ∷ []
 labels called (mark.Wait code ∷ ms) rest = Wait code ∷ labels called ms rest
@@ -29,13 +32,13 @@ labels called (mark.Back ∷ ms) rest = rest
 labels called (mark.Past ∷ ms) rest = Off ∷ []
 
 -- The labels of a program that is called while n calls may still be opened, its own one of them,
--- and then `rest`; `rest` alone if none may be opened.
+-- and then `rest` if it returns; `rest` alone if none may be opened.
 unfoldable pub whole : List ControlProgram → ℕ → ℕ → List Label → List Label
 whole tape zero program rest = rest
 whole tape (suc n) program rest = labels (λ q k. whole tape n q k) (marks (loud tape) (blocks tape program)) rest
 
--- The labels of a frame: of its program from this block on, then of its repeats still to come, then
--- `rest`. Its program may open n further calls.
+-- The labels of a frame, if its program returns each time: of its program from this block on, then
+-- of the `left` repeats still to come, then `rest`. Its program may open n further calls.
 abbrev pub frame_labels : List ControlProgram → ℕ → ℕ → ℕ → ℕ → List Label → List Label
 frame_labels tape n program block left rest =
     labels (λ q k. whole tape n q k) (marks (loud tape) (drop block (blocks tape program)))
@@ -51,14 +54,14 @@ abbrev pub behind : List ControlProgram → List Frame → List Label
 behind tape [] = Again ∷ []
 behind tape (f ∷ stack) = frame_labels tape (room stack) f.program (suc f.block) f.left (behind tape stack)
 
--- A running program with these callers counts, so its own labels come: the main program does, and
--- each loud program.
+-- Whether the labels of a running program with these callers come: of the main program, which has
+-- no callers, and of each loud program they do.
 abbrev pub counts : List ControlProgram → ℕ → List Frame → Bool
 counts tape program [] = true
 counts tape program (g ∷ stack) = loud tape program
 
 -- The labels ahead of a place, which is a list of frames, the running one first. A quiet program
--- has none of its own.
+-- that was called has none of its own; the main program has, even if it is quiet.
 abbrev pub ahead : List ControlProgram → List Frame → List Label
 ahead tape [] = []
 ahead tape (f ∷ stack) =
@@ -86,7 +89,8 @@ IsTarget tape program block (Call called repeats) target =
     × Leads (blocks tape program) block n target
 IsTarget tape program block other target = ⊥
 
--- A chain of n calls of loud programs, each in the program that the one before calls.
+-- A chain of n calls of loud programs: the first call stands in this program, each other one in the
+-- program that the call before it calls.
 abbrev pub Chain : List ControlProgram → ℕ → ℕ → Type 0
 Chain tape zero program = Unit {0}
 Chain tape (suc n) program =
@@ -97,7 +101,8 @@ Chain tape (suc n) program =
 abbrev pub Counts : List ControlProgram → ℕ → Type 0
 Counts tape program = (program ≡ main_number tape) ⊎ (loud tape program ≡ true)
 
--- No jump, no end of a loop and no return leads from one stretch to another.
+-- In the main program and in loud ones no jump, no end of a loop and no return leads from one
+-- stretch to another.
 pub record IsStraight (tape : List ControlProgram) : Type 0 where
   -- A jump stays in its stretch.
   pub jumps : (program block target : ℕ) (c : Control) → Counts tape program
@@ -106,7 +111,7 @@ pub record IsStraight (tape : List ControlProgram) : Type 0 where
   -- A loop ends in the stretch in which it begins.
   pub loops : (program head close : ℕ) → Counts tape program → IsLoop (blocks tape program) head close
       → stretch (loud tape) (blocks tape program) head ≡ stretch (loud tape) (blocks tape program) close
-  -- A return to a sequence number stands only in the main program, if its program is loud.
+  -- A loud program with a return to a sequence number (M99 P) is the main program.
   pub backs : (program block n : ℕ) → loud tape program ≡ true
       → control_at (blocks tape program) block ≡ Some (BackTo n) → program ≡ main_number tape
 

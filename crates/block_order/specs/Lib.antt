@@ -1,5 +1,7 @@
--- The words in which contracts speak of the order of blocks. Order, Moves, Steps, Labels and Faults
--- are what other crates cite most.
+-- The words in which contracts speak of the order of blocks. Crates above cite all of these files
+-- but LoopFacts, Misplaced, Found and Kept; the most cited are Labels, Order, Answers, Loud, Steps
+-- and Faults. Of the crates above wait_order alone cites Loops, Numbers, Heard, Places, Fitting,
+-- Table, First and TapeTable.
 pub mod Order
 pub mod LoopFacts
 pub mod Loud

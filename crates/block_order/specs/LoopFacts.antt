@@ -1,5 +1,6 @@
 -- What the searches for loops and for jumps find, said without a search. This crate's law
--- `a_loop_ends_at_its_nearest_end` says that both are the same.
+-- `a_loop_ends_at_its_nearest_end` says that both are the same. No other crate cites this: it is
+-- for readers of that law.
 use Rattle.std.specs.Prelude.{◌≡◌, ◌≢◌, ℕ, ◌<◌, ◌≤◌, List, Some}
 use Rattle.block_order.specs.declared.control.Control.TheVariants.{EndLoop}
 use Rattle.block_order.specs.declared.program.ControlBlock.{ControlBlock}
@@ -19,7 +20,8 @@ pub record LoopFacts (bs : List ControlBlock) (head close : ℕ) : Type 0 where
   -- No END of this name stands between them.
   pub nearest : (between : ℕ) → head < between → between < close → control_at bs between ≢ Some (EndLoop name)
 
--- Every loop that holds the target of a jump holds the jump's block too.
+-- Every loop that holds the target of a jump holds the jump's block too. A loop holds the blocks
+-- behind its head up to and with its END.
 abbrev pub IsHeldToo : List ControlBlock → ℕ → ℕ → Type 0
 IsHeldToo bs block target =
     (head close : ℕ) → IsLoop bs head close → head < target → target ≤ close → (head < block) × (block ≤ close)

@@ -1,5 +1,6 @@
--- Which programs reach a wait or an end, and the marks that cut a program into stretches.
--- wait_order, open_order, label_list, part_lines and the verifiers cite this.
+-- Which programs are loud: they reach a wait or an end, themselves or by their calls. And the
+-- marks, the blocks at which a program's labels change, which cut it into stretches. wait_order,
+-- label_list, part_lines and five more crates above cite this.
 use Rattle.std.specs.Prelude.{◌≡◌, ◌↔◌, ℕ, zero, suc, Bool, true, false, ◌||◌, ◌⊎◌, List, [], ◌∷◌, ◌++◌, length, take, Some, if◌then◌else◌}
 use Rattle.block_order.specs.declared.control.Control.{Control}
 use Rattle.block_order.specs.declared.control.Control.TheVariants.{Wait, End, Call, Back}
@@ -9,7 +10,7 @@ use Rattle.block_order.specs.declared.program.ControlBlock.{ControlBlock}
 use Rattle.block_order.specs.declared.program.ControlProgram.{ControlProgram}
 use Rattle.block_order.specs.Order.{blocks, control_at}
 
--- The block is a wait or an end, or calls a program that is known to be loud.
+-- A block of this control is a wait or an end, or calls a program that is known to be loud.
 abbrev pub is_loud_block : (ℕ → Bool) → Control → Bool
 is_loud_block known (Wait code) = true
 is_loud_block known End = true
@@ -26,8 +27,8 @@ abbrev pub known_loud : List ControlProgram → ℕ → ℕ → Bool
 known_loud tape zero program = false
 known_loud tape (suc n) program = has_loud_block (known_loud tape n) (blocks tape program)
 
--- A program is loud where it, or one that it calls, directly or through others, has a wait or an
--- end. The others are quiet.
+-- A program is loud if it, or one that it calls, directly or through others, has a wait or an end.
+-- The others are quiet.
 unfoldable pub loud : List ControlProgram → ℕ → Bool
 loud tape program = known_loud tape (length tape) program
 
@@ -47,7 +48,8 @@ Reaches tape (suc n) program =
 abbrev pub IsLoudExactly : List ControlProgram → Type 0
 IsLoudExactly tape = (program : ℕ) → (loud tape program ≡ true) ↔ ((n : ℕ) × Reaches tape n program)
 
--- The one mark of a block of this control, or none if it is no mark.
+-- The one mark of a block of this control, or none if it is no mark: a wait, an end, a call of a
+-- loud program and an M99 without a number are marks.
 abbrev pub mark_of : (ℕ → Bool) → Control → List Mark
 mark_of loud (Wait code) = mark.Wait code ∷ []
 mark_of loud End = mark.End ∷ []

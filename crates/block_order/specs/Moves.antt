@@ -1,5 +1,6 @@
--- Where control goes from a place: each move as a function of the place and of the tape. What the
--- variables hold only chooses among them.
+-- Where control goes from a place: each move as a function of the place and of the tape. A place is
+-- the list of a path's open programs, the running one first. What the variables hold only chooses
+-- among the moves.
 -- path_state, two_path, part_order, named_vars and zone_check cite this.
 use Rattle.std.specs.Prelude.{ℕ, zero, suc, ◌-◌, ◌==◌, ◌||◌, nat_lt, List, [], ◌∷◌, length, Option, Some, None, Result, Ok, Err, if◌then◌else◌}
 use Rattle.nc_number.specs.declared.cause.Cause.{Cause}
@@ -36,21 +37,21 @@ place_by target (f ∷ stack) = place_to (f ∷ stack) (target f)
 abbrev pub place_of_jump : List ControlProgram → ℕ → List Frame → Result (List Frame) Cause
 place_of_jump tape n place = place_by (λ f. target_of (blocks tape f.program) f.block n) place
 
--- The block behind the END of a loop, if there is an END.
+-- The block behind the END of a loop; cause 52 if there is no END.
 abbrev pub behind_end : Option ℕ → Result ℕ Cause
 behind_end None = Err LoopMismatch
 behind_end (Some close) = Ok (suc close)
 
--- The place behind the loop whose head is the running block.
+-- The place behind the loop whose head is the running block; cause 52 if no loop begins there.
 abbrev pub place_behind_loop : List ControlProgram → List Frame → Result (List Frame) Cause
 place_behind_loop tape place = place_by (λ f. behind_end (end_of_loop (blocks tape f.program) f.block)) place
 
--- The head of a loop, if there is one.
+-- The head of a loop; cause 52 if there is none.
 abbrev pub at_head : Option ℕ → Result ℕ Cause
 at_head None = Err LoopMismatch
 at_head (Some head) = Ok head
 
--- The place at the head of the loop whose END is the running block.
+-- The place at the head of the loop whose END is the running block; cause 52 if no loop ends there.
 abbrev pub place_of_head : List ControlProgram → List Frame → Result (List Frame) Cause
 place_of_head tape place = place_by (λ f. at_head (head_of_loop (blocks tape f.program) f.block)) place
 

@@ -1,8 +1,7 @@
 -- The programs of a tape, as far as control goes through them: where jumps lead, and which loops
 -- hold a block. Everywhere a tape is the list of its programs, a program is known by its O number,
 -- and a block of it by its place from 0.
--- The crates that check or follow the order of blocks cite this: wait_order, tape_flow, open_order,
--- label_list, part_lines, path_state, two_path and the verifiers.
+-- wait_order, tape_flow, path_state and eight more crates above cite this.
 use Rattle.std.specs.Prelude.{◌≡◌, ℕ, zero, suc, Bool, true, false, not, ◌==◌, ◌&&◌, ◌||◌, nat_lt, nat_le, List, [], ◌∷◌, drop, find, Option, Some, None, Result, Ok, Err, slice_get, if◌then◌else◌}
 use Rattle.nc_number.specs.declared.cause.Cause.{Cause}
 use Rattle.nc_number.specs.declared.cause.Cause.TheVariants.{NoSequence, IntoLoop}
@@ -16,16 +15,16 @@ use Rattle.block_order.specs.declared.program.ControlProgram.{ControlProgram}
 abbrev pub program_of : List ControlProgram → ℕ → Option ControlProgram
 program_of tape number = find (λ program. program.number == number) tape
 
--- The blocks of a program, and none of no program.
+-- The blocks of this program; no block if there is no program.
 abbrev pub blocks_of : Option ControlProgram → List ControlBlock
 blocks_of None = []
 blocks_of (Some program) = program.blocks
 
--- The blocks of the program with this number.
+-- The blocks of the first program with this number; no block if the tape lacks one.
 abbrev pub blocks : List ControlProgram → ℕ → List ControlBlock
 blocks tape number = blocks_of (program_of tape number)
 
--- The main program is the first one.
+-- The number of the main program, which is the first one; 0 if the tape has no program.
 abbrev pub main_number : List ControlProgram → ℕ
 main_number [] = 0
 main_number (program ∷ rest) = program.number
@@ -39,7 +38,7 @@ control_of (Some block) = Some block.control
 abbrev pub control_at : List ControlBlock → ℕ → Option Control
 control_at bs place = control_of (slice_get bs place)
 
--- A block with this sequence number, which it may lack, is numbered n.
+-- Whether the sequence number of a block, which it may lack, is n.
 abbrev pub has_sequence : ℕ → Option ℕ → Bool
 has_sequence n None = false
 has_sequence n (Some own) = n == own
@@ -85,7 +84,7 @@ end_named bs head (Some name) = first_end name (drop (suc head) bs) (suc head)
 abbrev pub end_of_loop : List ControlBlock → ℕ → Option ℕ
 end_of_loop bs head = end_named bs head (head_name (control_at bs head))
 
--- The latest of the first n heads whose loop ends at the block.
+-- The latest head, among the first n places, whose loop ends at the block.
 abbrev pub head_below : ℕ → List ControlBlock → ℕ → Option ℕ
 head_below zero bs close = None
 head_below (suc head) bs close = if is_some_of close (end_of_loop bs head) then Some head else head_below head bs close
@@ -119,8 +118,8 @@ abbrev pub permitted_target : List ControlBlock → ℕ → Option ℕ → Resul
 permitted_target bs block None = Err NoSequence
 permitted_target bs block (Some target) = if permits bs block target then Ok target else Err IntoLoop
 
--- Where a jump from the block to the number leads; 50 where its program has no such number, 53 into
--- a loop that does not hold it.
+-- Where a jump from the block to the sequence number n leads; alarm 50 if no block of these has the
+-- number, 53 if a loop holds the target and not the block.
 abbrev pub target_of : List ControlBlock → ℕ → ℕ → Result ℕ Cause
 target_of bs block n = permitted_target bs block (seek bs block n)
 
@@ -128,7 +127,7 @@ target_of bs block n = permitted_target bs block (seek bs block n)
 abbrev pub IsLoop : List ControlBlock → ℕ → ℕ → Type 0
 IsLoop bs head close = end_of_loop bs head ≡ Some close
 
--- A jump from the block to the target leads into no loop.
+-- A jump from the block to the target leads into no loop that does not hold the block.
 abbrev pub IsPermitted : List ControlBlock → ℕ → ℕ → Type 0
 IsPermitted bs block target = permits bs block target ≡ true
 

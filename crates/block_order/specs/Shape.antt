@@ -1,6 +1,7 @@
 -- What holds of the programs of every tape that was read: where they stand in the text, and how
 -- many blocks there are.
--- The readers tape_flow and open_order keep this of what they read.
+-- The readers tape_flow and open_order keep this of what they read; wait_order and path_state cite
+-- it.
 use Rattle.std.specs.Prelude.{ℕ, ◌<◌, ◌≤◌, List, ◌∷◌, length, map}
 use Rattle.std.specs.List.{flat_map}
 use Rattle.nc_number.specs.Rising.{RiseFrom}
@@ -20,11 +21,12 @@ abbrev pub blocks_in : List ControlProgram → List ControlBlock
 blocks_in tape = flat_map (λ program. program.blocks) tape
 
 -- What every tape that was read has: at least one program, lines that rise through the whole tape,
--- and at most 20,000 blocks.
+-- and at most 20,000 blocks. That number is MOST_BLOCKS of nc_number (src/limits.rt); wait_order
+-- and this crate have it in more places.
 pub record IsListed (tape : List ControlProgram) : Type 0 where
   -- There is a program.
   pub some : 0 < length tape
-  -- Lines count from 1.
+  -- The lines rise from one to the next, and the first is 1 or more.
   pub lines : RiseFrom 0 (lines_in tape)
   -- There are at most 20,000 blocks.
   pub few : length (blocks_in tape) ≤ 20000

@@ -1,5 +1,8 @@
 -- Which places may follow a place, whatever the variables hold, and the law of one path,
--- `KeepsLabels`. path_state, two_path, part_order and pair_order rest on this law.
+-- `KeepsLabels`. A place is the list of a path's open programs, the running one first. Its labels
+-- ahead are the waits to which the path still comes, and last an end, the main program's new
+-- beginning or the place past a program's last block. path_state, two_path, part_order and four
+-- more crates above cite this.
 use Rattle.std.specs.Prelude.{◌≡◌, ℕ, ◌<◌, ◌⊎◌, List, [], ◌∷◌, length, Option, Some, None, Ok}
 use Rattle.block_order.specs.declared.control.Control.{Control}
 use Rattle.block_order.specs.declared.control.Control.TheVariants.{Next, Goto, While, Do, EndLoop, Wait, End, Call, Back, BackTo}
@@ -48,8 +51,9 @@ IsPlace tape (f ∷ g ∷ stack) =
 abbrev pub Same : List ControlProgram → Frame → List Frame → List Frame → Type 0
 Same tape f stack to = ahead tape to ≡ ahead tape (f ∷ stack)
 
--- What a step of a block of this control does to the labels ahead: nothing, but at an M99 of the
--- main program with no call open. Before that they are `Again` alone, behind it the whole list.
+-- What a step of a block of this control, from the frame f with these callers, does to the labels
+-- ahead: nothing, but at an M99 without a number in the main program with no call open. Before that
+-- M99 the labels ahead are `Again` alone, after it they are the whole list.
 abbrev pub Kept : List ControlProgram → Frame → List Frame → Control → List Frame → Type 0
 Kept tape f [] Back to = (ahead tape (f ∷ []) ≡ label.Again ∷ []) × (ahead tape to ≡ list tape)
 Kept tape f (g ∷ stack) Back to = Same tape f (g ∷ stack) to
@@ -63,15 +67,16 @@ Kept tape f stack End to = Same tape f stack to
 Kept tape f stack (Call program repeats) to = Same tape f stack to
 Kept tape f stack (BackTo n) to = Same tape f stack to
 
--- The law of one path. From place to place each step keeps the labels ahead, but for an M99 of the
--- main program, before which they are Again alone and behind which they are the whole list; at a
--- wait they begin with it, and it goes with the passing; at an end they are End alone.
+-- The law of one path. Each step from a place leads to a place and keeps the labels ahead, but for
+-- an M99 of the main program: before it they are `Again` alone, after it they are the whole list.
+-- At a wait the labels ahead begin with that wait, which goes when it is passed. At an end they are
+-- `End` alone.
 pub record KeepsLabels (tape : List ControlProgram) : Type 0 where
   -- A step leads to a place and does to the labels ahead what `Kept` says.
   pub step : (f : Frame) (stack : List Frame) → IsPlace tape (f ∷ stack)
       → (c : Control) → control_at (blocks tape f.program) f.block ≡ Some c
       → (to : List Frame) → Goes tape (f ∷ stack) c to → IsPlace tape to × Kept tape f stack c to
-  -- At a wait the labels ahead begin with it, and behind it are the others.
+  -- At a wait the labels ahead begin with that wait; after it come those of the place behind it.
   pub wait : (place : List Frame) (code : ℕ) → IsPlace tape place → standing tape place ≡ Some (Wait code)
       → IsPlace tape (place_behind place) × (ahead tape place ≡ label.Wait code ∷ ahead tape (place_behind place))
   -- At an end the labels ahead are `End` alone.

@@ -1,8 +1,9 @@
 //! Which programs call a program, so that a search can go from a program back to its callers. The
 //! only error here is that memory runs out.
 //!
-//! loud.rt and part_lines look again at the callers of what they found, and that look decides. So
-//! what this table holds changes the time that they take, and not their answer.
+//! loud.rt (which programs come to a wait or an end) and part_lines look again at the callers of
+//! what they found, and that look decides. So what this table holds changes the time that they
+//! take, and not their answer.
 
 use crate::control::Control;
 use crate::program::{ControlBlock, ControlProgram};
@@ -13,6 +14,7 @@ use std::alloc::Global;
 /// From an O number to those of the programs that call it, one entry for each call.
 #[derive(Drop)]
 pub struct Callers {
+    /// By the O number of a called program the O numbers of its callers.
     numbers: IndexMap<u16, Vec<u16>>,
 }
 

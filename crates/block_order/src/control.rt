@@ -1,5 +1,6 @@
 //! What a block does to the order of blocks. Which words say so is in block_forms and open_forms,
-//! which make these; this crate, wait_order and the crates of paths match on them.
+//! which make these; this crate, wait_order, tape_flow, path_state, label_list, part_lines,
+//! loud_calls and open_order match on them.
 
 /// What a block does to the order of blocks.
 #[derive(Clone, Copy, Debug, PartialEq, Eq)]
@@ -13,7 +14,7 @@ pub enum Control {
     While(u8),
     /// The head of a loop without a condition.
     Do(u8),
-    /// The end of a loop of this name.
+    /// The end of a loop of this name, 1, 2 or 3.
     EndLoop(u8),
     /// A wait of this code for the other path.
     Wait(u16),

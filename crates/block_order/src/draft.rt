@@ -1,5 +1,6 @@
 //! The order of a tape's blocks before its waits are judged.
-//! wait_order judges them and makes a [`BlockOrder`] of it.
+//! wait_order judges the waits and makes a [`BlockOrder`] of the draft. A program is loud if it has
+//! a wait or an end, or calls one that has.
 ghost use Rattle.std.specs.Prelude.{◌≡◌, IfOk, IfErr};
 ghost use Rattle.block_order.specs.Answers.{IfFault};
 ghost use Rattle.block_order.specs.Faults.{Fitting, Finding, Waiting, IsClear, IsFirst};
@@ -47,7 +48,7 @@ impl Model for DraftOrder {
 impl DraftOrder {
     /// The order of these programs, or the first fault: of programs and loops that don't fit
     /// together, 60 and 52; else of jumps and calls that don't find what they name, 50, 51 and 53.
-    /// Each time the least line is told, and on it the least number.
+    /// Each time the least line is told, and on it the least number. `NoMemory`: out of memory.
     pub fn check(
         alloc: Global,
         programs: Vec<ControlProgram>,

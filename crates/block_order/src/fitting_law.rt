@@ -1,5 +1,5 @@
-//! The law of loops whose heads and ends fit together.
-//! No proof rests on it: it says in other words what is checked of loops.
+//! The law of loops whose heads and ends fit together. No crate calls it, and no proof rests on it:
+//! it says in other words what is checked of loops.
 ghost use Rattle.std.specs.Prelude.{List};
 ghost use Rattle.block_order.specs.declared.program.ControlBlock.{ControlBlock};
 ghost use Rattle.block_order.specs.Fitting.{Fits, IsNested};

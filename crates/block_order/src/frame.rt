@@ -1,5 +1,6 @@
-//! One open call of a place. A place (place.rt) is made of frames; the specs of path_state speak of
-//! them too.
+//! One open call of a place. A place (place.rt) is made of frames, the running program's and those
+//! of its callers. The specs of path_state, two_path, pair_order and eight more crates above speak
+//! of frames; tape_flow's code does too.
 
 /// One open call of a place, or the main program at its bottom: the program that runs, at a block,
 /// with so many repeats still to come.
@@ -10,6 +11,6 @@ pub struct Frame {
     /// The block, counted from 0; the number of the program's blocks stands for the place past
     /// them.
     pub block: u32,
-    /// How many repeats are still to come.
+    /// How many repeats of the program are still to come after this run.
     pub left: u16,
 }

@@ -1,7 +1,7 @@
 //! What one path shows the other, a label, and what stands for it in a program, a mark. The specs
 //! define the labels of a path by the marks of its programs. tape_flow lends the label of a place
-//! and the mark of a block, label_list lists labels, two_path and run_table ask at which label a
-//! path stands.
+//! and the mark of a block, label_list lists labels, wait_verify prints them, two_path and
+//! run_table ask at which label a path stands.
 
 /// What a path comes to, as far as the other path can tell.
 #[derive(Clone, Copy, Debug, PartialEq, Eq)]
@@ -26,7 +26,7 @@ pub enum Mark {
     End,
     /// M99 without P.
     Back,
-    /// A call of a program that reaches a wait or an end.
+    /// A call of a program that reaches a wait or an end, to run it so many times.
     Call { program: u16, repeats: u16 },
     /// Behind the last block.
     Past,

@@ -1,6 +1,7 @@
 //! What holds of every tape, for the crates above. Each law is the contract of a function that does
-//! nothing: who calls it has the law. nc_verify, wait_verify, pair_order, two_path, loud_calls and
-//! trace_list call them.
+//! nothing: who calls it has the law. pair_order, two_path and trace_list call the first one,
+//! nc_verify, wait_verify and loud_calls `a_tape_without_faults_is_unforked`. No crate calls the
+//! other two, which say what the definitions mean.
 
 ghost use Rattle.std.specs.Prelude.{List, ℕ, ◌↔◌};
 ghost use Rattle.block_order.specs.declared.program.ControlBlock.{ControlBlock};
@@ -24,7 +25,7 @@ pub fn being_loud_is_reaching_a_wait_or_an_end()
     ensures { (tape : List ControlProgram) → IsLoudExactly tape }
 {}
 
-/// If no fault of waits is found, all runs of the tape come to one list of labels.
+/// If a tape has no fault of waits, all its runs come to one list of labels.
 pub fn a_tape_without_faults_is_unforked()
     ensures { (tape : List ControlProgram) → IsClear tape Waiting → IsUnforked tape }
 {}

@@ -1,9 +1,11 @@
 //! The order in which the blocks of a tape run.
 //!
 //! Each block has a [`Control`]: what it does to the order of blocks. From the controls of a tape's
-//! programs follow where jumps lead, which loops hold a block, which programs reach a wait, the
-//! marks of a program and the labels ahead of a place. [`each_step_keeps_the_labels`] is the law of
-//! one path: whatever its variables hold, it comes to the labels of its tape in their order.
+//! programs follow where jumps lead, which loops hold a block, which programs reach a wait or an
+//! end, the marks of a program (blocks at which its labels change) and the labels ahead of a place
+//! (the waits to which the path still comes, and what is last). [`each_step_keeps_the_labels`] is
+//! the law of one path: whatever its variables hold, it comes to the labels of its tape in their
+//! order.
 #![tactic(auto)]
 
 mod callers;

@@ -1,5 +1,6 @@
-//! From O numbers to places on the tape. For this crate alone; other crates ask the order
-//! (order.rt) or the loud programs (loud.rt).
+//! From O numbers to places on the tape. The functions are for this crate alone; other crates ask
+//! the order (order.rt), or LoudPrograms (loud.rt: which programs come to a wait or an end).
+//! wait_order's specs name what is kept here.
 ghost use Rattle.std.specs.Prelude.{◌≡◌, ◌==◌, ◌<◌, ℕ, Some, None, length, OnOk, IfOk, if◌then◌else◌};
 ghost use Rattle.block_order.specs.Order.{blocks, or_else};
 ghost use Rattle.block_order.specs.ProgramPlaces.{place_of};
@@ -9,10 +10,10 @@ use crate::program::{ControlBlock, ControlProgram};
 use nc_number::NoMemory;
 use std::alloc::Global;
 
-/// The place on the tape of each O number: of the first program with it, where it is given twice.
+/// The place on the tape of each O number: of the first program with it, if it is given twice.
 #[derive(Drop)]
 pub struct ProgramNumbers {
-    /// At the place of each number up to the greatest one the place of its program.
+    /// At the index of each O number up to the greatest one the place of its program, if any.
     places: Vec<Option<usize>>,
 }
 

@@ -1,6 +1,7 @@
-//! Where a path stands, and what each move makes of its place. Where a move leads on the tape is in
-//! moves.rt, the meaning of each move in specs/Moves.antt. path_state goes by places; tape_flow
-//! tells where a path starts, and the line and the label of a place.
+//! Where a path stands: its open programs, the running one and those whose calls are open; and what
+//! each move makes of this place. Where a move leads on the tape is in moves.rt, the meaning of
+//! each move in specs/Moves.antt. path_state goes by places; tape_flow tells where a path starts,
+//! and the line and the label of a place.
 ghost use Rattle.std.specs.Prelude.{◌≡◌, ◌+◌, ◌≤◌, ◌↔◌, ◌∷◌, length, reverse, slice_get};
 ghost use Rattle.std.specs.Prelude.{Ok, Err, IsOk, IfErr, OnOk, OnErr};
 ghost use Rattle.nc_number.specs.declared.cause.Cause.TheVariants as Cause;
@@ -12,7 +13,10 @@ use arrayvec::ArrayVec;
 use nc_number::Cause;
 use std::marker::Model;
 
-/// How many calls may be open at a place.
+/// How many calls may be open at a place. The specs write this number as 8 (`room` in Labels,
+/// `place_of_call` in Moves, `IsPlace` in Steps, `deep` in Faults), or 9 for one more
+/// (`IsUnforked`). wait_order has it in `reached_by_eight`, label_list and part_lines have it as
+/// the 9 of `path_labels` and `path_lines`, local_levels as MOST_OPEN.
 pub const MOST_CALLS: usize = 8;
 
 /// Where a path stands: the frame that runs, and those of its callers.

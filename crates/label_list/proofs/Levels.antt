@@ -1,5 +1,6 @@
 -- The labels of a program do not depend on how many calls may follow, as long as there are enough.
--- For the law `labels_hang_on_no_number_of_calls` (src/laws.rt).
+-- A loud program has a wait or an end, or calls one that has. For the law
+-- `labels_hang_on_no_number_of_calls` (src/laws.rt).
 use Rattle.std.proofs.Common.{◌≡◌, ℕ, zero, suc, ◌≤◌, Bool, true, false, List, [], ◌∷◌, Some, refl, ap, ◌∙◌, arith}
 use Rattle.block_order.specs.declared.control.Control.{Control}
 use Rattle.block_order.specs.declared.control.Control.TheVariants.{Next, Goto, While, Do, EndLoop, Wait, End, Call, Back, BackTo}
@@ -50,8 +51,8 @@ blocks_same ld f g back off (b ∷ bs) same =
     block_same ld f g back b.line b.control (blocks_labels ld f back off bs) (blocks_labels ld g back off bs)
     (λ q r is. same 0 q r (ap (λ c. Some c) is)) (blocks_same ld f g back off bs (λ i. same (suc i)))
 
--- If no chain of n calls begins in a program, it gives the same labels with n calls to follow and
--- with more.
+-- If no chain of n calls of loud programs begins in a program, it gives the same labels with n
+-- calls to follow and with more.
 pub enough : (tape : List ControlProgram) (n m program : ℕ) (back : ℕ → List Labelled) → IsShort tape n program → n ≤ m
     → whole tape n program back ≡ whole tape m program back
 unfolding whole

@@ -1,5 +1,6 @@
 -- The labels of a program as they grow block by block come to those of the whole program, or to too
--- many. For the proofs of src/listing.rt.
+-- many. A chain of calls is one of calls of loud programs, which have a wait or an end or call one
+-- that has. For the proofs of src/listing.rt and src/piece.rt.
 use Rattle.std.proofs.Common.{◌≡◌, ℕ, zero, suc, ◌+◌, ◌-◌, ◌<◌, ◌≤◌, true, List, [], ◌∷◌, ◌++◌, length, drop, get_or, Some, None, refl, ap, sym, subst, ◌∙◌, arith}
 use Rattle.std.proofs.lemmas.List.{append-nil, length-append}
 use Rattle.std.proofs.Math.Seq.{drop-cons}
@@ -137,7 +138,7 @@ fails_at tape p old b rest fault so fails = record {
         subst (λ ys. MOST_LABELS < length ys) (sym (so.are n back short))
         (fails.long n back (left_labels tape p n back rest) (short_call tape n p old b rest so short))
 
--- If a called program has too many labels, so have a call of it and what follows.
+-- If a called loud program has too many labels, so have a call of it and what follows.
 called_long : (tape : List ControlProgram) (n q r line : ℕ) (back : ℕ → List Labelled) (behind : List Labelled) → loud tape q ≡ true → 0 < r
     → IsLong tape q → IsShort tape n q → MOST_LABELS < length (from_block tape n back line (Call q r) behind)
 called_long tape n q zero line back behind noisy some long short = absurd (omega arith)

@@ -1,5 +1,6 @@
--- What a call of a loud program gives to the labels of the program that makes it. For the proof of
--- `take_call` (src/listing.rt). The file's name stands for the labels that are taken.
+-- What a call of a loud program gives to the labels of the program that makes it. A loud program
+-- has a wait or an end, or calls one that has. For the proof of `take_call` (src/listing.rt). The
+-- file's name stands for the labels that are taken.
 use Rattle.std.proofs.Common.{◌≡◌, ℕ, zero, suc, ◌+◌, ◌<◌, true, List, ◌++◌, length, ap, sym, subst, ◌∙◌, arith, append_assoc}
 use Rattle.std.proofs.lemmas.List.{length-append}
 use Rattle.nc_number.specs.declared.limits.TheConstants.{MOST_LABELS}

@@ -1,4 +1,5 @@
--- Why two tapes make no pair, as a value of PairFault. nc_verify cites `IsMismatch`.
+-- Why two tapes make no pair, as a value of PairFault: a path has too many labels, 70, or the
+-- labels of the paths differ, 72. nc_verify cites `IsMismatch`.
 use Rattle.std.specs.Prelude.{◌≡◌, ◌≢◌, ℕ, List, take, Some, slice_get}
 use Rattle.nc_number.specs.declared.cause.Cause.TheVariants.{TooManyLabels, WaitMismatch}
 use Rattle.nc_number.specs.Causes.{cause_number}
@@ -6,7 +7,7 @@ use Rattle.label_list.specs.declared.fault.PairFault.{PairFault}
 use Rattle.label_list.specs.declared.labelled.Labelled.{Labelled}
 use Rattle.label_list.specs.Lists.{bare}
 
--- The fault of a path that has too many labels.
+-- The fault of a path that has too many labels. Which path it is, the caller knows.
 abbrev pub too_many : PairFault
 too_many = record { number = cause_number TooManyLabels; path = 0; line = 0; other = 0; after = 0 }
 
@@ -20,11 +21,11 @@ pub record IsMismatch (left right : List Labelled) (fault : PairFault) : Type 0 
   pub one : Labelled
   -- The label of path 2 there.
   pub two : Labelled
-  -- All labels before are equal.
+  -- All labels before these two are equal.
   pub equal : bare (take fault.after left) ≡ bare (take fault.after right)
-  -- It stands behind so many labels of path 1.
+  -- The label of path 1 stands behind as many labels as the fault tells.
   pub is_one : slice_get left fault.after ≡ Some one
-  -- It stands behind so many labels of path 2.
+  -- The label of path 2 stands behind as many labels as the fault tells.
   pub is_two : slice_get right fault.after ≡ Some two
   -- Both are different labels.
   pub differ : one.label ≢ two.label

@@ -1,5 +1,6 @@
 -- The labels of a path with their lines, in the order in which the path comes to them: the
--- definition that src/listing.rt answers. nc_verify, wait_verify and lathe_top cite it.
+-- definition that src/listing.rt answers. A loud program has a wait or an end, or calls one that
+-- has; a call of any other gives no label. nc_verify, wait_verify and lathe_top cite this.
 use Rattle.std.specs.Prelude.{◌≡◌, ℕ, zero, suc, ◌≤◌, Bool, List, [], ◌∷◌, length, map, Option, Some, None, if◌then◌else◌}
 use Rattle.nc_number.specs.declared.limits.TheConstants.{MOST_LABELS}
 use Rattle.block_order.specs.declared.control.Control.{Control}
@@ -23,8 +24,8 @@ times zero f behind = behind
 times (suc n) f behind = f (times n f behind)
 
 -- The labels from a block of this line and control on. A loud program that it calls gives its
--- labels before those behind the call; `back` is what follows an M99 of a line; behind an end
--- nothing follows.
+-- labels, as often as it is to run, before those behind the call. `back` is what follows an M99
+-- that stands on a line; behind an end nothing follows.
 abbrev pub block_labels : (ℕ → Bool) → (ℕ → List Labelled → List Labelled) → (ℕ → List Labelled) → ℕ → Control → List Labelled → List Labelled
 block_labels loud called back line (Wait code) behind = at (label.Wait code) line ∷ behind
 block_labels loud called back line End behind = at label.End line ∷ []
@@ -45,14 +46,15 @@ abbrev pub off_line : Option ControlProgram → ℕ
 off_line None = 0
 off_line (Some program) = last_line program
 
--- The labels of a program that is run with fewer than n calls to follow in it, one in another; back
--- is what follows its M99.
+-- The labels of a program that is run with fewer than n calls of loud programs to follow in it, one
+-- in another; `back` is what follows an M99 of it, by the line of that M99.
 unfoldable pub whole : List ControlProgram → ℕ → ℕ → (ℕ → List Labelled) → List Labelled
 whole tape zero program back = back 0
 whole tape (suc n) program back =
     blocks_labels (loud tape) (λ q behind. whole tape n q (λ line. behind)) back (off_line (program_of tape program)) (blocks tape program)
 
--- The labels of a path, with their lines: those of its main program, whose M99 begins it anew.
+-- The labels of a path, with their lines: those of its main program, whose M99 begins it anew. At
+-- most eight calls may be open (MOST_CALLS of block_order), so fewer than 9 follow one in another.
 unfoldable pub path_labels : List ControlProgram → List Labelled
 path_labels tape = whole tape 9 (main_number tape) (λ line. at label.Again line ∷ [])
 

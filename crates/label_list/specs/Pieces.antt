@@ -1,5 +1,6 @@
--- The labels of single programs, as they are made and joined. For this crate alone: src/piece.rt
--- and src/listing.rt keep these.
+-- The labels of single programs, of the main one and of loud ones (which have a wait or an end, or
+-- call one that has), as they are made and joined. For this crate alone: src/piece.rt and
+-- src/listing.rt keep these.
 use Rattle.std.specs.Prelude.{◌≡◌, ℕ, zero, suc, ◌+◌, ◌<◌, ◌≤◌, List, [], ◌++◌, length, Option, Some, None}
 use Rattle.nc_number.specs.declared.limits.TheConstants.{MOST_LABELS}
 use Rattle.block_order.specs.declared.control.Control.{Control}
@@ -58,12 +59,12 @@ coming (Some (Returns line)) back behind = back line
 pub record IsPiece (tape : List ControlProgram) (program : ℕ) (labels : List Labelled) (ending : Ending) : Type 0 where
   -- The labels are at most 65,536.
   pub few : length labels ≤ MOST_LABELS
-  -- They, and what comes by how the program ends, are the program's labels, however many calls may
-  -- follow.
+  -- They, and what comes by how the program ends, are the program's labels, for each number n of
+  -- calls that may follow, if no chain of n calls of loud programs begins in the program.
   pub are : (n : ℕ) (back : ℕ → List Labelled) → IsShort tape n program
       → whole tape n program back ≡ labels ++ coming (Some ending) back []
 
--- Whatever follows it, the program has too many labels.
+-- Whatever follows its M99, the program has too many labels.
 abbrev pub IsLong : List ControlProgram → ℕ → Type 0
 IsLong tape program = (n : ℕ) (back : ℕ → List Labelled) → IsShort tape n program → MOST_LABELS < length (whole tape n program back)
 
@@ -121,7 +122,7 @@ pub record IsSoFar (tape : List ControlProgram) (program : ℕ) (labels : List L
   -- Each block that is left is one of the program's.
   pub calls : (place : ℕ) (c : Control) → control_at rest place ≡ Some c
       → (own : ℕ) × (control_at (blocks tape program) own ≡ Some c)
-  -- Both together are its labels, however many calls may follow.
+  -- Both together are its labels, for each number of calls that is enough for what follows in it.
   pub are : (n : ℕ) (back : ℕ → List Labelled) → IsShort tape (suc n) program
       → whole tape (suc n) program back
       ≡ labels ++ blocks_labels (loud tape) (λ q behind. whole tape n q (λ line. behind)) back (off_line (program_of tape program)) rest

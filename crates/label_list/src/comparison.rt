@@ -1,5 +1,5 @@
 //! Where the labels of two paths differ, lines aside. nc_verify calls `compare` on the lists of a
-//! pair; 72 is its refusal.
+//! pair, its own or one of wait_verify; 72 is the refusal.
 ghost use Rattle.std.specs.Prelude.{◌≡◌, ◌≤◌, length, IsOk, IfErr, IfSome, IfNone};
 ghost use Rattle.nc_number.specs.declared.limits.TheConstants.{MOST_LABELS};
 ghost use Rattle.label_list.specs.Lists.{bare, IsEnded};

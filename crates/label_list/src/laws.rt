@@ -1,5 +1,6 @@
 //! What holds of the labels of every tape: a caller of the function has the law. nc_verify and
-//! wait_verify call `a_pair_is_accepted_by_its_lists`; the other two say what the list is.
+//! wait_verify call `a_pair_is_accepted_by_its_lists`. No crate calls the other two, which say what
+//! the list is. A loud program has a wait or an end, or calls one that has.
 ghost use Rattle.std.specs.Prelude.{◌≡◌, ◌≤◌, ◌↔◌, ℕ, List};
 ghost use Rattle.block_order.specs.declared.program.ControlProgram.{ControlProgram};
 ghost use Rattle.block_order.specs.Labels.{IsUnforked, list};
@@ -13,8 +14,8 @@ pub fn labels_are_those_of_the_blocks()
     ensures { (tape : List ControlProgram) → bare (path_labels tape) ≡ list tape }
 {}
 
-/// The labels of a program do not depend on how many calls may follow in it, if no chain of calls
-/// of loud programs is too long.
+/// The labels of a program do not depend on how many calls may follow in it, n or more, if no chain
+/// of n calls of loud programs begins in it.
 pub fn labels_hang_on_no_number_of_calls()
     ensures { (tape : List ControlProgram) (n m program : ℕ) (back : ℕ → List Labelled)
         → IsShort tape n program → n ≤ m

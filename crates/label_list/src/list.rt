@@ -11,6 +11,7 @@ use std::marker::Model;
 /// `Again` or `Off`.
 #[derive(Debug, Drop)]
 pub struct LabelList {
+    /// The labels with their lines.
     labels: Vec<Labelled>,
 }
 

@@ -1,5 +1,6 @@
-//! The list of labels of a path: that of each program is made once, and they are joined as the
-//! calls lead. No other crate calls `labels`; nc_verify takes the same list from ordered.rt.
+//! The list of labels of a path: that of the main program and of each loud one that is called (a
+//! loud program has a wait or an end, or calls one that has) is made once, and they are joined as
+//! the calls lead. No other crate calls `labels`; nc_verify takes the same list from ordered.rt.
 ghost use Rattle.std.specs.Prelude.{◌≡◌, ◌≤◌, ◌++◌, ◌∷◌, [], Some, length, IfOk, IfErr, OnOk};
 ghost use Rattle.nc_number.specs.declared.limits.TheConstants.{MOST_LABELS};
 ghost use Rattle.block_order.specs.declared.control.Control.TheVariants as Control;
@@ -23,7 +24,7 @@ use std::alloc::Global;
 use tape_flow::{Flow, last_line};
 
 /// The line of the place past a program's last block: that block's, or the O number's if the
-/// program has no block.
+/// program has no block; 0 if the tape lacks the program.
 fn off_line(order: &BlockOrder, number: u16) -> u32
     ensures { result ≡ off_line (program_of order.now number) }
 {
@@ -33,8 +34,8 @@ fn off_line(order: &BlockOrder, number: u16) -> u32
     }
 }
 
-/// Adds the labels of a call to those of the calling program. The answer is how that program ends
-/// there, if it does.
+/// Adds the labels of a call to those of the calling program. The answer is how the calling program
+/// ends there, if it does.
 fn take_call(
     order: &BlockOrder,
     known: &KnownPrograms<Piece>,
@@ -100,7 +101,8 @@ fn take_block(
     }
 }
 
-/// Makes and keeps the labels of the program that a block calls, if they are not made yet.
+/// Makes and keeps the labels of the loud program that a block calls, if it calls one whose labels
+/// are not made yet.
 #[cycle(calls)]
 fn learn_call(
     alloc: Global,
@@ -208,7 +210,8 @@ pub(crate) fn main_labels(
 ///
 /// The list of each program is made once, and repeats of an empty one are skipped.
 ///
-/// Errors: 70 if there are more than 65,536 labels; the path is left to the caller.
+/// Errors: 70 if there are more than 65,536 labels; the path is left to the caller. `NoMemory`: out
+/// of memory.
 pub fn labels(alloc: Global, flow: &Flow) -> Result<LabelList, Failing<PairFault>>
     ensures list { IfOk result (λ list. list ≡ path_labels flow.now.order) }
     ensures many { IfErr result (λ error. IfFault error (IsListTooLong (path_labels flow.now.order))) }

@@ -15,7 +15,8 @@ use std::alloc::Global;
 
 /// The labels of a path from the order of its blocks, whatever else the blocks say.
 ///
-/// Errors: 70 if there are more than 65,536 labels; the path is left to the caller.
+/// Errors: 70 if there are more than 65,536 labels; the path is left to the caller. `NoMemory`: out
+/// of memory.
 pub fn labels_of_order(alloc: Global, order: &BlockOrder) -> Result<LabelList, Failing<PairFault>>
     ensures list { IfOk result (λ list. list ≡ path_labels order.now) }
     ensures many { IfErr result (λ error. IfFault error (IsListTooLong (path_labels order.now))) }

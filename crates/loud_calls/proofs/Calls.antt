@@ -1,5 +1,6 @@
--- Calls of loud programs, and what is known of them. For the proof of src/calling.rt; label_list
--- and part_lines take these lemmas.
+-- Calls of loud programs, which have a wait or an end or call one that has, and what is known of
+-- them. For the proof of src/calling.rt (`ready_by`); label_list and part_lines take `call_of`,
+-- `ready_by` and `short_some`.
 use Rattle.std.proofs.Common.{◌≡◌, ℕ, zero, suc, ◌<◌, true, List, Option, Some, refl, sym, subst, ◌∙◌, arith}
 use Rattle.block_order.specs.declared.control.Control.{Control}
 use Rattle.block_order.specs.declared.control.Control.TheVariants.{Call}
@@ -21,8 +22,8 @@ pub ready_by : {P : Type 0} (tape : List ControlProgram) (known : ℕ → Option
 ready_by tape known control p piece call is = λ q other.
     (piece, subst (λ k. known k ≡ Some piece) (one_call tape control p q call other) is)
 
--- If no chain of n calls begins in a program, n is not 0, as each program begins a chain of no
--- calls.
+-- If no chain of n calls of loud programs begins in a program, n is not 0, as a chain of no calls
+-- begins in each program.
 pub short_some : (tape : List ControlProgram) (n p : ℕ) → IsShort tape n p → 0 < n
 short_some tape zero p short = absurd (short tt)
 short_some tape (suc n) p short = omega arith

@@ -1,5 +1,6 @@
--- Which chains of calls are short, and which program a block calls. label_list and part_lines cite
--- these words, whose recursion from program to program ends by `IsShort`.
+-- Which chains of calls of loud programs are short, and which loud program a block calls. A program
+-- is loud if it, or one that it calls, has a wait or an end. label_list and part_lines cite these
+-- words; their recursion from program to program ends by `IsShort`.
 use Rattle.std.specs.Prelude.{◌≡◌, ℕ, ◌<◌, true, List, Option, Some}
 use Rattle.block_order.specs.declared.control.Control.{Control}
 use Rattle.block_order.specs.declared.control.Control.TheVariants.{Call}
@@ -17,7 +18,7 @@ abbrev pub IsShortCall : List ControlProgram → ℕ → Control → Type 0
 IsShortCall tape n (Call program repeats) = loud tape program ≡ true → IsShort tape n program
 IsShortCall tape n other = Unit {0}
 
--- The control is a call of the program, which is loud, at least once.
+-- The control is a call of the program, which is loud and is to run at least once.
 pub record IsCallOf (tape : List ControlProgram) (control : Control) (program : ℕ) : Type 0 where
   -- How often the program runs.
   pub repeats : ℕ

@@ -11,11 +11,12 @@ use std::alloc::Global;
 /// The pieces of the programs that were called so far, each made once.
 #[derive(Drop)]
 pub struct KnownPrograms<P> {
+    /// By the O number of a program its piece.
     pieces: IndexMap<u16, P>,
 }
 
 impl<P: Drop> KnownPrograms<P> {
-    /// Without a piece.
+    /// No piece is kept yet.
     pub fn new(alloc: Global) -> Self
         ensures { (q : ℕ) → piece_known result q ≡ None }
     {
@@ -31,7 +32,7 @@ impl<P: Drop> KnownPrograms<P> {
         self.pieces.get(&program)
     }
 
-    /// Keeps the piece of a program.
+    /// Keeps the piece of a program, in place of one that was kept of it before.
     pub fn keep(&mut self, program: u16, piece: P) -> Result<(), NoMemory>
         ensures kept { OnOk result (piece_known self.new program ≡ Some piece) }
         ensures others { (q : ℕ) → q ≢ program → piece_known self.new q ≡ piece_known self.old q }

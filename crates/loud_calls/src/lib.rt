@@ -1,4 +1,5 @@
-//! Calls of loud programs, in which a path comes to waits and ends.
+//! Calls of loud programs: those in which a path comes to a wait or an end, or that call such a
+//! one.
 //!
 //! A reader of a whole path unfolds these calls, and makes its piece of each program once:
 //! [`KnownPrograms`] keeps what was made, and [`unknown_call`] tells what is still to be made

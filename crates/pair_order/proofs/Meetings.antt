@@ -1,6 +1,6 @@
 -- Two paths over tapes whose lists of labels are equal: the labels ahead of both agree, and each
--- step leaves it so. For the law `no_pair_waits_in_vain` and for Machines; two_path takes the
--- lemmas on `Agree`.
+-- step leaves it so. For the law `no_pair_waits_in_vain` and for Machines; two_path takes `Agree`
+-- with `agree_swap`, `agree_waits`, `agree_end` and `step_keeps`.
 use Rattle.std.proofs.Common.{◌≡◌, ℕ, ◌⊎◌, inl, inr, List, [], ◌∷◌, refl, sym, subst, ◌∙◌}
 use Rattle.block_order.specs.declared.control.Control.{Control}
 use Rattle.block_order.specs.declared.control.Control.TheVariants as control
@@ -98,7 +98,7 @@ record IsSound (left right : List ControlProgram) (p : Paths) : Type 0 where
   second : IsPlace right p.second
   -- The labels ahead of both agree.
   agree : Agree (list left) (ahead left p.first) (ahead right p.second)
-  -- The waits before those ahead were met.
+  -- The waits of the list before the labels ahead of path 1 were met.
   met : AreMet (list left) p.met (ahead left p.first)
 
 -- The law of one path holds of both tapes, and their lists of labels are equal.

@@ -1,6 +1,8 @@
 -- Two paths over the orders of their blocks: where they stand, their steps and their meetings, and
--- that neither waits in vain. Of a block only its control counts. two_path and wait_verify use
--- these words; the law `no_pair_waits_in_vain` is said in them.
+-- that neither waits in vain. Of a block only its control counts. A label is a wait or an end that
+-- the other path can notice; `Again` stands for the main program's new beginning, `Off` for the
+-- place past a last block. two_path and wait_verify use these words; the law
+-- `no_pair_waits_in_vain` is said in them.
 use Rattle.std.specs.Prelude.{◌≡◌, ℕ, List, [], ◌∷◌, ◌++◌, Some}
 use Rattle.block_order.specs.declared.control.Control.TheVariants.{Wait, End}
 use Rattle.block_order.specs.declared.frame.Frame.{Frame}
@@ -23,7 +25,7 @@ pub record Paths : Type 0 where
 abbrev pub IsAtWait : List ControlProgram → List Frame → ℕ → Type 0
 IsAtWait tape place code = standing tape place ≡ Some (Wait code)
 
--- A path stands at an end, and stays there.
+-- A path stands at an end, from which no step leads.
 abbrev pub IsAtEnd : List ControlProgram → List Frame → Type 0
 IsAtEnd tape place = standing tape place ≡ Some End
 
@@ -63,8 +65,8 @@ pub record IsPair (left right : List ControlProgram) : Type 0 where
   -- Both lists are equal.
   pub equal : list left ≡ list right
 
--- The paths met by these codes, one after another as the list of labels has its waits; the list
--- begins anew after `Again`, and the rest is still ahead.
+-- The paths met by these codes, one after another as the list of labels `all` has its waits, which
+-- begins anew after `Again`; and these labels are still ahead.
 pub data AreMet (all : List Label) : List ℕ → List Label → Type 0 where
   -- At first all labels are ahead.
   none : AreMet all [] all
@@ -82,7 +84,7 @@ pub record IsFree (left right : List ControlProgram) (paths : Paths) : Type 0 wh
   pub first_alone : (code : ℕ) → IsAtWait left paths.first code → IsAtEnd right paths.second → ⊥
   -- Path 2 does not stand at a wait while path 1 stands at an end.
   pub second_alone : (code : ℕ) → IsAtEnd left paths.first → IsAtWait right paths.second code → ⊥
-  -- The meetings so far are those of the list of labels, of which path 1 has the rest ahead.
+  -- The meetings so far are those of the list of labels up to the labels ahead of path 1.
   pub met : AreMet (list left) paths.met (ahead left paths.first)
 
 -- Wherever steps lead from a beginning, neither path waits in vain.

@@ -1,5 +1,9 @@
--- A line of a part of a path is one of a stretch that stands there: of a block of it, or of what
--- the block opens. For PartsLeast, StretchLines and Opened.
+-- A line of a part of a path is one of a stretch that stands there: of a block of it, or of the
+-- quiet programs that the block's call opens, directly or through others. A stretch is the run of
+-- blocks, of the main program or a loud one, up to a wait, an end, an M99 without a number or a
+-- loud call. A loud program has a wait or an end, or calls one that has; the others are quiet.
+-- `line` gives, by O number and place, the line of a block that is looked for. For PartsLeast,
+-- StretchLines and Opened.
 use Rattle.std.proofs.Common.{◌≡◌, ℕ, ◌⊎◌, inl, inr, false, List, ◌∷◌, Option, Some, refl, sym, subst}
 use Rattle.block_order.specs.declared.control.Control.{Control}
 use Rattle.block_order.specs.declared.control.Control.TheVariants.{Call}
@@ -16,11 +20,11 @@ use Rattle.part_lines.proofs.Segments.{IsListed}
 abbrev pub CalledLine : List ControlProgram → (ℕ → ℕ → Option ℕ) → Control → ℕ → Type 0
 CalledLine tape line c k = (q r : ℕ) × (c ≡ Call q r) × (loud tape q ≡ false) × LineFrom tape line q k
 
--- It is a line of the block, or of what it calls.
+-- It is the line of the block, or a line of the quiet program that it calls.
 abbrev pub BlockLine : List ControlProgram → (ℕ → ℕ → Option ℕ) → ℕ → ℕ → Control → ℕ → Type 0
 BlockLine tape line p b c k = (line p b ≡ Some k) ⊎ CalledLine tape line c k
 
--- It is a line of a block of the stretch, or of what that calls.
+-- It is a line of a block of the stretch, or of the quiet program that the block calls.
 abbrev pub StretchLine : List ControlProgram → (ℕ → ℕ → Option ℕ) → ℕ → ℕ → ℕ → Type 0
 StretchLine tape line p s k =
     (b : ℕ) × (c : Control) × (stretch_at tape p b ≡ s) × (control_at (blocks tape p) b ≡ Some c) × BlockLine tape line p b c k

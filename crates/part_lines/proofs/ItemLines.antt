@@ -1,4 +1,7 @@
--- The lines of a path as its blocks come are those of the stretches in its list. For PartsLeast.
+-- The lines of a path as its blocks come are those of the stretches in its list. An item of the
+-- list is a stretch, a wait or the new beginning. A stretch is the run of blocks up to a mark: a
+-- wait, an end, an M99 without a number or a call of a loud program, one that comes to a wait or an
+-- end itself or by its calls. For PartsLeast.
 use Rattle.std.proofs.Common.{◌≡◌, ◌==◌, ℕ, zero, suc, ◌<◌, ◌+◌, Bool, true, false, List, [], ◌∷◌, ◌++◌, length, Option, None, refl, ap, sym, ◌∙◌, arith, if◌then◌else◌}
 use Rattle.std.proofs.lemmas.Bool.{eq-eqb, ne_eqb}
 use Rattle.block_order.specs.declared.control.Control.{Control}
@@ -51,7 +54,11 @@ times_lines : (own : ℕ → ℕ → Option ℕ) (end : Lines) (f : List Item �
 times_lines own end f g same zero xs = refl
 times_lines own end f g same (suc n) xs = same (parts.times n f xs) ∙ ap g (times_lines own end f g same n xs)
 
--- One program: its loud calls, how each block is seen, and what follows its return.
+-- One program, of O number p: `ld` says which programs are loud, `line` gives the line of each of
+-- its blocks that is looked for, `quiet` that of a quiet program, `own` that of a stretch. `called`
+-- and `given` give the items and the lines of a call, of which `same` says that they agree; `rest`
+-- and `back` are the items and the lines behind the program's return, of which `returns` says it.
+-- `end` is what comes once the items begin anew.
 module _ (ld : ℕ → Bool) (quiet : ℕ → Option ℕ) (line : ℕ → Option ℕ) (own : ℕ → ℕ → Option ℕ) (end : Lines)
     (called : ℕ → List Item → List Item) (given : ℕ → Lines → Lines)
     (same : (q : ℕ) (xs : List Item) → item_lines own end (called q xs) ≡ given q (item_lines own end xs))

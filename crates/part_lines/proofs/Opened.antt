@@ -1,6 +1,7 @@
--- What was found of programs and of what is opened from them, as it grows, and when it is the
--- least. For the proofs of src/quiet.rt. The file's name stands for the programs that are opened by
--- calls.
+-- What was found of programs and of what is opened from them (the quiet programs, which come to no
+-- wait and no end, that they call, directly or through others), as it grows, and when it is the
+-- least. A program is closed if no block of it has or calls a line that is less than what was found
+-- of it. For the proofs of src/quiet.rt. The file's name stands for the programs that are opened.
 use Rattle.std.proofs.Common.{◌≡◌, ℕ, ◌≤◌, ◌⊎◌, inl, inr, Bool, true, false, List, Option, Some, None, slice_get, get_or, length, ◌+◌, ◌<◌, refl, sym, subst, ◌∙◌, arith, if◌then◌else◌}
 use Rattle.nc_number.proofs.Counts.{last_or_before, lesser_is}
 use Rattle.block_order.specs.declared.control.Control.{Control}

@@ -1,5 +1,8 @@
--- The lines of a path, closed where it begins anew, are the least lines of its parts. For the proof
--- of `least_lines` (src/listing.rt).
+-- The lines of a path, closed where it begins anew, are the least lines of its parts. `line` gives,
+-- by O number and place, the line of a block that is looked for, `quiet` the least line of a quiet
+-- program (one that comes to no wait and no end). A stretch is a run of blocks up to a wait, an
+-- end, an M99 without a number or a call that leads to a wait or an end. For the proof of
+-- `least_lines` (src/listing.rt).
 use Rattle.std.proofs.Common.{◌≡◌, ℕ, zero, suc, ◌+◌, ◌<◌, ◌≤◌, min, ◌⊎◌, inl, inr, Bool, true, false, List, [], ◌∷◌, ◌++◌, length, Option, Some, None, slice_get, refl, ap, sym, subst, ◌∙◌, arith, if◌then◌else◌}
 use Rattle.std.proofs.lemmas.List.{length-append}
 use Rattle.block_order.specs.declared.program.ControlProgram.{ControlProgram}
@@ -125,13 +128,15 @@ module _ (tape : List ControlProgram) (line : ℕ → ℕ → Option ℕ) (quiet
           go (inl seg) = inl (p, s, seg, there)
           go (inr (e, is, seg)) = inr (p, s, seg, there)
 
-  -- What the piece of the main program says of the list.
+  -- What the piece of the main program, which has these lines and ends so, says of the list.
   module _ (lines : PieceLines) (ending : Ending) (short : IsShort tape 9 (main_number tape))
       (piece : IsPiece tape line quiet (main_number tape) lines ending) where
     -- The lines of the path's items are those of the piece of the main program.
     path_is : (end : Lines) → item_lines own end (path_items tape) ≡ coming lines (Some ending) end []
     path_is end = path_same tape line quiet end ∙ piece 9 end short
 
+    -- The lines of the path's items, without what comes once they begin anew, are those of the
+    -- piece: the parts that are done, and then the last one.
     path_closed : item_lines own (None ∷ []) (path_items tape) ≡ lines.done.items ++ lines.last ∷ []
     path_closed = path_is (None ∷ []) ∙ go ending
       where
@@ -139,6 +144,7 @@ module _ (tape : List ControlProgram) (line : ℕ → ℕ → Option ℕ) (quiet
         go Stops = ap (λ o. lines.done.items ++ o ∷ []) (lesser_none lines.last)
         go Returns = ap (λ o. lines.done.items ++ o ∷ []) (lesser_none lines.last)
 
+    -- As many parts are done in the piece as the list has waits.
     waits_are : length lines.done.items ≡ path_waits tape
     waits_are =
         let one = lines_length own (None ∷ []) (path_items tape) in
@@ -153,6 +159,7 @@ module _ (tape : List ControlProgram) (line : ℕ → ℕ → Option ℕ) (quiet
         go true is one here long = let e : path_waits tape + (if ends_anew (path_items tape) then 1 else 1) ≡ path_waits tape + 1 = rw is refl in omega arith
         go false is one here long = let e : path_waits tape + (if ends_anew (path_items tape) then 1 else 1) ≡ path_waits tape + 1 = rw is refl in omega arith
 
+    -- A line more in the first part adds no part.
     with_length : (o : Option ℕ) (xs : Lines) → length (with_first o xs) ≡ length xs
     with_length o [] = refl
     with_length o (x ∷ xs) = refl

@@ -1,6 +1,7 @@
 -- Steps of the loops over the blocks of a program: the lines so far at the next block and behind
--- the last one, and what follows from a call that did not fail. For the proofs of src/listing.rt
--- and src/quiet.rt.
+-- the last one, and what follows from a call that did not fail. `line` gives, by O number and
+-- place, the line of a block that is looked for, `quiet` the least line of a quiet program (one
+-- that comes to no wait and no end). For the proofs of src/listing.rt and src/quiet.rt.
 use Rattle.std.proofs.Common.{◌≡◌, ℕ, ◌+◌, ◌<◌, ◌≤◌, List, [], ◌∷◌, length, drop, get_or, Option, None, Result, Ok, Err, OnOk, IfOk, ap, subst, ◌∙◌, arith, suc}
 use Rattle.std.proofs.Math.Seq.{drop-cons}
 use Rattle.std.proofs.Math.ListN.{drop_of_length-le}

@@ -1,5 +1,7 @@
 -- Which stretch stands behind n waits of a list of items, and that what follows there is found so;
--- behind the last wait also what begins anew. For InParts, ItemLines and PartsLeast.
+-- behind the last wait also what begins anew. An item is a stretch (a run of blocks up to a wait,
+-- an end, an M99 without a number or a call that leads to a wait or an end), a wait or the new
+-- beginning. For InParts, ItemLines and PartsLeast.
 use Rattle.std.proofs.Common.{◌≡◌, ℕ, zero, suc, ◌+◌, ◌≤◌, ◌⊎◌, inl, inr, Bool, true, false, List, [], ◌∷◌, refl, sym, subst, arith}
 use Rattle.part_order.specs.Parts.{Item, Stretch, Meets, Anew, Follows, first, behind_stretch, behind_wait, anew, waits_in}
 use Rattle.part_order.proofs.Folded.{folds}

@@ -1,6 +1,9 @@
 -- The lines of a program as they grow by a line, a wait and a call, and that they come to the lines
--- of the whole program. For the proofs of src/piece.rt and src/listing.rt. The file's name stands
--- for the lines that a piece shows (`shown`).
+-- of the whole program. A loud program has a wait or an end, or calls one that has; the others are
+-- quiet. A chain of calls is one of calls of loud programs. `line` gives, by O number and place,
+-- the line of a block that is looked for, `quiet` the least line of a quiet program. For the proofs
+-- of src/piece.rt and src/listing.rt. The file's name stands for the lines that a piece shows
+-- (`shown`).
 use Rattle.std.proofs.Common.{◌≡◌, ℕ, zero, suc, ◌+◌, ◌-◌, ◌<◌, true, false, Bool, List, [], ◌∷◌, ◌++◌, length, drop, get_or, Option, Some, None, refl, ap, sym, ◌∙◌, arith}
 use Rattle.std.proofs.Math.Seq.{drop-cons}
 use Rattle.block_order.specs.declared.control.Control.{Control}

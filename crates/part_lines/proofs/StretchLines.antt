@@ -1,4 +1,7 @@
--- The least line of a stretch, as the blocks of its program come one after another. For ItemLines
+-- The least line of a stretch, as the blocks of its program come one after another. A stretch is
+-- the run of blocks up to a mark: a wait, an end, an M99 without a number, or a call that leads to
+-- a wait or an end. `line` gives, by O number and place, the line of a block that is looked for,
+-- `quiet` the least line of a quiet program (one that comes to no wait and no end). For ItemLines
 -- and PartsLeast.
 use Rattle.std.proofs.Common.{◌≡◌, ◌==◌, ℕ, zero, suc, ◌+◌, ◌<◌, ◌⊎◌, inl, inr, Bool, true, false, List, [], ◌∷◌, length, take, Option, Some, None, refl, sym, subst, arith, if◌then◌else◌}
 use Rattle.std.proofs.lemmas.Bool.{eqb-true, eq-eqb, ne_eqb}
@@ -89,7 +92,8 @@ module _ (tape : List ControlProgram) (line : ℕ → ℕ → Option ℕ) (quiet
   called_none : (c : Control) → ((q r : ℕ) → c ≡ Call q r → ⊥) → IsLeast (CalledLine tape line c) None
   called_none c other = λ k is. other is.0 is.1 is.2
 
-  -- The line that is found for a block's call is the least of those that it calls.
+  -- The line that is found for a block's call is the least of the quiet program that it calls and
+  -- of what is opened from there.
   called_least : (c : Control) → IsLeast (CalledLine tape line c) (called_line (loud tape) quiet c)
   called_least Next = called_none Next (λ q r e. absurd cc)
   called_least (Goto n) = called_none (Goto n) (λ q r e. absurd cc)
@@ -113,7 +117,8 @@ module _ (tape : List ControlProgram) (line : ℕ → ℕ → Option ℕ) (quiet
           (λ k from. (q, r, refl, e, from))
           (λ k is. subst (λ p. LineFrom tape line p k) (sym (use_same is.0 is.1 is.2)) is.4) (are q)
 
-  -- The line that is seen at a block is the least of its own and of those that it calls.
+  -- The line that is seen at a block is the least of its own and of those of the quiet program that
+  -- it calls.
   block_least : (p b : ℕ) (c : Control) → IsLeast (BlockLine tape line p b c) (seen_line (loud tape) quiet (line p b) c)
   block_least p b c =
       least_either (λ k. line p b ≡ Some k) (CalledLine tape line c) (line p b) (called_line (loud tape) quiet c)

@@ -1,5 +1,5 @@
--- The words of the contracts of part_lines. PartLines and Least are what race_report reads; Lines
--- and Pieces are for this crate.
+-- The words of the contracts of part_lines. race_report cites PartLines and Least; Lines and Pieces
+-- are for this crate alone.
 pub mod Least
 pub mod PartLines
 pub mod Lines

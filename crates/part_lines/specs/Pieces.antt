@@ -1,5 +1,7 @@
--- The least lines of single programs, as they are made and joined. For this crate alone:
--- src/piece.rt, src/listing.rt and src/quiet.rt keep these.
+-- The least lines of single programs, as they are made and joined. A quiet program comes to no wait
+-- and no end, also not by its calls. `line` and `quiet` are those of Lines: the line of a block
+-- that is looked for, and the least line of a quiet program. For this crate alone: src/piece.rt,
+-- src/listing.rt and src/quiet.rt keep these.
 use Rattle.std.specs.Prelude.{◌≡◌, ℕ, suc, ◌≤◌, List, [], ◌∷◌, ◌++◌, Option, Some, None, nat_eq}
 use Rattle.indexmap.specs.IndexMap.{get}
 use Rattle.block_order.specs.declared.control.Control.{Control}
@@ -50,7 +52,8 @@ abbrev pub AreAdded : Ending → PieceLines → PieceLines → ℕ → PieceLine
 AreAdded Stops old new n more = (behind : Lines) → shown new behind ≡ shown old (shown more behind)
 AreAdded Returns old new n more = AreJoined old new n more
 
--- These are the lines of the program, and it ends so.
+-- These are the lines of the program, and it ends so: for each number n of calls that may follow,
+-- if no chain of n calls of loud programs begins in it.
 abbrev pub IsPiece : List ControlProgram → (ℕ → ℕ → Option ℕ) → (ℕ → Option ℕ) → ℕ → PieceLines → Ending → Type 0
 IsPiece tape line quiet program lines ending =
     (n : ℕ) (back : Lines) → IsShort tape n program → whole tape line quiet n program back ≡ coming lines (Some ending) back []
@@ -78,12 +81,13 @@ IsTaken tape line quiet control old new ending =
 pub record IsSoFar (tape : List ControlProgram) (line : ℕ → ℕ → Option ℕ) (quiet : ℕ → Option ℕ) (program : ℕ) (lines : PieceLines) (place : ℕ) (rest : List ControlBlock) : Type 0 where
   -- Each block that is left is one of the program's.
   pub calls : (i : ℕ) (c : Control) → control_at rest i ≡ Some c → (own : ℕ) × (control_at (blocks tape program) own ≡ Some c)
-  -- Both together are its lines, however many calls may follow.
+  -- Both together are its lines, for each number of calls that is enough for what follows in it.
   pub are : (n : ℕ) (back : Lines) → IsShort tape (suc n) program
       → whole tape line quiet (suc n) program back
       ≡ shown lines (blocks_lines (loud tape) quiet (λ q behind. whole tape line quiet n q behind) (line program) back place rest)
 
--- The least line that was found so far of a program and what is opened from it.
+-- The least line that was found so far of a program and what is opened from it: of the quiet
+-- programs that it calls, directly or through others.
 abbrev pub quiet_known : QuietLines → ℕ → Option ℕ
 quiet_known found program = get nat_eq found.lines program
 

@@ -1,12 +1,12 @@
-//! Which programs call a quiet program. quiet.rt looks at them again when it found something of
-//! that program, and that look decides. So what this table holds changes the time that it takes,
-//! and not its answer.
+//! Which programs call a quiet program, one that comes to no wait and no end, also not by its
+//! calls. quiet.rt looks at the callers again when it found something of that program, and that
+//! look decides. So what this table holds changes the time that quiet.rt takes, and not its answer.
 
 use block_order::{BlockOrder, Callers, Control, ControlProgram};
 use nc_number::NoMemory;
 use std::alloc::Global;
 
-/// Notes the quiet programs that a program calls.
+/// Notes the calls of quiet programs in a program. The only error is that memory runs out.
 fn note_calls(
     callers: &mut Callers,
     alloc: Global,
@@ -27,7 +27,7 @@ fn note_calls(
     Ok(())
 }
 
-/// Who calls the quiet programs of a tape.
+/// Which programs call the quiet programs of a tape. The only error is that memory runs out.
 pub(crate) fn quiet_callers(alloc: Global, order: &BlockOrder) -> Result<Callers, NoMemory> {
     let mut callers = Callers::new(alloc);
     for program in order.as_slice() {

@@ -1,8 +1,9 @@
 //! The least line of each part of a path, among the blocks that are looked for.
 //!
-//! [`least_lines`] goes through a tape as its calls are unfolded, and makes the lines of each
+//! A part is the blocks that the path may run between one wait and the next. [`least_lines`] goes
+//! through a tape as the calls that lead to waits or ends are unfolded, and makes the lines of each
 //! program once. What is looked for, a [`BlockLines`] tells: this crate knows of no variable.
-//! race_report calls it for the blocks that may use a shared variable.
+//! race_report calls `least_lines` for the blocks that may use a shared variable.
 #![tactic(auto)]
 
 mod callers;

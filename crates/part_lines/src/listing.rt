@@ -1,4 +1,5 @@
-//! The least lines of a path: those of each program are made once and joined as the calls lead.
+//! The least lines of a path: those of the main program and of each loud one that is called (a loud
+//! program has a wait or an end, or calls one that has) are made once and joined as the calls lead.
 //! race_report calls `least_lines`.
 ghost use Rattle.std.specs.Prelude.{◌≡◌, Some, None, Option, IfOk, OnOk};
 ghost use Rattle.block_order.specs.declared.control.Control.TheVariants as Control;
@@ -15,8 +16,8 @@ use loud_calls::{KnownPrograms, runs_have_one_list, unknown_call};
 use nc_number::{NoMemory, lesser};
 use std::alloc::Global;
 
-/// Adds the lines of a call to those of the calling program. The answer is how that program ends
-/// there, if it does.
+/// Adds the lines of a call to those of the calling program. The answer is how the calling program
+/// ends there, if it does.
 fn take_call<L: BlockLines>(
     order: &BlockOrder,
     lines: &L,
@@ -71,7 +72,8 @@ fn take_block<L: BlockLines>(
     }
 }
 
-/// Makes and keeps the lines of the program that a block calls, if they are not made yet.
+/// Makes and keeps the lines of the loud program that a block calls, if it calls one whose lines
+/// are not made yet.
 #[cycle(calls)]
 fn learn_call<L: BlockLines>(
     alloc: Global,
@@ -146,7 +148,8 @@ fn closed(piece: Piece) -> Result<Vec<Option<u32>>, NoMemory>
 
 /// The least line of each part of a path, for each number of waits up to those of its list.
 ///
-/// Behind M99 the path begins anew, so its last part has the blocks of the first.
+/// Behind an M99 of the main program the path begins anew, so its last part has the blocks of the
+/// first too. The only error is that memory runs out.
 pub fn least_lines<L: BlockLines>(
     alloc: Global,
     order: &BlockOrder,

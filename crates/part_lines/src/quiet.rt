@@ -1,8 +1,9 @@
-//! The least line of each program and of the quiet ones that are called from there.
+//! The least line of each program and of the quiet ones that are called from there, directly or
+//! through others.
 //!
-//! A path may come to any block of a quiet program that it calls, and none of them waits: all that
-//! is opened from a block is in the part of that block. For this crate alone: listing.rt asks for
-//! these lines.
+//! A quiet program comes to no wait and no end. A path may come to any of its blocks, and all that
+//! is opened from a block by calls of quiet programs is in the part of that block. For this crate
+//! alone: listing.rt asks for these lines.
 ghost use Rattle.std.specs.Prelude.{◌≡◌, ◌≢◌, ◌↔◌, ℕ, true, Some, None, Option, IsTrue, IfOk, OnOk};
 ghost use Rattle.block_order.specs.Loud.{loud};
 ghost use Rattle.block_order.specs.Order.{blocks};
@@ -19,6 +20,7 @@ use std::alloc::Global;
 /// The least line that was found of each program that has one.
 #[derive(Drop)]
 pub(crate) struct QuietLines {
+    /// By the O number of a program its line.
     lines: IndexMap<u16, u32>,
 }
 
@@ -80,7 +82,7 @@ fn is_below(found: Option<u32>, line: Option<u32>) -> bool
     }
 }
 
-/// Whether no block of a program has or calls a line that is less than what was found.
+/// Whether no block of a program has or calls a line that is less than what was found of it.
 fn is_closed_at<L: BlockLines>(
     order: &BlockOrder,
     lines: &L,

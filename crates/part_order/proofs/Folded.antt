@@ -1,5 +1,6 @@
 -- Parts repeat with the waits of the list: the law `parts_repeat_with_the_waits` (src/laws.rt).
--- part_lines takes `folds`, race_report `parts_repeat`.
+-- The items of a path's list are stretches of blocks, waits and the new beginning; a round is one
+-- way through the list. part_lines takes `folds`, race_report `parts_repeat`.
 use Rattle.std.proofs.Common.{◌≡◌, ℕ, suc, ◌+◌, ◌<◌, ◌⊎◌, inl, inr, List, ◌∷◌, refl, subst, arith}
 use Rattle.block_order.specs.declared.program.ControlProgram.{ControlProgram}
 use Rattle.part_order.specs.Parts.{Item, Stretch, Meets, Anew, waits_in, Follows, first, behind_stretch, behind_wait, anew, path_items, path_waits, stretch_at, IsInPart, listed, called, PartsRepeat}
@@ -36,7 +37,7 @@ follows_before all n m xs f more e = go (folds all n xs f)
     go (inl same) = absurd (omega arith)
     go (inr (k, is, g)) = let same : k ≡ m = omega arith in subst (λ i. Follows all i xs) same g
 
--- A block in a part after more waits than the list has is in the part of a round before.
+-- A block in a part after more waits than the list has is in the part of a round before too.
 part_before : (tape : List ControlProgram) (n m program block : ℕ) → waits_in (path_items tape) < n → n ≡ m + waits_in (path_items tape)
     → IsInPart tape n program block → IsInPart tape m program block
 part_before tape n m _ _ more e (listed program block rest f) =
@@ -51,7 +52,7 @@ without_wait all n _ none (behind_stretch _ program number rest before) = withou
 without_wait all _ _ none (behind_wait n rest before) = let e = (without_wait all n (Meets ∷ rest) none before).1 in absurd cc
 without_wait all n _ none (anew _ rest before) = ((without_wait all n (Anew ∷ rest) none before).0, none)
 
--- If the list has no wait, each part is part 0.
+-- If the list has no wait, a block is in no part but part 0.
 part_alone : (tape : List ControlProgram) (n program block : ℕ) → path_waits tape ≡ 0 → IsInPart tape n program block → n ≡ 0
 part_alone tape n _ _ none (listed program block rest f) =
     (without_wait (path_items tape) n (Stretch program (stretch_at tape program block) ∷ rest) none f).0

@@ -1,5 +1,8 @@
--- The items ahead of a place, as its running frame moves. A frame is an open program: its number,
--- its block and its repeats left. For KeepsItems and Standing.
+-- The items ahead of a place, as its running frame moves: the stretches and waits to come. A frame
+-- is an open program: its number, its block and its repeats left. It counts if it is that of the
+-- main program or of a loud one, which has a wait or an end or calls one that has. A mark is a
+-- wait, an end, an M99 without a number or a call of a loud program, a stretch the run of blocks up
+-- to and with one. For KeepsItems and Standing.
 use Rattle.std.proofs.Common.{◌≡◌, ℕ, zero, suc, ◌+◌, Bool, true, false, List, [], ◌∷◌, ◌++◌, length, take, drop, Some, refl, ap, sym, ◌∙◌, arith}
 use Rattle.std.proofs.lemmas.List.{length-append}
 use Rattle.block_order.specs.declared.control.Control.{Control}
@@ -22,7 +25,8 @@ pub ahead-counts : (tape : List ControlProgram) (f : Frame) (stack : List Frame)
     ≡ items_from tape (room stack) f.program (stretch_at tape f.program f.block) f.left (behind tape stack)
 ahead-counts tape f stack e = rw e
 
--- The items ahead of a frame of a quiet program are those of its callers' frames.
+-- The items ahead of a frame that does not count, of a quiet program that was called, are those of
+-- its callers' frames.
 pub ahead-quiet : (tape : List ControlProgram) (f : Frame) (stack : List Frame) → counts tape f.program stack ≡ false
     → ahead tape (f ∷ stack) ≡ ahead tape stack
 ahead-quiet tape f stack e = rw e
@@ -40,7 +44,8 @@ stretch_next ld (b ∷ bs) (suc i) c e =
     let short = length-append (mark_of ld b.control) (marks ld (take i bs)) in
     omega arith
 
--- A frame that stays in its stretch keeps the items ahead; a quiet one may move anywhere.
+-- A running frame that stays in its stretch keeps the items ahead; a frame that does not count may
+-- move anywhere.
 pub moves_kept : (tape : List ControlProgram) (f : Frame) (stack : List Frame) (block : ℕ)
     → (counts tape f.program stack ≡ true → stretch_at tape f.program block ≡ stretch_at tape f.program f.block)
     → ahead tape (at f block ∷ stack) ≡ ahead tape (f ∷ stack)

@@ -1,5 +1,7 @@
--- Each step leads on in the items, past no wait: an invariant of a path's steps, a case for each
--- kind of block. For Standing.
+-- On an unforked tape each step leads on in the items, past no wait: an invariant of a path's
+-- steps, a case for each kind of block. An item is a stretch, a wait or the new beginning of the
+-- list; a stretch is the run of a program's blocks up to its next mark (a wait, an end, an M99
+-- without a number or a call that leads to a wait or an end). For Standing.
 use Rattle.std.proofs.Common.{◌≡◌, ℕ, zero, suc, ◌<◌, inl, inr, Bool, true, false, List, [], ◌∷◌, length, Some, Ok, refl, ap, sym, subst, ◌∙◌, arith}
 use Rattle.block_order.specs.declared.control.Control.{Control}
 use Rattle.block_order.specs.declared.control.Control.TheVariants.{Next, Goto, While, Do, EndLoop, Wait, End, Call, Back, BackTo}
@@ -39,7 +41,7 @@ next_kept : (tape : List ControlProgram) (f : Frame) (stack : List Frame) (c : C
     → ahead tape (at f (suc f.block) ∷ stack) ≡ ahead tape (f ∷ stack)
 next_kept tape f stack c is none = moves_kept tape f stack (suc f.block) (λ _. unmarked_next tape f.program f.block c is none)
 
--- A jump keeps the items ahead.
+-- A jump keeps the items ahead: its target lies in the same stretch, or its program does not count.
 jump_kept : (tape : List ControlProgram) → IsUnforked tape → (f : Frame) (stack : List Frame)
     → IsPlace tape (f ∷ stack) → (c : Control) → control_at (blocks tape f.program) f.block ≡ Some c
     → (target : ℕ) → IsTarget tape f.program f.block c target

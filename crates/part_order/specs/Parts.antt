@@ -1,8 +1,10 @@
--- The parts of a path: the blocks that its list, with all calls unfolded, has between one wait and
--- the next. Which block runs there depends on the variables; which block may run there does not. A
--- program is loud if it, or one that it calls, has a wait or an end; others are quiet. A stretch is
--- the blocks of a loud program up to its next mark. part_lines, race_order and race_report cite
--- this.
+-- The parts of a path: the blocks that its list has between one wait and the next, and those of the
+-- quiet programs that are called there. Which block runs there depends on the variables; which
+-- block may run there does not. A program is loud if it, or one that it calls, has a wait or an
+-- end; others are quiet. A mark is a wait, an end, an M99 without a number or a call of a loud
+-- program. A stretch is the run of blocks, of the main program or a loud one, up to and with the
+-- next mark. The list has stretches and waits, with the calls of loud programs unfolded.
+-- part_lines, race_order and race_report cite this.
 use Rattle.std.specs.Prelude.{◌≡◌, ℕ, zero, suc, ◌+◌, ◌<◌, false, List, [], ◌∷◌, drop, Some, if◌then◌else◌}
 use Rattle.block_order.specs.declared.control.Control.TheVariants.{Wait, Call}
 use Rattle.block_order.specs.declared.frame.Frame.{Frame}
@@ -16,7 +18,7 @@ use Rattle.block_order.specs.Steps.{Step, standing, place_behind}
 
 -- What stands in the list: a stretch of a program, a wait, or that the list begins anew.
 pub data Item : Type 0 where
-  -- A stretch: the program and its number there, from 0.
+  -- A stretch: the program's O number, and the number of the stretch in it, from 0.
   Stretch : (program number : ℕ) → Item
   -- A wait.
   Meets : Item
@@ -28,8 +30,9 @@ abbrev pub times : ℕ → (List Item → List Item) → List Item → List Item
 times zero f rest = rest
 times (suc n) f rest = f (times n f rest)
 
--- The items of a program's marks from a stretch on. `called` gives those of a called program, and
--- `rest` follows after the return. Each mark ends a stretch.
+-- The items of these marks of a program, from the stretch of this number on and up to the first
+-- mark that ends the path or returns. `called` gives those of a called program, and `rest` follows
+-- after a return. Each mark ends a stretch; behind the last mark there is one stretch more.
 abbrev pub items : (ℕ → List Item → List Item) → ℕ → ℕ → List Mark → List Item → List Item
 items called program number [] rest = Stretch program number ∷ []
 items called program number (mark.Wait code ∷ ms) rest =
@@ -41,13 +44,13 @@ items called program number (mark.Back ∷ ms) rest = Stretch program number ∷
 items called program number (mark.Past ∷ ms) rest = Stretch program number ∷ []
 
 -- The items of a program that is called while n calls may still be opened, its own one of them, and
--- then `rest`; `rest` alone if none may be opened.
+-- then `rest` if it returns; `rest` alone if none may be opened.
 unfoldable pub whole : List ControlProgram → ℕ → ℕ → List Item → List Item
 whole tape zero program rest = rest
 whole tape (suc n) program rest = items (λ q k. whole tape n q k) program 0 (marks (loud tape) (blocks tape program)) rest
 
--- The items of a frame: of its program from this stretch on, then of its repeats still to come,
--- then `rest`. Its program may open n further calls.
+-- The items of a frame, if its program returns each time: of its program from this stretch on, then
+-- of the `left` repeats still to come, then `rest`. Its program may open n further calls.
 abbrev pub items_from : List ControlProgram → ℕ → ℕ → ℕ → ℕ → List Item → List Item
 items_from tape n program number left rest =
     items (λ q k. whole tape n q k) program number (drop number (marks (loud tape) (blocks tape program)))
@@ -64,8 +67,8 @@ behind tape [] = Anew ∷ []
 behind tape (f ∷ stack) =
     items_from tape (room stack) f.program (stretch_at tape f.program (suc f.block)) f.left (behind tape stack)
 
--- The items from a place on, which is a list of frames, the running one first. A quiet program has
--- none of its own.
+-- The items from a place on, which is a list of frames, the running one first. A quiet program that
+-- was called has none of its own; the main program has, even if it is quiet.
 abbrev pub ahead : List ControlProgram → List Frame → List Item
 ahead tape [] = []
 ahead tape (f ∷ stack) =
@@ -124,10 +127,10 @@ abbrev pub StandsInParts : List ControlProgram → Type 0
 StandsInParts tape =
     (n : ℕ) (f : Frame) (stack : List Frame) → IsReached tape n (f ∷ stack) → IsInPart tape n f.program f.block
 
--- A part after more waits than the list has is that of a round before; without a wait all is part
--- 0.
+-- Parts repeat: with w waits in the list, the blocks of part n + w are among those of part n, if n
+-- is not 0. If the list has no wait, there is part 0 alone.
 pub record PartsRepeat (tape : List ControlProgram) : Type 0 where
-  -- A part after more waits than the list has is that of a round before.
+  -- A block of a part after more waits than the list has is in the part of a round before too.
   pub before : (n program block : ℕ) → 0 < n → IsInPart tape (n + path_waits tape) program block → IsInPart tape n program block
   -- Without a wait there is part 0 alone.
   pub alone : (n program block : ℕ) → path_waits tape ≡ 0 → IsInPart tape n program block → n ≡ 0

@@ -12,8 +12,8 @@ pub fn each_block_stands_in_its_part()
     ensures { (tape : List ControlProgram) → IsUnforked tape → StandsInParts tape }
 {}
 
-/// Parts repeat with the waits of the list: no more of them need be looked at than it has waits,
-/// and one.
+/// Parts repeat with the waits of the list: with w waits no part but 0 to w need be looked at, as
+/// the blocks of each later part are in an earlier one.
 pub fn parts_repeat_with_the_waits()
     ensures { (tape : List ControlProgram) → PartsRepeat tape }
 {}

@@ -1,5 +1,7 @@
--- The lists of the blocks that search are filled from the last place back: one place more. For the
--- proof of `later_searchers` (src/searchers.rt).
+-- The list that has, for each place, the next block that searches after its stretch is filled from
+-- the last place back: one place more. A stretch is the run of blocks up to a wait, an end, an M99
+-- without a number, or a call that leads to a wait or an end. For the proof of `later_searchers`
+-- (src/searchers.rt).
 use Rattle.std.proofs.Common.{◌≡◌, ◌≢◌, ℕ, suc, ◌<◌, ◌≤◌, ◌⊎◌, inl, inr, Bool, List, ◌∷◌, length, drop, slice_index, slice_index_or, slice_set, refl, sym, subst, ◌∙◌, arith}
 use Rattle.std.proofs.Math.Seq.{drop-cons}
 use Rattle.std.proofs.Math.ListN.{length-set}

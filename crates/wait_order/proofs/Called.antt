@@ -76,7 +76,8 @@ flags_more tape bs i q d first now new within before step =
       ],
     )
 
--- The flags after one program more stand for what the first i + 1 reached programs call.
+-- The flags after one program more stand for what those of the first i + 1 programs call that are
+-- flagged as reached.
 pub called_more : (tape : List ControlProgram) (reached : List Bool) (i q : ℕ) (p : ControlProgram) (first now new : Bool)
     → slice_get tape i ≡ Some p → (now ≡ true) ↔ ((first ≡ true) ⊎ IsCalledBelow tape reached i q)
     → (new ≡ true) ↔ ((now ≡ true) ⊎ ((flagged tape reached p.number ≡ true) × HasLoudCall tape p.blocks q))

@@ -1,6 +1,6 @@
--- The faults of waits are the lines that may pass a wait, 65, and the ninth calls, 66; the first of
--- them is that of the lesser line, and on one line the 65. For the proof of `first_fault`
--- (src/waiting.rt).
+-- The faults of waits are the lines of blocks that may pass a wait, 65, and those of ninth calls
+-- that lead to a wait or an end, 66; the first fault is that of the least line, and on one line the
+-- 65. For the proof of `first_fault` (src/waiting.rt).
 use Rattle.std.proofs.Common.{◌≡◌, ℕ, suc, ◌<◌, ◌≤◌, ◌⊎◌, inl, inr, List, Option, Some, None, refl, subst, arith}
 use Rattle.nc_number.specs.declared.cause.Cause.{Cause}
 use Rattle.nc_number.specs.declared.cause.Cause.TheVariants.{BranchAtWait, WaitTooDeep}

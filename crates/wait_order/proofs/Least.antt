@@ -1,5 +1,6 @@
 -- Least numbers of which something holds: of the same in other words, of nothing, of either of two.
--- The lemma files that look for a first block or line take these.
+-- Counted, Deepest, Leading, Nearest, Searching and Strayed, which look for a first block or line,
+-- and the proofs of src/view.rt take these.
 use Rattle.std.proofs.Common.{◌≡◌, ℕ, ◌⊎◌, inl, inr, Option, Some, None, arith}
 use Rattle.wait_order.specs.Waiting.{IsLeast, IsAtMost}
 use Rattle.nc_number.specs.Options.{lesser}

@@ -1,5 +1,5 @@
--- What block_order's check says of a tape's programs is what this crate needs of each. For the
--- proof of `waiting_fault` (src/waiting.rt).
+-- What block_order's check says of a tape's programs (O numbers that differ, loops that fit, lines
+-- that rise) is what this crate needs of each. For the proof of `waiting_fault` (src/waiting.rt).
 use Rattle.std.proofs.Common.{◌≡◌, ℕ, zero, suc, ◌<◌, ◌≤◌, ◌⊎◌, inl, inr, List, [], ◌∷◌, length, Some, slice_index_or, refl, ap, sym, ◌∙◌, arith}
 use Rattle.std.specs.List.{slice_get, Contains}
 use Rattle.nc_number.proofs.Counts.{same_or_below}

@@ -1,8 +1,8 @@
 -- The lists of blocks that search say which is the nearest one in another stretch than a target. A
 -- stretch is the run of blocks up to a mark: a wait, an end, an M99 without a number, or a loud
 -- call. A loud program comes to a wait or an end, itself or by its calls; the others are quiet. For
--- the proofs of `first_other` (src/searchers.rt) and `first_in` (src/search_strays.rt), and for
--- Leading.
+-- the proofs of `first_other` (src/searchers.rt), `first_in` (src/search_strays.rt) and
+-- `first_of_search` (src/view.rt), and for Leading.
 use Rattle.std.proofs.Common.{◌≡◌, ◌≢◌, ℕ, zero, suc, ◌+◌, ◌-◌, ◌<◌, ◌≤◌, Bool, true, false, List, [], ◌∷◌, length, drop, Some, None, slice_index, refl, ap, sym, subst, ◌∙◌, arith, zero-add, length-drop}
 use Rattle.block_order.specs.declared.control.Control.{Control}
 use Rattle.block_order.specs.declared.program.ControlBlock.{ControlBlock}

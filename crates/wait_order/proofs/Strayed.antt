@@ -1,8 +1,8 @@
--- A block that may lead to another stretch does so by one of the tape's searches, or by its one
--- number or few returns. So the first of both kinds is the first of all. A stretch is the run of
--- blocks up to a mark: a wait, an end, an M99 without a number, or a loud call. A loud program
--- comes to a wait or an end, itself or by its calls; the others are quiet. For the proofs of
--- src/view.rt.
+-- A block that may pass a wait does so by one of the tape's searches, or without a search for
+-- several numbers (`IsFixedStray`). So the first of both kinds is the first of all. A stretch is
+-- the run of blocks up to a mark: a wait, an end, an M99 without a number, or a loud call. A loud
+-- program comes to a wait or an end, itself or by its calls; the others are quiet. For the proofs
+-- of src/view.rt, and for Called and Deepest.
 use Rattle.std.proofs.Common.{◌≡◌, ◌≢◌, IsTrue, ℕ, ◌+◌, ◌<◌, ◌≤◌, ◌⊎◌, inl, inr, false, List, length, Option, Some, None, slice_get, slice_index_or, refl, ap, sym, subst, ◌∙◌, arith}
 use Rattle.std.proofs.lemmas.Option.{slice_get_within}
 use Rattle.nc_number.proofs.Counts.{last_or_before}
@@ -33,7 +33,7 @@ pub control_of_block : (bs : List ControlBlock) (place : ℕ) (b : ControlBlock)
     → control_at bs place ≡ Some b.control
 control_of_block bs place b e = ap (λ o. control_of o) e
 
--- What leads to another stretch without a search for several numbers may pass a wait.
+-- What `IsFixedStray` names, in the main program or a loud one, may pass a wait.
 fixed_strays : (tape : List ControlProgram) (program place : ℕ) (b : ControlBlock) (c : Control) → b.control ≡ c → Counts tape program
     → IsFixedStray tape program place c → Strays tape program place b
 fixed_strays tape program place b (Goto None) e counts h = absurd h
@@ -124,8 +124,8 @@ split_jump tape searches program place target (Wait code) are at is apart = absu
 split_jump tape searches program place target End are at is apart = absurd is
 split_jump tape searches program place target Back are at is apart = absurd is
 
--- Each block that may pass a wait does so by one number or few returns, or by one of the tape's
--- searches.
+-- Each block that may pass a wait does so without a search for several numbers, or by one of the
+-- tape's searches.
 split_strays : (tape : List ControlProgram) (searches : List Search) (program place : ℕ) (b : ControlBlock) → AreSearches tape searches
     → Stands tape program place b → Strays tape program place b
     → IsFixedStrayAt tape program place ⊎ IsSearchStrayBelow (loud tape) searches (length searches) (blocks tape program) place
@@ -136,7 +136,7 @@ split_strays tape searches program place b are stands (loop head counts is apart
 split_strays tape searches program place b are stands (back n is_loud other e) =
     inl (BackTo n, control_of_block (blocks tape program) place b stands ∙ ap (λ c. Some c) e, inl other)
 
--- The lesser of the first blocks of both kinds is the first one that may lead to another stretch.
+-- The lesser of the first blocks of both kinds is the first one that may pass a wait.
 pub least_stray : (tape : List ControlProgram) (searches : List Search) (program : ℕ) (fixed searching : Option ℕ) → Counts tape program
     → AreSearches tape searches → IsLeast (IsFixedStrayAt tape program) fixed
     → IsLeast (IsSearchStrayBelow (loud tape) searches (length searches) (blocks tape program)) searching

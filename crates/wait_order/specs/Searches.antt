@@ -14,7 +14,8 @@ use Rattle.wait_order.specs.Searchers.{is_searcher, is_sought, is_call_of, has_b
 use Rattle.wait_order.specs.Waiting.{IsSearchStray}
 
 -- The program is quiet (it comes to no wait and no end) and has more than 64 blocks, so that its
--- returns are gathered once for all its calls.
+-- returns are gathered once for all its calls. `IsShort` of Waiting and `MANY_BLOCKS` of
+-- src/searches.rt have this number too.
 pub record IsLongQuiet (tape : List ControlProgram) (called : ℕ) : Type 0 where
   -- It has more than 64 blocks.
   pub long : 64 < length (blocks tape called)

@@ -1,5 +1,6 @@
--- That a view of a program says what the program is. For this crate alone: src/view.rt requires it.
--- A loud program comes to a wait or an end, itself or by its calls; the others are quiet.
+-- That a view of a program (src/view.rt: the program among those of its tape) says what the program
+-- is. For this crate alone: src/view.rt requires it. A loud program comes to a wait or an end,
+-- itself or by its calls; the others are quiet.
 use Rattle.std.specs.Prelude.{◌≡◌}
 use Rattle.wait_order.specs.declared.view.ProgramView.{ProgramView}
 use Rattle.block_order.specs.Order.{blocks, main_number}
@@ -19,5 +20,5 @@ pub record IsView (view : ProgramView) : Type 0 where
   pub main : view.main ≡ main_number view.programs.now
   -- The blocks are those of the program's number.
   pub own_blocks : blocks view.programs.now view.number ≡ view.ways.blocks.now
-  -- The stretches and tables are those of its blocks.
+  -- The stretches (runs of blocks up to a mark) and tables are those of its blocks.
   pub ways : AreWays (loud view.programs.now) view.ways

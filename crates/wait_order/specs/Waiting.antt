@@ -1,7 +1,9 @@
--- Which blocks may pass a wait: those that may lead to another stretch of their program. A stretch
--- is the run of blocks up to a mark. Deep chains of calls are in Deep. For this crate alone:
--- src/ways.rt, src/view.rt and src/search_strays.rt ask for these. A loud program comes to a wait
--- or an end, itself or by its calls; the others are quiet.
+-- Which blocks may pass a wait: those that may lead to another stretch of their program, and each
+-- M99 with a number in a loud program other than the main one. A stretch is the run of blocks up to
+-- a mark: a wait, an end, an M99 without a number, or a loud call. A loud program comes to a wait
+-- or an end, itself or by its calls; the others are quiet. Deep chains of calls are in Deep. For
+-- this crate alone: src/ways.rt, src/view.rt, src/search_strays.rt and src/waiting.rt ask for
+-- these.
 use Rattle.std.specs.Prelude.{◌≡◌, ◌≢◌, ◌⊎◌, ◌<◌, ◌≤◌, ℕ, Bool, true, false, List, length, Option, Some, None, slice_get}
 use Rattle.block_order.specs.declared.control.Control.{Control}
 use Rattle.block_order.specs.declared.control.Control.TheVariants.{Goto, Call, EndLoop, BackTo}
@@ -43,12 +45,15 @@ abbrev pub CallsElsewhere : List ControlProgram → ℕ → ℕ → ℕ → Type
 CallsElsewhere tape program place called =
     (loud tape called ≡ false) × ReturnsElsewhere (loud tape) (blocks tape program) place (blocks tape called)
 
--- There are at most 64 blocks, so few that each call of their program looks at all of them.
+-- There are at most 64 blocks, so few that each call of their program looks at all of them. This
+-- number stands in Searches (`IsLongQuiet`) too, and as 65 in src/searches.rt (`MANY_BLOCKS`).
 abbrev pub IsShort : List ControlBlock → Type 0
 IsShort bs = length bs ≤ 64
 
--- A block of this control may lead to another stretch: by one number, by the end of its loop, or by
--- a return of a short program that it calls. Searches for several numbers are no part of this.
+-- A block of this control, if its program is the main one or loud, may pass a wait without a search
+-- for several numbers. By one number, by the end of its loop, or by a return of a short program
+-- that it calls it may lead to another stretch; or it is an M99 with a number and its program not
+-- the main one.
 abbrev pub IsFixedStray : List ControlProgram → ℕ → ℕ → Control → Type 0
 IsFixedStray tape program place (Goto None) = ⊥
 IsFixedStray tape program place (Goto (Some n)) = LeadsElsewhere (loud tape) (blocks tape program) place n
@@ -82,7 +87,8 @@ IsOtherIn loud searches bs low high reach target block =
     (low ≤ block) × (block < high) × IsWithin reach block × IsSearcherAt searches bs block
     × (stretch loud bs block ≢ stretch loud bs target)
 
--- The block searches, a search for n leads it to the target, and that lies in another stretch.
+-- The block searches, a search for n leads it to the target, and the target lies in another
+-- stretch.
 abbrev pub IsLedTo : (ℕ → Bool) → (Control → Bool) → List ControlBlock → ℕ → ℕ → ℕ → Type 0
 IsLedTo loud searches bs n target block =
     IsSearcherAt searches bs block × Leads bs block n target × (stretch loud bs block ≢ stretch loud bs target)
@@ -91,13 +97,13 @@ IsLedTo loud searches bs n target block =
 abbrev pub MayLeadTo : (ℕ → Bool) → (Control → Bool) → (ℕ → Bool) → List ControlBlock → ℕ → ℕ → Type 0
 MayLeadTo loud searches sought bs target block = (n : ℕ) × (sought n ≡ true) × IsLedTo loud searches bs n target block
 
--- The block searches, and for one of the numbers sought it is led to one of the first targets of
--- the program, in another stretch.
+-- The block searches, and for one of the numbers sought it is led to a target in another stretch,
+-- one of the first `targets` places of the program.
 abbrev pub MayLeadBelow : (ℕ → Bool) → (Control → Bool) → (ℕ → Bool) → List ControlBlock → ℕ → ℕ → Type 0
 MayLeadBelow loud searches sought bs targets block =
     (target : ℕ) × (target < targets) × MayLeadTo loud searches sought bs target block
 
--- The block at a place may lead to another stretch without a search for several numbers.
+-- The block at a place may pass a wait without a search for several numbers (`IsFixedStray`).
 abbrev pub IsFixedStrayAt : List ControlProgram → ℕ → ℕ → Type 0
 IsFixedStrayAt tape program place =
     (c : Control) × (control_at (blocks tape program) place ≡ Some c) × IsFixedStray tape program place c

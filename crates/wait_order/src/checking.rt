@@ -26,8 +26,8 @@ fn fault_of(alloc: Global, draft: &DraftOrder) -> Result<Option<OrderFault>, NoM
 
 /// The order of these programs, or the first fault: of programs and loops that don't fit together,
 /// 60 and 52; else of jumps and calls that don't find what they name, 50, 51 and 53; else of jumps
-/// that may pass a wait, 65, and of a wait that a ninth call leads to, 66. Each time the least line
-/// is told, and on it the least number. `NoMemory`: out of memory.
+/// that may pass a wait, 65, and of a ninth call that leads to a wait or an end, 66. Each time the
+/// least line is told, and on it the least number. `NoMemory`: out of memory.
 pub fn check_order(
     alloc: Global,
     programs: Vec<ControlProgram>,

@@ -1,4 +1,6 @@
-//! The order of a tape's blocks, judged: no jump passes a wait, and no ninth call leads to one.
+//! The order of a tape's blocks, judged: no jump passes a wait or another mark (an end, an M99
+//! without a number, a call that leads to a wait or an end), and no ninth call leads to a wait or
+//! an end.
 //!
 //! [`check_order`] answers the order of a tape in which nothing is wrong, or the tape's first
 //! fault. Computed GOTOs, and the returns of long programs, may lead to any of several numbers:

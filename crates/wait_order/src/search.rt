@@ -1,6 +1,6 @@
 //! Blocks that search alike for any of several sequence numbers. Where such a search may lead is in
 //! search_strays.rt, which searches a tape has in searches.rt, which block is the next to search in
-//! searchers.rt; these three use it.
+//! searchers.rt; these three use a search, and waiting.rt and view.rt hand it on.
 ghost use Rattle.std.specs.Prelude.{◌≡◌, ◌||◌, ℕ, nat_eq, IfOk, OnOk};
 ghost use Rattle.std.specs.List.{list_any};
 ghost use Rattle.std.specs.HashSet.{contains};

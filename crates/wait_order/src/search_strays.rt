@@ -1,6 +1,7 @@
 //! The first block of a program that may lead to another stretch, of those that search alike. A
-//! stretch is the run of blocks up to a mark; places are indices of blocks. view.rt calls
-//! `first_search_stray` for each search of the tape.
+//! stretch is the run of blocks up to a mark: a wait, an end, an M99 without a number, or a call
+//! that leads to a wait or an end. Places are indices of blocks. view.rt calls `first_search_stray`
+//! for each search of the tape.
 ghost use Rattle.std.specs.Prelude.{◌≡◌, ◌↔◌, Some, ◌<◌, ◌≤◌, ℕ, Bool, length};
 ghost use Rattle.wait_order.specs.Ahead.{AreAhead};
 ghost use Rattle.block_order.specs.Places.{IsNumbered};

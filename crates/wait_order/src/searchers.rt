@@ -1,7 +1,7 @@
 //! The next block that searches, and the next one after its stretch, ahead of each place of a
 //! program. A stretch is the run of blocks up to a mark: a wait, an end, an M99 without a number,
 //! or a loud call. A loud program comes to a wait or an end, itself or by its calls; the others are
-//! quiet.
+//! quiet. view.rt makes these lists, search_strays.rt asks them.
 ghost use Rattle.std.specs.Prelude.{◌≡◌, ◌+◌, ◌<◌, ◌≤◌, ℕ, Bool, List, IfOk, length, slice_index};
 ghost use Rattle.block_order.specs.declared.control.Control.{Control};
 ghost use Rattle.wait_order.specs.Searchers.{is_searcher, behind_marks, AreNext, AreLater};

@@ -1,6 +1,6 @@
 //! Which blocks of a tape search for any of several numbers: the computed GOTOs, and the calls of
 //! each long quiet program. A loud program comes to a wait or an end, itself or by its calls; the
-//! others are quiet.
+//! others are quiet. waiting.rt calls `searches`, view.rt `is_short`.
 ghost use Rattle.std.specs.Prelude.{◌≡◌, ◌↔◌, ◌+◌, ℕ, List, Some, IsTrue, IfOk, OnOk, slice_get};
 ghost use Rattle.wait_order.specs.Waiting.{IsShort};
 ghost use Rattle.wait_order.specs.Searches.{IsLongQuiet, AreSearches, AreSearchesBelow};
@@ -14,7 +14,7 @@ use nc_number::NoMemory;
 use std::alloc::Global;
 
 /// A program of at least so many blocks is long: the numbers of its returns are gathered once for
-/// all its calls.
+/// all its calls. The specs have this bound as 64: `IsShort` in Waiting, `IsLongQuiet` in Searches.
 const MANY_BLOCKS: usize = 65;
 
 /// Whether these are at most 64 blocks, so few that each call of their program looks at all of

@@ -73,8 +73,9 @@ impl ProgramView<'_> {
             && returns_elsewhere(&self.ways, place, blocks)
     }
 
-    /// Whether the block at `place`, of this control, may lead to another stretch without a search
-    /// for several numbers.
+    /// Whether the block at `place`, of this control, may pass a wait without a search for several
+    /// numbers: it may lead to another stretch, or is an M99 with a number outside the main
+    /// program.
     fn is_fixed_stray(&self, place: u32, control: &Control) -> bool
         requires view { IsView self.now }
         requires within { place < length self.now.ways.blocks.now }
@@ -94,8 +95,7 @@ impl ProgramView<'_> {
         }
     }
 
-    /// The place of the first block that may lead to another stretch without a search for several
-    /// numbers.
+    /// The place of the first block that may pass a wait without a search for several numbers.
     fn first_fixed_stray(&self) -> Option<u32>
         requires view { IsView self.now }
         requires few { length self.now.ways.blocks.now ≤ 20000 }
@@ -146,8 +146,7 @@ impl ProgramView<'_> {
         Ok(first)
     }
 
-    /// The place of the first block that may lead to another stretch. The only error is out of
-    /// memory.
+    /// The place of the first block that may pass a wait. The only error is out of memory.
     fn first_stray(&self, alloc: Global, searches: &[Search]) -> Result<Option<u32>, NoMemory>
         requires view { IsView self.now }
         requires few { length self.now.ways.blocks.now ≤ 20000 }
@@ -161,7 +160,8 @@ impl ProgramView<'_> {
         Ok(first)
     }
 
-    /// The line of the block at a place; `None` for no place.
+    /// The line of the first block that may pass a wait, which stands at this place; `None` for no
+    /// place.
     fn line_of(&self, place: Option<u32>) -> Option<u32>
         requires view { IsView self.now }
         requires rising { HasRisingLines self.now.ways.blocks.now }
@@ -177,8 +177,7 @@ impl ProgramView<'_> {
         }
     }
 
-    /// The line of the first block that may lead to another stretch. The only error is out of
-    /// memory.
+    /// The line of the first block that may pass a wait. The only error is out of memory.
     pub(crate) fn stray_line(
         &self,
         alloc: Global,

@@ -1,6 +1,7 @@
-//! The faults of waits: a jump that may pass a wait (65), and a chain of calls that is too deep for
-//! one (66). The other faults of the order are found in block_order. A loud program comes to a wait
-//! or an end, itself or by its calls; the others are quiet.
+//! The faults of waits: a jump that may pass a wait (65), and a ninth call, of a chain of calls,
+//! that leads to a wait or an end (66). The other faults of the order are found in block_order. A
+//! loud program comes to a wait or an end, itself or by its calls; the others are quiet.
+//! checking.rt calls `waiting_fault`.
 ghost use Rattle.std.specs.Prelude.{◌≡◌, ◌<◌, IfOk, List};
 ghost use Rattle.block_order.specs.Labels.{Counts};
 ghost use Rattle.block_order.specs.Loud.{loud};
@@ -129,7 +130,7 @@ fn branch_at_wait(line: u32) -> OrderFault
     }
 }
 
-/// The fault 66 at a line: a ninth call that leads to a wait.
+/// The fault 66 at a line: a ninth call that leads to a wait or an end.
 fn wait_too_deep(line: u32) -> OrderFault
     ensures line { result.line ≡ line }
     ensures cause { result.cause ≡ Cause.WaitTooDeep }

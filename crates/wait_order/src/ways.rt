@@ -1,5 +1,6 @@
 //! Where the jumps of one program lead, and in which stretch its blocks lie. A stretch is the run
-//! of blocks up to a mark. view.rt asks which of them leave their stretch.
+//! of blocks up to a mark: a wait, an end, an M99 without a number, or a call that leads to a wait
+//! or an end. view.rt asks which jumps leave their stretch, search_strays.rt looks into the tables.
 
 use block_order::{ControlBlock, ProgramTables};
 

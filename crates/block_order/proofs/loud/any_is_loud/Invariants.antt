@@ -1,4 +1,5 @@
--- None of the blocks so far is loud: the rest decides. What the loop of `any_is_loud` keeps
+-- None of the blocks so far is loud: the rest decides. A block is loud if it is a wait, an end, or
+-- a call of a program that is known to come to one. What the loop of `any_is_loud` keeps
 -- (src/loud.rt).
 use Rattle.std.proofs.Common.{◌≡◌, drop}
 use Rattle.block_order.specs.Loud.{has_loud_block}

@@ -1,4 +1,5 @@
--- One flag more, of a program with a loud block, flags a loud program. For the contract of `hear`
+-- One flag more, of a program with a loud block, flags a loud program. A loud block is a wait, an
+-- end, or a call of a loud program, and a loud program has such a block. For the contract of `hear`
 -- (src/loud.rt).
 use Rattle.std.proofs.Common.{◌≡◌, true, ap, sym, ◌∙◌}
 use Rattle.block_order.specs.Loud.{has_loud_block}

@@ -1,5 +1,5 @@
--- Only loud programs are flagged, however many are looked at again. What the loop of `hear_all`
--- keeps (src/loud.rt).
+-- Only loud programs are flagged, however many are looked at again. A loud program has a wait or an
+-- end, or calls one that has. What the loop of `hear_all` keeps (src/loud.rt).
 use Rattle.block_order.specs.Loud.{loud}
 use Rattle.block_order.specs.ProgramPlaces.{flagged}
 use Rattle.block_order.proofs.LoudReaches.{IsWithin}

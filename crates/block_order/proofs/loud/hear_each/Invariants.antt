@@ -1,5 +1,5 @@
--- Only loud programs are flagged, of the numbers so far. What the loop of `hear_each` keeps
--- (src/loud.rt).
+-- Only loud programs are flagged, of the numbers so far. A loud program has a wait or an end, or
+-- calls one that has. What the loop of `hear_each` keeps (src/loud.rt).
 use Rattle.block_order.specs.Loud.{loud}
 use Rattle.block_order.specs.ProgramPlaces.{flagged}
 use Rattle.block_order.proofs.LoudReaches.{IsWithin}

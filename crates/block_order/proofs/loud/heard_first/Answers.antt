@@ -1,5 +1,5 @@
--- At first no program is flagged, so none that is not loud; to look on keeps this. For the contract
--- of `heard_first` (src/loud.rt).
+-- At first no program is flagged, so none that is not loud (a loud program has a wait or an end, or
+-- calls one that has); to look on keeps this. For the contract of `heard_first` (src/loud.rt).
 use Rattle.std.proofs.Common.{◌∙◌}
 use Rattle.block_order.proofs.HeardFirst.{none_heard}
 use Rattle.block_order.proofs.loud.heard_first.Goals as goal

@@ -1,5 +1,6 @@
 -- Flags that one more look leaves as they were, or that came of as many looks as there are
--- programs, are those of the loud programs. For the contract of `loud_flags` (src/loud.rt).
+-- programs, are those of the loud programs. A loud program has a wait or an end, or calls one that
+-- has. For the contract of `loud_flags` (src/loud.rt).
 use Rattle.std.proofs.Common.{◌≡◌, length, map, sym, subst, ◌∙◌, arith}
 use Rattle.block_order.specs.Loud.{has_loud_block}
 use Rattle.block_order.specs.Heard.{flag_known}

@@ -1,6 +1,6 @@
--- No chain of nine calls begins in the main program, so its piece is made; with its start behind an
--- M99 it is the list of the path, or that is too long. For the contract of `main_labels`
--- (src/listing.rt).
+-- No chain of nine calls that lead to a wait or an end begins in the main program, so its piece is
+-- made; with `Again` behind an M99 it is the list of the path, or the list is too long. For the
+-- contract of `main_labels` (src/listing.rt).
 use Rattle.std.proofs.Common.{sym, subst, ◌∙◌}
 use Rattle.label_list.specs.Lists.{path_labels}
 use Rattle.loud_calls.specs.Calls.{IsShort}

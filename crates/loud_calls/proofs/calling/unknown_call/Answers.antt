@@ -1,5 +1,6 @@
 -- If no program is still to be made, the piece of what the block calls is kept, or it calls no loud
--- program. For the contract of `unknown_call` (src/calling.rt).
+-- program. A loud program has a wait or an end, or calls one that has. For the contract of
+-- `unknown_call` (src/calling.rt).
 use Rattle.std.proofs.Common.{sym}
 use Rattle.loud_calls.specs.Known.{piece_known}
 use Rattle.loud_calls.proofs.Calls.{ready_by}

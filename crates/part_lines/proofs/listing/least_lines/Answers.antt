@@ -1,5 +1,6 @@
--- No chain of nine calls begins in the main program, so its piece is made; closed, it has the least
--- line of each part. For the contract of `least_lines` (src/listing.rt).
+-- No chain of nine calls that lead to a wait or an end begins in the main program, so its piece is
+-- made; closed, it has the least line of each part. For the contract of `least_lines`
+-- (src/listing.rt).
 use Rattle.std.proofs.Common.{sym, subst}
 use Rattle.loud_calls.specs.Calls.{IsShort}
 use Rattle.part_lines.specs.PartLines.{AreLeastLines}

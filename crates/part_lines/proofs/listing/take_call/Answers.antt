@@ -1,5 +1,6 @@
--- A call of a loud program adds the piece that is kept of it, as often as it runs; every other call
--- adds nothing. For the contract of `take_call` (src/listing.rt).
+-- A call of a loud program (one that has a wait or an end, or calls one that has) adds the piece
+-- that is kept of it, as often as it runs; every other call adds nothing, and neither does one that
+-- runs it no time. For the contract of `take_call` (src/listing.rt).
 use Rattle.std.proofs.Common.{◌≡◌, true, Some, None, sym, ◌∙◌, rules, arith}
 use Rattle.block_order.specs.Loud.{loud}
 use Rattle.loud_calls.specs.Known.{piece_known}

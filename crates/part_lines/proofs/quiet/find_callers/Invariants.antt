@@ -1,4 +1,5 @@
--- What was found are lines of the programs and what they open. What the loop of `find_callers`
+-- Each line found so far is one of its program or of a quiet program (one that comes to no wait and
+-- no end) that is called from there, directly or through others. What the loop of `find_callers`
 -- keeps (src/quiet.rt).
 use Rattle.part_lines.specs.Pieces.{quiet_known, AreFound}
 use Rattle.part_lines.proofs.quiet.find_callers.Given as goal

@@ -1,5 +1,5 @@
--- If each program of the tape is closed, so is every O number. For the contract of `is_closed`
--- (src/quiet.rt).
+-- If each program of the tape is closed (no block of it has or calls a line that is less than what
+-- was found of it), so is every O number. For the contract of `is_closed` (src/quiet.rt).
 use Rattle.std.proofs.Common.{◌≡◌, ◌≤◌, length, slice_get, Some, subst, sym, arith, rules}
 use Rattle.std.proofs.lemmas.Option.{slice_get_within}
 use Rattle.part_lines.specs.Pieces.{quiet_known}

@@ -1,5 +1,5 @@
--- The programs before the place are closed: no block of them has or calls a lesser line. What the
--- loop of `is_closed` keeps (src/quiet.rt).
+-- The programs before the place are closed: no block of them has or calls a line that is less than
+-- what was found of its program. What the loop of `is_closed` keeps (src/quiet.rt).
 use Rattle.std.proofs.Common.{◌≡◌, ℕ, ◌<◌, Some, slice_get}
 use Rattle.block_order.specs.declared.program.ControlProgram.{ControlProgram}
 use Rattle.part_lines.specs.Pieces.{quiet_known, IsClosedAt}

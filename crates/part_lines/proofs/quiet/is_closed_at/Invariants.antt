@@ -1,5 +1,5 @@
--- The blocks before the place have no line that is less. What the loop of `is_closed_at` keeps
--- (src/quiet.rt).
+-- The blocks before the place neither have nor call a line that is less than what was found of the
+-- program. What the loop of `is_closed_at` keeps (src/quiet.rt).
 use Rattle.std.proofs.Common.{◌≡◌, ℕ, ◌<◌, Some}
 use Rattle.block_order.specs.declared.control.Control.{Control}
 use Rattle.block_order.specs.Loud.{loud}

@@ -1,5 +1,5 @@
--- The least line so far, of the program or of what it opens, is what is kept of it. For the
--- contract of `lower` (src/quiet.rt).
+-- The least line so far, of the program or of the quiet programs that are called from there, is
+-- what is kept of it. For the contract of `lower` (src/quiet.rt).
 use Rattle.std.proofs.Common.{◌≡◌, ◌<◌, ◌⊎◌, inl, inr, length, get_or, Some, subst, sym, ap, ◌∙◌, rules}
 use Rattle.nc_number.proofs.Counts.{lesser_is}
 use Rattle.block_order.specs.Loud.{loud}

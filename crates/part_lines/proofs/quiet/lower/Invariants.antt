@@ -1,5 +1,5 @@
--- The least line so far is one of the program or of what it opens. What the loop of `lower` keeps
--- (src/quiet.rt).
+-- The least line so far is one of the program or of a quiet program that is called from there,
+-- directly or through others. What the loop of `lower` keeps (src/quiet.rt).
 use Rattle.std.proofs.Common.{◌≡◌, ℕ, Some}
 use Rattle.part_lines.specs.Lines.{LineFrom}
 use Rattle.part_lines.proofs.quiet.lower.Given as goal

@@ -1,5 +1,6 @@
--- What was found are lines of the programs and what they open. What the loop of `quiet_lines` keeps
--- (src/quiet.rt).
+-- Each line found so far is one of its program or of a quiet program (one that comes to no wait and
+-- no end) that is called from there, directly or through others. What the loop of `quiet_lines`
+-- keeps (src/quiet.rt).
 use Rattle.part_lines.specs.Pieces.{quiet_known, AreFound}
 use Rattle.part_lines.proofs.quiet.quiet_lines.Given as goal
 

@@ -1,5 +1,6 @@
--- The first block that calls a loud program gives its line; after all blocks there is none. For the
--- contract of `first_call_line` (src/deep.rt).
+-- The first block that calls a loud program gives its line; after all blocks there is none. A loud
+-- program has a wait or an end, or calls one that has. For the contract of `first_call_line`
+-- (src/deep.rt).
 use Rattle.std.proofs.Common.{None, arith}
 use Rattle.block_order.specs.declared.control.Control.TheVariants.{Next}
 use Rattle.wait_order.proofs.Deepest.{call_here, none_more, call_nowhere}

@@ -1,5 +1,5 @@
--- None of the blocks so far calls a loud program. What the loop of `first_call_line` keeps
--- (src/deep.rt).
+-- None of the blocks so far calls a loud program. A loud program has a wait or an end, or calls one
+-- that has. What the loop of `first_call_line` keeps (src/deep.rt).
 use Rattle.std.proofs.Common.{◌≡◌, ◌<◌, ℕ, List, Some, slice_get}
 use Rattle.block_order.specs.declared.program.ControlBlock.{ControlBlock}
 use Rattle.block_order.specs.declared.program.ControlProgram.{ControlProgram}

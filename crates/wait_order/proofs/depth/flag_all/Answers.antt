@@ -1,5 +1,5 @@
--- One program more is gone through, and the flags are those that the programs so far call. For the
--- contract of `flag_all` (src/depth.rt).
+-- One program more is gone through, and the flags are those from before and those of what the
+-- reached programs so far call. For the contract of `flag_all` (src/depth.rt).
 use Rattle.std.proofs.Common.{◌≡◌, Some, length, sym, ap, ◌∙◌, arith}
 use Rattle.block_order.specs.ProgramPlaces.{flagged}
 use Rattle.wait_order.proofs.Called.{called_more}

@@ -1,4 +1,5 @@
--- The flags are those from before and those of the loud programs that the programs so far call.
+-- The flags are those from before and those of the loud programs that the reached ones of the
+-- programs so far call. A loud program comes to a wait or an end, itself or by its calls.
 -- What the loop of `flag_all` keeps (src/depth.rt).
 use Rattle.std.proofs.Common.{◌≡◌, ◌↔◌, ◌⊎◌, ℕ, true}
 use Rattle.wait_order.specs.Depth.{IsCalledBelow}

@@ -1,5 +1,5 @@
--- The flag of a called loud program is set; its place always lies within the flags. For the
--- contract of `flag_called` (src/depth.rt).
+-- The flag of a called loud program is set; its place always lies within the flags. A loud program
+-- has a wait or an end, or calls one that has. For the contract of `flag_called` (src/depth.rt).
 use Rattle.std.proofs.Common.{sym, ◌∙◌, arith}
 use Rattle.wait_order.proofs.Called.{flag_loud}
 use Rattle.block_order.proofs.Programs.{place_within}

@@ -1,5 +1,5 @@
--- One block more is gone through, and the flags are those that the blocks so far call. For the
--- contract of `flag_calls` (src/depth.rt).
+-- One block more is gone through, and the flags are those from before and those of what the blocks
+-- so far call. For the contract of `flag_calls` (src/depth.rt).
 use Rattle.std.proofs.Common.{◌≡◌, length, None, ◌∙◌, arith}
 use Rattle.block_order.specs.declared.control.Control.TheVariants.{Next}
 use Rattle.block_order.specs.ProgramPlaces.{flagged}

@@ -1,5 +1,6 @@
--- The flags are those from before and those of the loud programs that the blocks so far call. What
--- the loop of `flag_calls` keeps (src/depth.rt).
+-- The flags are those from before and those of the loud programs that the blocks so far call. A
+-- loud program has a wait or an end, or calls one that has. What the loop of `flag_calls` keeps
+-- (src/depth.rt).
 use Rattle.std.proofs.Common.{◌≡◌, ◌↔◌, ◌⊎◌, ℕ, true, List, length}
 use Rattle.block_order.specs.declared.program.ControlProgram.{ControlProgram}
 use Rattle.wait_order.specs.Depth.{HasLoudCallBelow}

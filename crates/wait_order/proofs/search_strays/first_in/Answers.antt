@@ -1,5 +1,6 @@
--- The first block in another stretch is the answer if it lies within the bounds; else none does.
--- For the contract of `first_in` (src/search_strays.rt).
+-- The first block in another stretch is the answer if it lies within the bounds; else none does. A
+-- stretch is the run of blocks up to a wait, an end, an M99 without a number, or a call that leads
+-- to a wait or an end. For the contract of `first_in` (src/search_strays.rt).
 use Rattle.std.proofs.Common.{arith}
 use Rattle.wait_order.proofs.Nearest.{first_inside, none_inside}
 use Rattle.wait_order.proofs.search_strays.first_in.Goals as goal

@@ -1,5 +1,5 @@
--- A long quiet program adds the search of its calls. For the contract of `note_calls`
--- (src/searches.rt).
+-- A long quiet program adds the search of its calls. A quiet program comes to no wait and no end;
+-- with more than 64 blocks it is long. For the contract of `note_calls` (src/searches.rt).
 use Rattle.std.proofs.Common.{◌+◌, sym, subst, ◌∙◌}
 use Rattle.wait_order.specs.Searches.{IsCallSearch, AreSearchesBelow}
 use Rattle.wait_order.proofs.Searching.{searches_more}

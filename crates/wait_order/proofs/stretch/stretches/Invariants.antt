@@ -1,5 +1,6 @@
--- The list so far and the stretches of the blocks ahead are those of all blocks. What the loop of
--- `stretches` keeps (src/stretch.rt).
+-- The list so far and the stretches of the blocks ahead are those of all blocks. A stretch is the
+-- run of blocks up to a wait, an end, an M99 without a number, or a call that leads to a wait or an
+-- end. What the loop of `stretches` keeps (src/stretch.rt).
 use Rattle.std.proofs.Common.{◌≡◌, ◌≤◌, ◌++◌, drop}
 use Rattle.block_order.specs.Heard.{heard}
 use Rattle.wait_order.specs.Stretches.{stretches_from}

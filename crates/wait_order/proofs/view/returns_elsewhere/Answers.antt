@@ -1,5 +1,6 @@
--- In a program of one stretch no return leads elsewhere. For the contract of `returns_elsewhere`
--- (src/view.rt).
+-- In a program of one stretch no return leads elsewhere. A stretch is the run of blocks up to a
+-- wait, an end, an M99 without a number, or a call that leads to a wait or an end. For the contract
+-- of `returns_elsewhere` (src/view.rt).
 use Rattle.wait_order.proofs.Elsewhere.{false_is_not_true}
 use Rattle.wait_order.proofs.view.returns_elsewhere.Goals as goal
 

@@ -1,5 +1,5 @@
--- The blocks so far have their ENDs and innermost loops, and `open` is the loop open next. What the
--- loop of `of` keeps (src/loops.rt).
+-- The blocks so far have their ENDs and innermost loops, and `open` is the head of the innermost
+-- loop that is open before the next block. What the loop of `of` keeps (src/loops.rt).
 use Rattle.std.proofs.Common.{◌≡◌, length}
 use Rattle.block_order.specs.Fitting.{innermost, IsInside, IsEnds}
 use Rattle.block_order.proofs.loops.LoopTable.of.Given as goal

@@ -1,5 +1,5 @@
--- The places so far and those of the programs ahead are those of the whole tape. What the loop of
--- `of` keeps (src/numbers.rt).
+-- Of each O number the place noted so far, or else that of the first program ahead with the number,
+-- is its place on the whole tape. What the loop of `of` keeps (src/numbers.rt).
 use Rattle.std.proofs.Common.{◌≡◌, ℕ, drop}
 use Rattle.block_order.specs.Order.{or_else}
 use Rattle.block_order.specs.Numbers.{place_kept}

@@ -1,5 +1,6 @@
 -- The nearest block that searches is the answer if it lies in another stretch; else the next one
--- after its stretch. For the contract of `first_other` (src/searchers.rt).
+-- after its stretch. A stretch is the run of blocks up to a wait, an end, an M99 without a number,
+-- or a call that leads to a wait or an end. For the contract of `first_other` (src/searchers.rt).
 use Rattle.std.proofs.Common.{slice_index, ap, ◌∙◌}
 use Rattle.wait_order.proofs.Nearest.{near_same, near_other}
 use Rattle.wait_order.proofs.searchers.SearchersAhead.first_other.Goals as goal

@@ -1,5 +1,5 @@
--- No block so far may lead to another stretch by itself; after all of them none may. For the
--- contract of `first_fixed_stray` (src/view.rt).
+-- No block so far may pass a wait without a search for several numbers; after all of them none may.
+-- For the contract of `first_fixed_stray` (src/view.rt).
 use Rattle.std.proofs.Common.{◌≡◌, Some, None, sym, ap, ◌∙◌, arith}
 use Rattle.block_order.specs.declared.control.Control.TheVariants.{Next}
 use Rattle.block_order.specs.Order.{control_at}

@@ -1,5 +1,5 @@
--- No block so far may lead to another stretch without a search for several numbers. What the loop
--- of `first_fixed_stray` keeps (src/view.rt).
+-- No block so far may pass a wait without a search for several numbers. What the loop of
+-- `first_fixed_stray` keeps (src/view.rt).
 use Rattle.std.proofs.Common.{◌≡◌, ◌<◌, ℕ, Some}
 use Rattle.block_order.specs.declared.control.Control.{Control}
 use Rattle.block_order.specs.Order.{control_at}

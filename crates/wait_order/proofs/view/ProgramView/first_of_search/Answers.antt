@@ -1,5 +1,7 @@
 -- In a program of one stretch, and in one in which no block searches, no block leads to another
--- stretch by the search. For the contract of `first_of_search` (src/view.rt).
+-- stretch by the search. A stretch is the run of blocks up to a wait, an end, an M99 without a
+-- number, or a call that leads to a wait or an end. For the contract of `first_of_search`
+-- (src/view.rt).
 use Rattle.std.proofs.Common.{◌≡◌, false, sym, ◌∙◌}
 use Rattle.block_order.specs.Loud.{loud}
 use Rattle.wait_order.specs.Searchers.{is_searcher, is_sought}

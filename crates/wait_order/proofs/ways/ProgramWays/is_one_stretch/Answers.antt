@@ -1,5 +1,6 @@
--- If the last block lies in the first stretch, no jump leads to another one. For the contract of
--- `is_one_stretch` (src/ways.rt).
+-- If the last block lies in the first stretch, no jump leads to another one. A stretch is the run
+-- of blocks up to a wait, an end, an M99 without a number, or a call that leads to a wait or an
+-- end. For the contract of `is_one_stretch` (src/ways.rt).
 use Rattle.std.proofs.Common.{◌≡◌, arith}
 use Rattle.std.proofs.lemmas.Bool.Decides.{nat_tests}
 use Rattle.wait_order.proofs.Elsewhere.{one_stretch}
