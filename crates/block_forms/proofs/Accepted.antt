@@ -35,7 +35,8 @@ all_in_range : (dialect : Dialect) (words : List FlowWord) → refusal_of dialec
 all_in_range dialect words none =
     last_of_eight (is_not_fixed dialect words) (is_unknown dialect.system words) (is_wait_not_alone dialect words) (is_wait_of_others dialect words) (has_two_m dialect.system words) (is_bad_call dialect words) (has_axis_twice dialect.system words) (is_out_of_range dialect words) none
 
--- If a block is not refused, a number of a letter with a range is in that range.
+-- If a block is not refused, the number of its last word of a letter with a range of whole numbers
+-- is in that range, if it writes one.
 number_within : (dialect : Dialect) (words : List FlowWord) (purpose : Purpose) (letter least greatest : ℕ) → refusal_of dialect words ≡ None → purpose_of dialect words ≡ purpose → range_of purpose letter ≡ Between least greatest → IsWithin least greatest (number_of (letter ∷ []) words)
 number_within dialect words purpose letter least greatest none is range =
     last_within purpose letter least greatest words range
@@ -46,8 +47,8 @@ weaker : (least greatest : ℕ) (number : Option ℕ) → IsWithin least greates
 weaker least greatest None is = tt
 weaker least greatest (Some n) is = is.1
 
--- If a block is not refused, a number of a letter with a range is at most the greatest of it, as a
--- cast needs it.
+-- If a block is not refused, the number of its last word of a letter with a range of whole numbers
+-- is at most the greatest of that range, as a cast needs it.
 pub number_at_most : (dialect : Dialect) (words : List FlowWord) (own purpose : Purpose) (letter least greatest : ℕ) → refusal_of dialect words ≡ None → own ≡ purpose_of dialect words → own ≡ purpose → range_of purpose letter ≡ Between least greatest → IfSome (number_of (letter ∷ []) words) (λ n. n ≤ greatest)
 number_at_most dialect words own purpose letter least greatest none is kind range =
     weaker least greatest _ (number_within dialect words purpose letter least greatest none (sym is ∙ kind) range)
@@ -80,7 +81,7 @@ repeats_within : (repeats : Option ℕ) → IsWithin 1 9999 repeats → (1 ≤ o
 repeats_within None r = (omega arith, omega arith)
 repeats_within (Some n) r = r
 
--- The P of a call is up to 99,999,999, also if there is none.
+-- The P of a call is up to 99,999,999; without a P it counts 0.
 p_within : (p : Option ℕ) → IsWithin 1 99999999 p → or_number 0 p ≤ 99999999
 p_within None is = omega arith
 p_within (Some n) is = is.1

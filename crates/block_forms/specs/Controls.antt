@@ -11,7 +11,7 @@ use Rattle.block_words.specs.declared.purpose.Purpose.TheVariants.{MacroCall, Su
 use Rattle.block_words.specs.Words.{last_whole}
 use Rattle.block_words.specs.Codes.{natural, m_codes, has_code, is_waiting, first_waiting, purpose_of}
 
--- The number that the last word of these letters says, if it is whole and not below 0.
+-- The number that the last word of these letters says, if it is written out, whole and not below 0.
 abbrev pub number_of : List ℕ → List FlowWord → Option ℕ
 number_of letters words = natural (last_whole letters words)
 
@@ -34,12 +34,12 @@ abbrev pub back_to : Option ℕ → Control
 back_to None = control.Back
 back_to (Some n) = control.BackTo n
 
--- A wait of this code; each wait has one.
+-- A wait of this code. Without a code it is the next block, but each block that waits has one.
 abbrev pub wait_at : Option ℕ → Control
 wait_at None = control.Next
 wait_at (Some code) = control.Wait code
 
--- The end of the path, if a word is M02 or M30; else the next block.
+-- The end of the path, if the block has M02 or M30; else the next block.
 abbrev pub end_or_next : List FlowWord → Control
 end_or_next words = if has_code 2 words || has_code 30 words then control.End else control.Next
 

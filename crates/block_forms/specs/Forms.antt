@@ -67,8 +67,8 @@ abbrev pub lesser : Option ℕ → ℕ → ℕ
 lesser None number = number
 lesser (Some before) number = if nat_le before number then before else number
 
--- What is answered if these words were read so far, and this is the least number of a refusal so
--- far, and the rest says that.
+-- What is answered if these words were read so far, this is the least number of a refusal so far,
+-- if there was one, and the rest says that.
 abbrev pub gathered : List FlowWord → Option ℕ → Result (List FlowWord) ℕ → Result (List FlowWord) ℕ
 gathered done None (Ok words) = Ok (done ++ words)
 gathered done None (Err number) = Err number
@@ -143,7 +143,7 @@ abbrev pub control_of_form : Form → Control
 control_of_form (OfWords dialect words) = control_of_words dialect words
 control_of_form (OfSentence sentence) = control_of_sentence sentence
 
--- A block of this line and sequence number.
+-- A block of this line and sequence number, which says this and does this to the order of blocks.
 abbrev pub form_at : ℕ → Option ℕ → Form → Control → BlockForm
 form_at line sequence form control = record { line = line; sequence = sequence; form = form; control = control }
 

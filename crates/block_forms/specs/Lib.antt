@@ -1,5 +1,6 @@
--- The words in which contracts speak of what a block says. Other crates cite Refusals, Controls,
--- Forms, Views, Blocks and Variables.
+-- The words in which contracts speak of what a block says. tape_flow, open_forms, path_state and
+-- five more crates above cite Refusals, Controls, Forms, Views, Blocks and Variables; Texts is
+-- cited in this crate alone.
 pub mod Refusals
 pub mod Controls
 pub mod Forms

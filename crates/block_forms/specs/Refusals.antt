@@ -1,6 +1,6 @@
 -- When a block of words is refused. Each refusal is a condition of the whole block, apart from the
--- others; `refusal_of` answers the least. Refusals of words that don't read are in Forms.
--- open_forms and wait_verify cite this.
+-- others; `refusal_of` answers the least. Refusals of words that don't read, and of too many
+-- variables, are in Forms. open_forms and wait_verify cite this.
 use Rattle.std.specs.Prelude.{◌≡◌, ◌≤◌, ℕ, Bool, true, false, not, ◌&&◌, ◌||◌, nat_lt, nat_le, List, [], ◌∷◌, length, map, Option, Some, None, codes, if◌then◌else◌}
 use Rattle.std.specs.List.{list_any}
 use Rattle.nc_number.specs.Causes.{cause_number}
@@ -42,8 +42,8 @@ abbrev pub is_unknown_letter : System → List FlowWord → ℕ → Bool
 is_unknown_letter system words letter =
     not (is_one_of (known_letters system) letter || (is_one_of (codes "Q") letter && gives system is_setting words))
 
--- The highest speed of the spindle, G50 or G92, is without S, or beside X, Z, U or W, which have no
--- meaning there.
+-- The highest speed of the spindle, G50 of system A or G92 of system B, is without S, or beside X,
+-- Z, U or W, which have no meaning there.
 abbrev pub is_bad_limit : System → List FlowWord → Bool
 is_bad_limit system words = gives system is_limit words && (not (has (codes "S") words) || has (codes "XZUW") words)
 
@@ -51,7 +51,7 @@ is_bad_limit system words = gives system is_limit words && (not (has (codes "S")
 abbrev pub is_bad_machine : System → List FlowWord → Bool
 is_bad_machine system words = gives system is_machine words && has (codes "UW") words
 
--- It is the row of a macro call.
+-- There is a row, and it is that of a macro call.
 abbrev pub is_macro_row : Option Row → Bool
 is_macro_row None = false
 is_macro_row (Some row) = is_macro_call row.kind
@@ -91,7 +91,7 @@ is_wait_of_others dialect words =
     waits_there dialect words && has (codes "P") words
     && (has_computed (codes "P") words || not (is_both dialect.bits (natural (last_whole (codes "P") words))))
 
--- 59: two M words outside a macro call.
+-- 59: more than one M word outside a macro call.
 abbrev pub has_two_m : System → List FlowWord → Bool
 has_two_m system words = not (gives system is_macro_call words) && nat_lt 1 (length (words_of (codes "M") words))
 
@@ -105,7 +105,7 @@ abbrev pub rises_behind : Option ℕ → List ℕ → Bool
 rises_behind before [] = true
 rises_behind before (letter ∷ letters) = is_above before letter && rises_behind (Some letter) letters
 
--- I, J and K of a macro call stand in the order of the alphabet, each once.
+-- I, J and K of a macro call stand in the order of the alphabet, each at most once.
 abbrev pub are_in_order : List FlowWord → Bool
 are_in_order words = rises_behind None (map (λ word. word.letter) (words_of (codes "IJK") words))
 

@@ -12,7 +12,8 @@ use Rattle.block_forms.specs.Forms.{word_of, all_words, has_many_variables}
 
 -- A refusal of this number holds of the text of a block.
 pub data RefusesText (dialect : Dialect) (texts : List Word) : ℕ → Type 0 where
-  -- A word does not read.
+  -- A word, which stands between those before it and those behind, does not read: it is refused by
+  -- this number.
   unread : (before behind : List Word) (word : Word) (number : ℕ) → texts ≡ before ++ word ∷ behind
       → word_of word ≡ Err number → RefusesText dialect texts number
   -- The words name more than 32 variables.

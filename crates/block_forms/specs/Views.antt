@@ -31,7 +31,8 @@ abbrev pub control_of : FlowBody → Control
 control_of (Words words) = control_of_words words.dialect words.words
 control_of (Statement statement) = control_of_sentence (sentence_of statement.statement)
 
--- How a block of this purpose calls: by G65, a macro, or by M98, a subprogram.
+-- How a block of this purpose calls: by G65, a macro, or by M98, a subprogram. It is asked of
+-- blocks that call; other purposes stand with the subprogram.
 abbrev pub kind_of_call : Purpose → CallKind
 kind_of_call purpose.MacroCall = Macro
 kind_of_call _ = Subprogram

@@ -12,6 +12,9 @@ use block_order::Control;
 use block_words::Purpose;
 
 /// A block that is not refused.
+///
+/// By its type its control is that of its body and one that is allowed, no refusal holds of what it
+/// says, and it names at most 32 variables.
 #[derive(Drop)]
 pub struct FlowBlock {
     /// The number of its line, from 1.

@@ -86,7 +86,7 @@ fn is_above(before: Option<u8>, letter: u8) -> bool
     }
 }
 
-/// Whether I, J and K stand in the order of the alphabet, each once.
+/// Whether I, J and K stand in the order of the alphabet, each at most once.
 #[tactic(auto, using(crate::proofs::InOrder::in_order_start))]
 fn are_in_order(words: &[FlowWord]) -> bool
     ensures { result ≡ are_in_order words.now }
@@ -179,7 +179,7 @@ impl FlowWords {
         }
     }
 
-    /// Whether the block waits for the other path.
+    /// Whether the block waits for the other path. A macro call does not: there M is an argument.
     fn waits_there(&self) -> bool
         ensures { result ≡ waits_there self.now.dialect self.now.words }
     {
@@ -211,7 +211,7 @@ impl FlowWords {
         self.waits_there() && has(words, b"P") && (has_computed(words, b"P") || !self.names_both())
     }
 
-    /// 59: whether there are two M words outside a macro call.
+    /// 59: whether there is more than one M word outside a macro call.
     fn has_two_m(&self) -> bool
         ensures { result ≡ has_two_m self.now.dialect.system self.now.words }
     {
@@ -226,7 +226,8 @@ impl FlowWords {
         (has_code(words, 98) || has_code(words, 99)) && (self.gives_dwell() || self.gives_setting())
     }
 
-    /// Whether a block that calls a macro lacks P, or its I, J and K are out of order.
+    /// Whether the P of a macro call is missing, or its I, J and K are out of order. Asked of
+    /// blocks that call a macro.
     fn is_bad_macro_call(&self) -> bool
         ensures { result ≡ is_bad_macro_call self.now.words }
     {

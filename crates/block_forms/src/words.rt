@@ -101,7 +101,7 @@ impl FlowWords {
         rows.iter().any(|row| matches!(row.kind, CodeKind::Setting))
     }
 
-    /// Whether the block limits the spindle's speed, G50 or G92.
+    /// Whether the block limits the spindle's speed, G50 of system A or G92 of system B.
     pub fn gives_limit(&self) -> bool
         ensures { result ≡ gives self.now.dialect.system is_limit self.now.words }
     {
@@ -125,8 +125,8 @@ impl FlowWords {
     }
 }
 
-/// What decides the meaning of P and L: a macro call; a call, a return or a wait; else the one-shot
-/// code in force.
+/// What decides the meaning of P and L: the first that the block has of a macro call, a call of a
+/// subprogram, a return and a wait; else the one-shot code in force.
 fn purpose_of(
     dialect: Dialect,
     words: &[FlowWord],

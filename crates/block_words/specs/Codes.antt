@@ -1,5 +1,5 @@
 -- The G and M codes of a block, and what they make of P and L. block_forms, open_forms,
--- block_values, path_state and other crates above cite this.
+-- block_values and six more crates above cite this.
 use Rattle.std.specs.Prelude.{ℕ, Bool, true, false, ◌==◌, ◌&&◌, nat_le, List, [], ◌∷◌, Option, Some, None, ℤ, pos, negsuc, codes, find, if◌then◌else◌}
 use Rattle.std.specs.List.{list_any, filter_map}
 use Rattle.code_tables.specs.declared.row.Row.{Row}
@@ -15,7 +15,7 @@ use Rattle.block_words.specs.declared.purpose.Purpose.{Purpose}
 use Rattle.block_words.specs.declared.purpose.Purpose.TheVariants as purpose
 use Rattle.block_words.specs.Words.{words_of, whole_value}
 
--- The number, if it is not below 0.
+-- The number, if there is one and it is not below 0.
 abbrev pub natural : Option ℤ → Option ℕ
 natural None = None
 natural (Some (pos n)) = Some n
@@ -30,7 +30,7 @@ row_of_number system (Some code) = row_of (rows_of_system system) code
 abbrev pub row_of_word : System → FlowWord → Option Row
 row_of_word system word = row_of_number system (natural (whole_value word.value))
 
--- The rows of the block's G words, in their order.
+-- The rows of the block's G words, in their order. A word that has none is left out.
 abbrev pub rows : System → List FlowWord → List Row
 rows system words = filter_map (row_of_word system) (words_of (codes "G") words)
 
@@ -48,7 +48,7 @@ abbrev pub is_setting : CodeKind → Bool
 is_setting Setting = true
 is_setting other = false
 
--- The code limits the spindle's speed, G50 or G92.
+-- The code limits the spindle's speed: G50 of system A, G92 of system B.
 abbrev pub is_limit : CodeKind → Bool
 is_limit Limit = true
 is_limit other = false
@@ -63,16 +63,16 @@ abbrev pub is_macro_call : CodeKind → Bool
 is_macro_call MacroCall = true
 is_macro_call other = false
 
--- The kind of a row.
+-- The kind of the row, if there is one.
 abbrev pub kind_of : Option Row → Option CodeKind
 kind_of None = None
 kind_of (Some row) = Some row.kind
 
--- The one-shot code that is in force: the last one of the block.
+-- The kind of the one-shot code that is in force: the last one of the block.
 abbrev pub one_shot : System → List FlowWord → Option CodeKind
 one_shot system words = kind_of (last_of_group (rows system words) ONE_SHOT_GROUP)
 
--- The numbers of the block's M words that are written out, in their order.
+-- The whole numbers from 0 on that the block's M words write out, in their order.
 abbrev pub m_codes : List FlowWord → List ℕ
 m_codes words = filter_map (λ word. natural (whole_value word.value)) (words_of (codes "M") words)
 
@@ -108,8 +108,8 @@ purpose_by (Some Dwell) = purpose.Dwell
 purpose_by (Some Setting) = purpose.Setting
 purpose_by other = purpose.Other
 
--- What decides the meaning of P and L: a macro call; a call, a return or a wait; else the one-shot
--- code in force.
+-- What decides the meaning of P and L: the first that the block has of a macro call, a call of a
+-- subprogram, a return and a wait; else the one-shot code in force.
 abbrev pub purpose_of : Dialect → List FlowWord → Purpose
 purpose_of dialect words =
     if gives dialect.system is_macro_call words then purpose.MacroCall
@@ -118,7 +118,7 @@ purpose_of dialect words =
     else if has_wait dialect words then purpose.Wait
     else purpose_by (one_shot dialect.system words)
 
--- The block calls a macro, so that M is an argument in it.
+-- The purpose is that of a macro call, in which M is an argument.
 abbrev pub is_macro : Purpose → Bool
 is_macro purpose.MacroCall = true
 is_macro _ = false

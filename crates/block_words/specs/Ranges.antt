@@ -28,7 +28,7 @@ fits Whole literal = is_some (whole_of literal.value)
 fits (Between least greatest) literal = is_between least greatest (whole_of literal.value)
 
 -- P: milliseconds of a dwell; the number of an offset; a program, with repeats before its four
--- digits or without; the sequence number of a return; the program of a macro call.
+-- digits or without; the sequence number of a return; the program of a macro call; else any number.
 abbrev pub range_of_p : Purpose → Range
 range_of_p MacroCall = Between 1 9999
 range_of_p Subprogram = Between 1 99999999
@@ -38,7 +38,7 @@ range_of_p Dwell = Between 0 99999999
 range_of_p Setting = Whole
 range_of_p Other = Any
 
--- L: repeats of a call; the kind of an offset.
+-- L: repeats of a call; the kind of an offset; else any number.
 abbrev pub range_of_l : Purpose → Range
 range_of_l MacroCall = Between 1 9999
 range_of_l Subprogram = Between 1 9999
@@ -53,7 +53,8 @@ abbrev pub range_of_way : Purpose → Range
 range_of_way Dwell = NotNegative
 range_of_way _ = Any
 
--- Outside a macro call: F is 0 or more, S at most 99,999, T at most 9,999, M at most 999.
+-- Outside a macro call: P, L, X and U as the purpose says; F is 0 or more; S, T and M are whole
+-- numbers from 0 on, up to 99,999, 9,999 and 999; other letters are any number.
 abbrev pub range_of_letter : Purpose → ℕ → Range
 range_of_letter purpose letter =
     if is_one_of (codes "P") letter then range_of_p purpose
@@ -65,7 +66,8 @@ range_of_letter purpose letter =
     else if is_one_of (codes "M") letter then Between 0 999
     else Any
 
--- In a macro call all but P and L are arguments, of any number.
+-- In a macro call P and L have the ranges of the call; all other letters are arguments, of any
+-- number.
 abbrev pub range_of_argument : ℕ → Range
 range_of_argument letter =
     if is_one_of (codes "P") letter then range_of_p MacroCall

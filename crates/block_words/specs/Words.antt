@@ -1,5 +1,5 @@
--- The words of a block, looked at by their letters. block_forms, open_forms, block_values and
--- crates above read this.
+-- The words of a block, looked at by their letters. block_forms, open_forms, block_values and four
+-- more crates above read this.
 use Rattle.std.specs.Prelude.{ℕ, Bool, true, false, ◌==◌, List, Option, Some, None, ℤ, filter}
 use Rattle.std.specs.List.{list_any}
 use Rattle.nc_number.specs.Arithmetic.{whole_of}
@@ -29,12 +29,13 @@ is_computed (Computed minus tree) = true
 abbrev pub has_computed : List ℕ → List FlowWord → Bool
 has_computed letters words = list_any (λ word. is_computed word.value) (words_of letters words)
 
--- The whole number that is written out.
+-- The whole number that the value is, if it is written out; it may have a point, with a fraction of
+-- 0.
 abbrev pub whole_value : WordValue → Option ℤ
 whole_value (Fixed literal) = whole_of literal.value
 whole_value (Computed minus tree) = None
 
--- The value of a word, if there is one.
+-- The value of the word, if there is a word.
 abbrev pub value_of_last : Option FlowWord → Option WordValue
 value_of_last None = None
 value_of_last (Some word) = Some word.value
@@ -43,11 +44,11 @@ value_of_last (Some word) = Some word.value
 abbrev pub last_value : List ℕ → List FlowWord → Option WordValue
 last_value letters words = value_of_last (last_of (words_of letters words))
 
--- The whole number of a value, if there is one.
+-- The whole number that the value writes out, if there is a value and it is one.
 abbrev pub whole_of_last : Option WordValue → Option ℤ
 whole_of_last None = None
 whole_of_last (Some value) = whole_value value
 
--- The whole number of the last word of these letters.
+-- The whole number that the last word of these letters writes out, if it writes one.
 abbrev pub last_whole : List ℕ → List FlowWord → Option ℤ
 last_whole letters words = whole_of_last (last_value letters words)

@@ -46,14 +46,14 @@ pub fn rows_of(alloc: Global, system: System, words: &[FlowWord]) -> Result<RowL
     Ok(RowList::of(rows))
 }
 
-/// Of these rows the one-shot code that is in force: the last one.
+/// The kind of the one-shot code that is in force: of the last of these rows that is one.
 pub fn one_shot_of(rows: &[Row]) -> Option<CodeKind>
     ensures { result ≡ kind_of (last_of_group rows.now ONE_SHOT_GROUP) }
 {
     last_of_group(rows, ONE_SHOT_GROUP).map(|row| row.kind)
 }
 
-/// The first M code of the block that is written out.
+/// The first M code that the block writes out as a whole number from 0 on.
 pub fn first_code(words: &[FlowWord]) -> Option<u32>
     ensures value { result ≡ m_code words.now }
     ensures range { IfSome result (λ code. code ≤ 99999999) }

@@ -1,5 +1,5 @@
-//! The words of a block by their letters. A letter is its byte, in upper case. block_forms,
-//! open_forms and block_values call these.
+//! The words of a block by their letters. A letter is its byte, in upper case. block_forms and
+//! block_values call these; open_forms and open_order call `is_one_of`.
 ghost use Rattle.std.specs.Prelude.{◌≡◌, ◌≤◌, IfSome, length, if◌then◌else◌};
 ghost use Rattle.block_words.specs.Words.{is_one_of, words_of, has, has_computed, whole_value, last_whole};
 ghost use Rattle.block_words.specs.Codes.{natural};

@@ -16,7 +16,7 @@ pub enum Range {
     NotNegative,
     /// A number without a fraction.
     Whole,
-    /// A number without a fraction, from the one to the other.
+    /// A number without a fraction, from the least to the greatest, both included.
     Between { least: u32, greatest: u32 },
 }
 
@@ -28,7 +28,8 @@ fn between(least: u32, greatest: u32) -> Range
 }
 
 /// The range of P: milliseconds of a dwell; the number of an offset; a program, with repeats before
-/// its four digits or without; the sequence number of a return; the program of a macro call.
+/// its four digits or without; the sequence number of a return; the program of a macro call; else
+/// any number.
 fn range_of_p(purpose: Purpose) -> Range
     ensures { result ≡ range_of_p purpose }
 {
@@ -42,7 +43,7 @@ fn range_of_p(purpose: Purpose) -> Range
     }
 }
 
-/// The range of L: repeats of a call; the kind of an offset.
+/// The range of L: repeats of a call; the kind of an offset; else any number.
 fn range_of_l(purpose: Purpose) -> Range
     ensures { result ≡ range_of_l purpose }
 {
@@ -80,7 +81,8 @@ fn range_of_letter(purpose: Purpose, letter: u8) -> Range
     }
 }
 
-/// The range of a word of a macro call: all but P and L are arguments, of any number.
+/// The range of a word of a macro call: P and L have those of the call, and all other letters are
+/// arguments, of any number.
 fn range_of_argument(letter: u8) -> Range
     ensures { result ≡ range_of_argument letter }
 {

@@ -10,8 +10,8 @@ use nc_number::{ListOf, Literal};
 pub enum WordValue {
     /// A number that is written out.
     Fixed(Literal),
-    /// A variable or a bracketed expression, after the word's own sign. Contracts see the code as
-    /// the tree of its text.
+    /// A variable or a bracketed expression, after the word's own sign, which is a minus or none.
+    /// Contracts see the code as the tree of its text.
     Computed { minus: bool, code: Code },
 }
 

@@ -1,5 +1,6 @@
 -- How many plain blocks a form with so many passes stands for: the code counts its blocks to know
--- its passes (`is_short`, src/form.rt).
+-- its passes (`is_short`, src/form.rt). 4,004 is four blocks for each of 1,000 passes, and four
+-- more.
 use Rattle.std.proofs.Common.{◌≡◌, ℕ, ◌+◌, ◌*◌, Bool, true, false, List, [], ◌∷◌, length, map, refl, arith}
 use Rattle.std.specs.Prelude.{nat_le}
 use Rattle.std.specs.List.{flat_map}

@@ -96,7 +96,7 @@ at_skip marks from (suc skip) new done blocks i b all at more less so_far =
 abbrev pub found_at : List Bool → ℕ → List PartView → List Block → ℕ → Block → Found
 found_at marks from done blocks i b = part_in marks (take i blocks) (drop from done) b (drop i blocks)
 
--- What begins in the block at this place is what begins in it apart from the blocks after it.
+-- What begins in the block at this place begins in it as the first of the blocks from there on.
 found_is : (marks : List Bool) (from : ℕ) (done : List PartView) (blocks : List Block) (i : ℕ) (b : Block) (what : Found) → IsAt blocks i b
     → found_at marks from done blocks i b ≡ what → part_in marks (take i blocks) (drop from done) b (b ∷ drop (i + 1) blocks) ≡ what
 found_is marks from done blocks i b what at e = ap (part_in marks (take i blocks) (drop from done) b) (sym (rest_is blocks i b at)) ∙ e

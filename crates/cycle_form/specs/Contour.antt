@@ -19,7 +19,7 @@ unfoldable pub behind_line : List Word → List Word
 behind_line words = if is_code (pos 1) (literal_at words 0 71) then drop 1 words else words
 
 -- The point that X, Z, or both in either order lead to. An axis that is not named stays where it
--- was; other words make it none.
+-- was; there is none if the words are none or others.
 unfoldable pub target_of : Point → List Word → Option Point
 target_of from words =
     if length words == 1 then one_axis (length_at words 0 88) (length_at words 0 90)
@@ -35,7 +35,8 @@ target_of from words =
     two_axes x z (Some late) (Some early) = Some (record { x = late; z = early })
     two_axes x z late early = None
 
--- Where a block of the contour leads; none if it has other words.
+-- Where a block of the contour leads from this point; none if it is a statement, names no axis, or
+-- has other words.
 unfoldable pub contour_point : Point → Body → Option Point
 contour_point from body = do
   words ← words_of body

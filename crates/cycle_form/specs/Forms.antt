@@ -39,15 +39,16 @@ abbrev pub descends : Point → List Point → Bool
 descends p [] = true
 descends p (q ∷ points) = goes_down p q && descends q points
 
--- Whether the last X of a contour with its allowance in X is at most the start's.
+-- Whether the last X of a contour with its allowance in X (`across`) is at most the start's.
 abbrev pub is_below_start : Point → ℕ → Point → Bool
 is_below_start last across start = int_le (last.x +ℤ pos across) start.x
 
--- Whether the contour descends and ends below the start.
+-- Whether the contour descends, and its last X with the allowance is at most the start's.
 abbrev pub is_form : Rough → Bool
 is_form r = descends r.first r.points && is_below_start (last_of r.first r.points) r.across r.start
 
--- Whether there are at most 1,000 passes. Passes are counted up to 1,001.
+-- Whether there are at most 1,000 passes. Passes are counted up to 1,001, which is `TRIED` of
+-- rough_cycle; 1,000 is `MOST_PASSES` (src/form.rt).
 abbrev pub is_short : Rough → Bool
 is_short r = nat_le (length (passes_from r 1 1001)) 1000
 
@@ -67,8 +68,8 @@ roughing_part head points blocks = record {
   lines = map (λ block. block.line) blocks;
 }
 
--- The part of a form, if its contour is one, it has few passes, and no line of it has a skip sign
--- or a comment.
+-- The part of a form that starts in the block `a`, if its contour is one, it has at most 1,000
+-- passes, and no line of it has a skip sign or a comment (`marks`).
 abbrev pub form_of : List Bool → Block → Head → List Point → List Block → Option PartView
 form_of marks a head points blocks =
     if (is_form (rough_by head points) && is_short (rough_by head points)) && (is_plain marks a && list_all (is_plain marks) blocks)
@@ -93,7 +94,8 @@ finish_call_of words =
       feed ← feed_at words 3 70
       Some (record { first = first; last = last; feed = feed })) else None
 
--- The place i if this part is a form with these numbers, else the place found before.
+-- The place i if this part is a G71 along the contour between these sequence numbers, else the
+-- place found before.
 abbrev pub later : ℕ → ℕ → PartView → ℕ → Option ℕ → Option ℕ
 later first last part i found = if is_called first last part then Some i else found
 
@@ -141,8 +143,8 @@ finish_call_in block = do
   finish_call_of words
 
 -- The part of the G70 in the block `b`, from the start in the block `a` before it, along the
--- contour of the latest form of these parts with its numbers; no line of both blocks may have a
--- mark.
+-- contour of the latest form of these parts with its numbers; neither block's line may have a skip
+-- sign or a comment (`marks`).
 unfoldable pub finish_at : List Bool → Block → Block → List PartView → Option PartView
 finish_at marks a b done = do
   start ← start_in a

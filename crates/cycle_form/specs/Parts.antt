@@ -29,7 +29,8 @@ abbrev pub IsSoundStart : Rough → PartKind → Type 0
 IsSoundStart r Roughing = Unit {0}
 IsSoundStart r (Finishing start) = IsFinishStart r start
 
--- A part is sound: by its type each part of the code is.
+-- A part is sound: its form is one, its lengths can be written, and its start fits. By its type
+-- each part of the code is.
 pub record IsSoundPart (part : PartView) : Type 0 where
   -- its contour and its cut are a form
   pub form : IsForm part.rough
@@ -38,7 +39,8 @@ pub record IsSoundPart (part : PartView) : Type 0 where
   -- a finish starts above and before the contour
   pub start : IsSoundStart part.rough part.kind
 
--- The plain blocks that a form stands for, by what the part does. At most 1,001 passes are made.
+-- The plain blocks that a form stands for, by what the part does. At most 1,001 passes are made
+-- (`TRIED` of rough_cycle).
 abbrev pub blocks_by : Rough → PartKind → List PlainBlock
 blocks_by r Roughing = rough_blocks r 1001
 blocks_by r (Finishing start) = finish_blocks r start
@@ -53,7 +55,8 @@ abbrev pub AreClearOf : Rough → PartKind → List PlainBlock → Type 0
 AreClearOf r Roughing blocks = AreClear (first_moved r) (points_moved r) r.start blocks
 AreClearOf r (Finishing start) blocks = AreClear r.first r.points start blocks
 
--- No whole point on a move of the blocks of this part lies inside its contour.
+-- No whole point on a move of the blocks of this part lies inside its contour, of a G71 the one
+-- with its allowances.
 abbrev pub IsClearPart : PartView → Type 0
 IsClearPart part = AreClearOf part.rough part.kind (part_blocks part)
 

@@ -51,7 +51,8 @@ abbrev pub finish_behind : List Bool → List Block → Block → List PartView 
 finish_behind marks passed block done = block_before passed >>= (λ a. finish_at marks a block done)
 
 -- What begins in a block: nothing, a part, or a cycle that is part of no form. It depends on the
--- blocks that were passed, on the parts of the program so far, and on the blocks from this one on.
+-- lines with a skip sign or a comment (`marks`), on the blocks that were passed, on the parts of
+-- the program so far (`done`), and on the blocks from this one on (`rest`).
 abbrev pub part_in : List Bool → List Block → List PartView → Block → List Block → Found
 part_in marks passed done block rest =
     if has_code (pos 71) block.body then part_or_bad (form_behind marks passed rest)

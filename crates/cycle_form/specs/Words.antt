@@ -1,5 +1,6 @@
 -- The words that a form may have, read as literals, lengths and codes. src/words.rt reads them;
--- Contour, Head, Forms and Walk cite them. A letter is its byte: 71 G, 88 X, 90 Z.
+-- Contour, Head, Forms and Walk cite them. A letter is its byte: 71 G, 88 X, 90 Z. The place of a
+-- word is its index in its block, from 0.
 use Rattle.std.specs.Prelude.{ℕ, Bool, false, ◌==◌, List, length, Option, Some, None, Result, Ok, Err, ℤ, pos, slice_get, if◌then◌else◌}
 use Rattle.std.specs.Ordering.{int_eq}
 use Rattle.nc_number.specs.declared.literal.Literal.{Literal}

@@ -23,7 +23,7 @@ fn behind_line(words: &[Word]) -> &[Word]
 }
 
 /// The point that X, Z or both lead to, in 0.001 mm. An axis that is not named stays where it is;
-/// other words make it none.
+/// there is none if the words are none or others.
 #[tactic(auto, unfolding(crate::specs::Contour::target_of))]
 fn target_of(from: &Point, words: &[Word]) -> Option<Point>
     requires { IsWritten from.now }
@@ -50,7 +50,7 @@ fn target_of(from: &Point, words: &[Word]) -> Option<Point>
 }
 
 /// The point that a block of a contour leads to. It has no word but G01 and its axes; any other
-/// block ends the form.
+/// block leads nowhere, and so there is no form.
 #[tactic(auto, unfolding(crate::specs::Contour::contour_point))]
 fn contour_point(from: &Point, body: &Body) -> Option<Point>
     requires { IsWritten from.now }

@@ -40,8 +40,8 @@ fn finish_call_of(words: &[Word]) -> Option<FinishCall>
     Some(FinishCall { first, last, feed })
 }
 
-/// The place i if this part is a form with these numbers, else the place found before: a later form
-/// replaces an earlier one.
+/// The place i if this part is a G71 along the contour between these sequence numbers, else the
+/// place found before: a later form replaces an earlier one.
 fn later(first: u32, last: u32, part: &Part, i: usize, found: Option<usize>) -> Option<usize>
     ensures { result ≡ later first last part.now i found }
 {
@@ -146,8 +146,8 @@ fn finish_by(
 }
 
 /// The part of the G70 in `b`, from the start in the block `a` before it, along the contour of the
-/// latest form of these parts with its numbers; none if there is none of these. The only error is
-/// out of memory.
+/// latest form of these parts with its numbers; none if one of these is missing, or a line of the
+/// two has a skip sign or a comment (`marks`). The only error is out of memory.
 #[tactic(auto, unfolding(crate::specs::Forms::finish_at))]
 pub(crate) fn finish_at(
     alloc: Global,

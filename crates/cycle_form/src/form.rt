@@ -17,7 +17,8 @@ use nc_text::Block;
 use rough_cycle::RoughForm;
 use std::alloc::{AllocError, Global};
 
-/// The most passes that a form may have.
+/// The most passes that a form may have. `TRIED` of rough_cycle and the numbers 1,000 and 1,001 of
+/// specs/Forms and Parts go with it.
 const MOST_PASSES: u128 = 1_000;
 
 /// The part of the form that begins with the block `a` and goes on with `rest`; none if that is no
@@ -42,8 +43,9 @@ pub(crate) fn form_at(
     form_of(alloc, marks, a, &head, points, blocks)
 }
 
-/// The part of a form of this head and these points; none if the contour is none, if it has too
-/// many passes, or if a skip sign or a comment is in it. The only error is out of memory.
+/// The part of a form of this head and these points, which starts in `a` and goes on with `blocks`;
+/// none if the contour is none, if it has too many passes, or if a skip sign or a comment is in a
+/// line of it. The only error is out of memory.
 fn form_of(
     alloc: Global,
     marks: &[bool],
@@ -98,8 +100,9 @@ fn rough_by(head: &Head, points: Vec<Point>) -> RoughForm
     }
 }
 
-/// Whether the contour descends and ends below the start: all conditions of a form but for its
-/// count of passes.
+/// Whether the contour descends, and its last X with the allowance is at most the start's. The
+/// other conditions of a form hold of each head; the count of passes and the lines are asked for
+/// apart (`form_of`).
 fn is_form(rough: &RoughForm) -> bool
     requires { IsNearForm (rough_of rough.now) }
     ensures { result ≡ is_form (rough_of rough.now) }
@@ -108,8 +111,8 @@ fn is_form(rough: &RoughForm) -> bool
     descends(&rough.first, &rough.points) && is_below_start(&last, rough.across, &rough.start)
 }
 
-/// Whether the last X of a contour with its allowance is at most the start's. Lengths are in 0.001
-/// mm.
+/// Whether the last X of a contour with its allowance in X (`across`) is at most the start's.
+/// Lengths are in 0.001 mm.
 fn is_below_start(last: &Point, across: u64, start: &Point) -> bool
     requires last { IsWritten last.now }
     requires across { across ≤ 100000000000 }

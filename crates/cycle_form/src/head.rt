@@ -13,7 +13,7 @@ use nc_text::{Block, Body, Word};
 pub struct Cut {
     /// How deep each pass cuts: a radius, above 0.
     pub depth: u64,
-    /// How far the tool draws back after a pass.
+    /// How far the tool draws back after a pass, as a radius in X and along Z.
     pub retreat: u64,
 }
 
@@ -125,7 +125,7 @@ fn call_of(words: &[Word]) -> Option<Call>
     })
 }
 
-/// The words of a block without a sequence number.
+/// The words of a block that has no sequence number and is no statement.
 #[tactic(auto, unfolding(crate::specs::Head::plain_words))]
 pub(crate) fn plain_words(block: &Block) -> Option<&[Word]>
     ensures { option_map (λ words. words.now) result ≡ plain_words block.now }

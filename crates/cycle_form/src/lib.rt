@@ -2,8 +2,8 @@
 //!
 //! `parts_of` finds the parts of a tape that its roughing cycles stand for, in the order of the
 //! text, or the first block with G70 or G71 that is part of no form. A `Part` is sound by its type:
-//! the layer above has its blocks, which never enter the contour (`a_sound_part_is_clear`).
-//! tape_expand writes these parts out; lathe_looks prints the refusals.
+//! the moves of its blocks never enter its contour (`a_sound_part_is_clear`). tape_expand writes
+//! these parts out; lathe_looks prints the refusals.
 #![tactic(auto)]
 
 mod contour;

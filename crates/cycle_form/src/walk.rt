@@ -98,8 +98,10 @@ fn finish_behind(
     }
 }
 
-/// What begins in a block. If it has both G71 and G70, it is taken for a G71. The only error is out
-/// of memory.
+/// What begins in a block. `passed` are the blocks of its program before it, `rest` those from it
+/// on, `done` the parts of the program so far; `marks` says which lines have a skip sign or a
+/// comment. If the block has both G71 and G70, it is taken for a G71. The only error is out of
+/// memory.
 fn part_in(
     alloc: Global,
     marks: &[bool],
@@ -122,8 +124,8 @@ fn part_in(
     Ok(Found::Nothing)
 }
 
-/// The parts so far, and those of a program. Errors: 93 at the first block with a cycle that is
-/// part of no form; out of memory.
+/// The parts so far, and those of a program of these blocks. Errors: 93 at the first block with a
+/// cycle that is part of no form; out of memory.
 fn with_program(
     alloc: Global,
     marks: &[bool],

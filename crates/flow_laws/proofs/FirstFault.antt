@@ -17,7 +17,9 @@ same_place line other_line n m (inl a) (inr b) = absurd (omega (arith, b.0))
 same_place line other_line n m (inr a) (inl b) = absurd (omega (arith, a.0))
 same_place line other_line n m (inr a) (inr b) = (a.0, omega (arith, a.1, b.1))
 
--- The fault is the first of this stage, and the stages before have none.
+-- The fault is the first of this stage, and the stages before have none. A stage is one of the
+-- three in which faults are looked for: programs and loops (Fitting), jumps and calls (Finding),
+-- waits (Waiting).
 record IsFirstIn (tape : List ControlProgram) (stage : Stage) (line : ℕ) (cause : Cause) : Type 0 where
   -- The stages before have no fault.
   before : IsClearBefore tape stage

@@ -1,4 +1,5 @@
--- A tape has one answer, its programs or one refusal: the laws of src/tape.rt on that. First come
+-- A tape whose blocks stand on rising lines has one answer, its programs or one refusal: the laws
+-- of src/tape.rt on that. First come
 -- its blocks, then that there is one refusal, then that there is some answer.
 use Rattle.std.proofs.Common.{◌≡◌, ℕ, zero, suc, ◌<◌, ◌≤◌, ◌⊎◌, inl, inr, List, [], ◌∷◌, map, Some, None, Result, Ok, Err, Contains, refl, ap, sym, subst, ◌∙◌, arith}
 use Rattle.nc_number.specs.Causes.{cause_number}
@@ -36,7 +37,7 @@ behind (x ∷ xs) low y rise has = elim (here_or_later x xs y has) [
   | inr later ↦ let more : x.line < y.line = behind xs x.line y rise.1 later in omega (arith, rise.0)
 ]
 
--- Two blocks of a tape that stand on one line are the same block.
+-- Two blocks of a list with rising lines that stand on one line are the same block.
 one_block : (xs : List Block) (low : ℕ) (a b : Block) → RiseFrom low (map (λ x. x.line) xs) → Contains xs a → Contains xs b
     → a.line ≡ b.line → a ≡ b
 one_block [] low a b rise has other same = absurd (none_there a has)
@@ -81,7 +82,7 @@ no_block_fault dialect tape programs line number read has =
     (nothing_found (programs_read dialect tape) programs (first_refusal dialect (blocks_in tape)) (programs_tell dialect tape []) read) has.0
     number has.1 has.3
 
--- Two faults of blocks on one line have one number.
+-- If the blocks of a tape stand on rising lines, two faults of blocks on one line have one number.
 one_block_fault : (dialect : Dialect) (tape : List Program) (line other_line number other : ℕ) → HasRisingBlocks tape
     → line ≡ other_line → HasBlockFault dialect tape line number → HasBlockFault dialect tape other_line other → number ≡ other
 one_block_fault dialect tape line other_line number other rising same a b =
@@ -90,7 +91,8 @@ one_block_fault dialect tape line other_line number other rising same a b =
     let refused : block_or_refusal dialect b.0 ≡ Err number = subst (λ x. block_or_refusal dialect x ≡ Err number) blocks a.3 in
     let both : ◌≡◌ {A = Result BlockForm ℕ} (Err number) (Err other) = sym refused ∙ b.3 in cc
 
--- The law: a tape that is refused is refused at one line, by one number.
+-- The law: a tape whose blocks stand on rising lines, if it is refused, is refused at one line, by
+-- one number.
 pub one_refusal : HasOneFirst → (dialect : Dialect) (tape : List Program) (line other_line number other : ℕ) → HasRisingBlocks tape
     → IsRefused dialect tape line number → IsRefused dialect tape other_line other → (line ≡ other_line) × (number ≡ other)
 one_refusal law dialect tape line other_line number other rising (block a first) (block b other_first) =

@@ -1,5 +1,5 @@
--- The blocks of a tape that was read stand on rising lines (the law of src/lines.rt). It is an
--- invariant of each line that is read.
+-- The blocks of a tape that was read stand on rising lines (the law of src/lines.rt). Each line
+-- that is read keeps this of the blocks so far.
 use Rattle.std.proofs.Common.{◌≡◌, ℕ, ◌+◌, Bool, true, false, List, [], ◌∷◌, ◌++◌, length, map, Option, Some, None, Result, Ok, Err, refl, ap, sym, subst, ◌∙◌, arith, append_assoc, if◌then◌else◌}
 use Rattle.std.specs.Prelude.{IfOk}
 use Rattle.std.specs.Option.{option_to_list, is_none}

@@ -1,5 +1,6 @@
 -- The faults of waits deny exactly that a tape has one list of labels: the law
--- `a_tape_has_one_list_where_no_wait_is_at_fault` (src/order.rt).
+-- `a_tape_has_one_list_where_no_wait_is_at_fault` (src/order.rt). What a stretch and a loud program
+-- are is said in specs/Waits.
 use Rattle.std.proofs.Common.{◌≡◌, ℕ, ◌⊎◌, inl, inr, List, Some, refl, ap, ◌∙◌}
 use Rattle.nc_number.specs.declared.cause.Cause.{Cause}
 use Rattle.nc_number.specs.declared.cause.Cause.TheVariants.{BranchAtWait, WaitTooDeep}
@@ -13,7 +14,7 @@ use Rattle.block_order.proofs.CallChains.{chain_before}
 use Rattle.block_order.proofs.Faultless.{nothing_strays, chains_are_short}
 use Rattle.flow_laws.specs.Waits.{AreWaitFaultsExact}
 
--- In a straight tape no block may pass a wait.
+-- In a straight tape, in which nothing leads from one stretch to another, no block may pass a wait.
 no_stray : (tape : List ControlProgram) (program place : ℕ) (block : ControlBlock) → IsStraight tape → Stands tape program place block
     → Strays tape program place block → ⊥
 no_stray tape program place block is stands (jump target counts to differ) =
@@ -29,7 +30,7 @@ IsWaitFault tape cause =
     ((cause ≡ BranchAtWait) × (IsStraight tape → ⊥)) ⊎ ((cause ≡ WaitTooDeep) × Chain tape 9 (main_number tape))
 
 -- A fault of the stage of waits is a 65, on a tape that is not straight, or a 66, on one in whose
--- main program a chain of nine calls begins.
+-- main program a chain of nine calls of loud programs begins.
 wait_fault : (tape : List ControlProgram) (stage : Stage) (line : ℕ) (cause : Cause) → HasFault tape stage line cause → stage ≡ Waiting
     → IsWaitFault tape cause
 wait_fault tape _ _ _ (twice before after program is again) e = absurd cc
@@ -49,7 +50,7 @@ no_strays tape own line fault = elim (wait_fault tape Waiting line BranchAtWait 
   | inr other ↦ absurd (let e : BranchAtWait ≡ WaitTooDeep = other.0 in cc)
 ]
 
--- A tape without a chain of nine calls has no fault 66.
+-- A tape in whose main program no chain of nine calls of loud programs begins has no fault 66.
 no_deep : (tape : List ControlProgram) → (Chain tape 9 (main_number tape) → ⊥) → IsFreeOf tape WaitTooDeep
 no_deep tape own line fault = elim (wait_fault tape Waiting line WaitTooDeep fault refl) [
   | inl other ↦ absurd (let e : WaitTooDeep ≡ BranchAtWait = other.0 in cc)

@@ -1,5 +1,6 @@
--- Which tapes are accepted, said by their lists of labels and without the faults of waits. For the
--- law `a_tape_is_accepted_exactly_with_one_list` (src/tape.rt) alone.
+-- Which tapes are accepted, said by their lists of labels (waits and ends, in order) and without
+-- the faults of waits. The law `a_tape_is_accepted_exactly_with_one_list` (src/tape.rt) is said by
+-- it; no other crate cites it.
 use Rattle.std.specs.Prelude.{◌≡◌, List, Ok}
 use Rattle.nc_text.specs.declared.tape.Program.{Program}
 use Rattle.block_words.specs.declared.dialect.Dialect.{Dialect}

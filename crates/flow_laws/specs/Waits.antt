@@ -1,5 +1,8 @@
--- What the two faults of waits deny: 65 is BranchAtWait, 66 is WaitTooDeep. For the law
--- `a_tape_has_one_list_where_no_wait_is_at_fault` (src/order.rt) alone.
+-- What the two faults of waits deny: 65 is BranchAtWait, 66 is WaitTooDeep. A program is loud if it
+-- comes to a wait or an end, itself or by its calls. A stretch is the blocks of a program up to and
+-- with the next mark: a wait, an end, an M99 without P, or a call of a loud program
+-- (block_order/specs/Loud). The law `a_tape_has_one_list_where_no_wait_is_at_fault` (src/order.rt)
+-- is said by this; no other crate cites it.
 use Rattle.std.specs.Prelude.{◌↔◌, List}
 use Rattle.nc_number.specs.declared.cause.Cause.TheVariants.{BranchAtWait, WaitTooDeep}
 use Rattle.block_order.specs.declared.program.ControlProgram.{ControlProgram}

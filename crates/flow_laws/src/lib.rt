@@ -3,7 +3,8 @@
 //!
 //! Each law is the contract of a function that does nothing: who calls it has the law. They speak
 //! of definitions alone, of what is read, accepted and refused, whatever code finds it. nc_verify
-//! and wait_verify call them.
+//! and wait_verify call most of them; the two laws on one list of labels are for readers, and no
+//! other crate calls them.
 #![tactic(auto)]
 
 mod lines;

@@ -10,8 +10,9 @@ ghost use Rattle.flow_laws.specs.Waits.{AreWaitFaultsExact};
 /// hold.
 ///
 /// No block is refused by 65 exactly if no jump, no end of a loop and no return leads from one
-/// stretch to another; and none by 66 exactly if no chain of nine calls of loud programs begins in
-/// the main program.
+/// stretch (the blocks up to and with the next wait, end, M99 without P, or call of a loud program)
+/// to another; and none by 66 exactly if no chain of nine calls of loud programs, which come to a
+/// wait or an end themselves or by their calls, begins in the main program.
 pub fn a_tape_has_one_list_where_no_wait_is_at_fault()
     ensures { (tape : List ControlProgram) → AreWaitFaultsExact tape }
 {}

@@ -1,4 +1,5 @@
-//! The answers that a tape has: its programs, or one refusal. nc_verify calls these laws.
+//! The answers that a tape has: its programs, or one refusal. nc_verify calls the last two of these
+//! laws; the first is for readers.
 ghost use Rattle.std.specs.Prelude.{◌≡◌, ◌↔◌, ℕ, List};
 ghost use Rattle.nc_text.specs.declared.tape.Program.{Program};
 ghost use Rattle.block_words.specs.declared.dialect.Dialect.{Dialect};
@@ -21,7 +22,8 @@ pub fn a_tape_is_accepted_exactly_with_one_list()
     a_tape_has_one_list_where_no_wait_is_at_fault();
 }
 
-/// A law: a tape that is refused is refused at one line, by one number.
+/// A law: a tape that is refused is refused at one line, by one number, if its blocks stand on
+/// rising lines, as those of every tape that was read do (lines.rt).
 pub fn a_refused_tape_has_one_refusal()
     ensures { (dialect : Dialect) (tape : List Program) (line other_line number other : ℕ)
         → HasRisingBlocks tape → IsRefused dialect tape line number → IsRefused dialect tape other_line other

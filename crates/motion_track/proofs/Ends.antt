@@ -27,7 +27,8 @@ use Rattle.motion_track.specs.Home.{named, home_moves}
 use Rattle.motion_track.specs.Block.{IsBlockWithin, AllEnd, KeepsUnnamed, target_in, arc_in, moves_due}
 use Rattle.motion_track.specs.Within.{centre_in, AreMovesWithin}
 
--- what the next step makes of whatever the step before gives
+-- what holds of whatever the next step makes of an answer of the step before holds of both steps
+-- together
 after : {A B : Type 0} (step : Result A MotionFault) (next : A → Result B MotionFault) (P : A → Type 0) (Q : B → Type 0) → IfOk step P → ((a : A) → P a → IfOk (next a) Q) → IfOk (step >>= next) Q
 after (Ok a) next P Q here there = there a here
 after (Err alarm) next P Q here there = tt
@@ -42,7 +43,7 @@ given_unless : {A : Type 0} (b : Bool) (alarm : MotionFault) (step : Result A Mo
 given_unless true alarm step P holds = tt
 given_unless false alarm step P holds = holds
 
--- a target is a position
+-- a target that is not refused is a position
 targeted : (to : Point) → IfOk (in_travel to) IsPosition
 targeted to = given_where (is_position to) to _ IsPosition (tested_position to)
 
@@ -146,8 +147,8 @@ centre_within far (Some i) None None at_i at_k at_r = let zero : unsigned_abs (p
 centre_within far None (Some k) None at_i at_k at_r = let zero : unsigned_abs (pos 0) ≤ far = omega arith in (zero, at_k)
 centre_within far (Some i) (Some k) None at_i at_k at_r = (at_i, at_k)
 
--- the moves of a block within the travel end at positions, and their I, K and R are no larger than
--- its own
+-- the moves of a block whose start and home are positions end at positions, and their I, K and R
+-- are no larger than the bound of the block's own
 pub moves_within : (far : ℕ) (kind : CodeKind) (block : BlockMotion) → IsBlockWithin far block → IsPosition block.start → IsPosition block.home → IfOk (moves_due kind block) (AreMovesWithin far)
 moves_within far kind block within start home =
     all_lead IsPosition (IsGivenWithin far) kind block tt

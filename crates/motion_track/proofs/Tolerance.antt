@@ -28,13 +28,14 @@ root_of (suc n) = next (root_of n)
             let reached : (r + 1) * (r + 1) ≤ suc n = grind (arith, nat_tests) in
             (r + 1, reached, omega (arith, high))
 
--- what reaches the farther place reaches the nearer
+-- what reaches the farther place reaches the nearer when 20 is added
 nearer_reached : (near far : ℕ) → near ≤ far → IsAtMostFarther near far
 nearer_reached near far le p q reaches =
     let scaled : q * q * near ≤ q * q * far = mul-le-mul_left (q * q) le in
     omega (arith, scaled)
 
--- where the farther place is no farther than the tolerance, what reaches the nearer reaches it
+-- where the farther place is farther by no more than the tolerance, what reaches the nearer reaches
+-- it when 20 is added
 farther_reached : (near far e : ℕ) → far ≤ near + 400 + e → e * e ≤ 1600 * near → IsAtMostFarther far near
 farther_reached near far e le square p q reaches =
     let scaled : q * q * far ≤ q * q * (near + 400 + e) = mul-le-mul_left (q * q) le in
@@ -89,7 +90,8 @@ farther_missed near e past reaches = by (root_of near)
             let root : 40 * r ≤ e = root_le (40 * r) e (omega (arith, low, past)) in
             missed_by_little near e r (e * e - 1600 * near) (omega (arith, past)) (omega (arith, past)) low root little reaches
 
--- a test that passes says that the farther place is reached
+-- if the test does not say `past`, what reaches the nearer place reaches the farther when 20 is
+-- added
 not_past : (near far : ℕ) → is_past_tolerance far near ≡ false → IsAtMostFarther far near
 not_past near far taken = go (nat_lt (near + 400) far) (nat_lt (1600 * near) ((far - (near + 400)) * (far - (near + 400)))) refl refl
   where
@@ -98,7 +100,8 @@ not_past near far taken = go (nat_lt (near + 400) far) (nat_lt (1600 * near) ((f
     go true false eb ec = farther_reached near far (far - (near + 400)) (omega arith) (grind (arith, nat_tests))
     go true true eb ec = absurd (let wrong = rw (eb, ec) at taken in cc)
 
--- a test that does not pass says that the farther place is not reached
+-- if the test says `past`, not all that reaches the nearer place reaches the farther when 20 is
+-- added
 past : (near far : ℕ) → is_past_tolerance far near ≡ true → IsAtMostFarther far near → ⊥
 past near far refused reaches = go (nat_lt (near + 400) far) (nat_lt (1600 * near) ((far - (near + 400)) * (far - (near + 400)))) refl refl
   where
@@ -112,7 +115,8 @@ past near far refused reaches = go (nat_lt (near + 400) far) (nat_lt (1600 * nea
         let square : 1600 * near < e * e = grind (arith, nat_tests) in
         farther_missed near e square (subst (λ f. IsAtMostFarther f near) far_is reaches)
 
--- if the test passes of two places, each reaches the other, in either order
+-- if the test does not say `past` of two places, what reaches either reaches the other when 20 is
+-- added
 pair_within : (a b : ℕ) → is_past_tolerance (max a b) (min a b) ≡ false → IsAtMostFarther b a × IsAtMostFarther a b
 pair_within a b taken = go (nat_le a b) refl
   where
@@ -128,7 +132,8 @@ pair_within a b taken = go (nat_le a b) refl
         let smaller : min a b ≡ b = omega arith in
         (nearer_reached b a le, not_past b a (rw (larger, smaller) at taken))
 
--- if the test does not pass of two places, it can't be that each reaches the other
+-- if the test says `past` of two places, it can't be that what reaches either reaches the other
+-- when 20 is added
 pair_beyond : (a b : ℕ) → is_past_tolerance (max a b) (min a b) ≡ true → IsAtMostFarther b a × IsAtMostFarther a b → ⊥
 pair_beyond a b refused ends = go (nat_le a b) refl
   where

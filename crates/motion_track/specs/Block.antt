@@ -19,7 +19,7 @@ use Rattle.motion_track.specs.Centre.{centre_of, IsLengthWithin}
 use Rattle.motion_track.specs.Circle.{arc_of}
 use Rattle.motion_track.specs.Home.{home_moves}
 
--- no length of a block is longer than that, in 0.001 mm
+-- no length of a block is longer than that, in 0.001 mm; of its home and its feed nothing is said
 pub record IsBlockWithin (far : ℕ) (block : BlockMotion) : Type 0 where
   -- where the turret stands before the block
   pub start : IsWithin far block.start
@@ -29,17 +29,19 @@ pub record IsBlockWithin (far : ℕ) (block : BlockMotion) : Type 0 where
   pub x : IsAxisWithin far block.x
   -- the word Z or W
   pub z : IsAxisWithin far block.z
-  -- the words I, K and R, if they are given
+  -- the word I, if it is given
   pub i : IsLengthWithin far block.i
+  -- the word K, if it is given
   pub k : IsLengthWithin far block.k
+  -- the word R, if it is given
   pub r : IsLengthWithin far block.r
 
 -- the block has a word of X or Z, absolute or incremental
 abbrev pub names_axis : BlockMotion → Bool
 names_axis block = is_named block.x || is_named block.z
 
--- a block moves only where it names an axis; a circle, which ends where it starts, needs I or K
--- alone
+-- a block moves only where it names an axis; an arc also moves by I or K alone, as a circle that
+-- ends where it starts
 abbrev pub is_move_due : CodeKind → BlockMotion → Bool
 is_move_due ArcCw block = names_axis block || (is_some block.i || is_some block.k)
 is_move_due ArcCcw block = names_axis block || (is_some block.i || is_some block.k)
@@ -90,7 +92,7 @@ moves_due Machine block = do
 -- all other codes: the cycles, a dwell, and what only sets something, have no move here
 moves_due _ block = Ok []
 
--- the moves of a block: none where none is due
+-- the moves of a block of this kind of code: none where none is due
 abbrev pub moves_of : CodeKind → BlockMotion → Result (List Move) MotionFault
 moves_of kind block = if is_move_due kind block then moves_due kind block else Ok []
 

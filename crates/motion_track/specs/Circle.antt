@@ -31,7 +31,8 @@ square_between a b =
     let along = unsigned_abs (a.along -ℤ b.along) in
     across * across + along * along
 
--- how far the end of an arc may lie from its circle: 20 * 0.0005 mm
+-- how far the end of an arc may lie from its circle: 20 * 0.0005 mm. It is `TOLERANCE` of
+-- src/circle.rt, and the 20, 400 and 1,600 of proofs/Tolerance.
 abbrev pub tolerance : ℕ
 tolerance = 20
 
@@ -42,7 +43,7 @@ is_past_tolerance far near =
     let excess = far - (near + tolerance * tolerance) in
     nat_lt (near + tolerance * tolerance) far && nat_lt (4 * tolerance * tolerance * near) (excess * excess)
 
--- no arc round this centre, or of this radius, leads from `at` to `to`
+-- no arc round this centre, within the tolerance, or of this radius leads from `at` to `to`
 abbrev pub misses : Point → Point → Centre → Bool
 misses at to (Offset i k) =
     let middle = centre_from (place_of at) i k in
@@ -53,7 +54,8 @@ misses at to (Radius r) =
     let diameter = 4 * unsigned_abs r in
     nat_lt (diameter * diameter) (square_between (place_of at) (place_of to))
 
--- the arc; else alarm 43 without a centre, 42 if its end is not on the circle, 44 if the feed is 0
+-- the arc; else alarm 43 without a centre, 42 if its end is not on the circle or past its radius,
+-- 44 if the feed is 0
 abbrev pub arc_of : Point → Point → Bool → Option Centre → ℤ → Bool → Result Move MotionFault
 arc_of at to clockwise None feed per_rev = Err (fault NoCentre)
 arc_of at to clockwise (Some centre) feed per_rev =

@@ -13,7 +13,7 @@ use Rattle.motion_track.specs.Faults.{fault}
 abbrev pub at_feed : {X : Type 0} → ℤ → X → Result X MotionFault
 at_feed feed what = if is_zero feed then Err (fault FeedZero) else Ok what
 
--- a line (G01) to this point, by the feed per minute or per turn
+-- a line (G01) to this point, at a feed by the revolution (`per_rev`) or by the minute
 abbrev pub line_of : Point → ℤ → Bool → Result Move MotionFault
 line_of to feed per_rev = at_feed feed (Feed to feed per_rev)
 

@@ -1,5 +1,5 @@
 -- What it means that an arc ends on its circle, in lengths and without a square root: the law
--- `arcs_end_on_their_circle` (src/circle.rt) says it. For this crate alone.
+-- `arcs_end_on_their_circle` (src/circle.rt) says it for readers. No other crate cites it.
 use Rattle.std.specs.Prelude.{ℕ, ◌+◌, ◌*◌, ◌≤◌, ℤ}
 use Rattle.nc_number.specs.declared.point.Point.{Point}
 use Rattle.motion_track.specs.Circle.{tolerance, place_of, centre_from, square_between}

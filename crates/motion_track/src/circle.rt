@@ -14,7 +14,8 @@ use crate::targets::LONGEST;
 use nc_moves::{Centre, Move};
 use nc_number::{Cause, Point, Value};
 
-/// How far an arc's end may lie from its circle, in 0.0005 mm.
+/// How far an arc's end may lie from its circle, in 0.0005 mm. It is `tolerance` of
+/// specs/Circle.antt.
 const TOLERANCE: u128 = 20;
 
 /// A place of the plane in 0.0005 mm, in which the number of a diameter is that of its radius.
@@ -26,9 +27,10 @@ struct Place {
     along: i64,
 }
 
-/// An arc from `at`. Alarm 43 exactly where there is neither a centre nor a radius; else 42 exactly
-/// where the end lies farther than 0.010 mm from the circle through the start round the centre, or
-/// farther from the start than twice the radius; else 44 exactly where the feed is 0.
+/// An arc from `at` to `to`, at a feed by the revolution (`per_rev`) or by the minute. Alarm 43
+/// exactly where there is neither a centre nor a radius; else 42 exactly where the end lies farther
+/// than 0.010 mm from the circle through the start round the centre, or farther from the start than
+/// twice the radius; else 44 exactly where the feed is 0.
 pub fn arc(
     at: Point,
     to: Point,
@@ -60,7 +62,8 @@ pub fn arc(
     })
 }
 
-/// Whether no arc round this centre, or of this radius, leads from `at` to `to`.
+/// Whether no arc round this centre, within the tolerance, or of this radius leads from `at` to
+/// `to`.
 fn misses(at: &Point, to: &Point, centre: &Centre) -> bool
     requires at { IsWithin LONGEST at.now }
     requires to { IsWithin LONGEST to.now }

@@ -1,5 +1,6 @@
 //! Straight cuts: lines (G01) and threads (G32).
-//! turn_cycles uses what it exports.
+//! block.rt of this crate calls `line` and `thread`; circle.rt and turn_cycles call `is_feed_zero`.
+//! turn_cycles and two_path cite the definitions (specs/Cut.antt).
 ghost use Rattle.std.specs.Prelude.{◌≡◌};
 ghost use Rattle.nc_number.specs.Arithmetic.{is_zero};
 ghost use Rattle.motion_track.specs.Cut.{line_of, thread_of};
@@ -8,7 +9,8 @@ use crate::fault::MotionFault;
 use nc_moves::Move;
 use nc_number::{Cause, Point, Value};
 
-/// A straight cut; alarm 44 exactly where the feed is 0.
+/// A straight cut to this point, at a feed by the revolution (`per_rev`) or by the minute; alarm 44
+/// exactly where the feed is 0.
 pub fn line(to: Point, feed: Value, per_rev: bool) -> Result<Move, MotionFault>
     ensures { result ≡ line_of to feed per_rev }
 {
@@ -18,7 +20,7 @@ pub fn line(to: Point, feed: Value, per_rev: bool) -> Result<Move, MotionFault>
     Ok(Move::Feed { to, feed, per_rev })
 }
 
-/// A straight thread; alarm 44 exactly where the lead is 0.
+/// A straight thread to this point; alarm 44 exactly where the lead is 0.
 pub fn thread(to: Point, lead: Value) -> Result<Move, MotionFault>
     ensures { result ≡ thread_of to lead }
 {

@@ -7,7 +7,8 @@ use nc_moves::Move;
 use nc_number::Point;
 
 /// The way home of the named axes: a rapid to the intermediate point, and one to the reference
-/// position. An axis that is not named stays where it is.
+/// position. `x` and `z` say whether X and Z are named; an axis that is not named stays where it
+/// is.
 pub fn home(at: Point, mid: Point, home: Point, x: bool, z: bool) -> [Move; 2]
     ensures { result ≡ home_moves at mid home x z }
 {
@@ -16,7 +17,7 @@ pub fn home(at: Point, mid: Point, home: Point, x: bool, z: bool) -> [Move; 2]
     [Move::Rapid { to: by }, Move::Rapid { to }]
 }
 
-/// The named parts of `to`, and the others of `at`.
+/// The named parts of `to`, and the others of `at`; `x` and `z` say whether X and Z are named.
 fn named(at: &Point, to: &Point, x: bool, z: bool) -> Point
     ensures { result ≡ named at.now to.now x z }
 {

@@ -1,5 +1,6 @@
 //! Where a move ends, in 0.001 mm, X a diameter.
-//! block_values, path_state, turn_cycles, two_path, zone_area and zone_check use what it exports.
+//! turn_cycles calls `target`; block_values, path_state, turn_cycles, two_path, zone_area and
+//! zone_check take `LONGEST`.
 ghost use Rattle.std.specs.Prelude.{◌≡◌, ◌≤◌, unsigned_abs, IfOk};
 ghost use Rattle.nc_number.specs.Position.{IsWithin, IsPosition};
 ghost use Rattle.nc_number.specs.Axes.{IsAxisWithin};
@@ -9,7 +10,8 @@ use crate::fault::MotionFault;
 use nc_number::{Axis, Cause, Point};
 
 /// The longest length that a call takes, in 0.001 mm: a thousand times what a word of a tape can
-/// say.
+/// say. The bounds in src/circle.rt, in proofs/Places.antt and in zone_area (specs/Range.antt) are
+/// worked out from it.
 pub const LONGEST: u64 = 100_000_000_000_000;
 
 /// Where a block leads from `at`, in machine coordinates: an absolute word counts from the shift,

@@ -8,6 +8,7 @@ use std::test::Fail;
 /// That a line was drained along which so many moves were sent.
 #[derive(Drop)]
 struct Sent {
+    /// How many moves were sent.
     count: u64,
 }
 

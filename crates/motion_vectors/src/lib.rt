@@ -1,6 +1,6 @@
 //! Tables of tests of moves and of what they come from: the modal state and the offsets of a path,
 //! the settings of the cell, the moves of a block and of a cycle, and the forms in memory of what
-//! is outside the control.
+//! is outside the control. No crate uses it.
 //!
 //! The answers that are expected are worked by hand from the rules of the control, and never from
 //! what a call answered. Most stand in texts with a row a line, in the words of a tape.

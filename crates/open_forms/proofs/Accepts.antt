@@ -1,5 +1,6 @@
--- No refusal of the open reading holds of a block of words that reads in full, and it leads where
--- the full reading says. For Widened; wait_verify takes `IsAccepted` and `accepted`.
+-- If a block of words reads in full and names no interrupt (M96, M97 or M198), no refusal of the
+-- open reading holds of it, and it leads where the full reading says. For Widened; wait_verify
+-- takes `IsAccepted` and `accepted`.
 use Rattle.std.proofs.Common.{◌≡◌, ℕ, Bool, true, false, cond, not, ◌&&◌, ◌||◌, ◌*◌, ◌==◌, List, [], ℤ, pos, Option, Some, None, refl, sym, ◌∙◌, ap, subst}
 use Rattle.std.specs.Prelude.{codes, if◌then◌else◌}
 use Rattle.std.specs.List.{list_any, list_all, filter_map}
@@ -35,7 +36,8 @@ use Rattle.open_forms.proofs.TableRows.{in_each, same_kind, macro_is, setting_is
 use Rattle.nc_number.proofs.Bools.{and_false, neither, not_false, or_true}
 use Rattle.open_forms.proofs.AmongLetters.{HaveRange, AreAmong, one_among, front_among, fewer_computed, none_of, none_computed, range_of_one, range_of_two, all_fit, all_within, within_more, no_parameters}
 
--- No refusal of the full reading holds of the words.
+-- None of these refusals of the full reading holds of the words. 62 is left out: the open reading
+-- does not ask it.
 pub record IsAccepted (dialect : Dialect) (words : List FlowWord) : Type 0 where
   -- 54 does not hold.
   pub fixed : closed.is_not_fixed dialect words ≡ false
@@ -52,7 +54,7 @@ pub record IsAccepted (dialect : Dialect) (words : List FlowWord) : Type 0 where
   -- 64 does not hold.
   pub ranges : closed.is_out_of_range dialect words ≡ false
 
--- If the full reading refuses nothing, none of its refusals holds.
+-- If the full reading refuses nothing, none of these refusals holds.
 pub accepted : (dialect : Dialect) (words : List FlowWord) → closed.refusal_of dialect words ≡ None → IsAccepted dialect words
 accepted dialect words e =
     go (closed.is_not_fixed dialect words) (closed.is_unknown dialect.system words) (closed.is_wait_not_alone dialect words) (closed.is_wait_of_others dialect words) (closed.has_two_m dialect.system words) (closed.is_bad_call dialect words) (closed.has_axis_twice dialect.system words) (closed.is_out_of_range dialect words) refl refl refl refl refl refl refl e
@@ -178,6 +180,7 @@ known_among B letter is =
     go false false false true rest e = refl
     go false false false false rest e = e
 
+-- A block of these words, as the full reading has them.
 module _ (dialect : Dialect) (words : List FlowWord) where
   -- A block of a purpose that is left ends the path or goes on to the next block.
   left_leads : (p : Purpose) → is_left p ≡ true → full_control_by p dialect words ≡ end_or_next words
@@ -189,6 +192,8 @@ module _ (dialect : Dialect) (words : List FlowWord) where
   left_leads purpose.Setting e = refl
   left_leads purpose.Other e = refl
 
+-- A block that both readings read: its texts as the open one has them, the words that they say
+-- (`are`), and that no refusal of the full one holds (`given`).
 module _ (dialect : Dialect) (texts : List Word) (words : List FlowWord) (are : AreSaid texts words) (given : IsAccepted dialect words) where
   -- Both readings see the same macro call.
   macro_same : is_macro texts ≡ gives dialect.system is_macro_call words
@@ -215,9 +220,12 @@ module _ (dialect : Dialect) (texts : List Word) (words : List FlowWord) (are : 
       go purpose.Dwell e = fewer_computed (codes "G") (codes "GNOM") (one_among 71 (codes "GNOM") refl) words e
       go purpose.Other e = fewer_computed (codes "G") (codes "GNOM") (one_among 71 (codes "GNOM") refl) words e
 
-  -- The system knows each code and each letter of the block.
+  -- The system knows each code and each letter of the block, and the control refuses none of the
+  -- codes.
   record IsKnown : Type 0 where
+    -- no G word that is written out is of an unknown or refused code
     codes_are : list_any (closed.is_unknown_code dialect.system) (read.words_of (codes "G") words) ≡ false
+    -- each letter has a meaning
     letters_are : list_any (λ (w : FlowWord). closed.is_unknown_letter dialect.system words w.letter) words ≡ false
 
   -- Outside macro calls the system knows each code and each letter of the block.
@@ -231,7 +239,7 @@ module _ (dialect : Dialect) (texts : List Word) (words : List FlowWord) (are : 
       go true e all = absurd (cc)
       go false e all = let both = neither _ _ (neither _ _ all).0 in record { codes_are = both.0; letters_are = both.1 }
 
-  -- A test that no code of either table passes, no G code of the block passes.
+  -- Outside macro calls no G code of the block passes a test that no code of either table passes.
   no_g : gives dialect.system is_macro_call words ≡ false → (p : ℤ → Bool)
       → list_all (λ (row : Row). not (p (pos (row.code * 1000000)))) (rows_of_system A) ≡ true
       → list_all (λ (row : Row). not (p (pos (row.code * 1000000)))) (rows_of_system B) ≡ true
@@ -326,11 +334,11 @@ module _ (dialect : Dialect) (texts : List Word) (words : List FlowWord) (are : 
       go true e all = absurd (cc)
       go false e all = subst (λ q. closed.is_bad_block dialect.system q words ≡ false) is all
 
-  -- No dwell and no setting stands beside a call or a return.
+  -- Outside macro calls no dwell and no setting stands beside a call or a return.
   not_crowded : (p : Purpose) → purpose_of dialect words ≡ p → gives dialect.system is_macro_call words ≡ false → closed.is_crowded_call dialect.system words ≡ false
   not_crowded p is no_macro = (neither _ _ (neither _ _ (good_block p is no_macro)).0).1
 
-  -- The block has no L that has no meaning.
+  -- Outside macro calls the block has no L if L has no meaning in it.
   l_free : (p : Purpose) → purpose_of dialect words ≡ p → gives dialect.system is_macro_call words ≡ false → asked.is_idle_l p ≡ true → read.has (codes "L") words ≡ false
   l_free p is no_macro idle = go (read.has (codes "L") words) (asked.is_idle_l p) idle (neither _ _ (neither _ _ (good_block p is no_macro)).1).1
     where
@@ -391,7 +399,7 @@ module _ (dialect : Dialect) (texts : List Word) (words : List FlowWord) (are : 
   begins_same _ _ (one_more text word texts words is further) =
       rw (is.letter, same_row dialect.system text word is, same_has (codes "GNO") texts words further) refl
 
-  -- Beside a call or a return stands no dwell and no setting.
+  -- Outside macro calls a block with a call or a return has no dwell and no setting.
   sets_nothing : (p : Purpose) → purpose_of dialect words ≡ p → gives dialect.system is_macro_call words ≡ false → (has_code 98 words || has_code 99 words) ≡ true
       → (gives dialect.system is_dwell words ≡ false) × (gives dialect.system is_setting words ≡ false)
   sets_nothing p is no_macro call = neither _ _ (go (has_code 98 words || has_code 99 words) call (not_crowded p is no_macro))
@@ -400,7 +408,7 @@ module _ (dialect : Dialect) (texts : List Word) (words : List FlowWord) (are : 
       go true e all = all
       go false e all = absurd (cc)
 
-  -- If L has no meaning in the block, no L says 50 to 52.
+  -- If L has no meaning in the block, which calls no macro, no L says 50 to 52.
   l_numbers : (p : Purpose) → purpose_of dialect words ≡ p → asked.is_idle_l p ≡ true → gives dialect.system is_macro_call words ≡ false → list_any is_parameter (numbers_of (codes "L") texts) ≡ false
   l_numbers p is idle no_macro =
       let none_there : read.words_of (codes "L") words ≡ [] = none_of (codes "L") words (l_free p is no_macro idle) in
@@ -410,7 +418,7 @@ module _ (dialect : Dialect) (texts : List Word) (words : List FlowWord) (are : 
           → read.words_of (codes "L") words ≡ [] → list_any is_parameter (numbers_of (codes "L") texts) ≡ false
       same_any e empty = rw (e, empty) refl
 
-  -- The L of a setting is 2, so it writes no parameters.
+  -- In a block that sets an offset each L is 2, so none says 50 to 52.
   setting_numbers : purpose_of dialect words ≡ purpose.Setting → list_any is_parameter (numbers_of (codes "L") texts) ≡ false
   setting_numbers is =
       let ranges : list_any (λ (w : FlowWord). not (is_in_range purpose.Setting w)) words ≡ false =
@@ -418,7 +426,7 @@ module _ (dialect : Dialect) (texts : List Word) (words : List FlowWord) (are : 
       no_parameters _ _ (same_words_of (codes "L") texts words are)
       (all_fit purpose.Setting 2 2 (codes "L") (range_of_one purpose.Setting 2 2 76 refl) words ranges)
 
-  -- In a block whose purpose is left no L says 50 to 52.
+  -- In a block whose purpose is left, and which calls no macro, no L says 50 to 52.
   by_left : (p : Purpose) → purpose_of dialect words ≡ p → is_left p ≡ true → gives dialect.system is_macro_call words ≡ false → list_any is_parameter (numbers_of (codes "L") texts) ≡ false
   by_left purpose.Setting is kind apart = setting_numbers is
   by_left purpose.Dwell is kind apart = l_numbers purpose.Dwell is refl apart
@@ -463,7 +471,8 @@ module _ (dialect : Dialect) (texts : List Word) (words : List FlowWord) (are : 
   unknown_by r p (ends q apart held kind) is plain = elsewhere apart plain (no_writing r p (ends q apart held kind) is apart)
   unknown_by r p (onward q apart held kind) is plain = elsewhere apart plain (no_writing r p (onward q apart held kind) is apart)
 
-  -- Beside a call stand only letters that say no more of it.
+  -- If the block sets no offset, words of letters with a meaning in it have letters that say no
+  -- more of a call.
   letters_beside : (texts : List Word) (own : List FlowWord) → AreSaid texts own → gives dialect.system is_setting words ≡ false
       → list_any (λ (w : FlowWord). closed.is_unknown_letter dialect.system words w.letter) own ≡ false
       → list_all (λ (t : Word). read.is_one_of (codes "XZUWIKRFSTNOMGPLABCEVY") t.letter) texts ≡ true
@@ -483,7 +492,8 @@ module _ (dialect : Dialect) (texts : List Word) (words : List FlowWord) (are : 
       first false true false e all = absurd (cc)
       first false false c e all = absurd (cc)
 
-  -- Beside a call or a return stand only such letters and G codes of the system.
+  -- Outside macro calls, beside a call or a return stand only letters that say no more of it and G
+  -- codes of the system.
   beside_call : (p : Purpose) → purpose_of dialect words ≡ p → gives dialect.system is_macro_call words ≡ false → (has_code 98 words || has_code 99 words) ≡ true
       → not (is_beside_a_call dialect.system texts) ≡ false
   beside_call p is apart call =
@@ -524,7 +534,7 @@ module _ (dialect : Dialect) (texts : List Word) (words : List FlowWord) (are : 
   one_m_there : has_two_m texts ≡ false
   one_m_there = rw (macro_same, same_count (codes "M") texts words are, given.one_m) refl
 
-  -- Beside a call or a return no G code takes the P.
+  -- Outside macro calls, beside a call or a return no G code takes the P.
   takes_nothing : (p : Purpose) → purpose_of dialect words ≡ p → gives dialect.system is_macro_call words ≡ false → (has_code 98 words || has_code 99 words) ≡ true → uses_p dialect.system texts ≡ false
   takes_nothing p is apart call =
       let nothing = sets_nothing p is apart call in
@@ -605,7 +615,7 @@ module _ (dialect : Dialect) (texts : List Word) (words : List FlowWord) (are : 
       range_m purpose.Setting e = refl
       range_m purpose.Other e = refl
 
-  -- Whatever its role, no M code of the block is out of its range.
+  -- Whatever its role, no M code of the block is out of its range outside macro calls.
   m_by : (r : Role) (p : Purpose) → IsSame dialect.system words r p → purpose_of dialect words ≡ p → (not (is_macro texts) && not (are_in 0 99999999 (codes "M") texts)) ≡ false
   m_by _ _ (macro held) is = rw (macro_same, held) refl
   m_by _ p (subprogram apart held) is = rw (m_within p is refl) (and_false (not (is_macro texts)) false refl)

@@ -26,11 +26,12 @@ IsBalanced t = (n : ℕ) (rest : List ℕ) → behind_close n (t ++ rest) ≡ be
 abbrev pub HidesNone : List ℕ → Type 0
 HidesNone rest = (far near : ℕ) → hides_word far near rest ≡ false
 
--- If no word hides behind the text, none hides in it either.
+-- The text is quiet: if no word hides in what stands behind it, none hides in the two together. (Of
+-- a program `quiet` means another thing.)
 abbrev pub IsQuiet : List ℕ → Type 0
 IsQuiet t = (rest : List ℕ) → HidesNone rest → HidesNone (t ++ rest)
 
--- The brackets of the text are balanced, and it hides no word.
+-- The text is calm: its brackets are balanced, and it hides no word.
 pub record IsCalm (t : List ℕ) : Type 0 where
   -- Its brackets are balanced.
   pub balanced : IsBalanced t
@@ -152,7 +153,7 @@ calm_number : (t : List ℕ) → list_all is_number_byte t ≡ true → IsCalm t
 calm_number t all =
     calm_bytes t (all_by is_number_byte is_flat (λ b e. (number_calm b e).0) t all) (all_by is_number_byte is_mild (λ b e. (number_calm b e).1) t all)
 
--- A word of the grammar is calm.
+-- The word is calm, whatever it means.
 abbrev Calms : {A : Type 0} → List ℕ → A → Type 0
 Calms word meaning = IsCalm word
 
@@ -177,7 +178,7 @@ calm_function word f is =
     (calm_bytes (codes "SQRT") refl refl also calm_bytes (codes "ABS") refl refl also calm_bytes (codes "FIX") refl refl
     also calm_bytes (codes "FUP") refl refl also calm_bytes (codes "ROUND") refl refl also tt) word f is
 
--- A word of the grammar is balanced.
+-- The word is balanced, whatever it means.
 abbrev Balances : {A : Type 0} → List ℕ → A → Type 0
 Balances word meaning = IsBalanced word
 
@@ -188,10 +189,11 @@ balanced_relation word rel is =
     (balanced_flat (codes "EQ") refl also balanced_flat (codes "NE") refl also balanced_flat (codes "GT") refl
     also balanced_flat (codes "GE") refl also balanced_flat (codes "LT") refl also balanced_flat (codes "LE") refl also tt) word rel is
 
--- Each text that this grammar reads is calm.
+-- The grammar `Is` reads calm texts alone, whatever their trees.
 abbrev AreCalm : (List ℕ → Tree → Type 0) → Type 0
 AreCalm Is = (t : List ℕ) (e : Tree) → Is t e → IsCalm t
 
+-- A grammar of what stands in brackets, which reads calm texts alone.
 module _ (Inner : List ℕ → Tree → Type 0) (inner : AreCalm Inner) where
   -- A bracketed expression is calm if what stands in it is.
   pub bracketed_calm : AreCalm (IsBracketed Inner)
@@ -202,14 +204,14 @@ module _ (Inner : List ℕ → Tree → Type 0) (inner : AreCalm Inner) where
   variable_calm _ _ (fixed t n is) = calm_join (codes "#") t (calm_bytes (codes "#") refl refl) (calm_digits t is.bytes)
   variable_calm _ _ (computed t e is) = calm_join (codes "#") t (calm_bytes (codes "#") refl refl) (bracketed_calm t e is)
 
-  -- A number, a variable and a bracketed expression are calm.
+  -- A number, a variable, a bracketed expression and a function of one are calm.
   prim_calm : AreCalm (IsPrim Inner)
   prim_calm _ _ (number t micro is) = calm_number t is.bytes
   prim_calm _ _ (variable t v is) = variable_calm t v is
   prim_calm _ _ (bracket t e is) = bracketed_calm t e is
   prim_calm _ _ (function name t f e is_name is) = calm_join name t (calm_function name f is_name) (bracketed_calm t e is)
 
-  -- A value with a sign is calm.
+  -- A value, with a sign or without, is calm.
   signed_calm : AreCalm (IsSigned Inner)
   signed_calm _ _ (plain t e is) = prim_calm t e is
   signed_calm _ _ (signed word t minus e is_word is) = calm_join word t (calm_sign word minus is_word) (prim_calm t e is)
@@ -221,7 +223,7 @@ module _ (Inner : List ℕ → Tree → Type 0) (inner : AreCalm Inner) where
       calm_join t (word ++ u) (chain_calm rank First Operand first operand t left before)
       (calm_join word u (calm_operator rank word op is_word) (operand u right is))
 
-  -- A sum is calm.
+  -- A sum is calm: a row of products, which may be one value.
   pub sum_calm : AreCalm (IsSum Inner)
   sum_calm =
       chain_calm Sum (IsChain Product (IsSigned Inner) (IsPrim Inner)) (IsChain Product (IsPrim Inner) (IsPrim Inner))

@@ -1,5 +1,5 @@
--- The lemmas of this crate, each file by its subject. Other crates use ReadWords, TableRows,
--- AmongLetters, Accepts and Widened.
+-- The lemmas of this crate, each file by its subject. wait_verify takes lemmas of ReadWords,
+-- TableRows, AmongLetters, Accepts and Widened; no other crate takes any.
 pub mod LastWord
 pub mod Calm
 pub mod Sentences

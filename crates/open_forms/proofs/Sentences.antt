@@ -120,7 +120,7 @@ target_is _ _ (line_in _ _ (closed t e is)) = refl
 abbrev LoopIs : (ℕ → Control) → List ℕ → ℕ → Type 0
 LoopIs kind word m = loop_number kind word ≡ Ok (kind m)
 
--- The number of a loop is 1 to 3.
+-- A word of the grammar that is the number of a loop leads as that loop.
 loop_is : (kind : ℕ → Control) (word : List ℕ) (m : ℕ) → IsWord loop_words word m → LoopIs kind word m
 loop_is kind word m is = each loop_words (LoopIs kind) (refl also refl also refl also tt) word m is
 

@@ -1,4 +1,5 @@
--- A block that reads in full leads where its open reading says. For the law
+-- A block that reads in full and names no interrupt (M96, M97 or M198) leads where its open reading
+-- says; a statement must be clean. For the law
 -- `what_reads_in_full_leads_where_it_said` (src/laws.rt); wait_verify takes `judged_words`.
 use Rattle.std.proofs.Common.{◌≡◌, ℕ, false, Bool, true, cond, List, Option, Some, None, Result, Ok, Err, refl, ◌∙◌, ap, subst}
 use Rattle.nc_number.specs.declared.cause.Cause.{Cause}
@@ -78,7 +79,8 @@ form_control block (Ok own) form e =
     let same : form_at block.line block.sequence own (control_of_form own) ≡ form = cc in
     (own, (refl, ap (λ f. f.control) same))
 
--- The body of a block that is not refused, words or a statement, leads where the full reading says.
+-- The body of a block that is not refused, words without an interrupt or a clean statement, leads
+-- where the full reading says.
 body_widened : (dialect : Dialect) (body : Body) (own : Form) → form_or_refusal dialect body ≡ Ok own → has_interrupt dialect body ≡ false
     → IsClean body → open_control dialect body ≡ Ok (control_of_form own)
 body_widened dialect (Words texts) own reads plain clean = go (words_or_refusal dialect texts) refl reads
@@ -98,7 +100,8 @@ body_widened dialect (Statement text) own reads plain clean = go (statement_of t
         let same : OfSentence sentence ≡ own = cc in
         sentence_widened text sentence clean at ∙ ap (λ f. Ok (control_of_form f)) same
 
--- Each block that reads in full leads there in the open reading too.
+-- Each block that reads in full, names no interrupt and is clean has the same control in the open
+-- reading.
 pub widened : (dialect : Dialect) (block : Block) (form : BlockForm) → IsWidened dialect block form
 widened dialect block form reads plain clean =
     let own = form_control block (form_or_refusal dialect block.body) form reads in

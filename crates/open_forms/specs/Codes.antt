@@ -9,7 +9,7 @@ use Rattle.open_forms.specs.declared.role.Role.{Role}
 use Rattle.open_forms.specs.declared.role.Role.TheVariants.{MacroCall, Subprogram, Return, Wait, End, Roughing, Finishing, Other}
 use Rattle.open_forms.specs.Words.{words_of, has, written, numbers_of}
 
--- The G codes that are written out, in millionths.
+-- The G codes that are written out with not too many digits, in millionths.
 abbrev pub g_values : List Word → List ℤ
 g_values words = filter_map written (words_of (codes "G") words)
 
@@ -22,8 +22,9 @@ is_g micro (negsuc n) = false
 abbrev pub has_g : ℕ → List Word → Bool
 has_g micro words = list_any (is_g micro) (g_values words)
 
--- The G code, in millionths, may call or wait. G65.1 and on, G66 and G66.1 are modal calls; at G68
--- and G69 both paths wait; G72.1 and G72.2 are copies that call a program.
+-- The G code, in millionths, may call or wait. G66, G66.1 and all others between G65 and G67 are
+-- taken for modal calls; at G68 and G69 both paths wait; the codes from G72.1 to G72.2 are copies
+-- that call a program.
 abbrev pub leads_elsewhere : ℕ → Bool
 leads_elsewhere n =
     (nat_lt 65000000 n && nat_lt n 67000000)
@@ -68,7 +69,8 @@ is_roughing words = has_g 71000000 words || (has_g 72000000 words || has_g 73000
 abbrev pub is_finishing : List Word → Bool
 is_finishing words = has_g 70000000 words
 
--- The block names a contour by P or Q; the first block of a cycle says depths alone.
+-- The block has a P or a Q, which in a cycle name its contour; the first block of a cycle says
+-- depths alone.
 abbrev pub has_contour : List Word → Bool
 has_contour words = has (codes "PQ") words
 

@@ -23,9 +23,9 @@ use Rattle.open_forms.specs.Statements.{control_of_statement}
 abbrev pub repeats_of : List Word → ℕ
 repeats_of words = or_number 1 (last_number (codes "L") words)
 
--- What a block of this role does to the order of blocks; one without a role goes on to the next.
--- Behind a roughing cycle the path goes on behind its contour, which it passes: to the next block,
--- or to the contour's last one.
+-- What a block of this role does to the order of blocks; one without a role goes on to the next. A
+-- roughing cycle counts as a jump to the last block of its contour, which Q names. A jump may be
+-- made or not, so the path may go on with the next block or with that one.
 abbrev pub control_by : Role → Dialect → List Word → Control
 control_by MacroCall dialect words = control.Call (or_number 0 (last_number (codes "P") words)) (repeats_of words)
 control_by Subprogram dialect words = call_of_p (or_number 0 (last_number (codes "P") words)) (repeats_of words)

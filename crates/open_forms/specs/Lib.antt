@@ -1,5 +1,6 @@
 -- The words in which contracts speak of what a block does to the order of blocks, read for that
--- alone. Other crates cite Words, Codes, Controls and Widening.
+-- alone. open_order cites Words, Codes and Controls, wait_verify these and Widening. Refusals and
+-- Statements are cited in this crate alone.
 pub mod Words
 pub mod Codes
 pub mod Refusals

@@ -1,6 +1,8 @@
--- When a block of words is refused by the open reading: if its control can't be told, or is not of
--- this profile. Each refusal is a condition apart from the others; `refusal_of` answers the least.
--- For this crate alone: src/refusals.rt answers these.
+-- When a block of words is refused by the open reading, which reads it for its control alone: if
+-- the control can't be told, or may be one that is not known here. Each refusal is a condition
+-- apart from the others; `refusal_of` answers the least.
+-- src/refusals.rt answers these. No other crate cites them, but what `open_control` answers rests
+-- on them (Controls).
 use Rattle.std.specs.Prelude.{ℕ, Bool, true, false, not, ◌==◌, ◌&&◌, ◌||◌, nat_lt, nat_le, List, [], ◌∷◌, length, Option, Some, None, codes, if◌then◌else◌}
 use Rattle.std.specs.List.{list_any, list_all}
 use Rattle.nc_number.specs.declared.cause.Cause.{Cause}
@@ -29,13 +31,13 @@ fixed_letters Wait = codes "GNOM"
 fixed_letters End = codes "GNOM"
 fixed_letters Other = codes "GNOM"
 
--- 5: a word that must be written out has too many digits, or the L of G10, which may write
+-- 5: a word that must be written out has too many digits, or the L of G10 has, which may write
 -- parameters.
 abbrev pub is_long : Dialect → List Word → Bool
 is_long dialect words =
     has_long (fixed_letters (role_of dialect words)) words || (has_g 10000000 words && has_long (codes "L") words)
 
--- 54: a word that must be written out is computed, or the L of G10, which may write parameters.
+-- 54: a word that must be written out is computed, or the L of G10 is, which may write parameters.
 abbrev pub is_not_fixed : Dialect → List Word → Bool
 is_not_fixed dialect words =
     has_computed (fixed_letters (role_of dialect words)) words || (has_g 10000000 words && has_computed (codes "L") words)
@@ -111,7 +113,7 @@ is_wait_of_others dialect words =
     waits_there dialect words && has (codes "P") words
     && (has_computed (codes "P") words || not (is_both dialect.bits (last_number (codes "P") words)))
 
--- 59: an end, a call or a return beside another M code.
+-- 59: an end, a call or a return beside another M word, outside a macro call.
 abbrev pub has_two_m : List Word → Bool
 has_two_m words =
     not (is_macro words) && nat_lt 1 (length (words_of (codes "M") words)) && list_any is_lone_m (m_codes words)
@@ -148,16 +150,16 @@ is_bad_call_by role system words = false
 abbrev pub is_bad_call : Dialect → List Word → Bool
 is_bad_call dialect words = is_bad_call_by (role_of dialect words) dialect.system words
 
--- There is a number, and it lies from the one to the other.
+-- There is a number, and it lies from the least to the greatest, both included.
 abbrev pub is_within : ℕ → ℕ → Option ℕ → Bool
 is_within least greatest None = false
 is_within least greatest (Some n) = nat_le least n && nat_le n greatest
 
--- The word writes a whole number from the one to the other.
+-- The word writes a whole number from the least to the greatest.
 abbrev pub is_in : ℕ → ℕ → Word → Bool
 is_in least greatest word = is_within least greatest (number word)
 
--- Each word of these letters writes a whole number from the one to the other.
+-- Each word of these letters writes a whole number from the least to the greatest.
 abbrev pub are_in : ℕ → ℕ → List ℕ → List Word → Bool
 are_in least greatest letters words = list_all (is_in least greatest) (words_of letters words)
 
@@ -171,7 +173,8 @@ is_in_range_by Roughing words = are_in 1 99999 (codes "PQ") words
 is_in_range_by Finishing words = are_in 1 99999 (codes "PQ") words
 is_in_range_by role words = true
 
--- 64: an M code is none, or the P, L or Q of the block is out of its range.
+-- 64: the P, L or Q of the block is out of its range, or outside a macro call an M word writes no
+-- whole number from 0 to 99,999,999.
 abbrev pub is_out_of_range : Dialect → List Word → Bool
 is_out_of_range dialect words =
     not (is_in_range_by (role_of dialect words) words)

@@ -1,5 +1,6 @@
 -- What a statement does to the order of blocks, if neither its condition nor what it assigns is
--- looked into. For this crate alone: src/statement.rt answers `control_of_statement`.
+-- looked into. src/statement.rt answers `control_of_statement`. No other crate cites these words,
+-- but what `open_control` answers rests on them (Controls).
 use Rattle.std.specs.Prelude.{ℕ, zero, suc, ◌-◌, Bool, false, not, ◌==◌, ◌&&◌, ◌||◌, nat_le, List, [], ◌∷◌, Option, Some, None, is_some, Result, Ok, Err, codes, if◌then◌else◌}
 use Rattle.nc_number.specs.declared.cause.Cause.{Cause}
 use Rattle.nc_number.specs.declared.cause.Cause.TheVariants.{TooManyDigits, BadExpression, BadCondition, BadLoopNumber, WordRange}
@@ -19,8 +20,8 @@ abbrev pub closed : ℕ → List ℕ → Option (List ℕ) → Option (List ℕ)
 closed zero rest deeper = Some rest
 closed (suc n) rest deeper = deeper
 
--- The text behind the bracket that closes the one before the text, while so many are open besides;
--- none if no bracket does (91 is [, 93 is ]).
+-- The text behind the bracket that closes the one before the text, while so many inner ones are
+-- open; none if no bracket does (91 is [, 93 is ]).
 unfoldable pub behind_close : ℕ → List ℕ → Option (List ℕ)
 behind_close n [] = None
 behind_close n (b ∷ bs) =
@@ -28,7 +29,8 @@ behind_close n (b ∷ bs) =
     else if b == 93 then closed n bs (behind_close (n - 1) bs)
     else behind_close n bs
 
--- The text behind a condition, which begins with [ (91) and is not looked into.
+-- The text behind a condition, which begins with [ (91) and is not looked into; none if the text
+-- begins with no bracket, or it is not closed.
 abbrev pub behind_condition : List ℕ → Option (List ℕ)
 behind_condition [] = None
 behind_condition (b ∷ bs) = if b == 91 then behind_close 0 bs else None
@@ -90,7 +92,8 @@ loop_of kind (Some name) = Ok (kind name)
 abbrev pub loop_number : (ℕ → Control) → List ℕ → Result Control Cause
 loop_number kind text = loop_of kind (number_of_loop text)
 
--- What stands behind the condition of an IF: a jump, or an assignment.
+-- The control of what stands behind the condition of an IF: of a jump (the text behind its GOTO),
+-- or of an assignment (the text behind its THEN#); refused if it is neither.
 abbrev pub jump_or_assignment : Option (List ℕ) → Option (List ℕ) → Result Control Cause
 jump_or_assignment (Some rest) other = target rest
 jump_or_assignment None (Some rest) = assignment rest

@@ -27,8 +27,9 @@ pub(crate) fn has_g(words: &[Word], micro: u32) -> bool
         .any(|own| is_g(micro, own))
 }
 
-/// Whether a G code of so many millionths may call a program or wait: G65.1 and on, G66, G66.1,
-/// modal calls; G68, G69, at which both paths wait; G72.1, G72.2, copies that call a program.
+/// Whether a G code of so many millionths may call a program or wait: G66, G66.1 and all others
+/// between G65 and G67, which are taken for modal calls; G68, G69, at which both paths wait; those
+/// from G72.1 to G72.2, copies that call a program.
 fn leads_elsewhere(micro: u64) -> bool
     ensures { result ≡ leads_elsewhere micro }
 {
@@ -111,7 +112,8 @@ fn is_roughing(words: &[Word]) -> bool
     has_g(words, 71_000_000) || has_g(words, 72_000_000) || has_g(words, 73_000_000)
 }
 
-/// Whether the block names a contour, by P or Q. The first block of a cycle says depths alone.
+/// Whether the block has a P or a Q, which in a cycle name its contour. The first block of a cycle
+/// says depths alone.
 fn has_contour(words: &[Word]) -> bool
     ensures { result ≡ has_contour words.now }
 {

@@ -37,7 +37,7 @@ fn fixed_letters(role: Role) -> &'static [u8]
     }
 }
 
-/// 54: whether a word that must be written out is computed, or the L of G10, which may write
+/// 54: whether a word that must be written out is computed, or the L of G10 is, which may write
 /// parameters.
 fn is_not_fixed(role: Role, dialect: Dialect, words: &[Word]) -> bool
     requires { role ≡ role_of dialect words.now }
@@ -105,7 +105,8 @@ fn are_of(words: &[Word], letters: &[u8]) -> bool
     words.iter().all(|word| is_one_of(letters, word.letter))
 }
 
-/// Whether only G codes of the system, and letters that can't say more of a call, stand there.
+/// Whether only G codes of the system, and letters that can't say more of a call, stand in the
+/// block.
 fn is_beside_a_call(system: System, words: &[Word]) -> bool
     ensures { result ≡ is_beside_a_call system words.now }
 {
@@ -160,7 +161,8 @@ fn has_refused_m(dialect: Dialect, words: &[Word]) -> bool
         .any(|code| is_refused_m(dialect, code))
 }
 
-/// Whether a code may call or wait in a way that is not known here.
+/// Whether 56 holds by the role: a macro call does not begin with its G65; else a code may call or
+/// wait in a way that is not known here, or the block writes parameters.
 fn is_unknown_by(role: Role, dialect: Dialect, words: &[Word]) -> bool
     ensures { result ≡ is_unknown_by role dialect words.now }
 {
@@ -196,7 +198,7 @@ fn is_unknown(role: Role, dialect: Dialect, words: &[Word]) -> bool
     is_unknown_by(role, dialect, words) || is_crowded(role, dialect.system, words)
 }
 
-/// Whether the block waits for the other path.
+/// Whether the block waits for the other path. A macro call does not: there M is an argument.
 fn waits_there(dialect: Dialect, words: &[Word]) -> bool
     ensures { result ≡ waits_there dialect words.now }
 {
@@ -251,7 +253,7 @@ fn has_lone_m(words: &[Word]) -> bool
         .any(|code| is_lone_m(code))
 }
 
-/// 59: whether an end, a call or a return stands beside another M code.
+/// 59: whether an end, a call or a return stands beside another M word, outside a macro call.
 fn has_two_m(words: &[Word]) -> bool
     ensures { result ≡ has_two_m words.now }
 {
@@ -278,7 +280,7 @@ fn uses_p(system: System, words: &[Word]) -> bool
         .any(|word| takes_p(system, word))
 }
 
-/// Whether one P, one Q and one G word stand there.
+/// Whether the block has one P, one Q and one G word.
 fn is_one_contour(words: &[Word]) -> bool
     ensures { result ≡ is_one_contour words.now }
 {
@@ -312,7 +314,7 @@ fn is_bad_call(role: Role, system: System, words: &[Word]) -> bool
     }
 }
 
-/// Whether the word writes a whole number from the one to the other.
+/// Whether the word writes a whole number from the least to the greatest.
 fn is_in(word: &Word, least: u32, greatest: u32) -> bool
     ensures { result ≡ is_in least greatest word.now }
 {
@@ -322,8 +324,8 @@ fn is_in(word: &Word, least: u32, greatest: u32) -> bool
     }
 }
 
-/// Whether each word of these letters writes a whole number from the one to the other. A word that
-/// writes none is in no range.
+/// Whether each word of these letters writes a whole number from the least to the greatest. A word
+/// that writes none is in no range.
 fn are_in(words: &[Word], letters: &[u8], least: u32, greatest: u32) -> bool
     ensures { result ≡ are_in least greatest letters.now words.now }
 {
@@ -347,8 +349,8 @@ fn is_in_range(role: Role, words: &[Word]) -> bool
     }
 }
 
-/// 64: whether an M code is none, or the P, L or Q of a call, a return or a contour is out of its
-/// range.
+/// 64: whether the P, L or Q of a call, a return or a contour is out of its range, or outside a
+/// macro call an M word writes no whole number from 0 to 99,999,999.
 fn is_out_of_range(role: Role, dialect: Dialect, words: &[Word]) -> bool
     requires { role ≡ role_of dialect words.now }
     ensures { result ≡ is_out_of_range dialect words.now }
@@ -356,8 +358,8 @@ fn is_out_of_range(role: Role, dialect: Dialect, words: &[Word]) -> bool
     !is_in_range(role, words) || (!are_in(words, b"M", 0, 99_999_999) && !has_g(words, MACRO_CALL))
 }
 
-/// 5: whether a word that must be written out has too many digits, or the L of G10, which may write
-/// parameters.
+/// 5: whether a word that must be written out has too many digits, or the L of G10 has, which may
+/// write parameters.
 fn is_long(role: Role, dialect: Dialect, words: &[Word]) -> bool
     requires { role ≡ role_of dialect words.now }
     ensures { result ≡ is_long dialect words.now }

@@ -13,9 +13,10 @@ pub enum Role {
     Wait,
     /// M02 or M30: the end.
     End,
-    /// G71, G72 or G73 with a contour, after whose last block the path may go on.
+    /// G71, G72 or G73 with a contour: the path goes on with the next block, or with the last block
+    /// of the contour.
     Roughing,
-    /// G70 with a contour.
+    /// G70, with a contour or without one; without one it is refused.
     Finishing,
     /// None of these: the path goes on to the next block.
     Other,

@@ -36,7 +36,7 @@ fn behind_close(text: &[u8]) -> Option<&[u8]>
     None
 }
 
-/// The text behind a condition, if the text begins with one in brackets.
+/// The text behind a condition, if the text begins with a bracket and it is closed.
 fn behind_condition(text: &[u8]) -> Option<&[u8]>
     ensures { option_map (λ rest. rest.now) result ≡ behind_condition text.now }
 {

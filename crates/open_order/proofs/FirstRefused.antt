@@ -109,7 +109,8 @@ there basis [] fault first = absurd cc
 there basis (block ∷ blocks) fault first =
     there_at basis block blocks fault (block_read basis block) refl first (λ rest. there basis blocks fault rest)
 
--- a tape of which a block is refused is refused for the refused block on the least line
+-- if the reading of a tape ends at a refusal, that is the refusal of its refused block on the least
+-- line
 pub least_refused : (premises : Premises) (tape : List Program) (line number : ℕ) → IsTapeShape tape
     → programs_read premises tape ≡ Err (refusal line number) → IsLeastRefused premises tape line number
 least_refused premises tape line number shape failed =

@@ -59,7 +59,9 @@ blocks_kept basis (block ∷ blocks) done whole is =
 -- what it means that a program that was read stands in the text as the program does: the O number
 -- and each block are on the same lines
 record IsLike (program : Program) (read : ControlProgram) : Type 0 where
+  -- the O number is on the same line
   line : read.line ≡ program.line
+  -- the blocks are on the same lines
   lines : control_lines read.blocks ≡ text_lines program.blocks
 
 -- a program that is read stands in the text as the program does
@@ -84,8 +86,11 @@ count_like program read like =
 -- the programs that are read, and those that follow, have these lines and so many blocks, and are
 -- so many
 record IsSplit (done : List ControlProgram) (rest : List Program) (lines : List ℕ) (blocks programs : ℕ) : Type 0 where
+  -- all lines are these
   lines_are : order.lines_in done ++ tape.lines_in rest ≡ lines
+  -- there are so many blocks
   blocks_are : length (order.blocks_in done) + length (tape.blocks_in rest) ≡ blocks
+  -- there are so many programs
   programs_are : length done + length rest ≡ programs
 
 -- if one program more is read, lines, blocks and programs stay as many together

@@ -1,5 +1,5 @@
--- A refusal of a part is one of the tape: of a block, and of the order of blocks that read.
--- For `open_order` (src/ordering.rt).
+-- The refusal of a block is one of the tape, and if all blocks read, so is the first fault of their
+-- order. For `open_order` (src/ordering.rt).
 use Rattle.std.proofs.Common.{◌≡◌, List, Ok}
 use Rattle.nc_number.specs.declared.fault.Failing.{Failing}
 use Rattle.nc_number.specs.declared.fault.Failing.TheVariants.{Fault, NoMemory}

@@ -1,6 +1,6 @@
--- The contours of the cycles G70 to G73: which blocks P and Q name, what is wrong with a contour
--- that has a wait or an end in it, and the first fault of a tape. 50 and 65 are numbers of refusals
--- (docs/ERRORS.md).
+-- The contours of the cycles G70 to G73: which blocks P and Q name, what is wrong with a contour (a
+-- block is missing, it ends before it begins, or it has a wait or an end in it), and the first
+-- fault of a tape. 50 and 65 are numbers of refusals (docs/ERRORS.md).
 -- `open_order` (src/ordering.rt) refuses tapes by it; wait_verify proves that a tape which `verify`
 -- accepts has no such fault.
 use Rattle.std.specs.Prelude.{ℕ, suc, ◌-◌, Bool, true, false, not, ◌==◌, ◌&&◌, ◌||◌, nat_le, List, [], ◌∷◌, take, drop, Option, Some, None, ℤ, codes, if◌then◌else◌}
@@ -78,23 +78,24 @@ is_calm loud bs first last =
 abbrev pub last_block : List ControlBlock → Contour → ℕ → Option ℕ
 last_block bs contour first = if contour.from == contour.to then Some first else seek bs first contour.to
 
--- the fault of a contour from this first to this last block, which may be missing
+-- the fault of a contour from this first to this last block, of which the last may be missing (50)
 abbrev pub fault_between : (ℕ → Bool) → List ControlBlock → ℕ → Option ℕ → Option Cause
 fault_between loud bs first None = Some NoSequence
 fault_between loud bs first (Some last) = if is_calm loud bs first last then None else Some BranchAtWait
 
--- the fault of a contour from this first block, which may be missing
+-- the fault of a contour from this first block, which may be missing (50)
 abbrev pub fault_from : (ℕ → Bool) → List ControlBlock → Contour → Option ℕ → Option Cause
 fault_from loud bs contour None = Some NoSequence
 fault_from loud bs contour (Some first) = fault_between loud bs first (last_block bs contour first)
 
--- What is wrong with the contour of a cycle at a place of a program: 50 if the program lacks one of
--- its numbers; else 65 if it ends before it begins, or a block of it may not stand in a contour.
+-- What is wrong with the contour of a cycle at a place of a program, which is the index of its
+-- block: 50 if the program lacks one of its numbers; else 65 if it ends before it begins, or a
+-- block of it may not stand in a contour. Nothing if the block names no contour.
 abbrev pub contour_cause : (ℕ → Bool) → List ControlBlock → ℕ → Option Contour → Option Cause
 contour_cause loud bs place None = None
 contour_cause loud bs place (Some contour) = fault_from loud bs contour (seek bs place contour.from)
 
--- the fault of a contour, told at the line of its cycle
+-- the fault of a contour, if it has one, told at the line of its cycle
 abbrev pub fault_at : ℕ → Option Cause → Option FlowFault
 fault_at line None = None
 fault_at line (Some cause) = Some (record { number = cause_number cause; line = line })
@@ -108,13 +109,13 @@ abbrev pub or_later : Option FlowFault → Option FlowFault → Option FlowFault
 or_later (Some fault) later = Some fault
 or_later None later = later
 
--- the first fault of these blocks, which stand in the program from a place on
+-- the first fault of a contour of these blocks, which stand in the program from a place on
 abbrev pub blocks_fault : (ℕ → Bool) → List ControlBlock → ℕ → List Block → Option FlowFault
 blocks_fault loud bs place [] = None
 blocks_fault loud bs place (block ∷ rest) =
     or_later (block_fault loud bs place block) (blocks_fault loud bs (suc place) rest)
 
--- the first fault of these programs of a tape in this order
+-- the first fault of a contour of these programs, on a tape with this order
 abbrev pub contour_fault : List ControlProgram → List Program → Option FlowFault
 contour_fault order [] = None
 contour_fault order (program ∷ rest) =

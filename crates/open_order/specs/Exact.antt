@@ -17,7 +17,7 @@ refusal line number = record { number = number; line = line }
 
 -- the tape has this order, read by these premises
 pub record IsOrdered (premises : Premises) (tape : List Program) (order : List ControlProgram) : Type 0 where
-  -- no block is refused, and this is what they do to the order
+  -- no block is refused, and this is what the blocks do to the order
   pub reads : programs_read premises tape ≡ Ok order
   -- nothing is wrong with jumps, loops, calls and waits
   pub sound : IsSound order

@@ -1,6 +1,7 @@
 -- The programs that a tape may lack, as `waits --outside` names them: the control has them in its
 -- memory, and they neither wait nor end.
--- For this crate alone: a call of such a program goes on to the next block (Reading).
+-- A call of such a program goes on to the next block (Reading), and is taken on trust (Trusted). No
+-- other crate cites this file.
 use Rattle.std.specs.Prelude.{ℕ, Bool, false, not, ◌==◌, ◌&&◌, nat_le, List, Option, Some, None}
 use Rattle.std.specs.List.{list_any}
 use Rattle.nc_text.specs.declared.tape.Program.{Program}

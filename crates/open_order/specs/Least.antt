@@ -1,5 +1,5 @@
 -- What it means that the refusal of a tape is that of its refused block on the least line. The law
--- of src/laws.rt says it for readers; no crate uses it.
+-- of src/laws.rt says it for readers; no other crate uses it.
 use Rattle.std.specs.Prelude.{◌≡◌, ℕ, ◌≤◌, List, Err, Contains}
 use Rattle.nc_text.specs.declared.tape.Block.{Block}
 use Rattle.nc_text.specs.declared.tape.Program.{Program}

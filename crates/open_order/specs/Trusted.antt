@@ -1,7 +1,8 @@
--- What is taken on trust when a tape is read for its waits: codes that this control does not run,
--- which are taken to go on to the next block, and calls of programs that the tape lacks. `waits`
--- prints it in its line `goes on`.
--- wait_verify and lathe_top take `TrustView` and `with_tape`, lathe_calls takes `TrustView`.
+-- What is taken on trust when a tape is read for its waits: G codes that this control does not run
+-- and M codes that only the machine knows, which are taken to go on to the next block, and calls of
+-- programs that the tape lacks. `waits` prints it in its line `goes on`.
+-- wait_verify and lathe_top take `TrustView`, `no_trust` and `with_tape`, wait_verify also
+-- `is_nothing`; lathe_calls takes `TrustView`.
 use Rattle.std.specs.Prelude.{ℕ, Bool, true, false, not, ◌==◌, ◌&&◌, ◌||◌, nat_le, List, [], ◌∷◌, Option, Some, None, ℤ, pos, negsuc, Result, Ok, Err, if◌then◌else◌}
 use Rattle.std.specs.Ordering.{nat_cmp}
 use Rattle.std.specs.BTreeSet.{insert_key}
@@ -59,7 +60,7 @@ with_code trust (Some (Subprogram number)) = record trust { programs = insert_ke
 abbrev pub is_standard_m : ℕ → Bool
 is_standard_m code = (nat_le code 5 || (code == 8 || code == 9)) || (code == 30 || (code == 98 || code == 99))
 
--- whether the row of a code is there and is one that this control runs
+-- whether the row of a code is there and is one that this control does not refuse
 abbrev pub is_own_row : Option Row → Bool
 is_own_row None = false
 is_own_row (Some row) = not (is_refused row.kind)

@@ -49,7 +49,7 @@ fn is_own(system: System, word: &Word) -> bool
     }
 }
 
-/// The G code of so many millionths, so 70500000 is G70.5. None below 0.
+/// The G code of so many millionths, so 70500000 is G70.5; none without a number or below 0.
 fn geometry_code(micro: Option<i64>) -> Option<Code>
     ensures { result ≡ geometry_code micro }
 {

@@ -1,5 +1,5 @@
--- The end of a pass is the least whole Z at which the contour has X at most the pass's: at a lesser
--- Z the contour has X above the pass. For the law `an_end_is_the_least` (src/law.rt).
+-- The end of a pass is the least whole Z at which a contour that descends has X at most the pass's:
+-- at a lesser Z the contour has X above the pass. For the law `an_end_is_the_least` (src/law.rt).
 use Rattle.std.proofs.Common.{◌≡◌, ℕ, suc, ◌*◌, ◌/◌, ◌<◌, ◌≤◌, Bool, true, false, not, ◌&&◌, ◌||◌, List, [], ◌∷◌, ℤ, pos, negsuc, neg_ℤ, ◌-ℤ◌, ◌*ℤ◌, ◌≤ℤ◌, ◌<ℤ◌, refl, sym, subst, ◌∙◌, arith, ◌⊎◌, inl, inr, cond}
 use Rattle.std.specs.Prelude.{int_lt, int_le}
 use Rattle.std.specs.Ordering.{int_eq}
@@ -19,7 +19,7 @@ use Rattle.rough_cycle.proofs.Orders.{not_le_is, is_lt}
 use Rattle.rough_cycle.proofs.Products.{part_below}
 use Rattle.rough_cycle.proofs.NothingInside.{holds_between, behind_end, not_inside, held, end_is_low}
 
--- a negative number times lengths is below a number from 0 on times lengths
+-- a negative number times a length above 0 is below a number from 0 on times a length
 negative_below : (a w : ℤ) (d n : ℕ) → a <ℤ pos 0 → pos 0 ≤ℤ w → 0 < d → int_lt (a *ℤ pos d) (w *ℤ pos n) ≡ true
 negative_below (pos m) w d n negative wide deep = absurd (omega (arith, ints))
 negative_below (negsuc m) (negsuc v) d n negative wide deep = absurd (omega (arith, ints))
@@ -38,7 +38,7 @@ apart_some a b differ = go (cases_lt 0 (distance b a))
         let equal = (Decides-int_eq a b).1 same in
         absurd (let wrong : false ≡ true = sym differ ∙ equal in cc)
 
--- a point left of a segment is below it (left: of smaller X)
+-- a point left of a segment along which X does not fall is below it (left: of smaller X)
 below_left : (p q at : Point) → p.x ≤ℤ q.x → at.x <ℤ p.x → is_below p q at ≡ true
 unfolding is_below
 below_left p q at rises left = go (int_eq p.z q.z) refl
@@ -52,7 +52,7 @@ or_true : (b c : Bool) → c ≡ true → (not b || c) ≡ true
 or_true true c e = e
 or_true false c e = refl
 
--- a point left of the contour's first point is below each segment
+-- a point left of the first point of a contour that descends is below each segment
 left_of_all : (p : Point) (points : List Point) (at : Point) → Descends p points → at.x <ℤ p.x → is_below_each p points at ≡ true
 left_of_all p [] at falls left = refl
 left_of_all p (q ∷ points) at (rises, falls, later) left =
@@ -83,8 +83,8 @@ below_before p q at above below before low = go (int_eq p.z q.z) refl
         let less : distance at.x p.x * distance q.z p.z < distance q.x p.x * distance at.z p.z = subst (λ l. distance at.x p.x * l < distance q.x p.x * distance at.z p.z) along (omega (arith, turned)) in
         rw (across, width) (is_lt (pos (distance at.x p.x * distance q.z p.z)) (pos (distance q.x p.x * distance at.z p.z)) (omega (arith, ints, less)))
 
--- if a point's Z is less than the end of a pass at its X, the point is below each segment that its
--- Z lies in
+-- on a contour that descends: if a point is not left of the first one, and its Z is less than the
+-- end of a pass at its X, the point is below each segment that its Z lies in
 pub least : (p : Point) (points : List Point) (at : Point) → Descends p points → p.x ≤ℤ at.x → at.z <ℤ end_at at.x p points → is_below_each p points at ≡ true
 least p [] at falls above before = refl
 least p (q ∷ points) at (rises, falls, later) above before = go (int_le q.x at.x) refl before (least q points at later)
@@ -105,7 +105,8 @@ least p (q ∷ points) at (rises, falls, later) above before = go (int_le q.x at
         let less = not_le_is q.x at.x t in
         rw (first (holds p q at.z) refl (λ h. let z = held p q at.z falls h in below_before p q at above less past z.0), left_of_all q points at later less) refl
 
--- the Z of a pass's end lies in a segment of the contour
+-- the Z of a pass's end lies in a segment of the contour, if that descends and the pass is not left
+-- of its first point
 pub reached : (x : ℤ) (p q : Point) (points : List Point) → Descends p (q ∷ points) → p.x ≤ℤ x → some_holds p (q ∷ points) (end_at x p (q ∷ points)) ≡ true
 reached x p q [] (rises, falls, later) above = go (int_le q.x x) refl
   where
@@ -129,7 +130,8 @@ reached x p q (r ∷ points) (rises, falls, later) above = go (int_le q.x x) ref
         let part = part_below (distance p.z q.z) (distance x p.x) (distance q.x p.x) (omega (arith, ints)) (omega (arith, ints)) in
         rw (holds_between p q (p.z -ℤ pos (distance p.z q.z * distance x p.x / distance q.x p.x)) (omega (arith, ints)) (omega (arith, ints))) refl
 
--- a point at the end of a pass is not inside the contour
+-- a point at the end of a pass is not inside the contour, if that descends and the point is not
+-- left of its first one
 pub at_the_end : (first : Point) (points : List Point) (at : Point) → Descends first points → first.x ≤ℤ at.x → end_at at.x first points ≡ at.z → is_inside_from first points at ≡ false
 at_the_end first points at falls above is =
     not_inside first points at (behind_end at.x first points at falls above (omega (arith, ints)) (subst (λ z. end_at at.x first points ≤ℤ z) is (omega (arith, ints))))

@@ -48,14 +48,15 @@ not_below p q at rises right products = go (int_eq p.z q.z)
         let past : distance at.x p.x * distance q.z p.z < distance q.x p.x * distance at.z p.z = grind (arith, ints) in
         omega (arith, past, products)
 
--- a point right of both ends of a segment is not below it (right: of greater X)
+-- a point right of both ends of a segment, with a Z between theirs, is not below it (right: of
+-- greater X)
 not_below_right : (p q at : Point) → p.x ≤ℤ q.x → q.x ≤ℤ at.x → q.z ≤ℤ at.z → at.z ≤ℤ p.z → is_below p q at ≡ true → ⊥
 not_below_right p q at rises right low high =
     let wide : distance q.x p.x ≤ distance at.x p.x = omega (arith, ints) in
     let deep : distance at.z p.z ≤ distance q.z p.z = omega (arith, ints) in
     not_below p q at rises (omega (arith, ints)) (mul-le-mul wide deep)
 
--- a point on a segment is not below it
+-- a point on a segment along which X does not fall is not below it
 not_below_on : (p q at : Point) → p.x ≤ℤ q.x → IsOn p q at → is_below p q at ≡ true → ⊥
 not_below_on p q at rises on =
     let line = on.line in
@@ -70,7 +71,8 @@ products_behind a l k m w near right =
     let far : l * k ≤ l * m = mul-le-mul_left l right in
     omega (arith, scaled, reached, far)
 
--- a point at or after the place where a segment comes to its X is not below it
+-- a point with X at least x, at or after the place where a segment comes to x, is not below the
+-- segment
 not_below_behind : (p q at : Point) (x : ℤ) → p.x ≤ℤ x → x <ℤ q.x → x ≤ℤ at.x → (p.z -ℤ pos (distance p.z q.z * distance x p.x / distance q.x p.x)) ≤ℤ at.z → at.z ≤ℤ p.z → is_below p q at ≡ true → ⊥
 not_below_behind p q at x above below right behind high =
     let along : distance p.z q.z ≡ distance q.z p.z = omega (arith, ints) in
@@ -102,8 +104,8 @@ held_low p (q ∷ points) z (rises, falls, later) e = go (holds p q z) refl e (h
 
 -- a whole contour
 
--- a point is not inside if it is not below the first segment, should that hold it, and not inside
--- the rest, should that not
+-- a point is not inside a contour if it is not below the first segment when that holds its Z, and
+-- not inside the rest when the first segment does not hold its Z
 step : (p q at : Point) (points : List Point)
     → (holds p q at.z ≡ true → is_below p q at ≡ true → ⊥)
     → (holds p q at.z ≡ false → some_holds q points at.z ≡ true → is_below_each q points at ≡ true → ⊥)
@@ -118,7 +120,7 @@ step p q at points first rest = go (holds p q at.z) refl
 pub not_inside : (p : Point) (points : List Point) (at : Point) → (some_holds p points at.z ≡ true → is_below_each p points at ≡ true → ⊥) → is_inside_from p points at ≡ false
 not_inside p points at contrary = only_false (is_inside_from p points at) (λ e. let parts = both (some_holds p points at.z) (is_below_each p points at) e in contrary parts.0 parts.1)
 
--- no point of the contour has a greater X than the last one
+-- the first point of a contour that descends has no greater X than the last one
 last_is_high : (p : Point) (points : List Point) → Descends p points → p.x ≤ℤ (last_of p points).x
 last_is_high p [] falls = omega (arith, ints)
 last_is_high p (q ∷ points) (rises, falls, later) = let high = last_is_high q points later in omega (arith, ints)
@@ -273,7 +275,8 @@ form_descends r form = moved_descends r.across r.along r.first r.points form.des
 form_high : (r : Rough) → IsForm r → (last_of (first_moved r) (points_moved r)).x ≤ℤ r.start.x
 form_high r form = rw (last_moved r.across r.along r.first r.points) form.high
 
--- no move between two points past a pass enters the contour
+-- no move between two points past a pass that is not below the contour's first point enters the
+-- contour
 past_clear : (r : Rough) (k : ℕ) (from to : Point) → IsForm r → (first_moved r).x ≤ℤ x_of_pass r k → IsPast r k from → IsPast r k to → IsClear (first_moved r) (points_moved r) from to
 past_clear r k from to form above a b = move_behind (x_of_pass r k) (first_moved r) (points_moved r) from to (form_descends r form) above a.right b.right a.behind b.behind
 

@@ -27,7 +27,7 @@ pub record IsNearForm (r : Rough) : Type 0 where
   pub start : IsWritten r.start
   -- the depth of a cut, as a radius
   pub depth : r.depth ≤ 100000000000
-  -- how far a pass is left
+  -- how far a pass draws back off its cut
   pub retreat : r.retreat ≤ 100000000000
   -- the finishing allowance in X
   pub across : r.across ≤ 100000000000

@@ -9,7 +9,8 @@ use Rattle.rough_cycle.specs.declared.block.PlainBlock.{PlainBlock}
 use Rattle.rough_cycle.specs.Contour.{Descends, last_of, moved_point, moved}
 use Rattle.nc_number.specs.Distances.{distance}
 
--- the end of a pass: the least Z at which the contour has X at most x, rounded up to a whole number
+-- the end of a pass at x, rounded up to a whole number: the least Z at which the contour has X at
+-- most x, if it descends and its first point has X at most x
 abbrev pub end_at : ℤ → Point → List Point → ℤ
 end_at x p [] = p.z
 end_at x p (q ∷ points) =
@@ -23,7 +24,7 @@ pub record Rough : Type 0 where
   pub start : Point
   -- the depth of a cut, as a radius
   pub depth : ℕ
-  -- how far a pass is left
+  -- how far a pass draws back off its cut, as a radius in X and along Z
   pub retreat : ℕ
   -- the finishing allowance in X, a diameter
   pub across : ℕ
@@ -42,7 +43,7 @@ first_moved r = moved_point r.across r.along r.first
 abbrev pub points_moved : Rough → List Point
 points_moved r = moved r.across r.along r.points
 
--- a form that may be written out: no pass or contour of it cuts too deep
+-- what makes a form one that may be written out: its passes and its contour then never cut too deep
 pub record IsForm (r : Rough) : Type 0 where
   -- a cut has a depth
   pub deep : 1 ≤ r.depth
@@ -53,7 +54,7 @@ pub record IsForm (r : Rough) : Type 0 where
   -- the start's X is at least that of the contour's end and the allowance
   pub high : ((last_of r.first r.points).x +ℤ pos r.across) ≤ℤ r.start.x
 
--- the X of pass k: a depth is a radius, so each pass is two depths lower
+-- the X of pass k, from 1: a depth is a radius and X a diameter, so each pass is two depths lower
 abbrev pub x_of_pass : Rough → ℕ → ℤ
 x_of_pass r k = r.start.x -ℤ pos (2 * r.depth * k)
 
@@ -75,7 +76,7 @@ passes_from r k zero = []
 passes_from r k (suc most) =
     if is_made r (pass_of r k) then pass_of r k ∷ passes_from r (k + 1) most else []
 
--- a block that moves across alone, in X
+-- a block that moves across alone, in X; `cuts` says whether it has G01
 abbrev pub across_to : Bool → Point → PlainBlock
 across_to cuts p = record { cuts = cuts; x = Some p.x; z = None }
 
@@ -87,7 +88,7 @@ along_to cuts p = record { cuts = cuts; x = None; z = Some p.z }
 abbrev pub straight_to : Bool → Point → PlainBlock
 straight_to cuts p = record { cuts = cuts; x = Some p.x; z = Some p.z }
 
--- where a pass is left to: the retreat off its cut in both axes, but along no farther than the
+-- where the tool goes off a pass: back by the retreat in both axes, but along no farther than the
 -- start
 abbrev pub off_pass : Rough → Point → Point
 off_pass r pass = record { x = pass.x +ℤ pos (2 * r.retreat); z = int_min (pass.z +ℤ pos r.retreat) r.start.z }
@@ -101,7 +102,8 @@ pass_blocks r pass =
     ∷ along_to false r.start
     ∷ []
 
--- the blocks of a contour: to its first point, along it, off, and back to the start
+-- the blocks of a contour of this first point and those after it: from the start to the first
+-- point, along the contour, off, and back to the start
 abbrev pub contour_blocks : Point → Point → List Point → List PlainBlock
 contour_blocks start p points =
     along_to false p

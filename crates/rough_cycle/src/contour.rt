@@ -19,7 +19,7 @@ pub fn inside(contour: &[Point], at: Point) -> bool
     some_holds(first, points, at.z) && is_below_each(first, points, &at)
 }
 
-/// Whether the Z lies between those of two points that follow each other.
+/// Whether the Z lies between those of two points of the contour that follow each other.
 fn some_holds(first: &Point, points: &[Point], z: i64) -> bool
     ensures { result ≡ some_holds first.now points.now z }
 {
@@ -58,7 +58,8 @@ fn holds(p: &Point, q: &Point, z: i64) -> bool
     (q.z <= z && z <= p.z) || (p.z <= z && z <= q.z)
 }
 
-/// Whether the point is below the segment; below one across is below both its ends.
+/// Whether the point is below the segment from p to q; below one across, whose ends have one Z, is
+/// below both ends.
 #[tactic(auto, unfolding(crate::specs::Inside::is_below))]
 fn is_below(p: &Point, q: &Point, at: &Point) -> bool
     requires p { IsNear p.now }

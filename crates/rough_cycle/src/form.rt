@@ -12,7 +12,8 @@ use crate::contour::end_at;
 use nc_number::Point;
 use std::alloc::{AllocError, Global};
 
-/// One pass more than a form may have: cycle_form takes no form with so many.
+/// One pass more than a form may have: cycle_form takes no form with so many (its `MOST_PASSES` is
+/// one less). The contracts here and cycle_form's specs (Forms, Parts) write it as 1001.
 const TRIED: u32 = 1_001;
 
 /// What a G71 form says; lengths are in 0.001 mm.

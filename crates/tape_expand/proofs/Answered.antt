@@ -35,7 +35,7 @@ pub marked : (text : List ℕ) (marks items : List Bool) (tape : List Program) �
     → of_cycles (sized_parts marks tape) ≡ of_cycles (sized_parts (marks_of text) tape)
 marked text marks items tape is items_is = ap (λ m. of_cycles (sized_parts m tape)) (is ∙ items_is)
 
--- a call that fails as due fails as is due by another name for the same
+-- a call that fails as one answer says fails as an equal answer says
 pub same_fails : (error : Failing ExpandFault) (due other : Result (List PartView) ExpandFault) → due ≡ other → Fails error due → Fails error other
 same_fails error due other is fails = subst (λ d. Fails error d) is fails
 
@@ -44,7 +44,8 @@ pub of_text : (text : List ℕ) (tape slice : List Program) → slice ≡ tape �
 unfolding parts_in
 of_text text tape slice is e = ap (of_tape text) e ∙ ap (λ t. of_cycles (sized_parts (marks_of text) t)) (sym is)
 
--- a text that is no tape has no parts
+-- if the parts by the reading of a text fail, as of a text that is no tape, so do the parts of the
+-- text
 pub of_no_tape : (text : List ℕ) (error : Failing ExpandFault) → Fails error (of_tape text (tape_of 0 text)) → Fails error (parts_in text)
 unfolding parts_in
 of_no_tape text error fails = fails

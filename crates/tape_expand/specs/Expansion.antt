@@ -17,18 +17,19 @@ use Rattle.tape_expand.specs.declared.fault.ExpandFault.TheVariants.{Unreadable,
 use Rattle.tape_expand.specs.Replaced.{edits_of}
 use Rattle.tape_expand.specs.Splice.{edited}
 
--- these parts, if the judgement on their size is that they fit
+-- these parts, if the judgement on their size is that they fit; else its refusal
 abbrev pub fitting : List PartView → Result ⊤ CycleFault → Result (List PartView) CycleFault
 fitting parts (Ok done) = Ok parts
 fitting parts (Err fault) = Err fault
 
--- the parts, if there are some and a tape of so many blocks has at most 20,000 with them written
--- out
+-- the parts, if no cycle was refused and a tape of so many blocks has at most 20,000 with them
+-- written out; else the refusal
 abbrev pub sized_by : ℕ → Result (List PartView) CycleFault → Result (List PartView) CycleFault
 sized_by blocks (Ok parts) = fitting parts (sized blocks parts)
 sized_by blocks (Err fault) = Err fault
 
--- the parts of a tape, if it has at most 20,000 blocks with them written out
+-- the parts of a tape, if no cycle is refused and it has at most 20,000 blocks with them written
+-- out; `marks` says which lines have a skip sign or a comment
 abbrev pub sized_parts : List Bool → List Program → Result (List PartView) CycleFault
 sized_parts marks tape = sized_by (length (blocks_in tape)) (parts_of marks tape)
 
@@ -42,8 +43,8 @@ abbrev pub of_tape : List ℕ → Result (List Program) TextFault → Result (Li
 of_tape text (Ok tape) = of_cycles (sized_parts (marks_of text) tape)
 of_tape text (Err fault) = Err (Unreadable fault)
 
--- The parts of a text that are written out, or why it is refused: as no tape, else for a cycle that
--- is part of no form, else for its size.
+-- The parts of a text that are written out, read with no skip switch set; or why it is refused: as
+-- no tape, else for a cycle that is part of no form, else for its size.
 unfoldable pub parts_in : List ℕ → Result (List PartView) ExpandFault
 parts_in text = of_tape text (tape_of 0 text)
 
@@ -52,11 +53,13 @@ abbrev pub written_out : List ℕ → Result (List PartView) ExpandFault → Res
 written_out text (Ok parts) = Ok (edited 1 (flat_map edits_of parts) (lines_of text))
 written_out text (Err fault) = Err fault
 
--- the text in which each part gives way to its blocks, and every other line stays byte for byte
+-- the text in which each part gives way to its blocks, and every other line stays byte for byte; or
+-- its refusal
 abbrev pub expansion_of : List ℕ → Result (List ℕ) ExpandFault
 expansion_of text = written_out text (parts_in text)
 
--- there are parts, and no whole point on a move of their blocks lies inside their contours
+-- nothing is refused, and no whole point on a move of the blocks of a part lies inside its contour
+-- (of a G71 the one with its allowances)
 abbrev pub AreClearParts : Result (List PartView) ExpandFault → Type 0
 AreClearParts (Ok parts) = All IsClearPart parts
 AreClearParts (Err fault) = ⊥

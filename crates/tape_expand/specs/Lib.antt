@@ -1,5 +1,6 @@
 -- The words of the contracts of tape_expand. lathe_looks cites Expansion and Faults, lathe_top
--- Faults; the others say how the text is made, for this crate alone.
+-- Faults. The others are cited in this crate alone; they say how the text is made that Expansion
+-- promises.
 pub mod Faults
 pub mod BlockText
 pub mod Splice

@@ -18,12 +18,14 @@ first_new (edit ∷ edits) = edit.new
 abbrev pub bytes_of : Line → List ℕ
 bytes_of line = line.bytes ++ (if line.ended then 10 ∷ [] else [])
 
--- what the first edit puts in place of a line and its line feed
+-- what the first edit puts in place of a line and its line feed: nothing for a last line that has
+-- none
 abbrev pub new_for : List Edit → Line → List ℕ
 new_for edits line = if line.ended then first_new edits else []
 
--- The lines of a text from line n on: a line that an edit names gives way to the edit's bytes, and
--- every other line stands byte for byte. The edits are in the order of their lines.
+-- The lines of a text from line n on: a line that an edit names, with its line feed, gives way to
+-- the edit's bytes, and every other line stands byte for byte. The edits are in the order of their
+-- lines.
 abbrev pub edited : ℕ → List Edit → List Line → List ℕ
 edited n edits [] = []
 edited n edits (line ∷ lines) =

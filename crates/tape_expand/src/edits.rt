@@ -7,7 +7,7 @@ ghost use Rattle.tape_expand.specs.Splice.{edited, spliced, is_due, first_new, l
 use nc_number::ByteList;
 use std::alloc::{AllocError, Global};
 
-/// What stands in place of a line and its line feed.
+/// A change of a text: what stands in place of a line and its line feed.
 #[derive(Debug, Drop)]
 pub struct Edit {
     /// The line, from 1.
@@ -24,8 +24,8 @@ pub(crate) fn edited(alloc: Global, text: &[u8], edits: &[Edit]) -> Result<Vec<u
     Ok(bytes)
 }
 
-/// The text with edits, byte by byte: the bytes of a line that an edit names go, and its line feed
-/// gives way to the edit's bytes.
+/// The text with edits, byte by byte: the bytes of a line that an edit names go, and its line feed,
+/// if it has one, gives way to the edit's bytes.
 fn splice(alloc: Global, text: &[u8], edits: &[Edit]) -> Result<Vec<u8>, AllocError>
     ensures { IfOk result (λ v. v.items ≡ spliced 1 edits.now text.now) }
 {

@@ -19,7 +19,7 @@ fn code_text(cuts: bool) -> &'static [u8]
     if cuts { b"G01" } else { b"G00" }
 }
 
-/// Puts the word of an axis, if the block moves it.
+/// Puts a blank and the word of an axis, if the block moves it.
 fn push_axis(out: &mut Vec<u8>, letter: u8, at: Option<i64>) -> Result<(), AllocError>
     ensures ok { OnOk result (out.new.items ≡ out.old.items ++ axis_text letter at) }
 {
@@ -41,7 +41,7 @@ fn push_length(out: &mut Vec<u8>, letter: u8, at: i64) -> Result<(), AllocError>
     Ok(())
 }
 
-/// Puts the feed, if the block cuts.
+/// Puts a blank and the word of the feed, if the block cuts.
 fn push_feed(out: &mut Vec<u8>, cuts: bool, feed: Value) -> Result<(), AllocError>
     ensures ok { OnOk result (out.new.items ≡ out.old.items ++ feed_text cuts feed) }
 {

@@ -1,5 +1,6 @@
 -- If the reading of a tape ends at a block, that block is the first one that is refused, and every
--- other one stands behind it. `compile` (src/flow.rt) tells the tape's refusal by these lemmas.
+-- other one that is refused stands behind it. `compile` (src/flow.rt) tells the tape's refusal by
+-- these lemmas.
 -- open_order and flow_laws take those on readings and on rising lines.
 use Rattle.std.proofs.Common.{◌≡◌, ℕ, ◌≤◌, List, [], ◌∷◌, ◌++◌, map, refl, ap, arith, Option, Some, None, Result, Ok, Err, All, Contains}
 use Rattle.std.proofs.lemmas.List.Elements.{All-nil, All-cons, All-weaker, All-contains, Contains-append_left, Contains-append_right, Contains-push}
@@ -49,7 +50,7 @@ blocks_tell dialect (block ∷ blocks) more done =
     (first_refusal dialect (blocks ++ more)) (first_refusal dialect more)
     (λ form. blocks_tell dialect blocks more (done ++ form ∷ []))
 
--- reading a program comes to its first refusal, or hands over to what follows it
+-- reading a program comes to the first refusal of its blocks, or hands over to what follows it
 pub program_tells : {A B C : Type 0} (read : Result A FlowFault) (make : A → B) (go : B → Result C FlowFault)
     (first rest more : Option FlowFault) → Tells read first rest → ((form : B) → Tells (go form) rest more)
     → Tells ((read >>= (λ blocks. Ok (make blocks))) >>= go) first more

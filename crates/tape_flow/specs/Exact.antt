@@ -26,13 +26,13 @@ abbrev pub HasBlockFault : Dialect → List Program → ℕ → ℕ → Type 0
 HasBlockFault dialect tape line number =
     (block : Block) × Contains (blocks_in tape) block × (block.line ≡ line) × (block_or_refusal dialect block ≡ Err number)
 
--- the first fault of the order of blocks is at this line and has this number
+-- the first fault of this order of blocks is at this line and has this number
 abbrev pub IsOrderFault : List ControlProgram → ℕ → ℕ → Type 0
 IsOrderFault order line number = (cause : Cause) × IsFirst order line cause × (number ≡ cause_number cause)
 
 -- the tape is accepted, and its blocks say this
 pub record IsAccepted (dialect : Dialect) (tape : List Program) (programs : List ProgramForm) : Type 0 where
-  -- no block is refused, and all say this
+  -- no block is refused, and the programs say this
   pub reads : programs_read dialect tape ≡ Ok programs
   -- nothing is wrong with the order of the blocks
   pub sound : IsSound (controls programs)

@@ -1,7 +1,8 @@
--- What a flow tells of a place: its block, its line, the label that a path comes to there, and the
--- mark of a block.
--- path_state, two_path and run_table cite it to say where a path stands; label_list, named_vars,
--- nc_restart, race_order and race_report cite it too.
+-- What a flow tells of a place (the open programs of a path): its block, its line, the label that a
+-- path comes to there; and the mark of a block, at which the labels of a program go on, end or turn
+-- to another program. path_state, two_path and run_table cite it to say where a path stands;
+-- label_list, named_vars, nc_restart, race_order and race_report cite it too. The definitions of
+-- marks are those of `Flow::mark`, which tests alone call.
 use Rattle.std.specs.Prelude.{ℕ, ◌-◌, ◌==◌, ◌||◌, List, [], ◌∷◌, length, find, Option, Some, None, slice_get, if◌then◌else◌}
 use Rattle.block_order.specs.declared.control.Control.{Control}
 use Rattle.block_order.specs.declared.control.Control.TheVariants.{Wait, End, Back}
@@ -27,7 +28,7 @@ abbrev pub flow_blocks : Option FlowProgram → List FlowBlock
 flow_blocks None = []
 flow_blocks (Some program) = program.blocks
 
--- the block at a place of a program, if there is one
+-- the block at a place of a program, which is its index from 0, if there is one
 abbrev pub flow_block : List FlowProgram → ℕ → ℕ → Option FlowBlock
 flow_block programs number block = slice_get (flow_blocks (flow_program programs number)) block
 
@@ -45,7 +46,8 @@ abbrev pub line_in : Option ControlProgram → ℕ → ℕ
 line_in None block = 0
 line_in (Some program) block = line_or (slice_get program.blocks block) (last_line program)
 
--- the line at which a path with these open programs stands, the running program first
+-- the line at which a path with these open programs stands, the running program first; 0 if none is
+-- open
 abbrev pub line_at : List ControlProgram → List Frame → ℕ
 line_at tape [] = 0
 line_at tape (f ∷ stack) = line_in (program_of tape f.program) f.block
@@ -68,8 +70,9 @@ abbrev pub only : List Mark → Option Mark
 only [] = None
 only (mark ∷ marks) = Some mark
 
--- the mark of a block of this control. Only the main program and loud programs, which reach a wait
--- or an end, have marks.
+-- the mark of a block of this control, in the program of this O number; none without a control.
+-- Only the main program and loud programs, which reach a wait or an end themselves or by their
+-- calls, have marks.
 abbrev pub mark_of_block : List ControlProgram → ℕ → Option Control → Option Mark
 mark_of_block tape number None = None
 mark_of_block tape number (Some control) =

@@ -1,7 +1,8 @@
-//! What a flow lends of a place: its block, its line, the label that a path comes to there, and the
-//! mark of a block.
+//! What a flow lends of a place (the open programs of a path, or in one program the index of a
+//! block): its block, its line, the label that a path comes to there, and the mark of a block.
 //! path_state asks for blocks and lines, two_path and run_table for labels; label_list takes
-//! `last_line`. The definitions are in specs/Places.antt.
+//! `last_line`; tests alone ask for marks, and no crate calls `seek`. The definitions are in
+//! specs/Places.antt.
 ghost use Rattle.std.specs.Prelude.{◌≡◌, ◌==◌, Some, length, slice_get};
 ghost use Rattle.std.specs.Option.{option_copied, option_map};
 ghost use Rattle.block_forms.specs.Blocks.{block_form};
@@ -17,7 +18,8 @@ use crate::program::FlowProgram;
 use block_forms::FlowBlock;
 use block_order::{BlockOrder, Control, ControlProgram, Frame, Label, Mark, Place};
 
-/// The program at a place of the list. The order finds the place, since it lists the same programs.
+/// The program at a place of the list, its index. The order finds the place, since it lists the
+/// same programs.
 fn get_program(programs: &[FlowProgram], place: usize) -> Option<&FlowProgram>
     ensures { option_copied result ≡ slice_get programs.now place }
 {
@@ -52,8 +54,8 @@ pub fn last_line(program: &ControlProgram) -> u32
     }
 }
 
-/// The line of a block. A path that ran past the last block of a program stands at that block's
-/// line.
+/// The line of a block. A path that ran past the last block of a program stands at the last block's
+/// line, or at that of the O number if there is no block.
 fn line_in(program: &ControlProgram, block: u32) -> u32
     ensures { result ≡ line_in (Some program.now) block }
 {
@@ -84,8 +86,8 @@ fn label_of(caller: Option<Frame>, control: Option<Control>) -> Option<Label>
     }
 }
 
-/// The mark of a block of this control, if it has one. A call has a mark only if its program
-/// reaches a wait or an end.
+/// The mark of a block of this control, if it has one: at a mark the labels of a program go on, end
+/// or turn to another program. A call has a mark only if its program reaches a wait or an end.
 fn mark_of(order: &BlockOrder, control: Control) -> Option<Mark>
     ensures { result ≡ only (mark_of (loud order.now) control) }
 {

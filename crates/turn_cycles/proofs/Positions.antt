@@ -19,7 +19,7 @@ four_within far a b c d at_a at_b at_c at_d =
     let P : Move → Type 0 = IsMoveWithin far in
     All-cons P a (b ∷ c ∷ d ∷ []) at_a (All-cons P b (c ∷ d ∷ []) at_b (All-cons P c (d ∷ []) at_c (All-cons P d [] at_d (All-nil P))))
 
--- the moves of each cycle are within the range
+-- the moves of each cycle are within the range, if its start and its end are positions
 moves_within : (far : ℕ) (kind : CycleKind) (start end : Point) (feed : ℤ) (per_rev : Bool) → IsPosition start → IsPosition end → AreMovesWithin far (cycle_moves kind start end feed per_rev)
 moves_within far G90 start end feed per_rev here there =
     four_within far (Rapid (corner end start)) (Feed end feed per_rev) (Feed (corner start end) feed per_rev) (Rapid start) ((there.0, here.1), tt) (there, tt) ((here.0, there.1), tt) (here, tt)

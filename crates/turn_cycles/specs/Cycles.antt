@@ -13,7 +13,8 @@ use Rattle.turn_cycles.specs.declared.rectangle.CycleKind.TheVariants.{G90, G92,
 abbrev pub corner : Point → Point → Point
 corner across along = record { x = across.x; z = along.z }
 
--- the four moves of a cycle
+-- the four moves of a cycle, by its code in system A, from the start round the end of its cut and
+-- back
 abbrev pub cycle_moves : CycleKind → Point → Point → ℤ → Bool → List Move
 cycle_moves G90 start end feed per_rev =
     Rapid (corner end start) ∷ Feed end feed per_rev ∷ Feed (corner start end) feed per_rev ∷ Rapid start ∷ []

@@ -1,4 +1,5 @@
--- The words in which contracts speak of canned cycles. two_path and run_table cite all of them.
+-- The words in which contracts speak of canned cycles. The proofs of two_path and run_table cite
+-- all of them, and block_values cites Pass.
 pub mod Cycles
 pub mod End
 pub mod Pass

@@ -21,7 +21,8 @@ cycle_kind_of CycleThread = Some G92
 cycle_kind_of CycleFace = Some G94
 cycle_kind_of _ = None
 
--- a cycle to where the words and the kept end lead: alarm 41 of the end, then 44; the end is kept
+-- a cycle to where the words and the kept end lead, whose end is then kept; else alarm 41 of the
+-- end, then 44 of the feed
 abbrev pub pass_to_end : CycleKind → Option Point → BlockMotion → Result CyclePass MotionFault
 pass_to_end kind kept block = do
   end ← cycle_end_of block.start kept block.shift block.x block.z

@@ -1,5 +1,5 @@
 //! Where a canned cycle (G90, G92, G94) ends its cut, in 0.001 mm, X a diameter.
-//! pass.rt of this crate calls it.
+//! pass.rt of this crate and tests call `cycle_end`.
 ghost use Rattle.std.specs.Prelude.{◌≡◌, IfOk, IfSome};
 ghost use Rattle.nc_number.specs.Position.{IsWithin, IsPosition};
 ghost use Rattle.nc_number.specs.Axes.{IsAxisWithin};

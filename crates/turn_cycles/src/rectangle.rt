@@ -39,8 +39,9 @@ impl CycleKind {
 }
 
 /// The moves of a cycle, in machine coordinates. G90 and G92 go first across to the end's X, G94
-/// first along to the end's Z; the last move leads back to the start. The feed of G92 is the lead
-/// of its thread. Alarm 44 exactly where the feed is 0.
+/// first along to the end's Z; the last move leads back to the start. The feed of G90 and G94 is by
+/// the revolution (`per_rev`) or by the minute, that of G92 is the lead of its thread. Alarm 44
+/// exactly where the feed is 0.
 #[tactic(auto, using(crate::proofs::Positions::cycle_within))]
 pub fn cycle(
     kind: CycleKind,

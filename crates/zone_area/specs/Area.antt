@@ -21,17 +21,25 @@ reach_of at to (Radius r) = 4 * unsigned_abs r
 
 -- the area holds the point: its X and its Z lie between those of the corners, or are theirs
 pub record Holds (area : Area) (p : Point) : Type 0 where
+  -- the point has at least the least X
   pub left : area.low.x ≤ℤ p.x
+  -- the point has at most the greatest X
   pub right : p.x ≤ℤ area.high.x
+  -- the point has at least the least Z
   pub below : area.low.z ≤ℤ p.z
+  -- the point has at most the greatest Z
   pub above : p.z ≤ℤ area.high.z
 
 -- the area holds a middle plus and minus a reach in 0.0005 mm, in which X is counted as it is and Z
 -- doubled
 pub record HoldsAround (area : Area) (middle : Point) (reach : ℕ) : Type 0 where
+  -- towards the least X the reach lies in the area
   pub left : area.low.x ≤ℤ (middle.x -ℤ pos reach)
+  -- towards the greatest X the reach lies in the area
   pub right : (middle.x +ℤ pos reach) ≤ℤ area.high.x
+  -- towards the least Z the reach lies in the area
   pub below : (pos 2 *ℤ area.low.z) ≤ℤ (pos 2 *ℤ middle.z -ℤ pos reach)
+  -- towards the greatest Z the reach lies in the area
   pub above : (pos 2 *ℤ middle.z +ℤ pos reach) ≤ℤ (pos 2 *ℤ area.high.z)
 
 -- the area holds the end of a move, and what an arc may reach

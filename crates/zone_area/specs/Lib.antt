@@ -1,7 +1,8 @@
 -- What a move may pass (Passing), the area that holds it (Area), and the range of its numbers
--- (Range). zone_cell and zone_check cite these three; Roots is for this crate alone.
+-- (Range). zone_cell cites Area and Range, zone_check Area and Passing. Roots is cited in this
+-- crate alone.
 pub mod Passing
 pub mod Area
 pub mod Range
--- Words for this crate alone.
+-- Area rests on it.
 pub mod Roots

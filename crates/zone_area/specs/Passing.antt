@@ -24,7 +24,7 @@ middle_of at (Offset i k) = record { x = at.x +ℤ pos 2 *ℤ i; z = at.z +ℤ k
 middle_of at (Radius r) = at
 
 -- the square of how far an arc may reach from its middle, in 0.0005 mm: to the farther of its ends,
--- as the test of an arc's end measures it, or twice its radius
+-- as the test of an arc's end measures it; of an arc by its radius, twice the radius
 abbrev pub square_of : Point → Point → Centre → ℕ
 square_of at to (Offset i k) =
     max (square_between (centre_from (place_of at) i k) (place_of at)) (square_between (centre_from (place_of at) i k) (place_of to))
@@ -34,8 +34,9 @@ square_of at to (Radius r) = (4 * unsigned_abs r) * (4 * unsigned_abs r)
 abbrev pub place_after : Point → Move → Point
 place_after at move = unwrap_or (end_of move) at
 
--- A point, which is in parts, may be passed from a place by a move that leads there round this
--- centre, or straight, or that goes nowhere.
+-- A point, which is in parts, may be passed by a move from a place to this end. A move that goes
+-- nowhere passes the place alone; one without a centre all between its ends in X and in Z; an arc
+-- its ends, and all that lies no farther from its middle than it may reach.
 abbrev pub MayPassTo : ℕ → Point → Option Point → Option Centre → Point → Type 0
 MayPassTo d at None centre q = q ≡ in_parts d at
 MayPassTo d at (Some to) None q =
@@ -57,9 +58,13 @@ MayPassSome d at (move ∷ moves) q = MayPass d at move q ⊎ MayPassSome d (pla
 -- a point in parts lies in an area of whole counts: its X and its Z lie between those of the
 -- corners, or are theirs
 pub record IsInside (d : ℕ) (area : Area) (q : Point) : Type 0 where
+  -- the point has at least the least X
   pub left : (in_parts d area.low).x ≤ℤ q.x
+  -- the point has at most the greatest X
   pub right : q.x ≤ℤ (in_parts d area.high).x
+  -- the point has at least the least Z
   pub below : (in_parts d area.low).z ≤ℤ q.z
+  -- the point has at most the greatest Z
   pub above : q.z ≤ℤ (in_parts d area.high).z
 
 -- a point in parts, as it lies in the cell: X is negated under `mirror`

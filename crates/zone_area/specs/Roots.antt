@@ -1,5 +1,5 @@
 -- Square roots, rounded up: how far an arc may reach is one (Area.antt, src/arc.rt).
--- For this crate alone.
+-- No other crate cites it; what Area says of arcs rests on it.
 use Rattle.std.specs.Prelude.{ℕ, zero, suc, ◌*◌, nat_le, if◌then◌else◌}
 
 -- the least number up to `most` whose square is at least n, if the square of `most` is

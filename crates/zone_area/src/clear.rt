@@ -1,5 +1,5 @@
 //! Whether two areas are clear: more than the gap apart in X or in Z.
-//! zone_cell uses it.
+//! zone_cell calls `is_clear`.
 ghost use Rattle.std.specs.Prelude.{◌≡◌, ◌≤◌, unsigned_abs};
 ghost use Rattle.nc_number.specs.Position.{travel, IsPosition};
 ghost use Rattle.zone_area.specs.Area.{is_beyond, lie_apart, is_clear};
@@ -19,7 +19,7 @@ pub fn is_clear(gap: &Point, a: &Area, b: &Area) -> bool
         || lie_apart(gap.z, a.low.z, a.high.z, b.low.z, b.high.z)
 }
 
-/// Of two spans of lengths one lies beyond the other by more than the gap.
+/// Whether of two spans of lengths one lies beyond the other by more than the gap.
 fn lie_apart(gap: i64, low: i64, high: i64, other_low: i64, other_high: i64) -> bool
     requires gap { unsigned_abs gap ≤ travel }
     requires high { unsigned_abs high ≤ far_in_cell }
@@ -29,7 +29,7 @@ fn lie_apart(gap: i64, low: i64, high: i64, other_low: i64, other_high: i64) -> 
     is_beyond(gap, high, other_low) || is_beyond(gap, other_high, low)
 }
 
-/// The length `low` is greater than `high` by more than the gap.
+/// Whether the length `low` is greater than `high` by more than the gap.
 fn is_beyond(gap: i64, high: i64, low: i64) -> bool
     requires gap { unsigned_abs gap ≤ travel }
     requires high { unsigned_abs high ≤ far_in_cell }

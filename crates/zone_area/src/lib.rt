@@ -1,10 +1,12 @@
 //! The area that the moves of a path may pass, and whether two of them are clear of each other.
 //!
 //! [`Swept`] takes one move after the other. Its area is the least of whole counts that holds where
-//! the path began, where each move ends, and what each arc may reach. The layer above leans on
-//! three laws: such an area holds every point that a move may pass, however finely points are
-//! counted; it lies within each other that does; and where two areas are clear, any two points of
-//! them are more than the gap apart.
+//! the path began, where each move ends, and what each arc may reach. The laws: such an area holds
+//! every point that a move may pass, however finely points are counted, also as it lies in the
+//! cell; it lies within each other area that holds those ends and reaches; and where two areas are
+//! clear, any two points that may be passed in them are more than the gap apart in X or in Z.
+//! zone_cell brings areas into the cell and asks whether they are clear; zone_check makes the areas
+//! and calls two of the laws.
 #![tactic(auto)]
 
 mod arc;

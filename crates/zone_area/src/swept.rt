@@ -18,7 +18,9 @@ use std::marker::Model;
 /// What a path may have passed so far, and where it stands.
 #[derive(Debug, Drop)]
 pub struct Swept {
+    /// The least area of whole counts that holds what it may have passed.
     area: Area,
+    /// Where it stands.
     at: Point,
 }
 

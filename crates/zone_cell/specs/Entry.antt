@@ -1,5 +1,6 @@
 -- What a line of a text of zones says. A line that is none of these is not allowed. The functions
--- of src/named.rt answer these definitions. For this crate alone.
+-- of src/named.rt answer these definitions. No other crate cites it; the zones of a text rest on it
+-- (Zones).
 use Rattle.std.specs.Prelude.{ℕ, Bool, not, ◌&&◌, List, [], ◌∷◌, Option, Some, None, codes, pos, int_lt, if◌then◌else◌}
 use Rattle.std.specs.Str.{bytes_eq}
 use Rattle.nc_number.specs.declared.point.Point.{Point}

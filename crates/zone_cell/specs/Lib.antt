@@ -1,7 +1,8 @@
 -- The zones of a text (Zones), the lines of a list of zones (Lines), and the refusal (Faults):
--- other crates cite these. Entry is for this crate alone.
+-- lathe_looks cites all three, lathe_top and zone_check Zones and Lines. Entry is cited in this
+-- crate alone.
 pub mod Zones
 pub mod Lines
 pub mod Faults
--- Words for this crate alone.
+-- Zones rests on it.
 pub mod Entry

@@ -25,8 +25,11 @@ pub record ZonesView : Type 0 where
 
 -- the shifts of both frames, and the gap, are positions
 pub record AreNear (zones : ZonesView) : Type 0 where
+  -- the shift of path 1 is a position
   pub one : IsPosition zones.frames.one.shift
+  -- the shift of path 2 is a position
   pub two : IsPosition zones.frames.two.shift
+  -- the gap is a position
   pub gap : IsPosition zones.gap
 
 -- a path that lies in the cell as it is
@@ -50,7 +53,8 @@ abbrev pub with_frame : Both Frame → Path → (Frame → Frame) → Both Frame
 with_frame frames One change = record frames { one = change frames.one }
 with_frame frames Two change = record frames { two = change frames.two }
 
--- one line more: a frame and a gap take the place of an earlier one, and a mirror stays
+-- one line more: a frame of a path and a gap take the place of an earlier one, and a mirror once
+-- said stays
 abbrev pub with_entry : ZonesView → Entry → ZonesView
 with_entry zones says.Nothing = zones
 with_entry zones (says.Frame path to) = record zones { frames = with_frame zones.frames path (shifted_to to) }
@@ -62,7 +66,7 @@ abbrev pub with_entries : ZonesView → List Entry → ZonesView
 with_entries zones [] = zones
 with_entries zones (entry ∷ entries) = with_entries (with_entry zones entry) entries
 
--- the zones of a text, or the number of its first line that is not allowed
+-- the zones of a text, or its first line that is not allowed, counted from 1
 unfoldable pub zones_of : List ℕ → Result ZonesView ℕ
 zones_of text =
     unless_refused (first_refused (line_says fields_say) 1 (lines text))

@@ -13,7 +13,9 @@ use zone_area::{Area, Frame, is_clear};
 /// How the paths lie in the cell, and how far apart they are to stay.
 #[derive(Debug, Drop)]
 pub struct Zones {
+    /// How each path lies in the cell.
     frames: Both<Frame>,
+    /// How far apart the paths are to stay, in 0.001 mm; X is a diameter.
     gap: Point,
 }
 

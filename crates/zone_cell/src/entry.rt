@@ -11,6 +11,6 @@ pub(crate) enum Entry {
     Frame { path: Path, to: Point },
     /// The path sees X from the other side.
     Mirror(Path),
-    /// How far apart the paths are to stay.
+    /// How far apart the paths are to stay, in X or in Z.
     Gap(Point),
 }

@@ -2,9 +2,10 @@
 //! of two areas.
 //!
 //! [`read_zones`] reads a text of lines: `frame`, `mirror` and `gap`. [`Zones::zone`] brings an
-//! area of each path into the cell and says whether they are clear. The layer above leans on this:
-//! the text gives exactly the zones of its definition, or its first bad line, and a zone is that of
-//! its definition. The lines of a list of zones are texts of one piece each.
+//! area of each path into the cell and says whether they are clear. lathe_looks reads the text,
+//! zone_check makes zones and their lines, and both, with lathe_top, lean on this: the text gives
+//! exactly the zones of its definition, or its first bad line, and a zone is that of its
+//! definition. The lines of a list of zones are texts of one piece each.
 #![tactic(auto)]
 
 mod cell;

@@ -1,4 +1,5 @@
--- A tape that is refused is refused at one line, by one number. For the law
+-- A tape whose blocks stand on rising lines, if it is refused, is refused at one line, by one
+-- number. For the law
 -- `a_refused_tape_has_one_refusal` (src/tape.rt).
 use Rattle.flow_laws.proofs.Refused.{one_refusal}
 use Rattle.flow_laws.proofs.tape.a_refused_tape_has_one_refusal.Goals as goal

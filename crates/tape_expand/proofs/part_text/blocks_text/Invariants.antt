@@ -1,5 +1,4 @@
--- The lines of the blocks so far, with those of the others, are all lines (loop of `blocks_text`,
--- src/part_text.rt).
+-- The text so far is the lines of the blocks so far (loop of `blocks_text`, src/part_text.rt).
 use Rattle.std.proofs.Common.{◌≡◌, take}
 use Rattle.tape_expand.specs.BlockText.{blocks_text}
 use Rattle.tape_expand.proofs.part_text.blocks_text.Given as goal

@@ -1,5 +1,4 @@
--- The edits of the parts so far, with those of the others, are all edits (loop of `edits_of`,
--- src/part_text.rt).
+-- The edits so far are those of the parts so far (loop of `edits_of`, src/part_text.rt).
 use Rattle.std.proofs.Common.{◌≡◌, take}
 use Rattle.std.specs.List.{flat_map}
 use Rattle.tape_expand.specs.Replaced.{edits_of}

@@ -1,4 +1,5 @@
--- The lines so far are to be removed (loop of `push_removed`, src/part_text.rt).
+-- The edits so far are those from before, and one that removes each of the lines so far (loop of
+-- `push_removed`, src/part_text.rt).
 use Rattle.std.proofs.Common.{◌≡◌, ◌++◌, map, take}
 use Rattle.tape_expand.specs.Replaced.{removed}
 use Rattle.tape_expand.proofs.part_text.push_removed.Given as goal
