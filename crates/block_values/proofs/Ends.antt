@@ -16,11 +16,11 @@ use Rattle.motion_track.specs.Within.{IsMoveWithin, AreMovesWithin}
 use Rattle.block_values.specs.Values.{Values}
 use Rattle.block_values.specs.Moves.{speed_moves, tool_moves, is_auxiliary, auxiliary_moves, all_moves, last_end}
 
--- the move ends at a position, and reaches no farther than a block may
+-- the move leads to a position, if it leads anywhere, and reaches no farther than a block may
 abbrev Lies : Move → Type 0
 Lies move = IsMoveWithin LONGEST move
 
--- the turret stands at the end of the move, or where it stood
+-- the end of a move is a position, and so is where the turret stood if the move leads nowhere
 end_after : (end : Option Point) (at : Point) → IsPosition at → IfSome end IsPosition → IsPosition (unwrap_or end at)
 end_after None at here there = here
 end_after (Some to) at here there = there

@@ -61,7 +61,7 @@ abbrev pub motion_kind : ModalView → Option CodeKind → CodeKind
 motion_kind modal one_shot = unwrap_or one_shot modal.motion
 
 -- what the two words of an axis say, the one of X or Z before the one of U or W: X and Z are
--- incremental where G91 is in force (true), as U and W always are
+-- incremental if G91 is in force (true), as U and W always are
 abbrev pub axis_under : Bool → Option ℤ → Option ℤ → Axis
 axis_under false word way = axis_of word way
 axis_under true None way = axis_of None way
@@ -97,7 +97,8 @@ form_of true = WorkOffset
 form_of false = ToolOffset
 
 -- the offset that G10 sets, and its new value: an absolute word sets it, an incremental one adds to
--- it. Alarm 40 if P names none, then 41 if the new value is past the range.
+-- it. `has_l`: L stands in the block. Alarm 40 if P names no offset, then 41 if the new value is
+-- past the range.
 abbrev pub setting_of : OffsetTable → ModalView → Bool → Values → Result (Slot × Point) OffsetFault
 setting_of offsets modal has_l values = do
   slot ← slot_named (form_of has_l) values.number
@@ -129,13 +130,14 @@ abbrev pub turret_motion : Point → Point → OffsetTable → ModalView → Cod
 turret_motion home position offsets modal kind values =
     motion_number (cut_motion (cycle_kind_of kind) kind modal.cycle (block_motion home position offsets modal values))
 
--- the machine's own coordinates have no increments: alarm 56 of G53 where G91 is in force, whatever
+-- the machine's own coordinates have no increments: alarm 56 of G53 if G91 is in force, whatever
 -- words stand beside it
 abbrev pub unless_incremental : Bool → Result Motion ℕ → Result Motion ℕ
 unless_incremental true motion = Err (cause_number UnknownCode)
 unless_incremental false motion = motion
 
--- the motion of a block by the kind of its code, from where the turret stands
+-- the motion of a block by the kind of its code, from where the turret stands. `has_l`: L stands in
+-- the block, which only G10 heeds.
 abbrev pub motion_of : Point → Point → OffsetTable → ModalView → CodeKind → Bool → Values → Result Motion ℕ
 motion_of home position offsets modal Dwell has_l values =
     Ok (moving modal.cycle (move.Dwell (unwrap_or values.rest 0) ∷ []))

@@ -13,7 +13,7 @@ use Rattle.nc_moves.specs.Motion.{end_of}
 use Rattle.modal_state.specs.View.{ModalView}
 use Rattle.block_values.specs.Values.{Values}
 
--- the size of a whole number, or 0 where the number has a fraction
+-- the size of a whole number, or 0 if the number has a fraction
 abbrev pub whole_or_zero : Option ℤ → ℕ
 whole_or_zero None = 0
 whole_or_zero (Some n) = unsigned_abs n
@@ -39,7 +39,8 @@ abbrev pub auxiliary_moves : Option ℕ → List Move
 auxiliary_moves None = []
 auxiliary_moves (Some m) = if is_auxiliary m then move.Aux m ∷ [] else []
 
--- all moves of a block: the speed limit or the speed, the tool, the motion, the auxiliary M code
+-- all moves of a block: the speed limit or the speed, the tool, the motion, the auxiliary M code.
+-- `limits`: G50 stands in the block; `code`: its M code.
 abbrev pub all_moves : Bool → ModalView → Values → List Move → Option ℕ → List Move
 all_moves limits modal values motion code =
     speed_moves limits modal values.speed ++ (tool_moves values.tool ++ (motion ++ auxiliary_moves code))

@@ -1,5 +1,7 @@
 -- How a step of a block ends: with a value and the reads that are left, with the need of a shared
--- variable, or with an alarm. Each definition of what words and operands say answers so.
+-- variable, or with an alarm. Each definition of what words and operands say answers so. `reads`
+-- are the values of shared variables that were read for the block so far: each step takes from
+-- their front those that it needs.
 -- named_vars, path_state, run_table, two_path and zone_check take words from here.
 use Rattle.std.specs.Prelude.{ℕ, List, Result, Ok, Err, ℤ, pos}
 use Rattle.nc_number.specs.declared.cause.Cause.{Cause}
@@ -13,7 +15,7 @@ use Rattle.macro_eval.specs.Meaning.{Answer, meaning}
 
 -- how a step of a block ends
 pub data Outcome (A : Type 0) : Type 0 where
-  -- it gives a value; `left` are the values of shared variables that are not read yet
+  -- it gives a value; `left` are those of the values read for the block that no step has taken yet
   Gives : (value : A) → (left : List Var) → Outcome A
   -- it can't go on before this shared variable is read
   Needs : (variable : ℕ) → Outcome A

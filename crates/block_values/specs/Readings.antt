@@ -14,7 +14,7 @@ use Rattle.common_vars.specs.Variables.{variable_of}
 use Rattle.modal_state.specs.View.{ModalView}
 use Rattle.modal_state.specs.Modal.{code_of}
 
--- whether the system in force has this variable. The code of a modal group is one only where the
+-- whether the system in force has this variable. The code of a modal group exists only if the
 -- system has the group; system B alone has that of absolute and incremental. All others exist.
 abbrev pub is_there : ModalView → Variable → Bool
 is_there modal (variable.Code group) = is_some (code_of modal group)
@@ -34,11 +34,12 @@ abbrev pub or_vacant : Option ℤ → Var
 or_vacant None = Vacant
 or_vacant (Some value) = Is value
 
--- a whole number as the value of a variable
+-- a whole number as the value of a variable; vacant if it is past the range of values
 abbrev pub in_units : ℕ → Var
 in_units n = or_vacant (value_of_units (pos n))
 
--- a length in 0.001 mm as the value of a variable, which is in millimetres
+-- a length in 0.001 mm as the value of a variable, which is in millimetres; vacant if it is past
+-- the range of values
 abbrev pub in_millimetres : ℤ → Var
 in_millimetres length = or_vacant (value_of_increments length)
 

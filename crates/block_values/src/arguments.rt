@@ -64,7 +64,7 @@ pub fn argument(letter: u8, literal: &Literal) -> Value
     }
 }
 
-/// Gives the local variable of the address the value, where it has one.
+/// Gives the local variable of the address the value; an address that has none sets nothing.
 fn set_argument(letter: u8, value: Value, arguments: &mut [Var; LOCALS])
     ensures { arguments.new ≡ with_argument (local_of letter) value arguments.old }
 {

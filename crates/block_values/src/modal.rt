@@ -13,7 +13,7 @@ use nc_number::Var;
 
 /// The modal state behind a block: its G codes, by their rows in the block's order, set their
 /// groups, and then F, S and T are taken. Beside G50 S is the highest speed. Alarm 40, as its
-/// number, exactly where the tool offset of T is none of 0 to 64.
+/// number, exactly if the tool offset of T is none of 0 to 64.
 pub fn modal_after(
     modal: &Modal,
     rows: &[Row],

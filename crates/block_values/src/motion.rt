@@ -227,7 +227,7 @@ fn dwell(cycle: Option<Point>, ms: u64, moves: &mut MoveList) -> MotionStep
 }
 
 /// What the two words of an axis say, the one of X or Z before the one of U or W: X and Z are
-/// incremental where G91 is in force, as U and W always are.
+/// incremental if G91 is in force, as U and W always are.
 fn axis_under(incremental: bool, word: Option<i64>, way: Option<i64>) -> Axis
     ensures told { result ≡ axis_under incremental word way }
     ensures range { (far : ℕ) → IfSome word (λ n. unsigned_abs n ≤ far)
@@ -243,8 +243,8 @@ fn axis_under(incremental: bool, word: Option<i64>, way: Option<i64>) -> Axis
 }
 
 /// The offset that G10 sets, and its new value: with L a work offset, else a tool offset. An
-/// absolute word sets it, and an incremental one adds to it. Alarm 40 exactly where P names none,
-/// then 41 exactly where a part of the new value would be past 99,999.999 mm.
+/// absolute word sets it, and an incremental one adds to it. Alarm 40 exactly if P names none, then
+/// 41 exactly if a part of the new value would be past 99,999.999 mm.
 pub fn setting(
     offsets: &Offsets,
     modal: &Modal,

@@ -53,7 +53,7 @@ fn variable_or_stop(variable: Result<Variable, Cause>) -> Result<Variable, Stop>
     }
 }
 
-/// A computed sequence number: alarm 4 where it is not whole, and 50 where it is below 0.
+/// A computed sequence number: alarm 4 if it is not whole, and 50 if it is below 0.
 fn sequence_number(value: &Var) -> Result<u32, Cause>
     ensures { result ≡ sequence_number (whole_number value.now) }
 {

@@ -3,7 +3,7 @@
 //! illegal.
 //!
 //! The answers that are expected stem from the rules of turns and of histories, and never from what
-//! a machine answered.
+//! a machine answered. No crate uses this one.
 #![tactic(auto)]
 
 #[cfg(test)]

@@ -409,7 +409,7 @@ fn play(
     play_beside(alloc, settings, &left, right, words)
 }
 
-/// Whether a row `left|right|words|answers` is so, and else what was answered.
+/// No text if a row `left|right|words|answers` is so, and else the row and what was answered.
 pub(crate) fn failure_of(alloc: Global, settings: &Settings, row: &str) -> Result<String, Fail> {
     let (left, rest) = row.split_once('|').unwrap_or((row, ""));
     let (right, rest) = rest.split_once('|').unwrap_or((rest, ""));

@@ -59,7 +59,8 @@ OnNeed P (Need n) = P n
 OnNeed P (Got v) = Unit {0}
 OnNeed P (Fault n) = Unit {0}
 
--- What holds of each variable that is looked up holds of each that an expression needs.
+-- `table` says what each variable holds. What holds (P) of each variable that is looked up holds of
+-- each that an expression needs.
 module _ (table : ℕ → Result Look VarFault) (P : ℕ → Type 0) where
   -- if P holds of what each of two evaluations in a row needs, it holds of what both need
   then_needs : (a : Answer) (next : Var → List Var → Answer) → OnNeed P a.0

@@ -57,7 +57,7 @@ OnWrite P (Some write) = P write.variable
 abbrev Writes : (ℕ → Type 0) → After → Type 0
 Writes P after = OnWrite P after.write
 
--- if a left side comes to a common variable, it may be that by its text
+-- the left side may be this variable by its text, if the variable is a common one
 abbrev IsMeant : Named → Variable → Type 0
 IsMeant name (variable.Common v) = may_be name v ≡ true
 IsMeant name _ = Unit {0}

@@ -1,7 +1,8 @@
 -- Which variables a block names and which it may write, by its text alone. A variable whose number
--- is computed may be any. What else a block reads or writes as it runs there is not: the law of
--- src/laws.rt.
--- race_order defines races by it; race_report looks for these blocks.
+-- is computed may be any. As the block runs it reads and writes no other shared variable: the law
+-- of src/laws.rt.
+-- race_order defines races by these words; race_report looks for the blocks that name a variable or
+-- may write it.
 use Rattle.std.specs.Prelude.{ℕ, ◌==◌, ◌||◌, Bool, true, false, List, [], ◌∷◌, Option, Some, None}
 use Rattle.macro_expr.specs.Tree.{Tree, Number, Variable, VariableOf, Signed, Applied, Joined, Named, Fixed, Computed, Sentence, Assign, IfThen, evaluated, sentence_of}
 use Rattle.block_words.specs.declared.word.FlowWord.{FlowWord}
@@ -72,10 +73,11 @@ abbrev pub found_may_write : Option FlowBlock → ℕ → Bool
 found_may_write None v = false
 found_may_write (Some block) v = body_may_write block.body v
 
--- the block at a place of a program names the variable; past the last block there is none
+-- the block of this number, from 0, in a program names the variable; past the last block there is
+-- none
 abbrev pub block_names : Flow → ℕ → ℕ → ℕ → Bool
 block_names flow program block v = found_names (flow_block flow.programs program block) v
 
--- the block at a place of a program may write the variable
+-- the block of this number, from 0, in a program may write the variable
 abbrev pub block_may_write : Flow → ℕ → ℕ → ℕ → Bool
 block_may_write flow program block v = found_may_write (flow_block flow.programs program block) v

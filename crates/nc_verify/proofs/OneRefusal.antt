@@ -150,7 +150,7 @@ one_of_flows texts cell other l r l' r' a b flows others x y =
     one_of_pair (controls l') (controls r') a b
     (subst (λ z. IsPairRefusal (controls l') (controls z) a) rr (subst (λ z. IsPairRefusal (controls z) (controls r) a) ll x)) y
 
--- three texts have one refusal at most, by the three laws above
+-- three texts have one refusal at most, by the laws `NotBoth`, `Rising` and `OneOfTape`
 pub one_refusal : NotBoth → Rising → OneOfTape → (texts : Texts) (a b : Refusal) → IsRefusalOf texts a → IsRefusalOf texts b → a ≡ b
 one_refusal apart rising law texts a b (settings x) (settings y) = one_of_settings texts.settings a b x y
 one_refusal apart rising law texts a b (settings x) (left cell read y) = absurd (not_both_settings texts.settings cell a x read)

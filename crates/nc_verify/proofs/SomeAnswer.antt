@@ -105,7 +105,7 @@ same_or_differ (x ∷ xs) (y ∷ ys) el er unequal none =
         rest ends.0 ends.1 (λ tails. unequal (λ i. same i ∷ tails i))
         (λ d. none (suc d.0, one_behind x y xs ys d.0 same d.1))
 
--- the first place at which two lists of labels differ is their mismatch
+-- a place at which two lists of labels differ behind equal ones is their mismatch
 mismatch_at : (l r : List Labelled) (after : ℕ) (d : DifferAt l r after)
     → IsMismatch l r (labels.mismatch after d.one'.line d.two'.line)
 mismatch_at l r after d = record {
@@ -161,7 +161,7 @@ flows_answer unforked lists texts cell l r is fl fr unaccepted unrefused =
     (λ own. unaccepted (record { flows = record { settings_are = is; left_is = fl; right_is = fr }; pair = own }))
     (λ own. unrefused (own.0, pair cell l r (record { settings_are = is; left_is = fl; right_is = fr }) own.1))
 
--- three texts are accepted, or refused, by the three laws above
+-- three texts are accepted, or refused, by the laws `SomeOfTape`, `OneList` and `ByLists`
 pub some_answer : SomeOfTape → OneList → ByLists → (texts : Texts)
     → CantBothFail ((cell : Cell) × (l : List ProgramForm) × (r : List ProgramForm) × AreAccepted texts cell l r)
     ((refusal : Refusal) × IsRefusalOf texts refusal)

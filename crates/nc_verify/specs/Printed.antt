@@ -13,7 +13,7 @@ use Rattle.nc_outside.specs.Faults.{CountsFault}
 use Rattle.nc_outside.specs.Written.{SinkState, TellsOn, Writes}
 use Rattle.nc_verify.specs.declared.refusal.Refusal.{Refusal}
 
--- `None` if no cause has this number, else the cause that has it
+-- this cause has this number; `None` says that no cause has it
 abbrev pub IsCauseOf : ℕ → Option Cause → Type 0
 IsCauseOf number None = (cause : Cause) → cause_number cause ≢ number
 IsCauseOf number (Some cause) = cause_number cause ≡ number

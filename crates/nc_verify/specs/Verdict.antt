@@ -54,12 +54,13 @@ pub data IsTapeRefusal (cell : Cell) (path : Path) (text : List ℕ) (refusal : 
   -- the text doesn't read: its first fault
   reading : (fault : TextFault) → tape_of (skips_of path cell) text ≡ Err fault → refusal ≡ at_line path fault.line fault.number
       → IsTapeRefusal cell path text refusal
-  -- it reads, and a block or the order of blocks is wrong
+  -- the text reads, and a block or the order of blocks is wrong
   flow : (tape : List Program) (line number : ℕ) → tape_of (skips_of path cell) text ≡ Ok tape
       → IsRefused (dialect_in cell) tape line number → refusal ≡ at_line path line number → IsTapeRefusal cell path text refusal
 
 -- the settings are refused at their first line that is not allowed
 pub record AreRefusedSettings (text : List ℕ) (refusal : Refusal) : Type 0 where
+  -- the first line that is not allowed
   pub line : ℕ
   pub refused : settings_of text ≡ Err line
   pub is : refusal ≡ at_setting line

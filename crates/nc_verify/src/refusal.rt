@@ -14,14 +14,14 @@ use thiserror::Error;
 pub struct Refusal {
     /// The number of the refusal.
     pub number: u8,
-    /// The path whose tape is refused, 1 or 2; 0 where the settings are. 1 where the labels differ.
+    /// The path whose tape is refused, 1 or 2; 0 if the settings are; 1 if the labels differ.
     pub path: u8,
-    /// The line that the refusal is about, counted from 1; where the labels differ, that of path
-    /// 1's label; 0 where a path has too many labels.
+    /// The line that the refusal is about, counted from 1; if the labels differ, that of path 1's
+    /// label; 0 if a path has too many labels.
     pub line: u32,
-    /// Where the labels differ, the line of path 2's label; else 0.
+    /// If the labels differ, the line of path 2's label; else 0.
     pub other: u32,
-    /// Where the labels differ, how many labels before are equal; else 0.
+    /// If the labels differ, how many labels before are equal; else 0.
     pub after: u32,
 }
 

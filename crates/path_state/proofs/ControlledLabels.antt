@@ -1,6 +1,7 @@
--- A block that is done keeps the labels ahead of its path, by the law of block_order on one step:
--- for the laws `each_block_keeps_the_labels` and `the_flow_of_an_accepted_tape_is_unforked`
--- (src/control_law.rt).
+-- A block that is done keeps the labels ahead of its path, but for an M99 of the main program with
+-- no call open, by the law of block_order on one step: for the laws `each_block_keeps_the_labels`
+-- and `the_flow_of_an_accepted_tape_is_unforked` (src/control_law.rt). An order of blocks is
+-- *unforked* if all its runs come to one list of labels.
 use Rattle.std.proofs.Common.{List, map, [], ◌∷◌, Some, sym, subst}
 use Rattle.nc_number.specs.declared.value.Var.{Var}
 use Rattle.block_order.specs.declared.control.Control.{Control}
@@ -32,7 +33,7 @@ kept-ahead tape f (g ∷ stack) Back to kept = kept
 kept-ahead tape f [] _ to kept = kept
 kept-ahead tape f (g ∷ stack) _ to kept = kept
 
--- one step leads to a place again, and keeps the labels ahead
+-- one step leads to a place again, and does to the labels ahead what `AheadOf` says
 step-ahead : (tape : List ControlProgram) → KeepsLabels tape → (place to : List Frame)
     → IsPlace tape place → Step tape place to
     → IsPlace tape to × AheadOf tape place (standing tape place) to
@@ -41,7 +42,7 @@ step-ahead tape law (f ∷ stack) to here (c, stands, goes) =
     let kept = law.step f stack here c stands to goes in
     (kept.0, subst (λ o. AheadOf tape (f ∷ stack) o to) (sym stands) (kept-ahead tape f stack c to kept.1))
 
--- an effect that goes as ordered keeps the labels ahead
+-- an effect that goes as ordered does to the labels ahead what `KeepsAhead` says
 effect-ahead : (tape : List ControlProgram) → KeepsLabels tape → (path : PathView)
     → IsPlace tape path.place → (effect : Effect)
     → GoesAsOrdered tape path effect → KeepsAhead tape path effect
@@ -52,7 +53,8 @@ effect-ahead tape law path here (AtWait code) goes = law.wait path.place code he
 effect-ahead tape law path here (AtEnd after moves) goes = (goes.1, law.ends path.place here goes.0)
 effect-ahead tape law path here (Alarm number value) goes = tt
 
--- each block of a flow whose order is unforked keeps the labels ahead of its path
+-- each block of a flow whose order is unforked does to the labels ahead of its path what
+-- `KeepsAhead` says
 pub labels_kept : (flow : Flow) → IsUnforked flow.order → (path : PathView) (reads : List Var)
     → IsPlace flow.order path.place
     → KeepsAhead flow.order path (effect_of flow path reads)

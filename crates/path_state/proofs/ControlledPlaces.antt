@@ -1,5 +1,5 @@
--- Where control goes behind a block of words, the order of blocks allows: each move of a place is a
--- step of it. For ControlledWords.
+-- Where control goes behind a block of words, the order of blocks allows: each move of a place (the
+-- open programs of a path, each with its block) is a step of it. For ControlledWords.
 use Rattle.std.proofs.Common.{◌≡◌, ℕ, inl, inr, List, Option, Some, Result, Ok, Err, refl}
 use Rattle.nc_number.specs.declared.cause.Cause.{Cause}
 use Rattle.nc_number.specs.declared.value.Var.{Var}
@@ -16,14 +16,16 @@ abbrev pub Steps : List ControlProgram → List Frame → Result Standing Cause 
 Steps tape place (Ok to) = Step tape place to.place
 Steps tape place (Err cause) = Unit {0}
 
--- a control of words behind which the block can be done: no end of a loop, no wait, no end
+-- the control is no end of a loop, no wait and no end: behind any other a block of words can be
+-- done
 abbrev pub Passes : Control → Type 0
 Passes (EndLoop name) = ⊥
 Passes (Wait code) = ⊥
 Passes End = ⊥
 Passes _ = Unit {0}
 
--- a move of the place alone is a step, with the same calls and levels
+-- if a move of the place is a step, so is the standing that is moved there with its calls and
+-- levels
 steps_at : (tape : List ControlProgram) (place : List Frame) (s : Standing) (to : Result (List Frame) Cause)
     → ((there : List Frame) → to ≡ Ok there → Step tape place there) → Steps tape place (standing_at s to)
 steps_at tape place s (Ok there) step = step there refl

@@ -65,11 +65,12 @@ pub record Follows (tape : List ControlProgram) (before after : PathView) : Type
   pub step : Step tape before.place after.place
   pub fixed : after.fixed ≡ before.fixed
 
--- behind this write the path is at the same place
+-- behind this write the path is at the same place, and what is fixed for it stays
 abbrev Keeps : PathView → After → Type 0
 Keeps path after = Stays path after.path
 
--- behind this statement the path has gone a step of the order of blocks
+-- behind this statement the path has gone a step of the order of blocks, and what is fixed for it
+-- stays
 abbrev pub Goes : List ControlProgram → PathView → After → Type 0
 Goes tape path after = Follows tape path after.path
 

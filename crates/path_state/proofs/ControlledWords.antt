@@ -34,7 +34,7 @@ pub record IsSteady (tape : List ControlProgram) (path : PathView) (effect : Eff
   pub goes : GoesAsOrdered tape path effect
   pub keeps : KeepsFixed path effect
 
--- a control that is no end of a loop
+-- the control is no end of a loop
 abbrev EndsNoLoop : Control → Type 0
 EndsNoLoop (control.EndLoop name) = ⊥
 EndsNoLoop _ = Unit {0}
@@ -120,7 +120,7 @@ moved-steady tape path moved arguments c stays stands passes =
     (behind_steps tape (standing_of moved.path) arguments c
     (ap (λ place. standing tape place) stays.place ∙ stands) passes))
 
--- a control of words that is no wait and ends no loop
+-- the control is no wait and no end of a loop
 abbrev pub Runs : Control → Type 0
 Runs (control.EndLoop name) = ⊥
 Runs (control.Wait code) = ⊥

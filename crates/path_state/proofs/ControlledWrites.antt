@@ -38,26 +38,31 @@ use Rattle.path_state.specs.Statements.{Write, After, along, with_offset, writte
 use Rattle.path_state.specs.Effect.{Effect, Done, Moved, acted, done_by, controlled, of_moved, of_values, of_arguments, of_purpose, block_of_words, of_after, effect_of_body, effect_of_block, block_at, effect_of}
 use Rattle.path_state.proofs.ControlledStatements.{OnGives, behind_gives, after_any, either}
 
--- a write, if there is one, is to a shared variable
+-- the write, if there is one, is to a shared variable
 abbrev WritesShared : Fixed → Option Write → Type 0
 WritesShared fixed None = Unit {0}
 WritesShared fixed (Some write) = is_shared fixed write.variable ≡ true
 
--- what a statement writes is a shared variable
+-- the write of the statement, if it makes one, is to a shared variable
 abbrev Writes : Fixed → After → Type 0
 Writes fixed after = WritesShared fixed after.write
 
+-- A path before its block: `fixed` is what is fixed for it. Each lemma is of one part of a
+-- statement: what it writes, if it writes, is a shared variable.
 module _ (fixed : Fixed) (path : PathView) where
+  -- a common variable that takes a value: a shared one is written, the path's own not
   common-writes : (shared : Bool) (v : ℕ) (value : Var) → is_shared fixed v ≡ shared
       → Writes fixed (with_common shared path v value)
   common-writes true v value is = is
   common-writes false v value is = tt
 
+  -- an offset that takes a point
   offset-writes : (slot : Slot) (to : Result Point OffsetFault) (left : List Var)
       → OnGives (Writes fixed) (written_path (with_offset path slot to) left)
   offset-writes slot (Ok to) left = tt
   offset-writes slot (Err fault) left = tt
 
+  -- a variable of any kind that takes a value
   written-writes : (v : Variable) (value : Var) (left : List Var)
       → OnGives (Writes fixed) (written fixed path v value left)
   written-writes (variable.Local i) value left = tt
@@ -68,6 +73,7 @@ module _ (fixed : Fixed) (path : PathView) where
   written-writes variable.Raise value left = tt
   written-writes _ value left = tt
 
+  -- an assignment
   assigned-writes : (name : Named) (tree : Tree) (reads : List Var)
       → OnGives (Writes fixed) (assigned fixed path name tree reads)
   assigned-writes name tree reads =
@@ -75,6 +81,7 @@ module _ (fixed : Fixed) (path : PathView) where
       after_any (Writes fixed) (evaluated fixed path tree behind_name) _
       (λ value left. written-writes v value left))
 
+  -- an assignment behind which the next block follows
   assigned_next-writes : (name : Named) (tree : Tree) (reads : List Var)
       → OnGives (Writes fixed) (assigned_next fixed path name tree reads)
   assigned_next-writes name tree reads =
@@ -82,17 +89,20 @@ module _ (fixed : Fixed) (path : PathView) where
       (assigned-writes name tree reads)
       (λ after left writes. writes)
 
+  -- a statement that goes to a place
   move-writes : (to : Result (List Frame) Cause) (left : List Var)
       → OnGives (Writes fixed) (move_effect path to left)
   move-writes (Ok to) left = tt
   move-writes (Err cause) left = tt
 
+  -- a jump
   jump-writes : (tape : List ControlProgram) (aim : Aim) (reads : List Var)
       → OnGives (Writes fixed) (jump_effect tape fixed path aim reads)
   jump-writes tape aim reads =
       after_any (Writes fixed) (aimed fixed path aim reads) _
       (λ n left. move-writes (place_of_jump tape n path.place) left)
 
+  -- a statement
   statement-writes : (tape : List ControlProgram) (sentence : Sentence) (reads : List Var)
       → OnGives (Writes fixed) (statement_effect tape fixed path sentence reads)
   statement-writes tape (Assign name tree) reads = assigned_next-writes name tree reads
@@ -113,32 +123,39 @@ module _ (fixed : Fixed) (path : PathView) where
   statement-writes tape (DoOnly name) reads = tt
   statement-writes tape (EndLoop name) reads = move-writes (place_of_head tape path.place) reads
 
--- what a block writes, if it is done, is a shared variable
+-- the write of the block, if it is done and makes one, is to a shared variable
 abbrev EffectWrites : Fixed → Effect → Type 0
 EffectWrites fixed (Done after write moves) = WritesShared fixed write
 EffectWrites fixed _ = Unit {0}
 
+-- A block of a path. Each lemma takes one step of the definition of its effect: a block of words
+-- writes no shared variable, and a statement what `statement-writes` says.
 module _ (tape : List ControlProgram) (fixed : Fixed) (path : PathView) where
+  -- a block whose moves are known, and that goes on to a place
   done-writes : (moved : Moved) (to : Result Standing Cause) → EffectWrites fixed (done_by moved to)
   done-writes moved (Ok to) = tt
   done-writes moved (Err cause) = tt
 
+  -- a block whose moves are known, by its control
   controlled-writes : (moved : Moved) (arguments : Option (List Var)) (c : Control)
       → EffectWrites fixed (controlled tape moved arguments c)
   controlled-writes moved arguments control.End = tt
   controlled-writes moved arguments c =
       done-writes moved (standing_behind tape (standing_of moved.path) arguments c)
 
+  -- a block whose words moved the path, or raised an alarm
   moves-write : (c : Control) (moved : Result Moved ℕ) → EffectWrites fixed (of_moved tape c moved)
   moves-write c (Ok moved) = controlled-writes moved None c
   moves-write c (Err number) = tt
 
+  -- a block of words, by their values
   values-write : (system : System) (words : List FlowWord) (c : Control) (values : Outcome Values)
       → EffectWrites fixed (of_values tape fixed path system words c values)
   values-write system words c (Gives values left) = moves-write c (acted fixed path system words values)
   values-write system words c (Needs variable) = tt
   values-write system words c (Alarms number value) = tt
 
+  -- a macro call, by its arguments
   arguments-write : (c : Control) (arguments : Outcome (List Var))
       → EffectWrites fixed (of_arguments tape path c arguments)
   arguments-write c (Gives arguments left) =
@@ -146,6 +163,7 @@ module _ (tape : List ControlProgram) (fixed : Fixed) (path : PathView) where
   arguments-write c (Needs variable) = tt
   arguments-write c (Alarms number value) = tt
 
+  -- a block of words, by its purpose
   purpose-writes : (purpose : Purpose) (system : System) (words : List FlowWord) (c : Control) (reads : List Var)
       → EffectWrites fixed (of_purpose tape fixed path purpose system words c reads)
   purpose-writes MacroCall system words c reads =
@@ -153,17 +171,20 @@ module _ (tape : List ControlProgram) (fixed : Fixed) (path : PathView) where
   purpose-writes purpose system words c reads =
       values-write system words c (words_taken fixed path (sense_of path purpose system words) words nothing_said reads)
 
+  -- a block of words, which at a wait does nothing
   words-write : (purpose : Purpose) (system : System) (words : List FlowWord) (c : Control) (reads : List Var)
       → EffectWrites fixed (block_of_words tape fixed path purpose system words c reads)
   words-write purpose system words (control.Wait code) reads = tt
   words-write purpose system words c reads = purpose-writes purpose system words c reads
 
+  -- a block that is a statement, by what that comes to
   after-writes : (after : Outcome After) → OnGives (Writes fixed) after
       → EffectWrites fixed (of_after after)
   after-writes (Gives after left) writes = writes
   after-writes (Needs variable) writes = tt
   after-writes (Alarms number value) writes = tt
 
+  -- a block, by its text
   body-writes : (body : FlowBody) (c : Control) (reads : List Var)
       → EffectWrites fixed (effect_of_body tape fixed path body c reads)
   body-writes (Words words) c reads = words-write words.purpose words.dialect.system words.words c reads

@@ -1,4 +1,6 @@
--- The lemmas of path_state, each file by its subject. named_vars and race_order take some of them.
+-- The lemmas of path_state, each file by its subject. named_vars takes lemmas of
+-- ControlledStatements and NeedsShared, race_order of ControlledFlow, ControlledWrites and
+-- NeedsWords; the others are for the proofs of this crate.
 pub mod ControlledPlaces
 pub mod ControlledStatements
 pub mod ControlledWords

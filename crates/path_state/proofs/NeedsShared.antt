@@ -1,5 +1,5 @@
 -- What an expression needs is a variable that the paths share, and fewer values were given than it
--- names variables. NeedsStatements and NeedsWords build on it.
+-- names variables, each mention counted. NeedsStatements and NeedsWords build on it.
 -- named_vars takes `named_in_table`.
 use Rattle.std.proofs.Common.{◌≡◌, ℕ, ◌+◌, ◌<◌, ◌≤◌, Bool, true, false, List, [], ◌∷◌, length, Option, Some, None, Result, Ok, Err, ℤ, refl, ap, subst, arith, if◌then◌else◌}
 use Rattle.nc_number.specs.declared.cause.Cause.{Cause}
@@ -26,13 +26,16 @@ use Rattle.path_state.specs.Looks.{is_shared, held_by, look_of}
 use Rattle.block_values.specs.Outcomes.{Outcome, Gives, Needs, Alarms, ◌>>=◌, reading_none, answered}
 use Rattle.path_state.specs.Said.{evaluated}
 
--- if an evaluation needs a variable, the table says that it is shared
+-- if the evaluation needs a variable, the table says that this variable is shared
 abbrev NeedsShared : (ℕ → Result Look VarFault) → Eval → Type 0
 NeedsShared table (Need n) = table n ≡ Ok look.Shared
 NeedsShared table (Got v) = Unit {0}
 NeedsShared table (Fault n) = Unit {0}
 
+-- `table` says of each variable what it holds, or that it is shared. Each lemma says of one part of
+-- an evaluation that it needs only variables that the table calls shared.
 module _ (table : ℕ → Result Look VarFault) where
+  -- two evaluations in a row need a shared variable, if each of them does
   then_needs : (a : Answer) (next : Var → List Var → Answer) → NeedsShared table a.0
       → ((v : Var) (left : List Var) → NeedsShared table (next v left).0)
       → NeedsShared table (then_with a next).0
@@ -40,10 +43,12 @@ module _ (table : ℕ → Result Look VarFault) where
   then_needs (Need n, left) next first further = first
   then_needs (Fault n, left) next first further = tt
 
+  -- a calculation needs no variable
   made_needs : (r : Result ℤ NumberFault) → NeedsShared table (made r)
   made_needs (Ok z) = tt
   made_needs (Err fault) = tt
 
+  -- a look at a variable needs it only if the table says that it is shared
   seen_needs : (n : ℕ) (found : Result Look VarFault) → table n ≡ found → (reads : List Var)
       → NeedsShared table (seen found n reads).0
   seen_needs n (Ok (look.Is v)) is reads = tt
@@ -51,11 +56,13 @@ module _ (table : ℕ → Result Look VarFault) where
   seen_needs n (Ok look.Shared) is (v ∷ left) = tt
   seen_needs n (Err fault) is reads = tt
 
+  -- a look at a variable by its computed number needs it only if it is shared
   by_needs : (number : Result ℕ Cause) (reads : List Var)
       → NeedsShared table (looked_by table number reads).0
   by_needs (Ok n) reads = seen_needs n (table n) refl reads
   by_needs (Err cause) reads = tt
 
+  -- an expression needs a shared variable, if it needs one
   meaning_needs : (t : Tree) (reads : List Var) → NeedsShared table (meaning table t reads).0
   meaning_needs (Number z) reads = tt
   meaning_needs (Named n) reads = seen_needs n (table n) refl reads

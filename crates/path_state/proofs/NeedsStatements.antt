@@ -1,5 +1,5 @@
--- A statement asks for no more values than it names variables, and for shared ones alone: each
--- lemma says it of one part of a statement, the last of the whole. For NeedsWords.
+-- A statement asks for no more values than it names variables, each mention counted, and for shared
+-- ones alone: each lemma says it of one part of a statement, the last of the whole. For NeedsWords.
 use Rattle.std.proofs.Common.{ℕ, ◌+◌, ◌≤◌, Bool, true, false, List, [], ◌∷◌, ◌++◌, Result, Ok, Err, arith, if◌then◌else◌}
 use Rattle.nc_number.specs.declared.cause.Cause.{Cause}
 use Rattle.nc_number.specs.declared.point.Point.{Point}
@@ -24,7 +24,9 @@ use Rattle.block_values.specs.Operands.{existing, number_named, length_of, seque
 use Rattle.path_state.specs.Statements.{After, along, with_offset, written_path, written, named, assigned, tested, aimed, move_effect, jump_effect, next_effect, assigned_next, statement_effect}
 use Rattle.path_state.proofs.NeedsShared.{Asks, then_asks, none_asks, tree_asks}
 
+-- A path before its block: `fixed` is what is fixed for it.
 module _ (fixed : Fixed) (path : PathView) where
+  -- the left side of an assignment asks for at most as many values as its number names variables
   named_asks : (name : Named) (reads : List Var)
       → Asks fixed (variables_in (evaluated_name name)) reads (named fixed path name reads)
   named_asks (Numbered n) reads = none_asks fixed 0 reads (existing (variable_in path.modal n))
@@ -33,11 +35,13 @@ module _ (fixed : Fixed) (path : PathView) where
       (tree_asks fixed path tree reads)
       (λ value left. none_asks fixed 0 left (number_named path.modal (variable_number value)))
 
+  -- a write to an offset asks for none
   offset_asks : (slot : Slot) (to : Result Point OffsetFault) (left : List Var)
       → Asks fixed 0 left (written_path (with_offset path slot to) left)
   offset_asks slot (Ok to) left = omega arith
   offset_asks slot (Err fault) left = tt
 
+  -- a write to a variable asks for none
   written_asks : (v : Variable) (value : Var) (left : List Var)
       → Asks fixed 0 left (written fixed path v value left)
   written_asks (variable.Local i) value left = omega arith
@@ -48,6 +52,7 @@ module _ (fixed : Fixed) (path : PathView) where
   written_asks variable.Raise value left = tt
   written_asks _ value left = tt
 
+  -- an assignment asks for at most as many values as its left side and its value name variables
   assigned_asks : (name : Named) (tree : Tree) (reads : List Var)
       → Asks fixed (variables_in (evaluated_name name ++ tree ∷ [])) reads
       (assigned fixed path name tree reads)
@@ -59,6 +64,7 @@ module _ (fixed : Fixed) (path : PathView) where
       (evaluated fixed path tree behind_name) _
       (tree_asks fixed path tree behind_name) (λ value left. written_asks v value left))
 
+  -- an assignment behind which the next block follows asks for no more
   assigned_next_asks : (name : Named) (tree : Tree) (reads : List Var)
       → Asks fixed (variables_in (evaluated_name name ++ tree ∷ [])) reads
       (assigned_next fixed path name tree reads)
@@ -67,6 +73,7 @@ module _ (fixed : Fixed) (path : PathView) where
       (assigned fixed path name tree reads) _
       (assigned_asks name tree reads) (λ after left. omega arith)
 
+  -- a condition asks for at most as many values as both its sides name variables
   tested_asks : (test : Test) (reads : List Var)
       → Asks fixed (variables test.left + variables test.right) reads (tested fixed path test reads)
   tested_asks test reads =
@@ -77,6 +84,7 @@ module _ (fixed : Fixed) (path : PathView) where
       (evaluated fixed path test.right behind_left) _
       (tree_asks fixed path test.right behind_left) (λ right rest. omega arith))
 
+  -- the target of a jump asks for at most as many values as it names variables
   aimed_asks : (aim : Aim) (reads : List Var)
       → Asks fixed (variables_in (evaluated_aim aim)) reads (aimed fixed path aim reads)
   aimed_asks (ToNumber n) reads = omega arith
@@ -85,11 +93,13 @@ module _ (fixed : Fixed) (path : PathView) where
       (tree_asks fixed path tree reads)
       (λ value left. none_asks fixed 0 left (sequence_number (whole_number value)))
 
+  -- a statement that goes to a place asks for none
   move_asks : (to : Result (List Frame) Cause) (most : ℕ) (left : List Var)
       → Asks fixed most left (move_effect path to left)
   move_asks (Ok to) most left = omega arith
   move_asks (Err cause) most left = tt
 
+  -- a jump asks for at most as many values as its target names variables
   jump_asks : (tape : List ControlProgram) (aim : Aim) (reads : List Var)
       → Asks fixed (variables_in (evaluated_aim aim)) reads (jump_effect tape fixed path aim reads)
   jump_asks tape aim reads =
@@ -97,6 +107,7 @@ module _ (fixed : Fixed) (path : PathView) where
       (aimed fixed path aim reads) _ (aimed_asks aim reads)
       (λ n left. move_asks (place_of_jump tape n path.place) 0 left)
 
+  -- a statement behind which the next block follows asks for none
   next_asks : (most : ℕ) (reads : List Var) → Asks fixed most reads (next_effect path reads)
   next_asks most reads = omega arith
 

@@ -1,6 +1,7 @@
--- A block asks for no more values than it names variables, and for shared ones alone: for the laws
--- `a_block_asks_for_each_variable_once_at_most` and `what_is_needed_is_shared`
--- (src/control_law.rt). race_order takes `needed_shared`.
+-- A block asks for no more values than it names variables, each mention counted, and for shared
+-- ones alone: for the laws `a_block_asks_for_each_variable_once_at_most` and
+-- `what_is_needed_is_shared` (src/control_law.rt).
+-- race_order takes `needed_shared`.
 use Rattle.std.proofs.Common.{◌≡◌, ℕ, ◌<◌, ◌≤◌, true, List, [], ◌∷◌, length, Option, Some, None, Result, Ok, Err, subst, arith}
 use Rattle.nc_number.specs.declared.cause.Cause.{Cause}
 use Rattle.nc_number.specs.declared.value.Var.{Var}
@@ -37,7 +38,9 @@ abbrev pub AsksFor : Fixed → ℕ → List Var → Effect → Type 0
 AsksFor fixed most reads (Need variable) = (is_shared fixed variable ≡ true) × (length reads < most)
 AsksFor fixed most reads _ = Unit {0}
 
+-- A path before its block: `fixed` is what is fixed for it.
 module _ (fixed : Fixed) (path : PathView) where
+  -- a word asks for at most as many values as it names variables
   word_asks : (sense : Sense) (letter : ℕ) (value : WordValue) (values : Values) (reads : List Var)
       → Asks fixed (variables_of_value value) reads (word_taken fixed path sense letter value values reads)
   word_asks sense letter (Written literal) values reads =
@@ -47,6 +50,7 @@ module _ (fixed : Fixed) (path : PathView) where
       (tree_asks fixed path tree reads)
       (λ value left. none_asks fixed 0 left (taken_var sense letter minus value values))
 
+  -- all words of a block ask for at most as many values as they name variables
   words_asks : (sense : Sense) (words : List FlowWord) (values : Values) (reads : List Var)
       → Asks fixed (variables_of_words words) reads (words_taken fixed path sense words values reads)
   words_asks sense [] values reads = omega arith
@@ -56,6 +60,7 @@ module _ (fixed : Fixed) (path : PathView) where
       (word_asks sense word.letter word.value values reads)
       (λ next left. words_asks sense words next left)
 
+  -- an argument of a macro call asks for at most as many values as it names variables
   argument_asks : (letter : ℕ) (value : WordValue) (arguments reads : List Var)
       → Asks fixed (variables_of_value value) reads (argument_taken fixed path letter value arguments reads)
   argument_asks letter (Written literal) arguments reads = omega arith
@@ -64,6 +69,7 @@ module _ (fixed : Fixed) (path : PathView) where
       (tree_asks fixed path tree reads)
       (λ value left. omega arith)
 
+  -- all arguments of a macro call ask for at most as many values as they name variables
   arguments_asks : (words : List FlowWord) (arguments reads : List Var)
       → Asks fixed (variables_of_words words) reads (arguments_taken fixed path words arguments reads)
   arguments_asks [] arguments reads = omega arith
@@ -73,6 +79,8 @@ module _ (fixed : Fixed) (path : PathView) where
       (argument_asks word.letter word.value arguments reads)
       (λ next left. arguments_asks words next left)
 
+  -- With `reads` read so far and `most` values as the bound: what a block comes to asks as the step
+  -- does by which it comes to that.
   module _ (tape : List ControlProgram) (most : ℕ) (reads : List Var) where
     -- a block whose words are evaluated needs nothing
     done-asks : (moved : Moved) (to : Result Standing Cause)
@@ -80,16 +88,19 @@ module _ (fixed : Fixed) (path : PathView) where
     done-asks moved (Ok to) = tt
     done-asks moved (Err cause) = tt
 
+    -- a block whose moves are known needs nothing, wherever it goes
     controlled-asks : (moved : Moved) (arguments : Option (List Var)) (c : Control)
         → AsksFor fixed most reads (controlled tape moved arguments c)
     controlled-asks moved arguments control.End = tt
     controlled-asks moved arguments c = done-asks moved (standing_behind tape (standing_of moved.path) arguments c)
 
+    -- a block whose words moved the path, or raised an alarm, needs nothing
     moves-ask : (c : Control) (moved : Result Moved ℕ)
         → AsksFor fixed most reads (of_moved tape c moved)
     moves-ask c (Ok moved) = controlled-asks moved None c
     moves-ask c (Err number) = tt
 
+    -- a block of words needs what the evaluation of its words needs
     values-ask : (system : System) (words : List FlowWord) (c : Control) (values : Outcome Values)
         → Asks fixed most reads values
         → AsksFor fixed most reads (of_values tape fixed path system words c values)
@@ -97,6 +108,7 @@ module _ (fixed : Fixed) (path : PathView) where
     values-ask system words c (Needs variable) asks = asks
     values-ask system words c (Alarms number value) asks = tt
 
+    -- a macro call needs what the evaluation of its arguments needs
     arguments-ask : (c : Control) (arguments : Outcome (List Var)) → Asks fixed most reads arguments
         → AsksFor fixed most reads (of_arguments tape path c arguments)
     arguments-ask c (Gives arguments left) asks =
@@ -104,12 +116,14 @@ module _ (fixed : Fixed) (path : PathView) where
     arguments-ask c (Needs variable) asks = asks
     arguments-ask c (Alarms number value) asks = tt
 
+    -- a block that is a statement needs what the statement needs
     after-asks : (after : Outcome After) → Asks fixed most reads after
         → AsksFor fixed most reads (of_after after)
     after-asks (Gives after left) asks = tt
     after-asks (Needs variable) asks = asks
     after-asks (Alarms number value) asks = tt
 
+  -- a block of words asks, by its purpose, for at most as many values as its words name variables
   purpose-asks : (tape : List ControlProgram) (purpose : Purpose) (system : System) (words : List FlowWord)
       (c : Control) (reads : List Var)
       → AsksFor fixed (variables_of_words words) reads (of_purpose tape fixed path purpose system words c reads)
@@ -119,6 +133,8 @@ module _ (fixed : Fixed) (path : PathView) where
       values-ask tape (variables_of_words words) reads system words c _
       (words_asks (sense_of path purpose system words) words nothing_said reads)
 
+  -- a block of words asks for at most as many values as its words name variables, and at a wait for
+  -- none
   block-asks : (tape : List ControlProgram) (purpose : Purpose) (system : System) (words : List FlowWord)
       (c : Control) (reads : List Var)
       → AsksFor fixed (variables_of_words words) reads (block_of_words tape fixed path purpose system words c reads)

@@ -1,6 +1,7 @@
 -- The words of the contracts of path_state. Effect says what a block does, Standing where the path
 -- goes, Statements what a statement does, Edits what an operator's edit sets, Controlled the law of
--- control. two_path and the crates above cite most of them.
+-- control. two_path, named_vars and the crates above them cite all but Routes, Writings, Kept,
+-- Ahead, Worked and Protected.
 pub mod View
 pub mod Looks
 pub mod Said

@@ -34,7 +34,8 @@ abbrev pub point_of : Path → List Point → Point
 point_of path points = slice_index_or points (index_of path) origin
 
 -- A path at the first block of its main program, with nothing said: its system of G codes, its
--- turret and its offsets are as the settings have them.
+-- turret, its offsets, its reference position and the shared variables are as the settings have
+-- them.
 abbrev pub opening_path : Flow → Settings → Path → PathView
 opening_path flow settings path = record {
   place = start flow.order;

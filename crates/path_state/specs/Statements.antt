@@ -71,8 +71,8 @@ abbrev pub with_common : Bool → PathView → ℕ → Var → After
 with_common true path v value = record { path = path; write = Some (record { variable = v; value = value }) }
 with_common false path v value = record { path = record path { own = with_value v value path.own }; write = None }
 
--- A variable takes a value: a local one, a common one, a work offset; `#3000` raises alarm 33 with
--- the value; every other one is protected, alarm 31.
+-- A variable takes a value: a local one, a common one, a work offset (alarm 41 past its range);
+-- `#3000` raises alarm 33 with the value; every other one is protected, alarm 31.
 abbrev pub written : Fixed → PathView → Variable → Var → List Var → Outcome After
 written fixed path (variable.Local i) value left =
     Gives (record { path = record path { levels = with_local i value path.levels }; write = None }) left

@@ -127,7 +127,7 @@ pub record WorkedBlocks : Type 0 where
   pub argument : local_in 1 (block_of_words [] cell (path_at (point (pos 0) (pos 0))) MacroCall A
       (written 71 (pos 65000000) ∷ written 80 (pos 1000000000) ∷ written 65 (pos 1000000) ∷ []) (Call 1000 1) [])
       ≡ Is (pos 1000000)
-  -- T0101 with the geometry of tool 1 at X-1.: the programmed X is 10. where the machine stands at
+  -- T0101 with the geometry of tool 1 at X-1.: the programmed X is 10. while the machine stands at
   -- 9.
   pub programmed : local_in 1 (statement_done
       (record (path_at (point (pos 9000) (pos 0))) {

@@ -77,7 +77,7 @@ pub fn what_is_written_is_shared()
         → is_shared path.fixed write.variable ≡ true }
 {}
 
-/// A block asks for no more values than it names variables, which are 32 at most.
+/// A block asks for no more values than it names variables, each mention counted: 32 at most.
 pub fn a_block_asks_for_each_variable_once_at_most()
     ensures body { (tape : List ControlProgram) (fixed : Fixed) (path : PathView) (body : FlowBody)
         (control : Control) (reads : List Var) (variable : ℕ)

@@ -1,6 +1,7 @@
 //! The state of one path, how it begins, and what may be seen of it. What its blocks do is in
 //! decision.rt and taking.rt.
-//! two_path keeps two of them in its machine; move_list and trace_list, and tests, look at them.
+//! two_path keeps two of them in its machine and lends them; lathe_calls, move_list, run_table,
+//! trace_list and zone_check, and tests, look at them.
 ghost use Rattle.std.specs.Prelude.{◌≡◌, ◌≤◌, ◌+◌, ℕ, List, All, Some, IfOk, length};
 ghost use Rattle.nc_number.specs.Path.{is_same};
 ghost use Rattle.nc_number.specs.Position.{IsPosition};
@@ -113,7 +114,8 @@ fn preset_offsets(path: Path, presets: &[Preset]) -> Offsets
 
 impl PathState {
     /// A path at the first block of its main program, with nothing said: its system of G codes, its
-    /// turret and its offsets are as the settings have them.
+    /// turret, its offsets, its reference position and the shared variables are as the settings
+    /// have them.
     pub fn new(
         alloc: Global,
         flow: &Flow,

@@ -120,10 +120,10 @@ impl Standing {
 
     /// Where a block of words of this control leads when it is done.
     ///
-    /// Errors: [`Cause::TooDeep`], 32, where it calls and eight calls are open, or would run the
+    /// Errors: [`Cause::TooDeep`], 32, if it calls and eight calls are open, or would run the
     /// program no time, as no call of a tape does; [`Cause::NoSequence`], 50, and
-    /// [`Cause::IntoLoop`], 53, where it returns to a sequence number, as for a jump from the call,
-    /// in the main program from the running block.
+    /// [`Cause::IntoLoop`], 53, if it returns to a sequence number, as for a jump from the call, in
+    /// the main program from the running block.
     pub(crate) fn route(&self, order: &BlockOrder, control: Control) -> Result<Route, Cause>
         ensures { (arguments : Option (List Var))
             → standing_behind order.now self.now arguments control ≡ route_end_or_cause self.now arguments result }

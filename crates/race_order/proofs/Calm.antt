@@ -11,7 +11,7 @@ use Rattle.two_path.specs.Machine.{MachineView, own_first, opening}
 use Rattle.two_path.specs.Turns.{Blocks, Tapes, result, result_by, result_at_wait, behind_meeting, alarm_result, crossed_waits, unless_idle, block_turn, own_turn}
 use Rattle.two_path.specs.Histories.{TurnOf, behind_event, run, turns_of}
 
--- an alarm leaves a path unfinished
+-- if the machine has an alarm, some path has not finished
 abbrev Leaves : MachineView → Type 0
 Leaves m = (a : Alarm) → m.alarm ≡ Some a → (m.paths.one.finished ≡ false) ⊎ (m.paths.two.finished ≡ false)
 

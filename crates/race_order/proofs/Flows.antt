@@ -1,5 +1,6 @@
--- Two tapes: if no part of one may write what the same part of the other names, all runs that
--- finish agree. For the law `race_free_runs_agree` (src/laws.rt).
+-- Two tapes, each of which comes to one list of labels: if no part of one may write a shared
+-- variable that the same part of the other names, all runs that finish agree. For the law
+-- `race_free_runs_agree` (src/laws.rt).
 -- race_report takes `race_free_agree`.
 use Rattle.std.proofs.Common.{◌≡◌, ℕ, Bool, true, List, [], ◌∷◌, Option, Some, None, refl, ap, sym, subst, ◌∙◌}
 use Rattle.std.proofs.lemmas.Bool.{or_left}
@@ -61,6 +62,8 @@ Names flow shared n v = (shared v ≡ true) × PartNames flow n v
 abbrev pub MayWrite : Flow → (ℕ → Bool) → ℕ → ℕ → Type 0
 MayWrite flow shared n v = (shared v ≡ true) × PartMayWrite flow n v
 
+-- A flow all of whose runs come to one list of labels (`un`), the variables that both paths share,
+-- and its path behind n waits, whose block has read `vs`.
 module _ (flow : Flow) (un : IsUnforked flow.order) (shared : ℕ → Bool) (n : ℕ) (path : PathView) (vs : List Var) where
   -- a variable that a block of part n needs is one that the part names
   pub named : (v : ℕ) → IsThere flow shared n path → effect_of flow path vs ≡ effect.Need v → Names flow shared n v
@@ -113,7 +116,8 @@ begins flow shared path b = record {
   shares = b.shares;
 }
 
--- if no part has a race, all runs of two flows that finish agree
+-- if no part has a race and each flow comes to one list of labels, all runs of both that finish
+-- agree
 pub race_free_agree : (left right : Flow) → IsUnforked left.order → IsUnforked right.order → RaceFreeRunsAgree left right
 race_free_agree left right ul ur shared free first second here there turns others done also =
     runs_agree (blocks_of left) (blocks_of right) (known_of left ul shared) (known_of right ur shared)

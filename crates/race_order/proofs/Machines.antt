@@ -56,7 +56,7 @@ one_write w told = record { records = told.records + 1; writes = told.writes ++ 
 abbrev pub Logged : Type 0
 Logged = PathView × List Moves × Told
 
--- a path behind a block, with its moves if there are any
+-- a path behind a block, with the moves of the block, also if these are none, and what else it told
 abbrev pub moved_on : Blocks → Logged → PathView → List Move → Told → Logged
 moved_on blocks s after moves told = (after, s.1 ++ moves_at (blocks.line s.0.place) moves ∷ [], told)
 

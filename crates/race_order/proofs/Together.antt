@@ -9,6 +9,7 @@ use Rattle.race_order.proofs.Alone.{Running, Waiting, Finished, Half, half_at, S
 pub record Pair (V : Type 0) (p q : PathOf V) : Type 0 where
   pub first : Half p.S V
   pub second : Half q.S V
+  -- what each shared variable holds
   pub env : ℕ → V
 
 -- a pair of these two paths and these variables
@@ -21,17 +22,22 @@ behind_wait p h = half_at (p.pass h.state) [] Running
 
 -- one turn: of either path, or both pass their waits
 pub data Goes {V : Type 0} (p q : PathOf V) (m : Pair V p q) : Pair V p q → Type 0 where
+  -- a turn of the first path
   one : Goes p q m (pair_at p q (turn p m.first m.env).half m.second (turn p m.first m.env).env)
+  -- a turn of the second path
   two : Goes p q m (pair_at p q m.first (turn q m.second m.env).half (turn q m.second m.env).env)
+  -- both wait, and both pass their waits
   meet : m.first.mode ≡ Waiting → m.second.mode ≡ Waiting
       → Goes p q m (pair_at p q (behind_wait p m.first) (behind_wait q m.second) m.env)
 
 -- a run of the pair: some turns, and meetings if both wait
 pub data IsRun {V : Type 0} (p q : PathOf V) (start : Pair V p q) : Pair V p q → Type 0 where
+  -- no turn yet
   begun : IsRun p q start start
+  -- a run, and one turn more
   gone : (m to : Pair V p q) → IsRun p q start m → Goes p q m to → IsRun p q start to
 
--- no variable that one path's part may write is named by the other's
+-- no variable that a part of one path may write is named by the same part of the other
 pub record IsFree {V : Type 0} (p q : PathOf V) : Type 0 where
   pub first : (n v : ℕ) → p.may n v → q.names n v → ⊥
   pub second : (n v : ℕ) → q.may n v → p.names n v → ⊥
@@ -39,9 +45,13 @@ pub record IsFree {V : Type 0} (p q : PathOf V) : Type 0 where
 -- A path within part n: from `x`, where it began the part, k turns alone lead to its state, and to
 -- the same values of the variables that the part names.
 record Side {V : Type 0} (p : PathOf V) (n : ℕ) (x : Solo p.S V) (h : Half p.S V) (env : ℕ → V) : Type 0 where
+  -- how many turns alone the path has made in this part
   k : ℕ
+  -- the path's own half of the machine is that behind these turns
   half : h ≡ (alone p k x).half
+  -- the variables that the part names hold what they hold behind these turns
   agree : Agree p n env (alone p k x).env
+  -- the path stands in part n, or waits at its end, or has finished
   stands : Stands p n h.mode h.state
 
 -- both paths stand in part n, each as if it had run alone since the part began (`m0`); a variable
@@ -49,11 +59,14 @@ record Side {V : Type 0} (p : PathOf V) (n : ℕ) (x : Solo p.S V) (h : Half p.S
 record IsWithin {V : Type 0} (p q : PathOf V) (n : ℕ) (m0 m : Pair V p q) : Type 0 where
   first : Side p n (solo_at m0.first m0.env) m.first m.env
   second : Side q n (solo_at m0.second m0.env) m.second m.env
+  -- what neither path may write in this part is as it was
   rest : (v : ℕ) → (p.may n v → ⊥) → (q.may n v → ⊥) → m.env v ≡ m0.env v
 
 -- the pair as part n begins
 data Begins {V : Type 0} (p q : PathOf V) (start : Pair V p q) : ℕ → Pair V p q → Type 0 where
+  -- part 0 begins with the run
   at_start : Begins p q start 0 start
+  -- the next part begins as both paths pass the waits at which this part ended
   behind : (n : ℕ) (m0 m : Pair V p q) → Begins p q start n m0 → IsWithin p q n m0 m → m.first.mode ≡ Waiting → m.second.mode ≡ Waiting
       → Begins p q start (suc n) (pair_at p q (behind_wait p m.first) (behind_wait q m.second) m.env)
 
@@ -101,13 +114,15 @@ goes_within p q free n m0 m w =
       },
     )
 
--- as a part begins, the path is where no turn alone leads
+-- as a part begins, the path stands in it with no turn alone made
 begun_side : {V : Type 0} → (p : PathOf V) (n : ℕ) (h : Half p.S V) (env : ℕ → V) → Stands p n h.mode h.state → Side p n (solo_at h env) h env
 begun_side p n h env stands = record { k = 0; half = refl; agree = λ v _. refl; stands = stands }
 
 -- where a run is: within a part that began
 record IsSomewhere {V : Type 0} (p q : PathOf V) (start m : Pair V p q) : Type 0 where
+  -- the number of the part
   n : ℕ
+  -- the pair as the part began
   m0 : Pair V p q
   begins : Begins p q start n m0
   within : IsWithin p q n m0 m
@@ -164,7 +179,7 @@ pub record AreIdle {V : Type 0} (p q : PathOf V) (m : Pair V p q) : Type 0 where
   pub first : IsIdle m.first.mode
   pub second : IsIdle m.second.mode
 
--- values that cannot differ are the same
+-- of this type, values that can't differ are the same
 abbrev pub IsStable : Type 0 → Type 0
 IsStable V = (a b : V) → ((a ≡ b → ⊥) → ⊥) → a ≡ b
 
@@ -202,7 +217,9 @@ finished_idle p q m f = record { first = subst IsIdle (sym f.0) finished; second
 
 -- part n ended with both paths at waits
 record IsPassed {V : Type 0} (p q : PathOf V) (start : Pair V p q) (n : ℕ) : Type 0 where
+  -- the pair as the part began
   m0 : Pair V p q
+  -- the pair as the part ended
   m : Pair V p q
   begins : Begins p q start n m0
   within : IsWithin p q n m0 m

@@ -41,11 +41,12 @@ waits (Some code) = 1
 abbrev pub Holds : MachineView → (ℕ → Var) → Type 0
 Holds m env = (v k : ℕ) → m.count ≤ k → value_after k v m.writes ≡ env v
 
--- a path that waits has not finished
+-- if the path waits, it has not finished
 abbrev pub IsFit : Part → Type 0
 IsFit part = (code : ℕ) → part.waiting ≡ Some code → part.finished ≡ false
 
--- the machine as a pair
+-- the machine as a pair: `mine` and `yours` are the moves of both paths so far, `t` and `u` what
+-- else they told, `env` what the shared variables hold
 abbrev pub shown : (b d : Blocks) (k : Known b) (l : Known d) → MachineView → List Moves → List Moves → Told → Told → (ℕ → Var)
     → Pair Var (path_of b k) (path_of d l)
 shown b d k l m mine yours t u env =
@@ -53,7 +54,9 @@ shown b d k l m mine yours t u env =
 
 -- what both paths told is what the machine holds
 pub record IsTold (m : MachineView) (t u : Told) : Type 0 where
+  -- the records of the machine are those that both told, and the arrivals of paths that still wait
   pub count : m.count ≡ (t.records + u.records) + (waits m.paths.one.waiting + waits m.paths.two.waiting)
+  -- its writes are those that both told
   pub writes : AreMixed t.writes u.writes m.writes
 
 -- a run of the pair leads from `from` to a pair that shows this machine, with these moves of both
@@ -63,9 +66,13 @@ pub record IsShown (b d : Blocks) (k : Known b) (l : Known d) (from : Pair Var (
   -- what the first path told, and what the second
   pub one_told : Told
   pub two_told : Told
+  -- the run of the pair
   pub run : IsRun (path_of b k) (path_of d l) from (shown b d k l m mine yours one_told two_told env)
+  -- what both told is what the machine holds
   pub told : IsTold m one_told two_told
+  -- the variables hold the values of `env`
   pub holds : Holds m env
+  -- a path that waits has not finished
   pub first : IsFit m.paths.one
   pub second : IsFit m.paths.two
 

@@ -87,7 +87,7 @@ pub record Agree (tapes : Tapes) (start : MachineView) (turns others : List Path
   pub values : (v : ℕ) → value_after (run tapes start (turns_of turns)).count v (run tapes start (turns_of turns)).writes
       ≡ value_after (run tapes start (turns_of others)).count v (run tapes start (turns_of others)).writes
 
--- the path is at the start of its flow, and shares these variables with the other
+-- the path is at the start of its flow, and `shared` tells which variables it shares with the other
 pub record IsBeginning (flow : Flow) (shared : ℕ → Bool) (path : PathView) : Type 0 where
   pub place : path.place ≡ start flow.order
   pub shares : (v : ℕ) → is_shared path.fixed v ≡ shared v

@@ -4,9 +4,10 @@ ghost use Rattle.block_order.specs.Labels.{IsUnforked};
 ghost use Rattle.tape_flow.specs.declared.flow.Flow.{Flow};
 ghost use Rattle.race_order.specs.Agreement.{RaceFreeRunsAgree};
 
-/// If no part of one path may write what the same part of the other names, all runs that finish
-/// come to the same machine, but for the order of records and their numbers, and to the same moves
-/// of each path.
+/// Over two flows of which each comes to one list of labels, whatever the variables hold: if no
+/// part of one path may write a shared variable that the same part of the other names, all runs of
+/// turns that finish come to the same machine, but for the order of records and their numbers, and
+/// to the same moves of each path.
 pub fn race_free_runs_agree()
     ensures { (left right : Flow) → IsUnforked left.order → IsUnforked right.order → RaceFreeRunsAgree left right }
 {}

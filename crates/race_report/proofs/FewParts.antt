@@ -1,4 +1,4 @@
--- An accepted pair has few parts, and equally many in both lists: for `race_of` (src/racing.rt).
+-- Both paths of an accepted pair have equally many parts, and few: for `race_of` (src/racing.rt).
 use Rattle.std.proofs.Common.{◌≡◌, ℕ, suc, ◌≤◌, Bool, true, List, [], ◌∷◌, length, Option, refl, sym, subst, arith}
 use Rattle.nc_number.specs.declared.both.Both.{Both}
 use Rattle.nc_number.specs.declared.limits.TheConstants.{MOST_LABELS}

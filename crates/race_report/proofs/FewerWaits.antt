@@ -1,6 +1,6 @@
 -- A race behind more waits than the lists of labels have is one of a round before too, since at an
--- M99 of the main program both paths begin anew. So the parts of one round are enough: for
--- FirstRaces.
+-- M99 of the main program both paths begin anew: a round is the waits of a list, come to once. So
+-- the parts of one round are enough: for FirstRaces.
 use Rattle.std.proofs.Common.{◌≡◌, ℕ, zero, suc, ◌+◌, ◌-◌, ◌<◌, ◌≤◌, ◌⊎◌, inl, inr, Bool, refl, subst, sym, arith}
 use Rattle.nc_number.proofs.Counts.{le_or_lt}
 use Rattle.nc_number.specs.declared.path.Path.{Path}
@@ -72,9 +72,11 @@ one_round shared left right waits n have race some e is =
 -- the race is one of the same lines behind n waits, which are no more than the lists have, and no
 -- more than it was behind
 pub record IsDown (shared : ℕ → Bool) (left right : Flow) (waits : ℕ) (race : Race) : Type 0 where
+  -- behind how many waits there is the same race
   pub n : ℕ
   pub few : n ≤ waits
   pub fewer : (n ≡ race.after) ⊎ (n < race.after)
+  -- the race behind n waits, of the same lines, is one of the pair
   pub is : IsRaceAt shared left right (behind n race)
 
 -- without a wait there is only the part behind none

@@ -29,7 +29,7 @@ sought_least : (flow : Flow) (sought : Sought) (v n : ℕ) (found : List (Option
     → n < length found → IsLeast (LineInPart flow.order (sought_line flow sought v) n) (line_at found n)
 sought_least flow sought v n found are less = are.least n (line_at found n) (at_place found n less)
 
--- a line that is least among those of a part, or none
+-- the line is the least at which part n does what is looked for; `None` says that it never does
 abbrev IsLeastAt : Flow → Sought → ℕ → ℕ → Option ℕ → Type 0
 IsLeastAt flow sought v n None = (k : ℕ) → SoughtAt flow sought v n k → ⊥
 IsLeastAt flow sought v n (Some line) = SoughtAt flow sought v n line × ((k : ℕ) → SoughtAt flow sought v n k → line ≤ k)
@@ -50,7 +50,9 @@ IsBetween shared left right v n writer (Some race) =
     (race.variable ≡ v) × (race.after ≡ n) × (race.writer ≡ writer) × IsRaceAt shared left right race
     × ((other : Race) → other.variable ≡ v → other.after ≡ n → other.writer ≡ writer → IsRaceAt shared left right other → HasLessLines race other)
 
+-- Both flows of a pair, the variables that both paths share, and the shared variable v.
 module _ (shared : ℕ → Bool) (left right : Flow) (v : ℕ) (is_shared : shared v ≡ true) where
+  -- behind the waits of a race its writer has a block of its line that may write the variable
   writes_of : (n : ℕ) (writer : Path) (race : Race) → race.variable ≡ v → race.after ≡ n → race.writer ≡ writer → IsRaceAt shared left right race
       → MayWriteAt (writer_of writer left right) n v race.write_line
   writes_of n writer race a b c is =
@@ -58,6 +60,7 @@ module _ (shared : ℕ → Bool) (left right : Flow) (v : ℕ) (is_shared : shar
       (subst (λ m. MayWriteAt (writer_of race.writer left right) m v race.write_line) b
       (subst (λ u. MayWriteAt (writer_of race.writer left right) race.after u race.write_line) a is.writes))
 
+  -- behind the waits of a race the other path has a block of its line that names the variable
   names_of : (n : ℕ) (writer : Path) (race : Race) → race.variable ≡ v → race.after ≡ n → race.writer ≡ writer → IsRaceAt shared left right race
       → NamesAt (other_of writer left right) n v race.other_line
   names_of n writer race a b c is =
@@ -65,6 +68,7 @@ module _ (shared : ℕ → Bool) (left right : Flow) (v : ℕ) (is_shared : shar
       (subst (λ m. NamesAt (other_of race.writer left right) m v race.other_line) b
       (subst (λ u. NamesAt (other_of race.writer left right) race.after u race.other_line) a is.names))
 
+  -- the race of the two least lines has the least lines; without one of them there is no race
   between : (n : ℕ) (writer : Path) (write name : Option ℕ) → IsLeastAt (writer_of writer left right) Writes v n write
       → IsLeastAt (other_of writer left right) Names v n name → IsBetween shared left right v n writer (race_between v n writer write name)
   between n writer None name writes names = λ race a b c is. writes race.write_line (writes_of n writer race a b c is)
@@ -88,6 +92,7 @@ module _ (shared : ℕ → Bool) (left right : Flow) (v : ℕ) (is_shared : shar
       (race.variable ≡ v) × (race.after ≡ n) × IsRaceAt shared left right race
       × ((other : Race) → other.variable ≡ v → other.after ≡ n → IsRaceAt shared left right other → WritesFirst race other)
 
+  -- of the races behind so many waits that of path 1 as the writer comes first
   either_at : (n : ℕ) (one two : Option Race) → IsBetween shared left right v n One one → IsBetween shared left right v n Two two
       → IsAt n (or_race one two)
   either_at n (Some race) two is other = (is.0, is.1, is.3, λ next a b at. go next a b at next.writer refl)
@@ -106,7 +111,9 @@ module _ (shared : ℕ → Bool) (left right : Flow) (v : ℕ) (is_shared : shar
       go race a b at One e = none race a b e at
       go race a b at Two e = never race a b e at
 
+  -- Both lists of labels have `waits` waits, and `lines` are the least lines of all parts.
   module _ (waits : ℕ) (have : HaveWaits left right waits) (lines : Both PathLines) (are : ArePairLines left right v lines) where
+    -- what `race_at` finds behind n waits is the first race there
     at : (n : ℕ) → n ≤ waits → IsAt n (race_at lines v n)
     at n few =
         let one_writes = least_at left Writes v n (line_at lines.one.writes.items n)
@@ -129,9 +136,11 @@ module _ (shared : ℕ → Bool) (left right : Flow) (v : ℕ) (is_shared : shar
         (race.variable ≡ v) × IsRaceAt shared left right race
         × ((other : Race) → other.variable ≡ v → n ≤ other.after → other.after ≤ waits → IsRaceAt shared left right other → ComesFirst race other)
 
+    -- a number that is no less is the same, or no less than the next one
     same_or_later : (n m : ℕ) → n ≤ m → (m ≡ n) ⊎ (suc n ≤ m)
     same_or_later n m h = grind arith
 
+    -- the first race of the parts from n on is that behind n waits, or else that of the later parts
     or_later : (n : ℕ) (here later : Option Race) → IsAt n here → IsFrom (suc n) later → IsFrom n (or_race here later)
     or_later n (Some race) later is rest = (is.0, is.2, λ other a above few there. go other a there (same_or_later n other.after above))
       where
@@ -149,6 +158,7 @@ module _ (shared : ℕ → Bool) (left right : Flow) (v : ℕ) (is_shared : shar
         go race a few there (inl e) = none race a e there
         go race a few there (inr more) = never race a more few there
 
+    -- what `first_from` finds in the parts from n on is their first race
     from : (count n : ℕ) → n + count ≡ suc waits → IsFrom n (first_from lines v count n)
     from zero n all = λ race a above few there. absurd (omega arith)
     from (suc count) n all =
@@ -194,8 +204,11 @@ module _ (shared : ℕ → Bool) (left right : Flow) (v : ℕ) (is_shared : shar
 
 -- the loop over the parts: the first race in those that are left is the first of all
 pub record IsLeft (lines : Both PathLines) (v after total : ℕ) : Type 0 where
+  -- how many parts are left
   pub count : ℕ
+  -- the parts passed and those left are all parts
   pub all : after + count ≡ total
+  -- the first race in the parts that are left is the first of all
   pub same : first_from lines v count after ≡ first_from lines v total 0
 
 -- if the part at hand has none, the first race is in the later parts

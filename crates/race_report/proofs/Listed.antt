@@ -43,6 +43,7 @@ has_now : (v : ℕ) (races : List Race) (race : Race) → race.variable ≡ v �
 has_now v [] race e = inl e
 has_now v (r ∷ races) race e = inr (has_now v races race e)
 
+-- Both flows of a pair, and the variables that both paths share.
 module _ (shared : ℕ → Bool) (left right : Flow) where
   -- with the first race of the variable v added, the list is that of the variables up to v
   pub listed_one : (v : ℕ) (races : List Race) (race : Race) → 0 < v → IsListedBelow shared left right v races

@@ -1,5 +1,5 @@
--- A pair has one list of races: each entry is the first race of its variable, and the variables
--- rise. For the law `a_pair_has_one_list_of_races` (src/laws.rt) and SameForms.
+-- A pair has one list of races at most: each entry is the first race of its variable, and the
+-- variables rise. For the law `a_pair_has_one_list_of_races` (src/laws.rt) and SameForms.
 use Rattle.std.proofs.Common.{◌≡◌, ℕ, ◌<◌, ◌⊎◌, inl, inr, Bool, List, [], ◌∷◌, refl, sym, subst, ◌∙◌, arith}
 use Rattle.nc_number.specs.declared.path.Path.{Path}
 use Rattle.nc_number.specs.declared.path.Path.TheVariants.{One, Two}
@@ -66,10 +66,13 @@ among_rest x y xs ys e rising among v has = go (among v (inr has))
     go (inl is) = let more = above x.variable v xs rising has in absurd (omega arith)
     go (inr there) = there
 
+-- Both flows of a pair, and the variables that both paths share.
 module _ (shared : ℕ → Bool) (left right : Flow) where
+  -- a variable has one first race at most
   first_once : (a b : Race) → a.variable ≡ b.variable → IsFirstRace shared left right a → IsFirstRace shared left right b → a ≡ b
   first_once a b v one two = same_race a b v (one.first b (sym v) two.is) (two.first a v one.is)
 
+  -- two rising lists of first races with the same variables are one
   lists_once : (low high : ℕ) (xs ys : List Race) → AreRising low xs → AreRising high ys → AreFirst shared left right xs → AreFirst shared left right ys
       → AreAmong xs ys → AreAmong ys xs → xs ≡ ys
   lists_once low high [] [] up also firsts others there here = refl
@@ -85,10 +88,11 @@ module _ (shared : ℕ → Bool) (left right : Flow) where
       go (inr (inl less)) rest = absurd (not_before x.variable y ys also.1 less (there x.variable (inl refl)))
       go (inr (inr more)) rest = absurd (not_before y.variable x xs up.1 more (here y.variable (inl refl)))
 
-  -- a variable of a list has a race
+  -- the variable has a race, whichever path writes
   abbrev HasRace : ℕ → Type 0
   HasRace v = ((n : ℕ) × IsRace shared left right n v) ⊎ ((n : ℕ) × IsRace shared right left n v)
 
+  -- the variable of a race with its lines has a race
   race_is : (race : Race) (p : Path) → race.writer ≡ p → IsRaceAt shared left right race → HasRace race.variable
   race_is race One e is =
       let w = subst (λ q. MayWriteAt (writer_of q left right) race.after race.variable race.write_line) e is.writes in
@@ -99,11 +103,13 @@ module _ (shared : ℕ → Bool) (left right : Flow) where
       let m = subst (λ q. NamesAt (other_of q left right) race.after race.variable race.other_line) e is.names in
       inr (race.after, record { is_shared = is.is_shared; writes = (w.0, w.1, w.3, w.5); names = (m.0, m.1, m.3, m.5) })
 
+  -- each variable of a list of first races has a race
   has_race : (v : ℕ) (races : List Race) → AreFirst shared left right races → HasVariable v races → HasRace v
   has_race v [] firsts has = absurd has
   has_race v (race ∷ races) firsts (inl e) = subst HasRace e (race_is race race.writer refl firsts.0.is)
   has_race v (race ∷ races) firsts (inr has) = has_race v races firsts.1 has
 
+  -- the variables of one list of the races of a pair are among those of any other
   among : (xs ys : List Race) → IsRaceList shared left right xs → IsRaceList shared left right ys → AreAmong xs ys
   among xs ys one two v has = go (has_race v xs one.firsts has)
     where

@@ -1,4 +1,4 @@
--- A pair whose list of races is empty has no race, and so one outcome: for the law
+-- An accepted pair whose list of races is empty has no race, and so one outcome: for the law
 -- `a_pair_without_races_has_one_outcome` (src/laws.rt).
 use Rattle.std.proofs.Common.{[], refl}
 use Rattle.nc_number.specs.declared.path.Path.TheVariants.{One, Two}

@@ -71,18 +71,21 @@ at_forms (p ∷ programs) q place = go (p.number == q) refl (at_forms programs q
 
 -- two flows whose programs say the same
 module _ (a b : Flow) (same : map program_form a.programs ≡ map program_form b.programs) where
+  -- their blocks have one order
   order_same : a.order ≡ b.order
   order_same = a.agrees ∙ (ap controls same ∙ sym b.agrees)
 
+  -- at each place of each program their blocks have one form
   forms_same : (q place : ℕ) → option_map block_form (flow_block a.programs q place) ≡ option_map block_form (flow_block b.programs q place)
   forms_same q place = at_forms a.programs q place ∙ (ap (λ forms. form_at forms q place) same ∙ sym (at_forms b.programs q place))
 
-  -- the block of the other flow at the same place
+  -- the other flow has a block of the same form at the same place
   record IsTwin (q place : ℕ) (block : FlowBlock) : Type 0 where
     other : FlowBlock
     at : flow_block b.programs q place ≡ Some other
     form : block_form block ≡ block_form other
 
+  -- each block of the one has its twin in the other
   twin : (q place : ℕ) (block : FlowBlock) → flow_block a.programs q place ≡ Some block → IsTwin q place block
   twin q place block at = go (flow_block b.programs q place) refl
     where
@@ -93,9 +96,11 @@ module _ (a b : Flow) (same : map program_form a.programs ≡ map program_form b
           let some : Some (block_form block) ≡ Some (block_form other) = sym (ap (option_map block_form) at) ∙ (forms_same q place ∙ ap (option_map block_form) e) in
           record { other = other; at = e; form = cc }
 
+  -- a block of part n of the one is one of part n of the other
   in_part : (n q place : ℕ) → IsInPart a.order n q place → IsInPart b.order n q place
   in_part n q place inside = subst (λ order. IsInPart order n q place) order_same inside
 
+  -- if part n of the one has a block of line k that may write the variable, so has the other
   writes_too : (n v k : ℕ) → MayWriteAt a n v k → MayWriteAt b n v k
   writes_too n v k (q, place, block, inside, at, e, line) =
       let t = twin q place block at in
@@ -104,6 +109,7 @@ module _ (a b : Flow) (same : map program_form a.programs ≡ map program_form b
       writes_by_form t.other.body v ∙ (ap (λ form. form_may_write form v) (sym (ap (λ f. f.form) t.form)) ∙ (sym (writes_by_form block.body v) ∙ here)) in
       (q, place, t.other, in_part n q place inside, t.at, subst (λ found. found_may_write found v ≡ true) (sym t.at) there, sym (ap (λ f. f.line) t.form) ∙ line)
 
+  -- if part n of the one has a block of line k that names the variable, so has the other
   names_too : (n v k : ℕ) → NamesAt a n v k → NamesAt b n v k
   names_too n v k (q, place, block, inside, at, e, line) =
       let t = twin q place block at in
@@ -112,11 +118,13 @@ module _ (a b : Flow) (same : map program_form a.programs ≡ map program_form b
       names_by_form t.other.body v ∙ (ap (λ form. form_names form v) (sym (ap (λ f. f.form) t.form)) ∙ (sym (names_by_form block.body v) ∙ here)) in
       (q, place, t.other, in_part n q place inside, t.at, subst (λ found. found_names found v ≡ true) (sym t.at) there, sym (ap (λ f. f.line) t.form) ∙ line)
 
+  -- if part n of the one may write the variable, so may that of the other
   part_writes_too : (n v : ℕ) → PartMayWrite a n v → PartMayWrite b n v
   part_writes_too n v part =
       let at = part_writes_at a n v part in
       let too = writes_too n v at.0 at.1 in (too.0, too.1, too.3, too.5)
 
+  -- if part n of the one names the variable, so does that of the other
   part_names_too : (n v : ℕ) → PartNames a n v → PartNames b n v
   part_names_too n v part =
       let at = part_names_at a n v part in
@@ -131,8 +139,10 @@ race_too shared a b c d ab cd n v is = record {
   names = part_names_too c d cd n v is.names;
 }
 
+-- Two pairs whose tapes say the same (`l`, `r`): `left` and `right`, and `left'` and `right'`.
 module _ (shared : ℕ → Bool) (left left' right right' : Flow) (l : map program_form left.programs ≡ map program_form left'.programs)
     (r : map program_form right.programs ≡ map program_form right'.programs) where
+  -- a race of the one pair, of these lines, is one of the other
   at_too : (race : Race) (p : Path) → race.writer ≡ p → IsRaceAt shared left right race → IsRaceAt shared left' right' race
   at_too race One e is = record {
     is_shared = is.is_shared;
@@ -153,18 +163,22 @@ module _ (shared : ℕ → Bool) (left left' right right' : Flow) (l : map progr
         (subst (λ q. NamesAt (other_of q left right) race.after race.variable race.other_line) e is.names));
   }
 
+-- Two pairs whose tapes say the same, as above: what holds of races holds of first races and lists.
 module _ (shared : ℕ → Bool) (left left' right right' : Flow) (l : map program_form left.programs ≡ map program_form left'.programs)
     (r : map program_form right.programs ≡ map program_form right'.programs) where
+  -- a first race of the one pair is one of the other
   first_too : (race : Race) → IsFirstRace shared left right race → IsFirstRace shared left' right' race
   first_too race is = record {
     is = at_too shared left left' right right' l r race race.writer refl is.is;
     first = λ other v there. is.first other v (at_too shared left' left right' right (sym l) (sym r) other other.writer refl there);
   }
 
+  -- a list of first races of the one pair is one of the other
   firsts_too : (races : List Race) → AreFirst shared left right races → AreFirst shared left' right' races
   firsts_too [] all = tt
   firsts_too (race ∷ races) all = (first_too race all.0, firsts_too races all.1)
 
+  -- the list of the races of the one pair is that of the other
   list_too : (races : List Race) → IsRaceList shared left right races → IsRaceList shared left' right' races
   list_too races list = record {
     rising = list.rising;

@@ -1,5 +1,6 @@
 -- How the races of a pair are found: the first race of a variable among the least lines of the
--- parts, and the list as it grows by one variable after another.
+-- parts (a part are the blocks that a path may run behind so many waits), and the list as it grows
+-- by one variable after another.
 -- For the contracts of src/racing.rt alone.
 use Rattle.std.specs.Prelude.{◌≡◌, ℕ, zero, suc, ◌<◌, Bool, List, [], ◌∷◌, Option, Some, None}
 use Rattle.nc_number.specs.declared.both.Both.{Both}

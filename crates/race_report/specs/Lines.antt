@@ -1,4 +1,5 @@
 -- The lines of the blocks that do what is looked for: that name a variable, or that may write it.
+-- The place of a block is its number in its program, from 0.
 -- For this crate alone: part_lines finds the least of them in each part.
 use Rattle.std.specs.Prelude.{ℕ, Bool, true, false, Option, Some, None}
 use Rattle.block_forms.specs.declared.block.FlowBlock.{FlowBlock}

@@ -1,5 +1,7 @@
 -- The list of the races of a pair: for each shared variable that has a race, the earliest one. What
--- a race is, race_order defines; here are its lines and which race comes first.
+-- a race is, race_order defines; here are its lines and which race comes first. Part n of a path
+-- are the blocks that it may run behind n waits; `place` is the number of a block in its program,
+-- from 0.
 -- lathe_calls takes `IsRaceList` and `shared_by` to say what is due to `races`, lathe_top
 -- `shared_by`.
 use Rattle.std.specs.Prelude.{◌≡◌, ℕ, ◌<◌, ◌≤◌, ◌⊎◌, Bool, true, List, [], ◌∷◌, ◌||◌, ◌&&◌, ◌+◌, nat_le, nat_lt, Some}
@@ -14,7 +16,8 @@ use Rattle.named_vars.specs.Names.{block_names, block_may_write}
 use Rattle.race_order.specs.Races.{IsRace}
 use Rattle.race_report.specs.declared.race.Race.{Race}
 
--- both paths share the variable, by the settings of the cell
+-- both paths share the variable, by the settings of the cell; `is_shared` of path_state says the
+-- same by what is fixed for a path
 abbrev pub shared_by : Settings → ℕ → Bool
 shared_by settings v =
     (nat_le 100 v && nat_lt v (100 + settings.shared100)) || (nat_le 500 v && nat_lt v (500 + settings.shared500))
@@ -41,7 +44,7 @@ abbrev pub other_of : Path → Flow → Flow → Flow
 other_of One left right = right
 other_of Two left right = left
 
--- it is a race of the pair: both paths share its variable, and behind its waits the writer has a
+-- the race is one of the pair: both paths share its variable, and behind its waits the writer has a
 -- block of its line that may write it, and the other path a block of its line that names it
 pub record IsRaceAt (shared : ℕ → Bool) (left right : Flow) (race : Race) : Type 0 where
   pub is_shared : shared race.variable ≡ true
@@ -62,7 +65,7 @@ WritesFirst a b = ((a.writer ≡ One) × (b.writer ≡ Two)) ⊎ ((a.writer ≡ 
 abbrev pub ComesFirst : Race → Race → Type 0
 ComesFirst a b = (a.after < b.after) ⊎ ((a.after ≡ b.after) × WritesFirst a b)
 
--- it is a race of the pair, and the first one of its variable
+-- the race is one of the pair, and the first one of its variable
 pub record IsFirstRace (shared : ℕ → Bool) (left right : Flow) (race : Race) : Type 0 where
   pub is : IsRaceAt shared left right race
   pub first : (other : Race) → other.variable ≡ race.variable → IsRaceAt shared left right other → ComesFirst race other

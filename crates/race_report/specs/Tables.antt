@@ -1,5 +1,6 @@
 -- The lines that were found: those of each program in a table (src/table.rt), and the least ones of
--- each part of a path (src/racing.rt).
+-- each part of a path, which are the blocks that it may run behind so many waits (src/racing.rt).
+-- The place of a block is its number in its program, from 0.
 -- For this crate alone.
 use Rattle.std.specs.Prelude.{◌≡◌, ℕ, List, map, Option, Some, None, slice_get}
 use Rattle.nc_number.specs.declared.both.Both.{Both}

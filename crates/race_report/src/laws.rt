@@ -1,5 +1,5 @@
-//! What a list of races says: there is one, and an empty one means one outcome. Each law is the
-//! contract of a function that does nothing.
+//! What a list of races says: a pair has one at most, and an empty one of an accepted pair means
+//! one outcome. Each law is the contract of a function that does nothing.
 //! They are for readers: no other crate calls them.
 ghost use Rattle.std.specs.Prelude.{◌≡◌, ℕ, Bool, [], List};
 ghost use Rattle.cell_settings.specs.declared.settings.Settings.{Settings};
@@ -9,7 +9,8 @@ ghost use Rattle.race_report.specs.declared.race.Race.{Race};
 ghost use Rattle.race_report.specs.RaceLists.{shared_by, IsRaceList};
 ghost use Rattle.race_report.specs.Outcomes.{HasOneOutcome};
 
-/// A pair whose list of races is empty comes to one outcome, whichever path has which turn.
+/// An accepted pair whose list of races is empty comes to one outcome, whichever path has which
+/// turn.
 pub fn a_pair_without_races_has_one_outcome()
     ensures { (settings : Settings) (left right : Flow) → IsAcceptedPair left.order right.order
         → IsRaceList (shared_by settings) left right [] → HasOneOutcome settings left right }

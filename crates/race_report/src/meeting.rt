@@ -42,8 +42,8 @@ fn may_meet(variable: u32, writer: &Flow, other: &Flow) -> bool
         && some_program(Sought::Names, variable, other.programs.as_slice())
 }
 
-/// Whether the variable can have a race, whichever path writes. It is far cheaper to tell than
-/// where.
+/// Whether the variable can have a race, whichever path writes. This is far cheaper to tell than
+/// whether it has one, and in which parts.
 pub(crate) fn may_race(variable: u32, left: &Flow, right: &Flow) -> bool
     ensures { result ≡ may_race variable left.now right.now }
 {

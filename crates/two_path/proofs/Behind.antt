@@ -13,7 +13,8 @@ use Rattle.two_path.specs.Stuck.{IsCrossed, IsFree}
 use Rattle.two_path.proofs.Scheduled.{run_of, lawful_of, fold_bare}
 use Rattle.two_path.proofs.Kept.{fold_kept}
 
--- if no list of events ends at paths that can't go on, no fold of a legal history does
+-- if the machine is free (specs/Stuck) behind every list of events, so is the fold of each legal
+-- history
 pub fold_free : (tapes : Tapes) (first second : PathView) → ((es : List Event) → IsFree tapes (run tapes (opening first second) es))
     → (rs : List Entry) → IsLegal tapes (opening first second) rs → IsFree tapes (fold tapes (opening first second) rs)
 fold_free tapes first second free rs legal =

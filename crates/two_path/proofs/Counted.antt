@@ -1,5 +1,5 @@
 -- What the fold of a legal history counts, in words of the history alone; and with it the law
--- `histories_are_runs` (src/laws.rt). Kept takes `grows` and `legal_take`.
+-- `histories_are_runs` (src/laws.rt). Kept takes `since_after`, `grows` and `legal_take`.
 use Rattle.std.proofs.Common.{◌≡◌, ℕ, zero, suc, ◌+◌, ◌≤◌, Bool, true, false, ◌==◌, List, [], ◌∷◌, ◌++◌, length, take, Option, Some, None, inl, inr, refl, sym, ap, subst, ◌∙◌, arith, if◌then◌else◌}
 use Rattle.nc_number.specs.declared.path.Path.{Path}
 use Rattle.nc_number.specs.declared.path.Path.TheVariants.{One, Two}
@@ -39,6 +39,7 @@ pub record Grows (n to : MachineView) (mine theirs : Bool) : Type 0 where
   -- each path came to its block by this record (true), or when it came before
   pub first : to.paths.one.since ≡ since_after mine n.count n.paths.one.since
   pub second : to.paths.two.since ≡ since_after theirs n.count n.paths.two.since
+  -- what the record wrote to a shared variable, if it wrote to one
   pub write : Option Written
   pub writes : to.writes ≡ with_write (n.count + 1) write n.writes
 

@@ -46,7 +46,7 @@ did_at caller (Some other) k is wait end = did_is k is
 ended_at : (caller : Option Frame) (s : Option Control) (k : EntryKind) → changes_only_by (label_of caller s) k ≡ true → s ≡ Some End → k ≡ kind.Ended
 ended_at caller s k is end = ended_is k (ap (λ x. changes_only_by (label_of caller x) k) (sym end) ∙ is)
 
--- A path that changes only by a record of this kind stays as it was where its block makes none: of
+-- A path that changes only by a record of this kind stays as it was if its block makes none: of
 -- a wait nothing is done, no block follows an end, and a path ends only at one.
 pub stays : (tape : List ControlProgram) (blocks : Blocks) (k : EntryKind) (caller : Option Frame) (before now other : Part) (answer : BlockAnswer) (moves : List Move)
     → changes_only_by (label_of caller (standing tape before.path.place)) k ≡ true

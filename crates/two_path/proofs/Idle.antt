@@ -21,7 +21,7 @@ unless_awake m None true w rest e = absurd cc
 unless_awake m None false (Some code) rest e = absurd cc
 unless_awake m None false None rest e = refl
 
--- with one of them the machine stays as it is, and there is no record
+-- with an alarm, an end or a wait the machine stays as it is, and there is no record
 unless_still : (m : MachineView) (a : Option Alarm) (f : Bool) (w : Option ℕ) (rest : TurnResult) → (is_some a || (f || is_some w)) ≡ true
     → ((unless_idle m a f w rest).machine ≡ m) × (kind_of (unless_idle m a f w rest).turn ≡ None)
 unless_still m (Some alarm) f w rest e = (refl, refl)
@@ -39,7 +39,7 @@ pub own_still : (blocks : Blocks) (path : Path) (m : MachineView) → is_still m
     → ((own_turn blocks path m).machine ≡ m) × (kind_of (own_turn blocks path m).turn ≡ None)
 own_still blocks path m e = unless_still m m.alarm m.paths.one.finished m.paths.one.waiting _ e
 
--- a turn that makes a record is not still
+-- a path whose turn makes a record is not still
 pub awake_of : (blocks : Blocks) (path : Path) (m : MachineView) (kind : EntryKind) → kind_of (own_turn blocks path m).turn ≡ Some kind → is_still m ≡ false
 awake_of blocks path m kind e = go (is_still m) refl
   where

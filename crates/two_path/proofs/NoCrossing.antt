@@ -1,7 +1,7 @@
 -- No step of a block raises the alarm of waits that differ, which the machine alone raises: the
 -- numbers of alarms, and what an expression comes to. `another alarm` here is each one but that.
--- zone_check uses these lemmas, as do the files NoCrossing.. for the law
--- `no_block_says_that_waits_differ` (src/laws.rt).
+-- For the other files NoCrossing.., and so for the law `no_block_says_that_waits_differ`
+-- (src/laws.rt). zone_check takes `either`.
 use Rattle.std.proofs.Common.{◌≡◌, ℕ, ◌==◌, Bool, true, false, List, [], ◌∷◌, Option, Some, None, Result, Ok, Err, ℤ, unsigned_abs, refl, if◌then◌else◌}
 use Rattle.std.specs.Int.{is_negative}
 use Rattle.nc_number.specs.declared.cause.Cause.{Cause}
@@ -112,6 +112,7 @@ seen_other (Ok look.Shared) n [] = tt
 seen_other (Ok look.Shared) n (v ∷ left) = tt
 seen_other (Err f) n reads = refl
 
+-- `table` says what each variable holds.
 module _ (table : ℕ → Result Look VarFault) where
   -- a look at a variable by its computed number raises another alarm, if any
   by_other : (number : Result ℕ Cause) → IsOtherCause number → (reads : List Var)

@@ -101,6 +101,7 @@ acted_other fixed path system words values =
     motion_with_other fixed path system words values (modal_after path.modal system words values)
     (modal_other path.modal system words values)
 
+-- A path before its block: `fixed` is what is fixed for it.
 module _ (fixed : Fixed) (path : PathView) where
   -- one word of a block raises another alarm, if any
   word_other : (sense : Sense) (letter : ℕ) (value : WordValue) (values : Values) (reads : List Var)
@@ -134,6 +135,7 @@ module _ (fixed : Fixed) (path : PathView) where
       alarm_behind (argument_taken fixed path word.letter word.value arguments reads) _
       (argument_other word.letter word.value arguments reads) (λ next left. arguments_other words next left)
 
+-- The order of the blocks of the path's tape.
 module _ (tape : List ControlProgram) where
   -- a block whose moves are known, by where it goes, raises another alarm, if any
   done_other : (moved : Moved) (to : Result Standing Cause) → IsOtherCause to → IsOtherEffect (done_by moved to)

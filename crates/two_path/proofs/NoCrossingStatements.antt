@@ -53,6 +53,7 @@ sequence_other (Ok (pos n)) other = tt
 sequence_other (Ok (negsuc n)) other = refl
 sequence_other (Err cause) other = other
 
+-- A path before its block: `fixed` is what is fixed for it.
 module _ (fixed : Fixed) (path : PathView) where
   -- the variable on a left side, by its number, raises another alarm, if any
   named_other : (name : Named) (reads : List Var) → IsOtherAlarm (named fixed path name reads)

@@ -1,5 +1,6 @@
 -- Two paths over tapes whose lists of labels agree: an invariant of both, which each turn keeps,
 -- and under which they go on. For the law `no_pair_is_stuck` (src/laws.rt).
+-- trace_list takes `AreLed`.
 use Rattle.std.proofs.Common.{◌≡◌, ◌≢◌, ℕ, ◌⊎◌, inl, inr, Bool, true, false, ◌==◌, ◌||◌, List, [], ◌∷◌, Option, Some, None, is_some, ℤ, refl, ap, sym, subst, ◌∙◌, arith}
 use Rattle.std.proofs.lemmas.Bool.Decides.{nat_tests}
 use Rattle.nc_number.specs.declared.cause.Cause.TheVariants.{WaitDiffers}
@@ -30,7 +31,7 @@ use Rattle.two_path.specs.Histories.{Event, TurnOf, EditOf, behind_event, run, i
 use Rattle.two_path.specs.Stuck.{IsStuck, IsCrossed, RaisesNoCrossing, IsFree}
 use Rattle.two_path.proofs.Idle.{is_still, own_awake, own_still}
 
--- blocks that go where the order of this tape allows
+-- the blocks go where the order of this tape allows
 abbrev pub AreLed : List ControlProgram → Blocks → Type 0
 AreLed tape blocks = (path : PathView) (values : List Var) → GoesAsOrdered tape path (blocks.effect path values)
 

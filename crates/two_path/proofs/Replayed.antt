@@ -1,6 +1,7 @@
 -- The loop in which a block reads again what the stamps of a record stand for: what is read so far,
 -- with what the stamps that are left stand for, is what all stamps stand for. For `read_all_again`
--- (src/again.rt) by way of Redone.
+-- (src/again.rt) by way of Redone; and that what a block asks for or writes is shared
+-- (`needs_shared`, `writes_shared`), for `read_again` and `settle` (src/turning.rt).
 use Rattle.std.proofs.Common.{◌≡◌, ℕ, ◌≤◌, Bool, true, false, ◌&&◌, nat_le, List, [], ◌∷◌, ◌++◌, Option, Some, None, IfSome, refl, sym, ap, subst, ◌∙◌, append_assoc, append-nil, arith, if◌then◌else◌}
 use Rattle.std.proofs.lemmas.Bool.Decides.{nat_tests}
 use Rattle.nc_number.specs.declared.value.Var.{Var}
@@ -28,6 +29,8 @@ pub record IsReplaying (blocks : Blocks) (start now : Part) (writes : List Write
   pub part : now ≡ record start { values = now.values; stamps = now.stamps }
   -- the stamps read and those left are all stamps
   pub stamps : now.stamps ++ left ≡ all
+  -- the values so far, with those that the stamps left stand for, are those that all stamps stand
+  -- for
   pub values : values_from blocks start.path writes now.values left ≡ values_at blocks start.path writes all
   -- if the block may read with the stamps that are left, it may read with all
   pub forth : Reads blocks start.path writes low count now.values left → Reads blocks start.path writes start.since count [] all

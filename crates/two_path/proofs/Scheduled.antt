@@ -114,7 +114,8 @@ order_none c high [] i b = refl
 order_none c high (k ∷ ks) i b = absurd (omega (arith, i.0, b.0))
 
 -- from n a record of the first path leads to this machine, whatever the other has read: what either
--- path may have read since, and before
+-- path may have read since, and before. `from_reads` gives the machine behind the turn if the other
+-- path's block had read these values at these stamps.
 record StepsTo (a b : Blocks) (n to : MachineView) (from_reads : List Var → List ℕ → MachineView) : Type 0 where
   -- the record counts one
   count : to.count ≡ n.count + 1
@@ -326,13 +327,13 @@ read_second tapes m n rs ks ko r x =
     (rw (read_kind tapes.two tapes.one Two (own_first Two n) ko ks need.0 awake need.1) refl)
     (ap (own_first Two) (read_turn tapes.two tapes.one Two (own_first Two n) ko ks need.0 awake need.1))
 
--- each machine that is the fold of the history but for reads that may have been made is reached
+-- these records lead to each machine that is `n` but for reads that may have been made
 abbrev Claim : Tapes → MachineView → List Entry → MachineView → Type 0
 Claim tapes m rs n =
     (ks ko : List ℕ) → Ready tapes.one n ks → Ready tapes.two (own_first Two n) ko
     → IsReached tapes m rs (loaded tapes.one tapes.two ks ko n)
 
--- each machine that is the fold of the history but for reads from before the last record is reached
+-- these records lead to each machine that is `n` but for reads from before the last record
 abbrev Base : Tapes → MachineView → List Entry → MachineView → Type 0
 Base tapes m rs n =
     (ks ko : List ℕ) → Ready tapes.one n ks → Ready tapes.two (own_first Two n) ko → Below n.count ks → Below n.count ko
@@ -442,7 +443,8 @@ base_none tapes first second [] [] r r' b b' = record { events = []; records = r
 base_none tapes first second (k ∷ ks) ko r r' b b' = absurd (omega (arith, b.0))
 base_none tapes first second [] (k ∷ ko) r r' b b' = absurd (omega (arith, b'.0))
 
--- each legal history is that of some events
+-- behind a legal history each machine that is its fold but for reads that may have been made is
+-- reached by some events
 reached : (tapes : Tapes) (first second : PathView) (rs : List Entry) → IsLegal tapes (opening first second) rs
     → Claim tapes (opening first second) rs (fold tapes (opening first second) rs)
 reached tapes first second =
@@ -453,7 +455,7 @@ reached tapes first second =
     extend_first tapes m (fold tapes m (rs ++ e ∷ [])) (rs ++ e ∷ [])
     (rw (fold_push tapes m rs e) (base_of tapes m (fold tapes m rs) rs e (rest l.0) l.1)))
 
--- a fold leaves no reads
+-- a fold leaves no reads, if there were none before
 pub fold_bare : (tapes : Tapes) (m : MachineView) (rs : List Entry) → without_reads m ≡ m → without_reads (fold tapes m rs) ≡ fold tapes m rs
 fold_bare tapes m [] h = h
 fold_bare tapes m (e ∷ es) h = fold_bare tapes (behind_entry tapes e m) es (entry_bare tapes e m)

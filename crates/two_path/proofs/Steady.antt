@@ -19,7 +19,7 @@ use Rattle.two_path.specs.Histories.{with_reads, behind_step}
 use Rattle.two_path.specs.Joined.{JointView, machine_of, AreShared, IsLasting, AreAtTheirWaits}
 use Rattle.two_path.proofs.Idle.{is_still, own_awake, own_still}
 
--- what is fixed for each path, as the settings and which variables are shared, is as it was
+-- what is fixed for each path, its reference position and which variables are shared, is as it was
 pub record IsFixed (before after : MachineView) : Type 0 where
   pub first : after.paths.one.path.fixed ≡ before.paths.one.path.fixed
   pub second : after.paths.two.path.fixed ≡ before.paths.two.path.fixed

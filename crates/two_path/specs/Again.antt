@@ -42,7 +42,8 @@ abbrev pub variable_asked : Effect → Option ℕ
 variable_asked (Need variable) = Some variable
 variable_asked _ = None
 
--- the variable that the block reads with this stamp, if it asks for one and the stamp is in order
+-- the variable that the block reads with this stamp, if it asks for one and the stamp is in order:
+-- not below the lowest that is allowed, and not above the highest
 abbrev pub variable_due : ℕ → ℕ → ℕ → Effect → Option ℕ
 variable_due lowest highest stamp effect =
     if nat_le lowest stamp && nat_le stamp highest then variable_asked effect else None
@@ -76,7 +77,8 @@ abbrev pub is_ended : EntryKind → Bool
 is_ended kind.Ended = true
 is_ended _ = false
 
--- whether the block of a path at this label changes the path only if it makes a record of this kind
+-- whether the block of a path at this label (`None` if its block has none) changes the path only if
+-- it makes a record of this kind
 abbrev pub changes_only_by : Option Label → EntryKind → Bool
 changes_only_by (Some (label.Wait code)) kind = true
 changes_only_by (Some label.End) kind = is_ended kind

@@ -33,7 +33,7 @@ pub data Event : Type 0 where
 abbrev pub turns_of : List Path → List Event
 turns_of paths = map TurnOf paths
 
--- the machine behind an event
+-- the machine behind an event; an edit does nothing to a machine that an alarm has stopped
 abbrev pub behind_event : Tapes → Event → MachineView → MachineView
 behind_event tapes (TurnOf path) m = (turn_of tapes path m).machine
 behind_event tapes (EditOf path edit) m = unless_alarm m.alarm m (behind_edit_of path edit m)
@@ -133,7 +133,7 @@ pub record IsEdit (m : MachineView) (entry : Entry) : Type 0 where
   pub calm : m.alarm ≡ None
 
 -- the record is legal behind the machine: it is a step that the machine can make with just the
--- record's reads, or an edit
+-- record's reads, or an edit while no alarm has stopped the machine
 abbrev pub IsNext : Tapes → MachineView → Entry → Type 0
 IsNext tapes m entry =
     IsStep (of_path tapes entry.path) entry.path (own_first entry.path m) entry.kind entry.stamps ⊎ IsEdit m entry
@@ -216,7 +216,9 @@ pub record Counts (tapes : Tapes) (m : MachineView) (entries : List Entry) : Typ
       ≡ value_after (fold tapes m before).count variable (fold tapes m before).writes
 
 -- Each run's records are a legal history, and each legal history is the records of some run. Its
--- fold is the machine but for block reads, and each machine with lawful reads is reached.
+-- fold is the machine but for block reads, and each machine with this fold, without an alarm and
+-- with lawful reads, is reached. A legal history counts its records (`Counts`), and each prefix of
+-- it is legal.
 pub record HistoriesAreRuns (tapes : Tapes) (m : MachineView) : Type 0 where
   pub run : (events : List Event) → IsHistory tapes m events
   pub history : (entries : List Entry) → IsLegal tapes m entries → IsRun tapes m entries (fold tapes m entries)

@@ -53,13 +53,14 @@ read_part blocks part joint stamps = record part {
   stamps = stamps;
 }
 
--- the variables that the path shares are just those that the joint part holds
+-- the variables that the path shares are just those that the joint part holds, of those from #100
+-- on (`hundreds`) and of those from #500 on (`upper`)
 pub record AreShared (part : Part) (joint : JointView) : Type 0 where
   pub hundreds : joint.shared.shared100 ≡ part.path.fixed.shared100
   pub upper : joint.shared.shared500 ≡ part.path.fixed.shared500
 
--- what a turn or an edit leaves of the joint part: which variables are shared, and the room but for
--- its record
+-- what a turn or an edit leaves of the joint part: which variables are shared, from #100 on
+-- (`hundreds`) and from #500 on (`upper`), and the room but for its record
 pub record IsLasting (before after : JointView) : Type 0 where
   pub hundreds : after.shared.shared100 ≡ before.shared.shared100
   pub upper : after.shared.shared500 ≡ before.shared.shared500
@@ -72,7 +73,8 @@ pub record IsDecided (blocks : Blocks) (part : Part) (moves : List Move) (decisi
   pub fit : HasFitWords decision
   pub may : MayTake part.path decision
 
--- the path took what its block comes to with what it has read, and answered so, with these moves
+-- the path took what its block comes to with what it has read, and answered so, with these moves;
+-- nothing but its state changed
 pub record HasTaken (blocks : Blocks) (before now : Part) (answer : BlockAnswer) (moves : List Move) : Type 0 where
   pub effect : effect_told answer moves now.path ≡ blocks.effect before.path before.values
   pub stays : StaysUnlessTold answer before.path now.path
@@ -83,7 +85,7 @@ pub record AreItsMoves (blocks : Blocks) (part : Part) (moves : List Move) : Typ
   pub are : moves ≡ moves_of (blocks.effect part.path part.values)
   pub within : AreMovesWithin LONGEST moves
 
--- a path that waits stands on a wait of its tape
+-- if the path waits, it stands on a wait of its tape
 abbrev pub IsAtItsWait : List ControlProgram → Part → Type 0
 IsAtItsWait tape part = (code : ℕ) → part.waiting ≡ Some code → standing tape part.path.place ≡ Some (Wait code)
 

@@ -42,7 +42,7 @@ pub record IsCrossed (blocks : Blocks) (m : MachineView) : Type 0 where
   pub waits : m.paths.two.waiting ≡ Some there
   pub differs : code ≢ there
 
--- no block raises the alarm of two paths that wait at different codes
+-- none of these blocks raises the alarm of two paths that wait at different codes
 abbrev pub RaisesNoCrossing : Blocks → Type 0
 RaisesNoCrossing blocks = (path : PathView) (values : List Var) (value : ℤ)
     → blocks.effect path values ≢ effect.Alarm (cause_number WaitDiffers) value
@@ -57,7 +57,8 @@ pub record IsFree (tapes : Tapes) (m : MachineView) : Type 0 where
   -- no alarm is that of paths that wait at different codes
   pub alarm : (alarm : Alarm) → m.alarm ≡ Some alarm → alarm.cause ≢ cause_number WaitDiffers
 
--- Two flows over which no paths get stuck.
+-- Two flows whose blocks go as their orders allow, and whose lists of labels are equal. Over such a
+-- pair no paths get stuck: the law `no_pair_is_stuck`.
 pub record IsPair (left right : Flow) : Type 0 where
   -- the blocks of each go as its order allows
   pub left_controlled : IsControlled left

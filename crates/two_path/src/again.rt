@@ -158,7 +158,8 @@ fn is_still(me: &Part, joint: &Joint) -> bool
     joint.alarm().is_some() || me.finished() || me.waiting().is_some()
 }
 
-/// Whether a turn of a path at this label changes the path only if it makes a record of this kind.
+/// Whether a turn of a path at this label, if its block has one, changes the path only if it makes
+/// a record of this kind.
 fn changes_only_by(label: Option<Label>, kind: &EntryKind) -> bool
     ensures { result ≡ changes_only_by label kind.now }
 {

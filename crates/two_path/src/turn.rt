@@ -1,7 +1,7 @@
 //! What a turn of a path answers: with its moves in it, or with these apart, in a list that was
 //! lent.
-//! run_table and turn_order take `Answered`; lathe_calls, move_list, trace_list and zone_check read
-//! a `Turn`. A new variant is one more case in each of them.
+//! run_table and turn_order take `Answered`; lathe_calls, move_list, run_table, trace_list and
+//! zone_check read a `Turn`. A new variant is one more case in each of them.
 ghost use Rattle.std.specs.Prelude.{◌≡◌};
 ghost use Rattle.two_path.specs.Made.{turn_with};
 

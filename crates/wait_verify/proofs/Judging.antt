@@ -21,7 +21,9 @@ use Rattle.wait_verify.specs.Verdict.IsRefusalOf.{left, right, pair}
 
 -- The premises that the code made are those of the question under the settings of this cell.
 pub record IsPremises (asked : Asked) (cell : Cell) (premises : Premises) : Type 0 where
+  -- the code system and the waits of the settings
   pub dialect : premises.dialect ≡ dialect_in cell
+  -- the programs that the tapes may lack
   pub outside : premises.outside ≡ asked.outside
 
 -- Premises whose two fields are those of the question are the premises of the question.

@@ -66,7 +66,8 @@ not_both_tape premises skips path text programs own told x (tape_order other lin
     let same : programs ≡ other = one_tape programs other (tape_of skips (opened text)) x.reads reads in
     not_both_order premises other own line number (subst (λ t. IsOrdered premises t own) same x.ordered) refused
 
--- No pair is both accepted and refused, if a pair is accepted by its lists of labels.
+-- No pair is both accepted and refused, by the law that a pair is accepted exactly by its lists of
+-- labels.
 pub not_both : ByLists → (asked : Asked) (judged : Judged) (told : Refusal) → AreAccepted asked judged → IsRefusalOf asked told → ⊥
 not_both lists asked judged told ok (settings s) =
     absurd (let e : ◌≡◌ {A = Result Cell ℕ} (Ok judged.cell) (Err s.line) = sym ok.orders.settings_are ∙ s.refused in cc)

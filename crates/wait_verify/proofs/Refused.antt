@@ -24,7 +24,8 @@ pub tape_refused : (premises : Premises) (skips : ℕ) (path : Path) (text : Lis
 tape_refused premises skips path text error fault refusal is fails told =
     by_reading fault (subst (λ e. Fails e (tape_of skips (opened text))) is fails) told
 
--- A tape that reads, and whose block or order is refused, is the refusal of the path's tape.
+-- A tape that reads, and of which a block, the order or a contour is refused, is the refusal of the
+-- path's tape.
 pub order_refused : (premises : Premises) (skips : ℕ) (path : Path) (text : List ℕ) (tape : List Program) (error : Failing FlowFault)
     (fault : FlowFault) (refusal : Refusal) → error ≡ Fault fault → tape_of skips (opened text) ≡ Ok tape
     → IfFault error (λ f. IsRefused premises tape f.line f.number) → refusal ≡ at_line path fault.line fault.number

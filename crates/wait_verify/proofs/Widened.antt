@@ -1,5 +1,6 @@
--- A pair that `verify` accepts is accepted for its waits too: from a block to a program, a tape,
--- and a pair. For the law `what_a_run_accepts_is_accepted` (src/laws.rt).
+-- A pair of plain texts that `verify` accepts is accepted for its waits too: from a block to a
+-- program, a tape, and a pair. What is plain is in specs/Widening. For the law
+-- `what_a_run_accepts_is_accepted` (src/laws.rt).
 use Rattle.std.proofs.Common.{◌≡◌, ℕ, suc, ◌*◌, Bool, true, false, not, ◌&&◌, ◌||◌, cond, codes, List, [], ◌∷◌, ◌++◌, map, Option, Some, None, Result, Ok, Err, refl, ap, sym, ◌∙◌, subst, All, ℤ, pos}
 use Rattle.std.specs.List.{list_any, filter_map}
 use Rattle.std.proofs.lemmas.List.{map-append}
@@ -89,7 +90,7 @@ none_gone (control.BackTo n) = refl
 abbrev basis_of : Dialect → List Program → Basis
 basis_of dialect tape = record { premises = record { dialect = dialect; outside = None }; tape = tape }
 
--- A block that reads in full reads for its waits, with the same control.
+-- A plain block that reads in full reads for its waits, with the same control.
 block_widened : BlockLaw → (dialect : Dialect) (tape : List Program) (block : Block) (form : BlockForm) → IsPlainBlock dialect block
     → IsClean block.body → full.block_read dialect block ≡ Ok form → block_read (basis_of dialect tape) block ≡ Ok (control_block form)
 block_widened law dialect tape block form plain clean reads = go (block_or_refusal dialect block) refl reads
@@ -127,7 +128,7 @@ step_widened : {A B C D : Type 0} (read : Result A FlowFault) (own : Result B Fl
 step_widened (Ok x) own go go' see end end' first rest e = rw (first x refl) (rest x e)
 step_widened (Err fault) own go go' see end end' first rest e = absurd cc
 
--- Blocks that read in full read for their waits, with the same controls.
+-- Plain blocks that read in full read for their waits, with the same controls.
 blocks_widened : BlockLaw → (dialect : Dialect) (tape : List Program) (blocks : List Block) (done forms : List BlockForm)
     → All (IsPlainBlock dialect) blocks → AreClean blocks → full.blocks_from dialect done blocks ≡ Ok forms
     → blocks_from (basis_of dialect tape) (map control_block done) blocks ≡ Ok (map control_block forms)
@@ -143,7 +144,7 @@ blocks_widened law dialect tape (block ∷ blocks) done forms plain clean e =
     (blocks_widened law dialect tape blocks (done ++ form ∷ []) forms (All-tail (IsPlainBlock dialect) block blocks plain) clean.1 rest))
     e
 
--- A program that reads in full reads for its waits, with the same controls.
+-- A program of plain blocks that reads in full reads for its waits, with the same controls.
 program_widened : BlockLaw → (dialect : Dialect) (tape : List Program) (program : Program) (form : ProgramForm)
     → All (IsPlainBlock dialect) program.blocks → AreClean program.blocks → full.program_read dialect program ≡ Ok form
     → program_read (basis_of dialect tape) program ≡ Ok (control_program form)
@@ -160,7 +161,8 @@ program_widened law dialect tape program form plain clean e =
         ap (λ read. read >>= (λ blocks. Ok (record { number = program.number; line = program.line; blocks = blocks }))) own
         ∙ ap (λ p. Ok (control_program p)) same
 
--- Programs of a tape that read in full read for their waits, with the same controls.
+-- Programs of a tape, of plain blocks, that read in full read for their waits, with the same
+-- controls.
 programs_widened : BlockLaw → (dialect : Dialect) (tape rest : List Program) (done forms : List ProgramForm)
     → All (IsPlainBlock dialect) (blocks_in rest) → IsCleanTape rest → full.programs_from dialect done rest ≡ Ok forms
     → programs_from (basis_of dialect tape) (controls done) rest ≡ Ok (controls forms)
@@ -179,7 +181,8 @@ programs_widened law dialect tape (program ∷ rest) done forms plain clean e =
 
 -- The contours: a block that reads in full has none.
 
--- One of the G words has such a code exactly if one of the codes that are written out is such.
+-- If a computed code does not pass a test, a G word has a code that passes exactly if one of the
+-- codes that are written out passes.
 any_of_g : (is_it : Option ℤ → Bool) → is_it None ≡ false → (words : List Word)
     → has_code is_it words ≡ list_any (λ z. is_it (Some z)) (filter_map written (words_of (codes "G") words))
 any_of_g is_it none [] = refl
@@ -307,7 +310,8 @@ no_contours dialect order (program ∷ rest) done forms e =
 
 -- The tape of a path, and a pair.
 
--- A text whose tape is accepted for a run has, for its waits, an order with the same controls.
+-- A plain text whose tape is accepted for a run has, for its waits, an order with the same
+-- controls.
 ordered_too : BlockLaw → CleanLaw → (cell : Cell) (path : Path) (text : List ℕ) (forms : List ProgramForm)
     → IsPlainText (dialect_in cell) (skips_of path cell) text → (flow : IsFlowOf cell path text forms)
     → IsOrderOf (record { dialect = dialect_in cell; outside = None }) (skips_of path cell) text flow.tape (controls forms)
@@ -321,7 +325,8 @@ ordered_too law clean cell path text forms plain flow = record {
   };
 }
 
--- A pair that is accepted for a run is accepted for its waits, with the same lists of labels.
+-- A pair of plain texts that is accepted for a run is accepted for its waits, with the same lists
+-- of labels.
 pub widened : BlockLaw → CleanLaw → (texts : Texts) (cell : Cell) (left right : List ProgramForm) → ArePlain texts cell
     → run.AreAccepted texts cell left right → IsWidened texts cell left right
 widened law clean texts cell left right plain accepted_run = record {

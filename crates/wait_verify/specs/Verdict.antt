@@ -38,7 +38,7 @@ pub data IsTapeRefusal (premises : Premises) (skips : ℕ) (path : Path) (text :
   -- A line can't be read.
   reading : (fault : TextFault) → tape_of skips (opened text) ≡ Err fault → refusal ≡ at_line path fault.line fault.number
       → IsTapeRefusal premises skips path text refusal
-  -- The tape reads, but a block or the order of its blocks is refused.
+  -- The tape reads, but a block, the order of its blocks or a contour of a cycle is refused.
   order : (tape : List Program) (line number : ℕ) → tape_of skips (opened text) ≡ Ok tape
       → IsRefused premises tape line number → refusal ≡ at_line path line number
       → IsTapeRefusal premises skips path text refusal
@@ -71,7 +71,7 @@ pub record AreOrders (asked : Asked) (judged : Judged) : Type 0 where
   pub right_is : IsRightOrder asked judged.cell judged.right_tape judged.right
 
 -- The pair is accepted: the settings are allowed, both tapes have orders, and both paths come to
--- the same labels, whatever the variables hold.
+-- the same labels, at most 65,536, whatever the variables hold.
 pub record AreAccepted (asked : Asked) (judged : Judged) : Type 0 where
   pub orders : AreOrders asked judged
   pub pair : IsAcceptedPair judged.left judged.right

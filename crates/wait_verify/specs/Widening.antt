@@ -32,10 +32,14 @@ pub record ArePlain (texts : Texts) (cell : Cell) : Type 0 where
   pub left : IsPlainText (dialect_in cell) (skips_of One cell) texts.left
   pub right : IsPlainText (dialect_in cell) (skips_of Two cell) texts.right
 
--- A pair that `verify` accepts with these programs is accepted for its waits too, with the same
--- orders of blocks, and so with the same lists of labels.
+-- The pair is accepted for its waits too, with the orders of blocks that these programs have, and
+-- so with the same lists of labels. `left` and `right` are the programs of the two paths as
+-- `verify` accepts them.
 pub record IsWidened (texts : Texts) (cell : Cell) (left right : List ProgramForm) : Type 0 where
+  -- the pair as it is judged for its waits
   pub judged : Judged
+  -- the orders are those of the programs
   pub left_same : judged.left ≡ controls left
   pub right_same : judged.right ≡ controls right
+  -- it is accepted, also if its tapes may lack no program
   pub accepted : AreAccepted (asked texts.left texts.right texts.settings None) judged

@@ -1,6 +1,6 @@
 //! What holds of every pair that is judged for its waits: exactly one answer, no path that waits in
-//! vain, and nothing refused that a run accepts. Who calls such a function has its law; it does
-//! nothing when it runs.
+//! vain, and nothing refused that a run accepts, if both texts are plain (specs/Widening.antt). Who
+//! calls such a function has its law; it does nothing when it runs.
 //! lathe_top calls `accepted_pairs_are_not_refused` and `pairs_have_one_refusal`.
 ghost use Rattle.std.specs.Prelude.{◌≡◌, List};
 ghost use Rattle.cell_settings.specs.Cell.{Cell};
@@ -59,11 +59,11 @@ pub fn no_pair_is_without_an_answer()
     a_pair_is_accepted_by_its_lists();
 }
 
-/// Every pair that the verdict on a run accepts is accepted for its waits, with the same lists of
-/// labels.
+/// Every pair of plain texts that the verdict on a run accepts is accepted for its waits, with the
+/// same lists of labels.
 ///
-/// It speaks of texts without a comma, whose blocks have no M96, M97 or M198 but as a wait or an
-/// argument: these three are plain codes of a run, and refused here.
+/// A plain text has no comma, and its blocks have no M96, M97 or M198 but as a wait or an argument:
+/// these three are plain codes of a run, and refused here.
 pub fn what_a_run_accepts_is_accepted()
     ensures { (texts : Texts) (cell : Cell) (left right : List ProgramForm) → ArePlain texts cell
         → run.AreAccepted texts cell left right → IsWidened texts cell left right }

@@ -1,5 +1,5 @@
--- The first race of a shared variable, or none, is found by the least lines; without two blocks
--- that could meet there is none (src/racing.rt).
+-- The first race of a shared variable, or none, is found by the least lines, of which there are no
+-- more than `first_race` takes; without two blocks that could meet there is none (src/racing.rt).
 use Rattle.race_report.specs.RaceLists.{shared_by}
 use Rattle.race_report.proofs.FewParts.{few_lines, first_found}
 use Rattle.race_report.proofs.NoMeeting.{no_meeting_of}

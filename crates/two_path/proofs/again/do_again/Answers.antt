@@ -1,5 +1,5 @@
--- A record is done again: its machine, its turn with the moves apart, and what stays ready; or it
--- is refused and nothing changes (src/again.rt).
+-- A record is done again: what its call of `settle` requires, its machine, its turn with the moves
+-- apart, and what stays ready; or it is refused and nothing changes (src/again.rt).
 use Rattle.std.proofs.Common.{◌≡◌, Some, sym, ap, ◌∙◌}
 use Rattle.path_state.specs.Effect.{effect_of}
 use Rattle.run_records.specs.Entries.{Entry}

@@ -1,5 +1,6 @@
--- `read_all_again`: behind the loop the block has read what all stamps stand for, or it may not
--- have read with them (src/again.rt).
+-- `read_all_again`: the loop begins and goes on as its invariant says; behind it the block has read
+-- what all stamps stand for, or at a stamp that is not due it may not have read with them
+-- (src/again.rt).
 use Rattle.std.proofs.Common.{arith, drop}
 use Rattle.two_path.specs.Turns.{blocks_of}
 use Rattle.two_path.proofs.Redone.{begins_at, goes_on_at, stops_at, ends_at, shared_still, on_err}

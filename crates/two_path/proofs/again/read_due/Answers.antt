@@ -1,5 +1,5 @@
 -- A record of a path that is still is refused, and so is one whose stamps its block may not have
--- read (src/again.rt).
+-- read; else the block has read what the record's stamps stand for (src/again.rt).
 use Rattle.std.proofs.Common.{rules, ◌≡◌, ◌||◌, true, is_some, ap, subst, ◌∙◌}
 use Rattle.run_records.specs.Entries.{Entry}
 use Rattle.two_path.specs.Turns.{blocks_of}

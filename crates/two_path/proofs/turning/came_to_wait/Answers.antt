@@ -1,5 +1,5 @@
--- A turn at a wait: the path waits, both go on, or the codes differ and both stop
--- (src/turning.rt).
+-- `came_to_wait`: the machine behind a turn at a wait if the other path does not wait, so that this
+-- one waits, and if it waits at another code, so that both stop (src/turning.rt).
 use Rattle.std.proofs.Common.{rules, ◌≡◌, ◌==◌, false, Some, None, sym, ap, ◌∙◌}
 use Rattle.nc_moves.specs.declared.alarm.Alarm.{Alarm}
 use Rattle.two_path.specs.Machine.{MachineView}

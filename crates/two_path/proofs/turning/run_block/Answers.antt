@@ -1,5 +1,5 @@
--- A turn in which the block runs: its answer, moves and record, and the machine after it
--- (src/turning.rt).
+-- A turn in which the block runs: what its call of `settle` requires, the turn's answer, moves and
+-- record, and the machine after it (src/turning.rt).
 use Rattle.std.proofs.Common.{sym, ◌∙◌}
 use Rattle.path_state.specs.Effect.{effect_of}
 use Rattle.tape_flow.specs.Places.{line_at}

@@ -1,5 +1,6 @@
 -- `settle`: for each answer of a path that took its block, the turn, the machine and the record are
--- those of the block's turn (src/turning.rt).
+-- those of the block's turn; and what its calls of `read`, `did` and `came_to_wait` require holds
+-- (src/turning.rt).
 use Rattle.std.proofs.Common.{Some, None, refl, ap, subst, ◌∙◌}
 use Rattle.run_records.specs.declared.entry.EntryKind.TheVariants as kind
 use Rattle.path_state.specs.declared.advance.BlockAnswer.{BlockAnswer}

@@ -1,4 +1,5 @@
--- A pair that a run accepts is accepted for its waits, by the lemma of Widened (src/laws.rt).
+-- A pair of plain texts that a run accepts is accepted for its waits, by the lemma of Widened
+-- (src/laws.rt).
 use Rattle.wait_verify.proofs.Widened.{widened}
 use Rattle.wait_verify.proofs.laws.what_a_run_accepts_is_accepted.Goals as goal
 
