@@ -41,8 +41,9 @@ pub record Cell : Type 0 where
   -- the offsets that the paths begin with
   pub presets : List Preset
 
--- The settings of an empty text: waits M100 to M197 in system A, both paths share #500 to #599, and
--- turrets and offsets are at 0.
+-- The settings of an empty text: waits M100 to M197 that name the paths by bits, system A, both
+-- paths share #500 to #599, no skip switch is on, turrets and offsets are at 0, and the journal may
+-- have as many records as a run (4,000,000).
 abbrev pub standard : Cell
 standard = record {
   wait_low = 100;

@@ -1,5 +1,6 @@
 -- What a line of settings says, a definition for each name; a line that is none of these is not
--- allowed. src/named.rt has a function for each. For this crate alone.
+-- allowed. src/named.rt has a function for each. No other crate cites it; callers meet it in
+-- `settings_of` (Cell).
 use Rattle.std.specs.Prelude.{ℕ, ◌≤◌, true, false, List, [], ◌∷◌, Option, Some, None, codes, if◌then◌else◌}
 use Rattle.std.specs.Str.{bytes_eq}
 use Rattle.cell_settings.specs.declared.preset.Preset.{Preset}
@@ -22,14 +23,14 @@ wait_of (first ∷ last ∷ []) = do
   Some (says.Wait low high)
 wait_of _ = None
 
--- what the value of `shared100` says: how many variables from #100 on are shared
+-- what the value of `shared100` says: how many variables from #100 on are shared, 100 at most
 unfoldable pub shared100_of : List (List ℕ) → Option Entry
 shared100_of (count ∷ []) = do
   n ← number_in 0 100 count
   Some (says.Shared100 n)
 shared100_of _ = None
 
--- what the value of `shared500` says: how many variables from #500 on are shared
+-- what the value of `shared500` says: how many variables from #500 on are shared, 500 at most
 unfoldable pub shared500_of : List (List ℕ) → Option Entry
 shared500_of (count ∷ []) = do
   n ← number_in 0 500 count
@@ -110,7 +111,7 @@ unfoldable pub fields_say : List (List ℕ) → Option Entry
 fields_say [] = Some says.Nothing
 fields_say (name ∷ values) = named_point_of name values
 
--- what a line says is in its ranges
+-- the numbers and points of what a line says are in their ranges
 abbrev pub IsAllowed : Entry → Type 0
 IsAllowed says.Nothing = Unit {0}
 IsAllowed (says.Wait low high) = (100 ≤ low) × (low ≤ high) × (high ≤ 999)

@@ -1,4 +1,5 @@
--- What the type of the settings keeps of waiting codes and switches. For src/settings.rt alone.
+-- What the type of the settings keeps of waiting codes and switches. For src/settings.rt and its
+-- proofs; who has a `Settings` has these facts by its type.
 use Rattle.std.specs.Prelude.{◌≡◌, ℕ, ◌≤◌}
 use Rattle.std.specs.Int.{bit_at}
 

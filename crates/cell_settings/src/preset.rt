@@ -7,7 +7,7 @@ use nc_number::{Path, Point};
 use std::alloc::{AllocFailed, Global};
 use std::marker::Model;
 
-/// What an opening offset belongs to.
+/// The kinds of opening offsets.
 #[derive(Clone, Copy, Debug, PartialEq, Eq)]
 pub enum PresetKind {
     /// A work offset: 0 is the external one, 1 to 6 are those of G54 to G59.
@@ -72,7 +72,7 @@ impl PresetList {
     }
 
     /// Sets an offset, instead of one for the same path, kind and number. The error is that memory
-    /// ran out; then that one is left out all the same.
+    /// ran out; then the one for the same path, kind and number is left out all the same.
     pub(crate) fn set(&mut self, preset: Preset) -> Result<(), AllocFailed<Preset>>
         ensures ok { OnOk result (self.new ≡ with_preset preset self.old) }
         ensures kept { All IsPreset self.old → IsPreset preset → All IsPreset self.new }

@@ -1,7 +1,7 @@
 -- One word at a time: what `clap` makes of each word after a subcommand. A walk is where the parse
 -- is: what it holds, what it waits for, and at which position the next name counts. A use is an
 -- argument with the text that it was given. clap keeps the last use until the next word, and
--- settles it then. For Walks and Readings.
+-- settles it then. For WordKinds, Walks, Readings, Subcommands and TopWords.
 use Rattle.std.proofs.Common.{◌≡◌, ℕ, zero, suc, ◌+◌, ◌<◌, Bool, true, false, List, [], ◌∷◌, ◌++◌, map, length, min, Option, Some, None, refl, ap, ◌∙◌, arith, codes}
 use Rattle.std.proofs.Math.Bool.{and-false}
 use Rattle.std.specs.List.{slice_get}

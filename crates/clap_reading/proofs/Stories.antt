@@ -1,6 +1,6 @@
 -- What the words after a subcommand come to: the names and options that are read, and the uses that
--- the parse holds. A use is an argument with the text that it was given. For Readings and
--- Subcommands.
+-- the parse holds. A use is an argument with the text that it was given. For Readings, Subcommands
+-- and TopWords.
 use Rattle.std.proofs.Common.{◌≡◌, ℕ, zero, suc, ◌<◌, ◌≤◌, true, false, List, [], ◌∷◌, ◌++◌, map, filter, length, Option, Some, None, refl, sym, ap, ◌∙◌, arith, append_assoc, length-append, inl, inr}
 use Rattle.std.specs.Prelude.{◌⊎◌}
 use Rattle.std.specs.List.{slice_get, zip}
@@ -68,7 +68,7 @@ one_option ids options uses names marked id text story is fresh = record {
   once = once_push id text marked fresh story.once;
 }
 
--- The text of a word is that of its name.
+-- The text of an argument that is no option is found among those that the names give.
 pub value_of_name : (ids options : List Text) (uses : List Used) (names : List Text) (marked : List Used) (id : Text) → Story ids options uses names marked
     → is_known options id ≡ false → value_in id uses ≡ value_in id (zip ids names)
 value_of_name ids options uses names marked id story other = value_in-names options id other uses ∙ ap (value_in id) story.names_are

@@ -102,7 +102,7 @@ by_long (own ∷ options) id is = here (by_long options id) (bytes_eq own id) re
     here again true same _ = rw same (ap (λ x. Some (option_at x)) (same_text own id same))
     here again false other later = rw other (again later)
 
--- Another name finds none.
+-- A name that is no option's finds no rule among those of the options.
 by_no_long : (options : List Text) (id : Text) → is_known options id ≡ false → arg_by_long (option_rules options) id ≡ None
 by_no_long [] id other = refl
 by_no_long (own ∷ options) id other = here (by_no_long options id) (bytes_eq own id) refl other

@@ -1,7 +1,6 @@
--- The first word, and with it all of them: `clap` reads the listed command in any words, which is
--- the law of src/law.rt. A further
--- command of the program has its line in `built_program` and `all_known`, and one more part in
--- `meets_none`.
+-- The first word, and with it all of them: `clap` reads the listed command in any words that are
+-- texts, which is the law of src/law.rt. A further command of the program has its line in
+-- `built_program` and `all_known`, and one more part in `meets_none`.
 use Rattle.std.proofs.Common.{◌≡◌, suc, Bool, true, false, cond, List, [], ◌∷◌, ◌++◌, Option, Some, None, is_some, refl, sym, ap, ap₂, ◌∙◌, arith, append_assoc, codes}
 use Rattle.std.specs.Prelude.{option_and_then}
 use Rattle.std.specs.List.{All, find, fold}

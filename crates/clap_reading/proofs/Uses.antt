@@ -1,5 +1,6 @@
--- The rows of a parse as a list of uses: an argument and its text each. The other files of proofs
--- here speak of uses.
+-- The rows of a parse, in which `clap` keeps what an argument was given, as a list of uses: an
+-- argument and its text each. For Steps, Stories and all that rest on them: not for Building and
+-- FromMatches.
 use Rattle.std.proofs.Common.{◌≡◌, Bool, true, false, not, cond, ◌&&◌, ◌||◌, List, [], ◌∷◌, ◌++◌, map, filter, Option, Some, None, is_some, refl, sym, ap, subst, ◌∙◌}
 use Rattle.std.proofs.Math.Bool.{and-false}
 use Rattle.std.specs.List.{find, list_any, slice_get}

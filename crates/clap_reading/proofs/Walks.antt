@@ -1,6 +1,6 @@
 -- All the words after a subcommand, as `clap` walks over them and as the listed commands read them.
 -- A use is an argument with the text that it was given. clap keeps the last use until the next
--- word, and settles it then. For Readings.
+-- word, and settles it then. For Readings, Subcommands and TopWords.
 use Rattle.std.proofs.Common.{◌≡◌, ℕ, ◌+◌, ◌≤◌, Bool, true, false, List, [], ◌∷◌, length, Option, Some, None, refl, ap, ◌∙◌, codes, inl, inr}
 use Rattle.std.proofs.Math.Bool.{and-false}
 use Rattle.std.specs.Prelude.{◌⊎◌}

@@ -1,7 +1,7 @@
 -- The command that the words give, as the `clap` command reads them: the functions of
 -- src/reading.rt answer it, and src/law.rt says that it is the listed one. A Row of clap is what
--- the parse found for one argument; a Listing is a row of the list of commands (command_words). For
--- this crate alone.
+-- the parse found for one argument; a Listing is a row of the list of commands (command_words). No
+-- other crate cites it.
 use Rattle.std.specs.Prelude.{List, [], ◌∷◌, Option, Some, None, codes, if◌then◌else◌, option_and_then, option_map}
 use Rattle.clap.specs.Walk.{is_empty}
 use Rattle.clap.specs.Words.{Row, fault_of, first_of, subcommand_of}

@@ -17,7 +17,8 @@ row_of_none (x ∷ xs) code none =
     let here : x.code ≢ code = All-head Other x xs none in
     grind (arith, nat_tests)
 
--- what `codes_stand_once` says of the first row, and of the others
+-- if `not b && c` holds, as `codes_stand_once` says of the first row and of the others, b is false
+-- and c holds
 once_at_head : (b c : Bool) → IsTrue (not b && c) → (b ≡ false) × IsTrue c
 once_at_head true c h = absurd (true≢false (sym h))
 once_at_head false c h = (refl, h)

@@ -16,11 +16,11 @@ codes_stand_once (row ∷ rows) = not (list_any (λ later. later.code == row.cod
 abbrev pub row_of : List Row → ℕ → Option Row
 row_of rows code = find (λ row. row.code == code) rows
 
--- whether the code's row is of the group
+-- whether the code has a row, and that is of the group
 abbrev pub is_of_group : List Row → ℕ → ℕ → Bool
 is_of_group rows group code = option_map_or (λ row. row.group == group) (row_of rows code) false
 
--- the last item of a list
+-- the last item of a list, and none of an empty one
 abbrev pub last_of : {X : Type 0} → List X → Option X
 last_of [] = None
 last_of (x ∷ xs) = Some (unwrap_or (last_of xs) x)

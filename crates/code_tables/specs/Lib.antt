@@ -1,5 +1,5 @@
--- Codes looks codes up, Kinds says what they do, and Systems gives the table of each system.
--- block_words, block_forms, open_forms and modal_state cite these.
+-- Codes looks codes up, Kinds says which kinds are refused, are arcs or are cycles, and Systems
+-- gives the table of each system. Other crates cite these three; SystemA and SystemB have the rows.
 pub mod Codes
 pub mod Kinds
 pub mod SystemA

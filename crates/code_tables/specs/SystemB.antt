@@ -1,5 +1,6 @@
--- The G codes of Fanuc's system B for lathes: number, modal group, kind. Group 90 is this control's
--- own, for codes that change nothing.
+-- The G codes of Fanuc's system B for lathes, as far as this control knows them: number, modal
+-- group (src/group.rt), kind. Group 90 is this control's own, for codes that change nothing. Other
+-- crates come to the rows by Systems.antt.
 -- `system_b` (src/system.rt) has the same rows; a further code is a row in both.
 use Rattle.std.specs.Prelude.{ℕ, List, [], ◌∷◌}
 use Rattle.code_tables.specs.declared.row.Row.{Row}

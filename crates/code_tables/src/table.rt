@@ -1,5 +1,5 @@
-//! A table of G codes, and how a code is looked up. The tables themselves are in system.rt, whose
-//! `row_of_code` is what other crates call.
+//! A table of G codes, and how a code is looked up. The tables themselves are in system.rt. Other
+//! crates call `row_of_code` there; but for tests none calls a table itself.
 ghost use Rattle.std.specs.Prelude.{◌≡◌, ◌≢◌, ◌↔◌, List, IsTrue, IsNone, IfSome, Some, All, Contains, filter, false};
 ghost use Rattle.code_tables.specs.Codes.{codes_stand_once, row_of, is_of_group, last_of, last_code_of_group};
 

@@ -1,5 +1,6 @@
--- The value of a numeral of at most seven digits, and that it lies between its limits. For the
--- proofs of `read_number` (src/number.rt) and `range_of` (src/making.rt).
+-- Numbers on the command line: the value of a numeral of at most seven digits, and whether it lies
+-- between its limits. For the proofs of `read_number` (src/number.rt) and `range_of`
+-- (src/making.rt).
 use Rattle.std.proofs.Common.{◌≡◌, IfSome, ℕ, ◌^◌, ◌<◌, ◌≤◌, true, false, ◌&&◌, List, [], ◌∷◌, length, Result, Ok, Some, None, refl, sym, ap, ◌∙◌, arith, inl, inr}
 use Rattle.std.proofs.lemmas.Bool.{cases_Bool}
 use Rattle.std.specs.Char.{is_ascii_digit}

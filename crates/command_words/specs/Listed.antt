@@ -48,7 +48,7 @@ abbrev pub AreNames : List Text → Type 0
 AreNames [] = Unit {0}
 AreNames (word ∷ rest) = IsName word × AreNames rest
 
--- what stands before the first `=` (61) of a word: an option with its dashes
+-- what stands before the first `=` (61) of a word, or all of it: an option with its dashes
 abbrev pub option_name : Text → Text
 option_name word = before_first (λ b. b == 61) word
 

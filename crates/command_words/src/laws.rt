@@ -5,7 +5,7 @@ ghost use Rattle.std.specs.List.{list_all};
 ghost use Rattle.command_words.specs.Listed.{AreNames, IsName, IsOptionOf, given, gives_a_command, long_word};
 ghost use Rattle.command_words.specs.Table.{listings, names_stand_once, outside_options, run_options, turret_options};
 
-/// No two commands have the same name, and each gives a command for as many words as it names.
+/// No two rows have the same name, and each gives a command for as many words `1` as it names.
 pub fn law_of_rows()
     ensures names { names_stand_once listings ≡ true }
     ensures commands { list_all gives_a_command listings ≡ true }
@@ -20,8 +20,8 @@ pub fn law_of_names()
         → given options (before ++ codes "--" ∷ after) ≡ Some (record { names = before ++ after; marked = [] }) }
 {}
 
-/// An option may stand anywhere among the names, with its text as the next word or after `=`.
-/// `--blocks`, `--outside`, `--turret1` and `--turret2` are such options.
+/// An option may stand anywhere among the names, with its text after `=`, or as the next word if
+/// that may be a name. `--blocks`, `--outside`, `--turret1` and `--turret2` are such options.
 pub fn law_of_options()
     ensures apart { (options before after : List (List ℕ)) (id text : List ℕ) → IsOptionOf options id
         → AreNames before → IsName text → AreNames after

@@ -1,5 +1,5 @@
--- The links of the writes after one node was added at the end. For the proof of `write`
--- (src/shared.rt).
+-- The links of the writes of shared variables after one node was added at the end. For the proof of
+-- `write` (src/shared.rt).
 use Rattle.std.proofs.Common.{◌≡◌, ◌≢◌, ℕ, ◌+◌, ◌<◌, ◌≤◌, List, [], ◌∷◌, ◌++◌, Option, None, Some, length, get_or, All, map, arith, sym, ◌∙◌, ap, subst, below_more, length-append, set, inl, inr}
 use Rattle.std.proofs.lemmas.List.{get_or_append_left, get_or-set_other}
 use Rattle.std.proofs.lemmas.Grind.{get_or-set_at}

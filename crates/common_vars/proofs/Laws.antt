@@ -88,7 +88,7 @@ behind_later [] later k v past = none_of_later later k v past
 behind_later (x ∷ writes) later k v past =
     ap (λ o. option_or o (cond (is_write_of k v x) (Some x.value) None)) (behind_later writes later k v past)
 
--- what a variable held early is the same whatever is written later
+-- what a variable holds after the first k records is the same, whatever later records write
 pub earlier_value_stays : (writes later : List Write) (k v : ℕ) → All (λ w. k < w.stamp) later
     → value_after k v (writes ++ later) ≡ value_after k v writes
 earlier_value_stays writes later k v past = ap (λ o. unwrap_or o Vacant) (behind_later writes later k v past)
@@ -110,7 +110,7 @@ all_seen (w ∷ writes) last k v early behind =
     let rest = all_seen writes last k v (All-tail Early w writes early) behind in
     rw (rest, alike) refl
 
--- after the last write no value changes
+-- after the record of the last write no value changes
 pub last_value_stays : (writes : List Write) (last k v : ℕ) → All (λ w. w.stamp ≤ last) writes → last ≤ k
     → value_after k v writes ≡ value_after last v writes
 last_value_stays writes last k v early behind = ap (λ o. unwrap_or o Vacant) (all_seen writes last k v early behind)

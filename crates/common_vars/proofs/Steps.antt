@@ -1,5 +1,5 @@
--- How the search along the links begins, and why it ends. For the loop of `value_at`
--- (src/links.rt).
+-- How the search for an early value of a shared variable, along the links of its writes, begins,
+-- and why it ends. For the loop of `value_at` (src/links.rt).
 use Rattle.std.proofs.Common.{ℕ, ◌+◌, List, Option, None, Some, length}
 use Rattle.common_vars.specs.declared.links.Node.{Node}
 use Rattle.common_vars.specs.Links.{IsPast, IsLatestBefore}

@@ -1,4 +1,5 @@
--- How the writes of one variable are linked, so that an early one is found without passing each.
+-- How the writes of a shared variable are linked, so that an early one is found without passing
+-- each.
 -- For src/links.rt, src/shared.rt and their proofs alone.
 use Rattle.std.specs.Prelude.{◌≡◌, ◌≢◌, ℕ, ◌<◌, ◌≤◌, List, Option, None, Some, length, slice_index_or}
 use Rattle.nc_number.specs.declared.value.Var.TheVariants.{Vacant}

@@ -1,6 +1,6 @@
 //! The common variables that the paths share, with every write of the run. two_path holds them, so
 //! that a record can be done again with the values that it read. The laws at the end speak of the
-//! list of writes; race_order and two_path take their lemmas.
+//! list of writes; race_order and two_path take the lemma of the first (proofs/Laws.antt).
 ghost use Rattle.std.specs.Prelude.{◌≡◌, ◌↔◌, ◌+◌, ◌<◌, ◌≤◌, ℕ, List, [], ◌∷◌, ◌++◌, if◌then◌else◌, All, IsTrue, IfOk, IsOk, OnOk};
 ghost use Rattle.common_vars.specs.declared.links.Write.{Write};
 ghost use Rattle.common_vars.specs.Writes.{IsShared, is_write_of, value_after};
@@ -126,13 +126,13 @@ pub fn a_write_is_seen_from_its_stamp_on()
         → value_after k v (writes ++ w ∷ []) ≡ (if is_write_of k v w then w.value else value_after k v writes) }
 {}
 
-/// What a variable held early is the same whatever is written later.
+/// What a variable holds after the first k records is the same, whatever later records write.
 pub fn later_writes_change_no_earlier_value()
     ensures { (writes later : List Write) (k v : ℕ) → All (λ w. k < w.stamp) later
         → value_after k v (writes ++ later) ≡ value_after k v writes }
 {}
 
-/// After the last write no value changes, however many records come.
+/// After the record of the last write no value changes, however many records come.
 pub fn nothing_changes_behind_the_last_write()
     ensures { (writes : List Write) (last k v : ℕ) → All (λ w. w.stamp ≤ last) writes → last ≤ k
         → value_after k v writes ≡ value_after last v writes }

@@ -1,5 +1,5 @@
 -- What comes of a call: its faults, and whether the disk is then what is due or memory ran out. For
--- the proofs of `write_at` and `sync` (src/disk.rt).
+-- Writing, and the proofs of `write_at` and `sync` (src/disk.rt).
 use Rattle.std.proofs.Common.{◌≡◌, ℕ, ◌+◌, ◌-◌, ◌^◌, ◌<◌, ◌||◌, Bool, true, false, true≢false, inl, inr, List, [], Ok, Err, refl, sym, ◌∙◌, arith, subst}
 use Rattle.std.specs.Prelude.{nat_le, ◌==◌}
 use Rattle.std.specs.List.{list_any}
@@ -10,7 +10,7 @@ use Rattle.disk_images.specs.Among.{IsAmong}
 use Rattle.disk_images.specs.Images.{Images, after_look, after_settling, after_sync, images_state, next_fails, refuses_write, write_fails}
 use Rattle.disk_images.specs.Outcome.{Comes, as_due, for_want_of_memory}
 
--- if a call fails as it should and the disk is what is due, that is one outcome
+-- if a call fails exactly as it is to and the disk is what is due, that is one outcome
 pub comes_due : (fails : Bool) (due counted new : Images) (failed : Bool) → fails ≡ failed → new ≡ due → Comes fails due counted new failed
 comes_due fails due counted new failed same is = subst (λ (b : Bool). Comes fails due counted new b) same (as_due is)
 
@@ -18,7 +18,7 @@ comes_due fails due counted new failed same is = subst (λ (b : Bool). Comes fai
 pub comes_wanting : (fails : Bool) (due counted new : Images) (failed : Bool) → failed ≡ true → new ≡ counted → Comes fails due counted new failed
 comes_wanting fails due counted new failed same is = subst (λ (b : Bool). Comes fails due counted new b) (sym same) (for_want_of_memory is)
 
--- a call that fails has its fault counted
+-- a call that fails and has its fault counted keeps the trait's clause on faults
 pub has_fault : {T E : Type 0} (e : E) (d new : Images) → new.faults ≡ next d.faults → d.faults < 2 ^ 64
     → HasCause {T = T} {E = E} (images_state d) (images_state new) (Err e)
 has_fault e d new is fits = record {
@@ -27,7 +27,7 @@ has_fault e d new is fits = record {
   calm = λ ok. absurd (true≢false (sym ok));
 }
 
--- a call that succeeds counts no fault
+-- a call that succeeds and counts no fault keeps the trait's clause on faults
 pub no_fault : {T E : Type 0} (x : T) (d new : Images) → new.faults ≡ d.faults → HasCause {T = T} {E = E} (images_state d) (images_state new) (Ok x)
 no_fault x d new is = record {
   later = omega (arith, is);
@@ -35,7 +35,7 @@ no_fault x d new is = record {
   calm = λ _. is;
 }
 
--- after a sync a crash leaves what a read gives
+-- if a crash may leave nothing but what a read gives, as after a sync, all is on the disk
 pub only_read : (d : Images) → d.others ≡ [] → IsSettled (images_state d)
 only_read d none bytes reads c (inl is) = let same : d.bytes ≡ bytes = cc in is ∙ same
 only_read d none bytes reads c (inr other) = absurd (subst (λ (l : List (List ℕ)). IsAmong l c) none other)

@@ -8,8 +8,8 @@ use Rattle.disk_images.specs.Among.{IsAmong, Ended, WasLeft, all_ended}
 use Rattle.disk_images.specs.Images.{Images, IsKept, images_now, images_state, after_settling}
 use Rattle.disk_images.proofs.Parts.{left_none, left_either, left_right, all_left, left_among}
 
--- A call: the time moves, some images are ended by it, and each image after it comes of one before
--- it.
+-- A call: the time moves, it ends the images `gone`, and each image after it comes by `step` of one
+-- before it.
 module _ (step : List ℕ → List ℕ → Type 0) (old new : Images) (gone : List (List ℕ)) (kept : IsKept old) (stays : (c : List ℕ) → step c c)
     (counted : new.calls ≡ next old.calls) (past : new.past ≡ old.past ++ all_ended new.calls gone)
     (ended : (c : List ℕ) → IsAmong gone c → IsAmong (images_now old) c)

@@ -1,5 +1,5 @@
--- Images in lists, and those that a crash may have left at some moment. For the other files of
--- proofs here, and for the proofs of src/disk.rt and src/ended.rt.
+-- Images of a disk in lists, and those that a crash may have left at some moment. For Moments,
+-- Torn, and the proofs of src/disk.rt and src/ended.rt.
 use Rattle.std.proofs.Common.{◌≡◌, ◌⊎◌, ◌↔◌, inl, inr, ℕ, ◌≤◌, ◌<◌, Bool, true, false, List, [], ◌∷◌, ◌++◌, arith, refl, sym, ap, subst}
 use Rattle.std.specs.Prelude.{nat_lt}
 use Rattle.std.proofs.lemmas.Bool.Decides.{nat_tests}

@@ -1,5 +1,5 @@
--- What a write makes of images is what a torn write may leave: a first part of it over the image
--- from before. For Writing.antt and the loop of `add_torn` (src/growing.rt).
+-- What a write makes of the images of a disk is what a torn write may leave: a first part of the
+-- write over an image from before. For Writing.antt and the loop of `add_torn` (src/growing.rt).
 use Rattle.std.proofs.Common.{◌≡◌, inl, inr, ℕ, zero, suc, ◌+◌, ◌≤◌, List, [], ◌∷◌, ◌++◌, length, take, refl, sym, ap, ◌∙◌, arith, subst}
 use Rattle.std.specs.List.{flat_map}
 use Rattle.std.proofs.lemmas.List.{length-take}
@@ -44,7 +44,8 @@ torn_each (image ∷ images) at bytes c here =
       | inr rest ↦ let from = torn_each images at bytes c rest in (from.0, inr from.1, from.2)
     ]
 
--- A write that is made of each image, whatever a read gives then of it.
+-- A write of `bytes` at `at` on the disk `d` that is torn over each image. `content` is what a read
+-- gives after it, as much of the write as that may be; `faults` is the count of faults then.
 module _ (d : Images) (at : ℕ) (bytes content : List ℕ) (faults : ℕ) (kept : IsKept d) (torn : Torn at (length bytes) d.bytes content) where
   -- how many bytes are written
   abbrev n : ℕ

@@ -1,4 +1,5 @@
--- What a write does, done or failed. For the proof of `write_at` (src/disk.rt).
+-- What a write to a disk that keeps its images does, done or failed. For the proof of `write_at`
+-- (src/disk.rt).
 use Rattle.std.proofs.Common.{◌≡◌, ◌⊎◌, inl, inr, ℕ, ◌+◌, ◌^◌, ◌<◌, true, false, List, length, Result, Ok, Err, Some, refl, sym, ap, ◌∙◌, subst}
 use Rattle.std.specs.Prelude.{IsOk, IsErr}
 use Rattle.disk_model.specs.Calls.{Writes}
@@ -30,7 +31,7 @@ pub write_done : (d : Images) (at : ℕ) (bytes : List ℕ) → refuses_write d 
     → after_write d at bytes ≡ overwritten (after_request d (at + length bytes)) at bytes
 write_done d at bytes is fails = rw (is, fails) refl
 
--- a write of these bytes at this place, on a disk before and after it
+-- a write of these bytes at this place: `d` is the disk before it, `new` the disk after it
 module _ {T E : Type 0} (d new : Images) (at : ℕ) (bytes : List ℕ) (kept : IsKept d) where
   -- a write that failed, and wrote nothing or counts as written, keeps the trait's clause on writes
   pub failed_writes : (e : E) → (new ≡ with_fault (after_request d (at + length bytes))) ⊎ (new ≡ with_fault (grown (after_request d (at + length bytes)) at bytes))

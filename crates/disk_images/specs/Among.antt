@@ -1,5 +1,5 @@
--- Which images are in a list, and which were left at some moment. An image is the bytes of the
--- whole file; a moment is how many calls the disk has had. For this crate alone.
+-- Which images are in a list, and which a crash may have left at some moment. An image is the bytes
+-- of the whole file; a moment is how many calls the disk has had. No other crate cites it.
 use Rattle.std.specs.Prelude.{◌≡◌, ◌⊎◌, ℕ, ◌≤◌, ◌<◌, nat_lt, if◌then◌else◌, List, [], ◌∷◌, map}
 
 -- the image c is in the list

@@ -5,7 +5,7 @@ use Rattle.std.proofs.Common.{arith, inl, inr, sym}
 use Rattle.disk_model.specs.Device.{IsCoherent}
 use Rattle.disk_images.specs.Images.{Images, images_state}
 
--- what such a disk tells of reads, images and time agrees; it allows nothing
+-- what a disk that keeps every image tells of reads, images and time agrees; it allows nothing
 pub images_coherent : (d : Images) → IsCoherent (images_state d)
 images_coherent d = record {
   counts_now = λ t c le now. inl now;

@@ -4,7 +4,9 @@ use Rattle.std.specs.Prelude.{◌≡◌, Bool, true}
 use Rattle.disk_images.specs.Images.{Images}
 
 -- The call fails where it is to fail, and the disk is what is due. Or there was no memory: the call
--- fails, and only the call and its fault are counted.
+-- fails, and only the call and its fault are counted. `fails`: the call is to fail; `due`: the disk
+-- that is due; `counted`: the disk before, with the call and its fault counted; `new`: the disk
+-- after the call; the last truth value: the call failed.
 pub data Comes (fails : Bool) (due counted new : Images) : Bool → Type 0 where
   -- the disk is what is due
   as_due : new ≡ due → Comes fails due counted new fails

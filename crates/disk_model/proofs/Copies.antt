@@ -1,4 +1,4 @@
--- Content that is copied stretch by stretch.
+-- The content of a disk in memory at a sync, which is copied stretch by stretch.
 -- For the proof of `copy_written` of src/memory.rt.
 use Rattle.std.proofs.Common.{◌≡◌, ◌⊎◌, inl, inr, ℕ, ◌+◌, ◌≤◌, ◌<◌, List, [], ◌++◌, length, take, drop, get_or, sym, ◌∙◌, ap, subst, arith, take-append-drop}
 use Rattle.std.proofs.lemmas.Bool.{cases_lt}
@@ -7,9 +7,9 @@ use Rattle.std.proofs.lemmas.Grind.{same_number_lists}
 use Rattle.disk_model.specs.declared.stretch.Stretch.{Stretch}
 use Rattle.disk_model.specs.Image.{IsOutside}
 
--- outside what is still to be copied the content is what it has become
+-- outside the stretches that are left to copy, the content is as in `from`, which it is to become
 pub record IsCopied (from : List ℕ) (left : List Stretch) (content : List ℕ) : Type 0 where
-  -- the content is no longer than what it has become
+  -- the content is no longer than what it is to become
   pub no_longer : length content ≤ length from
   -- outside the stretches that are left they have the same bytes
   pub same : (i : ℕ) → i < length content → IsOutside i left → get_or content i 0 ≡ get_or from i 0
@@ -35,7 +35,7 @@ copied_more from old new written k none within size inside outside copied =
           ];
     }
 
--- with nothing left to copy the content is the front of what it has become
+-- with nothing left to copy, the content with what lies behind its end in `from` is `from`
 pub copied_all : (from content : List ℕ) → IsCopied from [] content → content ++ drop (length content) from ≡ from
 copied_all from content copied =
     let size : length content ≡ length (take (length content) from) = sym (length-take-le (length content) from copied.no_longer) in

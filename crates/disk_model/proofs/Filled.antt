@@ -14,8 +14,8 @@ end_within len [] i d within = absurd (omega arith)
 end_within len (w ∷ written) zero d within = omega arith
 end_within len (w ∷ written) (suc i) d within = omega (arith, end_within len written i d (omega arith))
 
--- One stretch more is filled: `long` is the content filled up to the stretch's end, `next` that
--- with the stretch filled.
+-- One stretch more is filled, `s`: `c` is the content with the stretches before it filled, `long`
+-- that filled up to the end of `s`, `next` that with `s` filled.
 module _ (with : ℕ) (synced : List ℕ) (written : List Stretch) (s : Stretch) (c long next : List ℕ) (filled : IsFilled with synced written c)
     (longer : long ≡ c ++ replicate (s.at + s.len - length c) with) (is : next ≡ take s.at long ++ replicate s.len with ++ drop (s.at + s.len) long) where
   -- the filled up content ends where the old one did, or where the stretch ends

@@ -13,7 +13,9 @@ use Rattle.disk_model.specs.Fuse.{Fuse, FuseAllows, after_stop, fuse_after_write
 abbrev pub whole : Memory → ℕ → ℕ → Fuse
 whole inner passes reach = record { inner = inner; passes = passes; burnt = 0; reach = reach }
 
--- A call that a fuse passes on, which has failed none: from `old` to `new` of the disk below.
+-- A call that a fuse passes on, which has failed none: from `old` to `new` of the disk below. `p`
+-- and `q` are how many calls it will still pass on before and after, `r` the end of its failed
+-- writes.
 module _ (old new : Memory) (p q r : ℕ) (less : p - 1 ≤ q) where
   -- a fuse that has failed no call counts just the calls of the disk below
   at_calls : old.calls + 0 ≡ old.calls
@@ -65,7 +67,7 @@ module _ (old new : Memory) (p q r : ℕ) (less : p - 1 ≤ q) where
   pub passed_cause : {T E : Type 0} (result : Result T E) → HasCause (memory_state old) (memory_state new) result → HasCause (fuse_state (whole old p r)) (fuse_state (whole new q r)) result
   passed_cause result passed = record { later = omega (arith, passed.later); failed = λ err. omega (arith, passed.failed err); calm = λ ok. ap (λ k. min (k + 0) (2 ^ 64 - 1)) (passed.calm ok) }
 
--- A call that is failed reaches nothing.
+-- A call that is failed reaches nothing. `reach` is the end of failed writes after it.
 module _ (f : Fuse) (fits : f.burnt < 2 ^ 64) (out : f.passes ≡ 0) (reach : ℕ) where
   -- the fuse after it failed the call
   abbrev stopped : Fuse
@@ -85,7 +87,8 @@ module _ (f : Fuse) (fits : f.burnt < 2 ^ 64) (out : f.passes ≡ 0) (reach : �
   stopped_allows : (calls end : ℕ) → FuseAllows f calls end → FuseAllows stopped calls end
   stopped_allows calls end allows = record { inner = allows.inner; passed = allows.passed; unburnt = λ used. absurd (omega (arith, used, out, allows.passed)) }
 
--- A call that is passed on by a fuse that has failed none.
+-- A call that is passed on by a fuse `f` that has failed none: `n` is the disk below after the
+-- call, `p` how many calls the fuse then passes on.
 module _ (f : Fuse) (n : Memory) (p : ℕ) (less : f.passes - 1 ≤ p) (none : f.burnt ≡ 0) where
   -- a call that writes nothing below writes nothing when the fuse passes it on
   on_looks : Looks (memory_state f.inner) (memory_state n) → Looks (fuse_state f) (fuse_state (record f { passes = p; inner = n }))
@@ -99,8 +102,8 @@ module _ (f : Fuse) (n : Memory) (p : ℕ) (less : f.passes - 1 ≤ p) (none : f
   on_cause : {T E : Type 0} (result : Result T E) → HasCause (memory_state f.inner) (memory_state n) result → HasCause (fuse_state f) (fuse_state (record f { passes = p; inner = n })) result
   on_cause result passed = subst (λ (b : ℕ). HasCause (fuse_state (record f { burnt = b })) (fuse_state (record f { burnt = b; passes = p; inner = n })) result) (sym none) (passed_cause f.inner n f.passes p f.reach less result passed)
 
--- A call that is passed on, where the fuse is told by equations: f before the call, i once it has
--- counted the call.
+-- A call that is passed on, where the fuse is told by equations: `f` before the call, `i` once it
+-- has counted the call; `n` is the disk below after the call.
 module _ (f i : Fuse) (n : Memory) (none : f.burnt ≡ 0) (is : i ≡ record f { passes = f.passes - 1 }) where
   -- the passes that are left after the call are what the module above asks for
   less : f.passes - 1 ≤ f.passes - 1

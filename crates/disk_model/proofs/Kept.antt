@@ -25,7 +25,8 @@ kept_marked m s marked kept within counted is = record {
   faults_fit = kept.faults_fit;
 }
 
--- A write that is marked, whatever it did of what it was asked for in its stretch.
+-- A write whose stretch `s` is noted, whatever it did of what it was asked for: `m` is the disk
+-- before it, `bytes` what a read gives after it, `faults` the count of faults then.
 module _ (m : Memory) (s : Stretch) (bytes : List ℕ) (faults : ℕ) (kept : IsKept m) (torn : Torn s.at s.len m.bytes bytes) (sound : IsSound m (s.at + s.len) faults) where
   -- the disk after the write: its stretch is noted, its call and its end are counted
   abbrev marked : Memory

@@ -5,7 +5,7 @@ use Rattle.disk_model.specs.Device.{DiskState, Elapses, Looks, IsCoherent, IsSet
 use Rattle.nc_number.specs.Faults.{Rose}
 use Rattle.disk_model.specs.Moments.{LeavesOnly, Unwritten, Uses, Peeks}
 
--- two runs, one after the other, leave what either leaves
+-- two runs, one after the other, leave only images with R, if what each of them leaves implies R
 pub joined : (P Q R : List ℕ → Type 0) (a b c : DiskState) → LeavesOnly P a b → LeavesOnly Q b c → ((x : List ℕ) → P x → R x) → ((x : List ℕ) → Q x → R x) → LeavesOnly R a c
 joined P Q R a b c first second from_p from_q = record {
   later = omega (arith, first.later, second.later);
@@ -21,7 +21,7 @@ widened P Q a b run more = record {
   before = λ t x le since. ⊎_elim (λ old. inl old) (λ p. inr (more x p)) (run.before t x le since);
 }
 
--- a run of no call leaves what a crash may leave now
+-- a run of no call leaves only images with P, if all that a crash may leave now have P
 pub no_call : (P : List ℕ → Type 0) (a : DiskState) → IsCoherent a → ((x : List ℕ) → a.image x → P x) → LeavesOnly P a a
 no_call P a coherent here = record {
   later = omega arith;
@@ -63,7 +63,7 @@ uses_widened m n e f a b uses more further = record {
   allows = uses.allows;
 }
 
--- a run of one call leaves what that call may leave
+-- a run of one call leaves only images with P, if each step of the call from an image ends in P
 pub begun : (P : List ℕ → Type 0) (step : List ℕ → List ℕ → Type 0) (old new : DiskState) → Elapses step old new → ((b c : List ℕ) → old.image b → step b c → P c) → LeavesOnly P old new
 begun P step old new time here = record {
   later = time.later;
@@ -71,7 +71,8 @@ begun P step old new time here = record {
   before = λ t c le since. ⊎_elim (λ earlier. inl earlier) (λ now. let from = time.inside c now in inr (here from.0 c from.1 from.2)) (time.before t c le since);
 }
 
--- a run with one call more leaves what the run or that call may leave
+-- a run with one call more leaves only images with P, if the run does and each step of that call
+-- from an image ends in P
 pub goes_on : (P : List ℕ → Type 0) (step : List ℕ → List ℕ → Type 0) (old mid new : DiskState) → LeavesOnly P old mid → Elapses step mid new → ((b c : List ℕ) → mid.image b → step b c → P c) → LeavesOnly P old new
 goes_on P step old mid new so_far time here = record {
   later = omega (arith, so_far.later, time.later);
@@ -79,7 +80,7 @@ goes_on P step old mid new so_far time here = record {
   before = λ t c le since. ⊎_elim (λ earlier. so_far.before t c le earlier) (λ now. let from = time.inside c now in inr (here from.0 c from.1 from.2)) (time.before t c (omega (arith, le, so_far.later)) since);
 }
 
--- a run with one call more that writes nothing leaves only what the run leaves
+-- a run with one call more that writes nothing leaves only images with P, if the run does
 pub looks_on : (P : List ℕ → Type 0) (old mid new : DiskState) → IsCoherent mid → LeavesOnly P old mid → Looks mid new → LeavesOnly P old new
 looks_on P old mid new coherent so_far looks = goes_on P Stays old mid new so_far looks.time (λ b c image same. subst P (sym same) (image_now P old mid coherent so_far b image))
 

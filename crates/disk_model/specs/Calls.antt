@@ -11,7 +11,7 @@ pub record Measures {E : Type 0} (old new : DiskState) (result : Result ℕ E) :
   pub small : IfOk result (λ n. n < 2 ^ 62)
   -- the call writes nothing
   pub looks : Looks old new
-  -- an error raised the count of faults, and an Ok left it
+  -- an error raised the count of faults, or that stands at its last value; an Ok left it
   pub cause : HasCause old new result
 
 -- the call puts the bytes from an offset on into a slice, as many as there are and fit, and answers
@@ -26,7 +26,7 @@ pub record Fetches {E : Type 0} (at : ℕ) (before after : List ℕ) (old new : 
   pub got : IfOk result (λ n. (bytes : List ℕ) → Reads old bytes → after ≡ take n (drop at bytes) ++ drop n before)
   -- the call writes nothing
   pub looks : Looks old new
-  -- an error raised the count of faults, and an Ok left it
+  -- an error raised the count of faults, or that stands at its last value; an Ok left it
   pub cause : HasCause old new result
 
 -- the call writes the bytes at an offset, over what is there and past the end
@@ -37,7 +37,7 @@ pub record Writes {T E : Type 0} (at : ℕ) (bytes : List ℕ) (old new : DiskSt
   pub small : OnOk result (at + length bytes < 2 ^ 62)
   -- done or failed, it tears nothing but its range and what lies behind the old end
   pub tears : Tears at (length bytes) old new
-  -- an error raised the count of faults, and an Ok left it
+  -- an error raised the count of faults, or that stands at its last value; an Ok left it
   pub cause : HasCause old new result
 
 -- the call puts on the disk what was written
@@ -46,5 +46,5 @@ pub record Syncs {T E : Type 0} (old new : DiskState) (result : Result T E) : Ty
   pub settled : OnOk result (IsSettled new)
   -- done or failed, the call adds no image and changes nothing that a read gives
   pub looks : Looks old new
-  -- an error raised the count of faults, and an Ok left it
+  -- an error raised the count of faults, or that stands at its last value; an Ok left it
   pub cause : HasCause old new result

@@ -5,7 +5,7 @@ use Rattle.std.proofs.Common.{arith, inl, inr}
 use Rattle.disk_model.specs.Device.{IsCoherent}
 use Rattle.disk_model.specs.Memory.{Memory, memory_state}
 
--- the facts of a disk in memory agree, whatever it holds
+-- the facts of a disk in memory agree, whatever it holds (a promise of the trait, by its name)
 pub memory_coherent : (m : Memory) → IsCoherent (memory_state m)
 memory_coherent m = record {
   counts_now = λ t c le now. inl now;

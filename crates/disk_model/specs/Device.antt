@@ -1,5 +1,5 @@
--- What a disk holds, and what a crash may leave of it.
--- The crates of the journal and of the commands cite this. Runs of several calls are in Moments.
+-- What a disk holds, and what a crash may leave of it. Runs of several calls are in Moments.
+-- gate_file, run_journal, run_table and 8 more crates above cite this.
 use Rattle.std.specs.Prelude.{◌≡◌, ◌⊎◌, ℕ, ◌+◌, ◌-◌, ◌≤◌, ◌<◌, max, List, ◌++◌, length, take, drop, slice_index, replicate, Option, Some, None, Result, IsOk, IsErr}
 pub use Rattle.nc_number.specs.Faults.{next, Rose}
 
@@ -27,7 +27,7 @@ written_over old at bytes = take at (old ++ replicate (at - length old) 0) ++ by
 pub record Torn (at n : ℕ) (old new : List ℕ) : Type 0 where
   -- the file is no shorter than before
   pub no_shorter : length old ≤ length new
-  -- it ends no later than before or where the write ends
+  -- the file ends no later than before or where the write ends
   pub no_longer : length new ≤ max (length old) (at + n)
   -- a byte of before outside the range of the write stays
   pub outside : (i : ℕ) → i < length old → (i < at) ⊎ (at + n ≤ i) → slice_index new i ≡ slice_index old i
@@ -53,38 +53,38 @@ pub record Elapses (step : List ℕ → List ℕ → Type 0) (old new : DiskStat
 
 -- A call that writes no bytes: a length, a read, or a sync, done or failed.
 pub record Looks (old new : DiskState) : Type 0 where
-  -- it makes no image but those of before
+  -- the call makes no image but those of before
   pub time : Elapses Stays old new
   -- a read gives what it gave
   pub same : new.reads ≡ old.reads
-  -- it counts as a call
+  -- a disk that tells its content counts the call
   pub counted : (bytes : List ℕ) → Reads old bytes → new.calls ≡ next old.calls
-  -- it asks for no write
+  -- a disk that tells its content was asked for no further write
   pub reach : (bytes : List ℕ) → Reads old bytes → new.reach ≡ old.reach
   -- what the disk allowed it still allows
   pub allows : (calls end : ℕ) → old.allows calls end → new.allows calls end
 
 -- A write of n bytes, done or failed.
 pub record Tears (at n : ℕ) (old new : DiskState) : Type 0 where
-  -- images are torn in its range
+  -- images are torn in the range of the write and behind their old end
   pub time : Elapses (Torn at n) old new
-  -- what a read gives may be torn too
+  -- a disk that tells its content goes on telling, and what a read gives may be torn too
   pub told : (bytes : List ℕ) → Reads old bytes → (c : List ℕ) × Reads new c × Torn at n bytes c
   -- a disk that tells no content still tells none
   pub untold : old.reads ≡ None → new.reads ≡ None
-  -- it counts as a call
+  -- a disk that tells its content counts the call
   pub counted : (bytes : List ℕ) → Reads old bytes → new.calls ≡ next old.calls
-  -- its end counts as asked for
+  -- for a disk that tells its content the end of the write counts as asked for
   pub reach : (bytes : List ℕ) → Reads old bytes → new.reach ≡ max old.reach (at + n)
   -- what the disk allowed it still allows
   pub allows : (calls end : ℕ) → old.allows calls end → new.allows calls end
 
--- The count of faults never falls. An error comes only where it rose, and an Ok only where it
--- stayed.
+-- The count of faults never falls. An error comes only where it rose or stands at the last value of
+-- u64, and an Ok only where it stayed.
 pub record HasCause {T E : Type 0} (old new : DiskState) (result : Result T E) : Type 0 where
   -- the count does not fall
   pub later : old.faults ≤ new.faults
-  -- an error raised it
+  -- an error raised it, or it stands at its last value
   pub failed : IsErr result → Rose old.faults new.faults
   -- an Ok left it
   pub calm : IsOk result → new.faults ≡ old.faults
@@ -97,8 +97,8 @@ Only bytes image = (c : List ℕ) → image c → c ≡ bytes
 abbrev pub IsSettled : DiskState → Type 0
 IsSettled disk = (bytes : List ℕ) → Reads disk bytes → Only bytes disk.image
 
--- The facts of a disk agree with one another, and where it allows what it was used for it has had
--- no fault.
+-- The facts of a disk agree with one another, and a disk that tells its content and allows what it
+-- was used for has had no fault.
 pub record IsCoherent (disk : DiskState) : Type 0 where
   -- an image of now is one since any time before
   pub counts_now : (t : ℕ) (c : List ℕ) → t ≤ disk.clock → disk.image c → disk.image_since t c

@@ -1,5 +1,6 @@
 -- A disk that fails every call once it has passed a number of calls on.
--- The disk below it is in Memory. For src/fuse.rt and its proofs alone; tests use the disk.
+-- The disk below it is in Memory. For src/fuse.rt, the law on a new disk (src/laws.rt) and their
+-- proofs; tests of other crates meet it in the contracts of the disk.
 use Rattle.std.specs.Prelude.{◌≡◌, ◌⊎◌, ℕ, ◌+◌, ◌-◌, ◌^◌, ◌≤◌, ◌==◌, ◌||◌, Bool, List, length, min, max, Some, if◌then◌else◌}
 use Rattle.std.proofs.Common.{arith, inl, inr}
 use Rattle.disk_model.specs.Device.{DiskState, IsCoherent}
@@ -53,7 +54,8 @@ pub record FuseAllows (f : Fuse) (calls end : ℕ) : Type 0 where
   -- if no more calls were made, the fuse has failed none
   pub unburnt : f.inner.calls + f.burnt ≤ calls → f.burnt ≡ 0
 
--- all that can be said of a disk with a fuse; counts stay at the last value of u64
+-- all that can be said of a disk with a fuse; the counts of calls and faults stay at the last value
+-- of u64
 abbrev pub fuse_state : Fuse → DiskState
 fuse_state f = record {
   reads = Some f.inner.bytes;

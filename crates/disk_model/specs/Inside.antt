@@ -1,5 +1,5 @@
 -- How the fields of a disk in memory stand for what it holds, and that its lists have their room.
--- For src/memory.rt alone.
+-- For src/memory.rt and its proofs alone.
 use Rattle.std.specs.Prelude.{◌≤◌, vec_capacity}
 use Rattle.disk_model.specs.declared.memory.MemoryDisk.TheInside.{Inside}
 use Rattle.disk_model.specs.Memory.{Memory, IsKept}

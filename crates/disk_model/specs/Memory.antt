@@ -1,5 +1,6 @@
 -- What a disk in memory holds, and what each call makes of it. Only the disks in memory of this
--- crate use it (src/memory.rt, src/fuse.rt); what holds of every disk is in Device.
+-- crate and the law on a new disk cite it (src/memory.rt, fuse.rt, laws.rt); tests of other crates
+-- meet it in their contracts. What holds of every disk is in Device.
 use Rattle.std.specs.Prelude.{◌≡◌, ◌⊎◌, ℕ, ◌+◌, ◌-◌, ◌^◌, ◌≤◌, ◌<◌, ◌==◌, ◌||◌, nat_le, nat_lt, Bool, false, List, [], ◌∷◌, ◌++◌, length, max, slice_index, Some, if◌then◌else◌}
 use Rattle.std.specs.List.{list_any}
 use Rattle.disk_model.specs.declared.stretch.Stretch.{Stretch}
@@ -38,7 +39,8 @@ write_fails m end = next_fails m || nat_lt m.room end
 abbrev pub CrashLeaves : Memory → List ℕ → Type 0
 CrashLeaves m c = IsImage m.synced m.written c ⊎ (c ≡ m.bytes)
 
--- what a crash before the last sync may have left, as far back as the sync before it
+-- what a crash at that time or later, but before the last sync, may have left, as far back as the
+-- sync before that
 abbrev pub CrashLeft : Memory → ℕ → List ℕ → Type 0
 CrashLeft m t c = (t < m.synced_at) × (t < m.calls) × IsImage m.earlier_synced m.earlier_written c
 
@@ -97,13 +99,14 @@ pub record IsKept (m : Memory) : Type 0 where
   -- the count of faults is a number of 64 bits
   pub faults_fit : m.faults < 2 ^ 64
 
--- What a crash leaves that fills each unsynced byte with this one.
+-- What a crash leaves that fills each unsynced byte with this one: those of the written stretches,
+-- and those behind the synced end.
 pub record IsFilled (with : ℕ) (synced : List ℕ) (written : List Stretch) (c : List ℕ) : Type 0 where
-  -- it is as long as the furthest write
+  -- the bytes end where what was synced or the farthest write ends, whichever is later
   pub len : length c ≡ greatest_end (length synced) written
   -- what was not written is as it was synced
   pub outside : (i : ℕ) → i < length synced → IsOutside i written → slice_index c i ≡ slice_index synced i
-  -- each other byte is that one
+  -- each other byte is the one to fill with
   pub inside : (i : ℕ) → i < length c → ((i < length synced) × IsOutside i written → ⊥) → slice_index c i ≡ with
 
 -- a disk that has had no call
@@ -133,7 +136,7 @@ after_settling m = record m {
   synced_at = m.calls;
 }
 
--- the same disk after a crash that left these bytes
+-- the same disk after a crash that left these bytes, all of which count as synced
 abbrev pub crashed : Memory → List ℕ → Memory
 crashed m bytes = after_settling (record m { bytes = bytes })
 

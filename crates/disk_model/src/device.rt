@@ -1,5 +1,5 @@
 //! A disk as the journal sees it: a trait, whose contract says what each call does and what a crash
-//! may leave. gate_file, run_journal and all crates above call it; whoever writes a disk keeps it.
+//! may leave. gate_file, run_journal and 8 more crates above use it; who writes a disk keeps it.
 //! Disks in memory are in memory.rt and fuse.rt and in disk_images, the real file in real_outside.
 
 ghost use Rattle.std.specs.Prelude.{◌≡◌};
@@ -31,7 +31,7 @@ pub trait Disk {
 
     /// Writes over what is there, and past the end. Until a sync a crash may leave any bytes in the
     /// range and behind the old end. A write that would end at or past 2^62 fails, and a write that
-    /// failed may have left any bytes in its range too.
+    /// failed may have left any bytes there too.
     fn write_at(&mut self, at: u64, bytes: &[u8]) -> Result<(), Failed>
         ensures { Writes at bytes.now (state self.old) (state self.new) result };
 
@@ -40,7 +40,7 @@ pub trait Disk {
         ensures { Syncs (state self.old) (state self.new) result };
 
     /// The images of this moment are images since any earlier one, since now there are no others,
-    /// and what a read gives is one. Where the disk allows what it was used for, no call has
-    /// failed.
+    /// and what a read gives is one. Where a disk that tells its content allows what it was used
+    /// for, no call has failed.
     ghost coherent: { (disk : Self) → IsCoherent (state disk) };
 }

@@ -1,6 +1,6 @@
 //! A disk in memory, whose calls can be made to fail, and which can crash. It keeps where it was
-//! written since the last two syncs: that is enough to say what a crash may leave.
-//! Only tests use it (journal_vectors, restart_vectors), and `read_into` also disk_images.
+//! written since the last sync but one: that is enough to say what a crash since then may leave.
+//! Only tests and fuse.rt use it (journal_vectors, restart_vectors), and disk_images `read_into`.
 
 ghost use Rattle.std.specs.Prelude.{◌≡◌, ◌⊎◌, slice_index, ◌+◌, ◌-◌, ◌^◌, ◌≤◌, ◌<◌, ◌++◌, ◌==◌, [], ℕ, length, take, drop, min, IfOk, is_err, vec_capacity, replicate, max};
 ghost use Rattle.std.specs.List.{list_any};
@@ -70,14 +70,14 @@ impl Model for MemoryDisk {
     ghost invariant = { HasRoom };
 }
 
-/// What a crash makes of the ranges that were written since the last sync.
+/// What a crash makes of what was written since the last sync.
 #[derive(Clone, Copy, Debug, PartialEq, Eq)]
 pub enum Crash {
-    /// The ranges are as they were written.
+    /// All is as it was written.
     Kept,
-    /// The ranges are put back to what was synced.
+    /// The disk is as it was synced.
     Lost,
-    /// Each byte of the ranges, and each behind the old end, is this one.
+    /// Each byte of the written ranges, and each behind the old end, is this one.
     Fill(u8),
 }
 
@@ -250,8 +250,8 @@ impl MemoryDisk {
     }
 }
 
-/// Makes the content what it has become, given where it was written: copies the stretches, and what
-/// lies past its end.
+/// Makes the content the same as `from`, from which it differs only where was written and past its
+/// end: copies these stretches, and what lies past the end.
 fn copy_written(content: &mut Vec<u8>, from: &[u8], written: &[Stretch])
     requires image { IsImage content.old.items written.now from.now }
     requires room { length from.now ≤ vec_capacity content.old }

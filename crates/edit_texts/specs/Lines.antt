@@ -1,6 +1,6 @@
 -- What a line of a text of edits says; a line that is none of these is not allowed. src/named.rt
--- has a function for each definition. For this crate alone: a line of an offset is as in the
--- settings (cell_settings).
+-- has a function for each definition. A line of an offset is as in the settings (cell_settings). No
+-- other crate cites it; callers meet it in `edits_of` (Edits).
 use Rattle.std.specs.Prelude.{ℕ, List, [], ◌∷◌, Option, Some, None, codes, ℤ, if◌then◌else◌}
 use Rattle.std.specs.Str.{bytes_eq}
 use Rattle.nc_number.specs.declared.value.Var.{Var}
@@ -29,7 +29,8 @@ number_of text = do
   n ← number_in 100 999 text
   common_number n
 
--- the millionths of the number that a literal writes, in whole units
+-- the number that a literal writes in whole units, as millionths; none if the text is no literal or
+-- has too many digits
 unfoldable pub value_of : List ℕ → Option ℤ
 value_of text = if is_literal text then value_of_literal (word_literal text) else None
 

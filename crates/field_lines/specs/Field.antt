@@ -16,7 +16,7 @@ texts fields = map (λ field. field.now) fields
 abbrev pub fields_of : List ℕ → List (List ℕ)
 fields_of line = filter (λ field. not (length field == 0)) (slice_split (λ b. b == 32) line)
 
--- The number that decimal digits spell.
+-- The number that the text spells, if it is decimal digits; of other bytes it says nothing of use.
 abbrev pub value_of : List ℕ → ℕ
 value_of digits = fold (λ n digit. n * 10 + (digit - 48)) 0 digits
 
@@ -33,6 +33,6 @@ unfoldable pub number_in : ℕ → ℕ → List ℕ → Option ℕ
 number_in low high text =
     if (is_number text && nat_le low (value_of text)) && nat_le (value_of text) high then Some (value_of text) else None
 
--- The path that the text names, if it is `1` or `2`.
+-- The path that the text names: the text is `1` or `2`, or it names none.
 unfoldable pub path_of : List ℕ → Option Path
 path_of text = if bytes_eq text (codes "1") then Some One else (if bytes_eq text (codes "2") then Some Two else None)

@@ -1,5 +1,5 @@
-//! Fields of a line, and the whole numbers and paths in them; lengths are in length.rt. The readers
-//! of settings, edits and zones read fields by it.
+//! Fields of a line, and the whole numbers and paths in them; lengths are in length.rt.
+//! cell_settings, edit_texts and zone_cell read fields by it.
 ghost use Rattle.std.specs.Prelude.{◌≡◌, ◌-◌, ◌^◌, ◌<◌, ◌≤◌, min, IfOk, IfSome};
 ghost use Rattle.field_lines.specs.Field.{texts, fields_of, value_of, is_number, number_in, path_of};
 ghost use Rattle.std.specs.Char.{is_ascii_digit};
@@ -32,7 +32,7 @@ fn is_number(text: &[u8]) -> bool
     !text.is_empty() && are_digits(text) && !(text.len() > 1 && text[0] == b'0')
 }
 
-/// The number that digits spell, or the largest `u64` if it is larger.
+/// The number that digits spell, or the largest `u64` if that number is larger.
 fn value(digits: &[u8]) -> u64
     ensures { result ≡ min (value_of digits.now) (2 ^ 64 - 1) }
 {

@@ -1,5 +1,5 @@
 -- The local variables of a path as a stack of levels, the running level first: what each call of
--- src/stack.rt makes of it. path_state, named_vars and the crates above them cite it.
+-- src/stack.rt makes of it. path_state, two_path, move_list and 3 more crates above cite it.
 use Rattle.std.specs.Prelude.{ℕ, ◌-◌, List, [], ◌∷◌, replicate, slice_index_or, slice_set}
 use Rattle.nc_number.specs.declared.value.Var.{Var}
 use Rattle.nc_number.specs.declared.value.Var.TheVariants.{Vacant}
@@ -18,7 +18,7 @@ opened arguments = record { arguments = arguments; values = arguments }
 abbrev pub base_level : Level
 base_level = opened all_vacant
 
--- Variable `#i` of the running level, counted from 1.
+-- What variable `#i` of the running level holds, counted from 1; vacant if there is no such one.
 abbrev pub local : ℕ → List Level → Var
 local i [] = Vacant
 local i (running ∷ below) = slice_index_or running.values (i - 1) Vacant

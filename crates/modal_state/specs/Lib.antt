@@ -1,5 +1,5 @@
--- What is in force for a path (View), what a block's codes (Modal) and words (Words) make of it.
--- block_values, path_state and two_path cite these.
+-- What is in force for a path (View), what a block's codes (Modal) and words (Words) make of it,
+-- and the one alarm (Faults). Other crates cite these four, and not Said and Fields.
 pub mod Modal
 pub mod Words
 pub mod Faults

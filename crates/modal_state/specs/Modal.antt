@@ -1,6 +1,6 @@
 -- What the G codes of a block leave in force: of each group the last code of the block.
--- block_values, path_state, two_path and others cite it; which code is of which group is in
--- code_tables.
+-- block_values, path_state, two_path, move_list and nc_restart cite it. Which code is of which
+-- group is in code_tables.
 use Rattle.std.specs.Prelude.{ℕ, Bool, true, false, ◌+◌, ◌-◌, List, Option, Some, None, unwrap_or, ◌==◌, if◌then◌else◌}
 use Rattle.std.specs.Option.{option_map, option_map_or}
 use Rattle.nc_number.specs.declared.value.Var.TheVariants.{Vacant}
@@ -40,7 +40,8 @@ is_incremental other = false
 abbrev pub does_after : (CodeKind → Bool) → List Row → ℕ → Bool → Bool
 does_after does rows group before = option_map_or (λ row. does row.kind) (last_of_group rows group) before
 
--- the code of the work offset after the block; a row that names none of G54 to G59 sets none
+-- the code of the work offset after the block: its last one there if that is of G54 to G59, else
+-- the one in force before
 abbrev pub work_after : List Row → ℕ → ℕ
 work_after rows before =
     let code = in_force_after rows WORK_GROUP before in

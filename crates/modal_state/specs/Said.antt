@@ -1,4 +1,5 @@
--- What a word says if it is vacant, and the tool offset of a T word. For this crate alone.
+-- What a word says if it is vacant, and the tool offset of a T word. No other crate cites it;
+-- callers meet it in View and Words.
 use Rattle.std.specs.Prelude.{ℕ, ◌%◌}
 use Rattle.nc_number.specs.declared.value.Var.{Var}
 use Rattle.nc_number.specs.declared.value.Var.TheVariants.{Vacant, Is}

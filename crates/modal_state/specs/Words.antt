@@ -36,6 +36,6 @@ with_words before words = record before {
   offset = option_map_or tool_offset words.tool before.offset;
 }
 
--- alarm 40 (OffsetNumber) where the tool offset does not exist
+-- alarm 40 (OffsetNumber) where the tool offset of T does not exist, else none
 abbrev pub tool_fault : Option ℕ → Option ModalFault
 tool_fault tool = if has_tool_offset tool then None else Some (fault OffsetNumber)

@@ -30,7 +30,7 @@ pub struct Modal {
     g01: u16,
     /// The spindle code: 96 or 97.
     g02: u16,
-    // the code of absolute or incremental input, or 0 where the system has no such codes
+    /// The code of absolute or incremental input, or 0 where the system has no such codes.
     g03: u16,
     /// The feed code.
     g05: u16,
@@ -328,7 +328,7 @@ fn in_force_after(rows: &[Row], group: u8, before: u16) -> u16
     last_in(rows, group).map_or(before, |row| row.code)
 }
 
-/// Whether S is a constant surface speed after these rows, where it was so before them or not.
+/// Whether S is a constant surface speed after these rows; `before` says whether it was before.
 fn surface_after(rows: &[Row], before: bool) -> bool
     ensures { result ≡ does_after is_surface rows.now SPINDLE_GROUP before }
 {
@@ -342,7 +342,7 @@ fn is_surface(kind: CodeKind) -> bool
     matches!(kind, CodeKind::Surface)
 }
 
-/// Whether F is by the revolution after these rows, where it was so before them or not.
+/// Whether F is by the revolution after these rows; `before` says whether it was before.
 fn per_rev_after(rows: &[Row], before: bool) -> bool
     ensures { result ≡ does_after is_per_rev rows.now FEED_GROUP before }
 {
@@ -356,7 +356,7 @@ fn is_per_rev(kind: CodeKind) -> bool
     matches!(kind, CodeKind::PerRev)
 }
 
-/// Whether X and Z are incremental after these rows, where they were so before them or not.
+/// Whether X and Z are incremental after these rows; `before` says whether they were before.
 fn incremental_after(rows: &[Row], before: bool) -> bool
     ensures { result ≡ does_after is_incremental rows.now ABSOLUTE_GROUP before }
 {
@@ -370,7 +370,8 @@ fn is_incremental(kind: CodeKind) -> bool
     matches!(kind, CodeKind::Incremental)
 }
 
-/// The code of the work offset after these rows, where this one was in force before them.
+/// The code of the work offset after these rows: their last one if that is of G54 to G59, else
+/// `before`, the one that was in force.
 fn work_after(rows: &[Row], before: u16) -> u16
     requires { IsTrue (is_work_code before) }
     ensures code { result ≡ work_after rows.now before }

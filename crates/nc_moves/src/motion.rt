@@ -7,7 +7,7 @@ use arrayvec::ArrayVec;
 use nc_number::{Point, Value};
 use std::marker::Model;
 
-/// How many moves one block can have at most.
+/// How many moves one block can have at most. Contracts say it as 8, here and in crates above.
 pub const MOVES_PER_BLOCK: usize = 8;
 
 /// Where the centre of an arc lies.

@@ -1,6 +1,6 @@
 -- Each row of the table of causes has a number of its own: for the law `a_number_has_one_cause`
--- (src/laws.rt) and `of_number` (src/cause.rt). Crates that compare numbers of refusals or alarms
--- take the facts at the end. A new cause is a line of `every_row`.
+-- (src/laws.rt) and `of_number` (src/cause.rt). A new cause is a line of `every_row`. block_forms,
+-- text_pieces, move_list and 2 more crates above take facts too.
 use Rattle.std.proofs.Common.{◌≡◌, ◌≢◌, ℕ, Option, Some, None, IfSome, IsNone, All, Contains, lit<, refl, ap, sym, ◌∙◌}
 use Rattle.std.proofs.lemmas.List.Elements.{All-contains}
 use Rattle.nc_number.specs.declared.cause.Cause.{Cause}
@@ -73,8 +73,8 @@ pub number_has_one_cause : (a b : Cause) → cause_number a ≡ cause_number b �
 number_has_one_cause a b same =
     let both : ◌≡◌ {A = Option Cause} (Some a) (Some b) = sym (every_row a).1 ∙ ap cause_of same ∙ (every_row b).1 in cc
 
--- a look through the table that finds only what has the number, and misses nothing, finds each
--- cause by its number
+-- what a search of the table found: if it finds only what has the number, and nothing only if no
+-- row has it, it finds the cause of that number
 pub found_by_number : (number : ℕ) (found : Option Cause) → IfSome found (λ cause. cause_number cause ≡ number)
     → (IsNone found → All (λ cause. cause_number cause ≢ number) every_cause)
     → (cause : Cause) → cause_number cause ≡ number → found ≡ Some cause

@@ -1,4 +1,5 @@
--- Facts of counts and of their tests, which proofs of some fifteen other crates use.
+-- Facts of counts and of their tests, and of numbers that may be missing. block_order, two_path,
+-- tape_relation and 11 more crates above take them; this crate takes none.
 use Rattle.std.proofs.Common.{◌≡◌, ◌==◌, ◌+◌, ◌<◌, ◌≤◌, ◌⊎◌, inl, inr, ℕ, Bool, true, false, nat_lt, nat_le, min, Option, Some, None, refl, arith}
 use Rattle.std.proofs.lemmas.Bool.Decides.{nat_tests}
 use Rattle.nc_number.specs.Options.{lesser}

@@ -43,7 +43,7 @@ literal_in_range text literal is reads =
     let magnitude = size_with_sign (has_minus text) (size_of_parts (whole_part text) (fraction_part text)) in
     rw (told.1, magnitude) (rw value at size)
 
--- the quotient of a multiple is exact
+-- the nearest quotient of a multiple of d, times d, is that multiple
 multiple_nearest : (n d : ℕ) → 0 < d → n % d ≡ 0 → nearest n d * d ≡ n
 multiple_nearest n d positive multiple = go (nat_le d (2 * (n % d))) refl
   where

@@ -63,7 +63,7 @@ pub negative_neg : (n : ℕ) → neg_ℤ (pos n) ≢ pos 0 → is_negative (neg_
 negative_neg zero nonzero = absurd (nonzero refl)
 negative_neg (suc n) nonzero = refl
 
--- if the first factor has a minus, so has the product
+-- minus n times m is minus their product
 neg_times : (n m : ℕ) → neg_ℤ (pos n) *ℤ pos m ≡ neg_ℤ (pos (n * m))
 neg_times zero m = let none : 0 * m ≡ 0 = omega arith in rw none refl
 neg_times (suc n) m = negsuc-*ℤ-pos n m
@@ -92,7 +92,7 @@ positive_size b nonzero = elim (cases_lt 0 (unsigned_abs b)) [
   | inr none ↦ (let zero_is : b ≡ pos 0 = omega (arith, ints) in absurd (nonzero zero_is))
 ]
 
--- how far a nearest multiple is from a: as far as the sizes say
+-- the nearest multiple of b is as far from a as their sizes are apart
 quotient_distance : (a b : ℤ) → unsigned_abs (a -ℤ nearest_quotient a b *ℤ b) ≡ abs_diff (unsigned_abs a) (nearest (unsigned_abs a) (unsigned_abs b) * unsigned_abs b)
 quotient_distance a b =
     let near = nearest (unsigned_abs a) (unsigned_abs b) in
@@ -100,7 +100,7 @@ quotient_distance a b =
     ∙ ap (λ z. unsigned_abs (z -ℤ with_sign (is_negative a) (near * unsigned_abs b))) (sym (signed_size a))
     ∙ signed_distance (is_negative a) (unsigned_abs a) (near * unsigned_abs b)
 
--- any multiple is at least as far from a as the sizes say
+-- any multiple of b is at least as far from a as their sizes are apart
 multiple_distance : (a b k : ℤ) → abs_diff (unsigned_abs a) (unsigned_abs k * unsigned_abs b) ≤ unsigned_abs (a -ℤ k *ℤ b)
 multiple_distance a b k =
     subst (λ n. abs_diff (unsigned_abs a) n ≤ unsigned_abs (a -ℤ k *ℤ b)) (unsigned_abs-mul k b) (distance_of_sizes a (k *ℤ b))

@@ -1,5 +1,5 @@
 -- The greatest number whose square is at most another: for the root of the control (`sqrt`) and the
--- law on it. motion_track and zone_area take facts too.
+-- law on it. motion_track and zone_area take `root_le`.
 use Rattle.std.proofs.Common.{◌≡◌, ◌<◌, ◌≤◌, ◌*◌, ◌+◌, ℕ, zero, suc, Bool, true, false, cond, refl, arith, inl, inr}
 use Rattle.std.specs.Prelude.{nat_le}
 use Rattle.std.proofs.lemmas.Bool.{cases_lt, leb-true, leb-false}
@@ -7,7 +7,7 @@ use Rattle.std.proofs.lemmas.Nat.{mul-le}
 use Rattle.std.proofs.Math.Nat.{le-mul_of_pos_right}
 use Rattle.nc_number.specs.Arithmetic.{greatest_root, square_root}
 
--- the square of a root is at most the number
+-- the square of the greatest root up to `most` is at most the number
 pub root_squares : (n most : ℕ) → greatest_root n most * greatest_root n most ≤ n
 unfolding greatest_root
 root_squares n zero = omega arith
@@ -50,7 +50,8 @@ square_root_is n s low high =
     ] in
     omega arith
 
--- a root of a value's count is far within the range
+-- a number whose square is at most n, where n is below 10^26, is below 10^13: so is each root of a
+-- value, far within the range
 pub root_below : (s n : ℕ) → s * s ≤ n → n < 100000000000000000000000000 → s < 10000000000000
 root_below s n square small = elim (cases_lt s 10000000000000) [
   | inl less ↦ less

@@ -1,5 +1,5 @@
 -- Values and their products as src/arithmetic.rt counts them, in numbers of 128 bits, which hold
--- them all. For the proofs of `mul`, `div`, `modulo` and `sqrt`.
+-- them all. For the proofs of `mul`, `div`, `modulo` and `sqrt`, and for Remainders.antt.
 use Rattle.std.proofs.Common.{◌≡◌, ◌<◌, ◌≤◌, ◌*◌, ℕ, ℤ, pos, negsuc, suc, ◌*ℤ◌, ◌-ℤ◌, ◌+◌, true, false, refl, ◌∙◌, Ok, arith}
 use Rattle.std.specs.Prelude.{unsigned_abs, FitsSigned, int_rem, int_div}
 use Rattle.std.specs.Int.{w128, cast_signed, cast_unsigned, is_negative}
@@ -21,16 +21,16 @@ product_fits a b left right = fits_signed_mul w128 a b 99999999999999 9999999999
 pub wide_product_is : (a b : ℤ) → InRange a → InRange b → cast_signed w128 (cast_unsigned w128 (a *ℤ b)) ≡ a *ℤ b
 wide_product_is a b left right = to_z-of_z w128 (a *ℤ b) (product_fits a b left right)
 
--- a divisor that was tested is not 0
+-- a divisor whose 128 bits are not all 0 is not 0
 pub divides : (b : ℤ) → (cast_unsigned w128 b ≡ 0 → ⊥) → is_zero b ≡ false
 divides (pos n) nonzero = ne_eqb n 0 nonzero
 divides (negsuc n) nonzero = ne_eqb (suc n) 0 (λ e. cc)
 
--- the size of a divisor that isn't 0 is above 0
+-- the size of a divisor that passes the test that it isn't 0 is above 0
 pub below_divisor : (b : ℤ) → is_zero b ≡ false → 0 < unsigned_abs b
 below_divisor b nonzero = let other = eqb-false (unsigned_abs b) 0 nonzero in omega arith
 
--- a remainder is a value
+-- the remainder of a division by a value other than 0 is in the range of a value
 rest_in_range : (a b : ℤ) → is_zero b ≡ false → InRange b → InRange (int_rem a b)
 rest_in_range a b nonzero range = let below = rem_below a b (below_divisor b nonzero) in omega arith
 

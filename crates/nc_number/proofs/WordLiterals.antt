@@ -13,13 +13,13 @@ whole_digits text literal = (and_parts _ _ (and_parts _ _ literal).0).0
 pub fraction_digits : (text : List ℕ) → IsLiteral text → all_digits (fraction_part text) ≡ true
 fraction_digits text literal = (and_parts _ _ (and_parts _ _ literal).0).1
 
--- a text with at most 8 whole digits, the zeros at the front not counted, and 6 of the fraction has
--- not too many
+-- a text with at most 8 whole digits, the zeros at the front not counted, and at most 6 of the
+-- fraction has not too many
 pub few_digits : (text : List ℕ) → length (significant (whole_part text)) ≤ 8 → length (fraction_part text) ≤ 6 → has_too_many_digits text ≡ false
 few_digits text whole fraction = or_from _ _ (le-ltb _ _ whole) (le-ltb _ _ fraction)
 
--- a literal with at most 8 whole digits and 6 of the fraction means what its digits write, with its
--- sign
+-- a literal with at most 8 whole digits, the zeros at the front not counted, and at most 6 of the
+-- fraction means what its digits write, with its sign
 pub word_literal-few : (text : List ℕ) → length (significant (whole_part text)) ≤ 8 → length (fraction_part text) ≤ 6
     → Ok (record { value = with_sign (has_minus text) (size_of_parts (significant (whole_part text)) (fraction_part text)); point = has_point text }) ≡ word_literal text
 word_literal-few text whole fraction =

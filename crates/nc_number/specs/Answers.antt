@@ -1,5 +1,5 @@
--- A call answers what its definition answers, unless memory ran out. The readers of tapes,
--- expressions, settings and edits, and the verdicts on them, say so by these words.
+-- A call answers what its definition answers, unless memory ran out. macro_expr, nc_text,
+-- tape_expand and 11 more crates above say so by these words in their contracts.
 use Rattle.std.specs.Prelude.{◌≡◌, Result, Ok, Err}
 use Rattle.nc_number.specs.declared.fault.Failing.{Failing}
 use Rattle.nc_number.specs.declared.fault.Failing.TheVariants.{Fault, NoMemory}

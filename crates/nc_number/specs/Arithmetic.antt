@@ -1,6 +1,6 @@
 -- The arithmetic of values, as mathematics on whole counts of millionths. A value is such a count
 -- in the range of Range.antt; the functions of src/arithmetic.rt, bits.rt and rounding.rt compute
--- these. macro_eval, block_values, motion_track and others cite it.
+-- these. macro_eval, block_values, motion_track and 8 more crates above cite it.
 use Rattle.std.specs.Prelude.{ℕ, zero, suc, ◌+◌, ◌*◌, ◌/◌, ◌%◌, Bool, not, ◌==◌, ◌&&◌, nat_le, if◌then◌else◌, ℤ, pos, ◌+ℤ◌, ◌-ℤ◌, ◌*ℤ◌, unsigned_abs, int_div, int_rem, bit_and, bit_or, bit_xor, Option, Some, None, Result, Ok, Err}
 use Rattle.std.specs.Int.{is_negative, div_ceil}
 use Rattle.nc_number.specs.declared.fault.NumberFault.{NumberFault}
@@ -41,7 +41,8 @@ product_of a b = checked (nearest_quotient (a *ℤ b) (pos 1000000))
 abbrev pub quotient_of : ℤ → ℤ → Result ℤ NumberFault
 quotient_of a b = if is_zero b then Err ZeroDivide else checked (nearest_quotient (a *ℤ pos 1000000) b)
 
--- what is left of a when b is taken away as often as the quotient, its fraction dropped, says
+-- what is left of a when b is taken away as often as the quotient, its fraction dropped, says;
+-- ZeroDivide if b is 0
 abbrev pub remainder_of : ℤ → ℤ → Result ℤ NumberFault
 remainder_of a b = if is_zero b then Err ZeroDivide else Ok (a -ℤ int_div a b *ℤ b)
 
@@ -58,15 +59,15 @@ abbrev pub on_bits : (ℕ → ℕ → ℕ) → ℤ → ℤ → Result ℤ Number
 on_bits operation a b =
     if has_bits a && has_bits b then checked (pos (operation (units a) (units b) * 1000000)) else Err NotWhole
 
--- the bits that both numbers have
+-- the bits that both numbers have; NotWhole as for `on_bits`
 abbrev pub and_of : ℤ → ℤ → Result ℤ NumberFault
 and_of a b = on_bits bit_and a b
 
--- the bits that one of the numbers or both have
+-- the bits that one of the numbers or both have; NotWhole or Overflow as for `on_bits`
 abbrev pub or_of : ℤ → ℤ → Result ℤ NumberFault
 or_of a b = on_bits bit_or a b
 
--- the bits that one of the numbers has, and not both
+-- the bits that one of the numbers has, and not both; NotWhole or Overflow as for `on_bits`
 abbrev pub xor_of : ℤ → ℤ → Result ℤ NumberFault
 xor_of a b = on_bits bit_xor a b
 

@@ -1,6 +1,7 @@
 -- The table of causes: numbers and printed names of refusals, alarms and faults of the journal, 1
--- to 90. Most crates that refuse or raise an alarm cite it; 91 to 95 are in the crates that answer
--- them. When each is raised stands with the variants in src/cause.rt; docs/ERRORS.md explains them.
+-- to 90. src/cause.rt has the same rows, and says when each is raised; a new row also needs its
+-- line in proofs/CauseTable.antt. docs/ERRORS.md explains them. 91 to 95 are in the crates that
+-- answer them. block_forms, macro_eval, motion_track and 21 more crates above cite this.
 use Rattle.std.specs.Prelude.{ℕ, ◌==◌, List, [], ◌∷◌, Option, find, codes}
 use Rattle.nc_number.specs.declared.cause.Cause.{Cause}
 use Rattle.nc_number.specs.declared.fault.NumberFault.{NumberFault}
@@ -121,7 +122,7 @@ cause_name Cut = codes "Cut"
 cause_name JournalFull = codes "JournalFull"
 cause_name BadSetting = codes "BadSetting"
 
--- the rows of the table, by their numbers
+-- all causes, in the order of their numbers
 abbrev pub every_cause : List Cause
 every_cause =
     Overflow ∷ ZeroDivide ∷ NegativeRoot ∷ NotWhole ∷ TooManyDigits ∷ BadCharacter ∷ NoNumber ∷ OpenComment ∷

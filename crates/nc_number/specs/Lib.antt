@@ -1,5 +1,5 @@
--- The words of contracts for numbers, points, paths, causes and answers. The crates above cite all
--- but Spelling, which is for this crate's laws.
+-- The words of contracts for numbers, points, paths, causes and answers. Other crates cite all of
+-- these but Spelling, which is for the laws of this crate (src/laws.rt).
 pub mod Answers
 pub mod Arithmetic
 pub mod Axes

@@ -1,6 +1,6 @@
 -- A literal of the tape is an optional sign, digits, and optionally a point and digits, with a
--- digit in all. Here is when a text is one and what it means; Spelling.antt has the grammar. The
--- readers of tapes, settings and edits cite it.
+-- digit in all. Here is when a text is one and what it means; Spelling.antt has the grammar.
+-- line_text, macro_expr, field_lines and 6 more crates above cite it.
 use Rattle.std.specs.Prelude.{ℕ, ◌+◌, ◌-◌, ◌*◌, ◌^◌, Bool, false, not, ◌==◌, ◌&&◌, ◌||◌, nat_lt, if◌then◌else◌, List, [], ◌∷◌, length, drop, ℤ, IsTrue, Option, Some, None, Result, Ok, Err}
 use Rattle.std.specs.Char.{is_ascii_digit}
 use Rattle.std.specs.List.{list_any, list_all, position_or_len, before_first, after_first}
@@ -44,7 +44,8 @@ fraction_part text = after_first is_point (behind_sign text)
 abbrev pub all_digits : List ℕ → Bool
 all_digits bytes = list_all is_ascii_digit bytes
 
--- the text is a literal, as a test
+-- the test that the text is a literal: digits alone but for the sign in front and one point, and
+-- at least one digit
 abbrev pub is_literal : List ℕ → Bool
 is_literal text =
     (all_digits (whole_part text) && all_digits (fraction_part text))
@@ -73,13 +74,13 @@ size_of_parts whole fraction =
 abbrev pub literal_micro : List ℕ → ℤ
 literal_micro text = with_sign (has_minus text) (size_of_parts (whole_part text) (fraction_part text))
 
--- what a literal means
+-- what a literal means: its number and whether it has a point, or TooManyDigits
 abbrev pub word_literal : List ℕ → Result Literal NumberFault
 word_literal text =
     if has_too_many_digits text then Err TooManyDigits
     else Ok (record { value = literal_micro text; point = has_point text })
 
--- the millionths that were read, if they were
+-- the millionths of the literal that was read, and none if it has too many digits
 abbrev pub value_of_literal : Result Literal NumberFault → Option ℤ
 value_of_literal (Ok literal) = Some literal.value
 value_of_literal (Err fault) = None

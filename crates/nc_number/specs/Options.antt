@@ -1,6 +1,6 @@
 -- Steps that may have no value, one after the other: `do` over options. And numbers that may be
--- missing. For steps that may fail see Results.antt. Readers of texts and the crates of the order
--- of blocks cite it.
+-- missing. For steps that may fail see Results.antt. field_lines, cell_settings, block_order and 5
+-- more crates above cite it.
 use Rattle.std.specs.Prelude.{ℕ, Bool, false, ◌==◌, min, Option, Some, None, option_and_then}
 
 -- the second step goes on with the first one's value; if that is missing, so is that of both
@@ -13,7 +13,7 @@ abbrev pub is_some_of : ℕ → Option ℕ → Bool
 is_some_of n None = false
 is_some_of n (Some own) = own == n
 
--- the lesser of two numbers, or the one that there is
+-- the lesser of two numbers, or the one that there is, if there is one
 abbrev pub lesser : Option ℕ → Option ℕ → Option ℕ
 lesser None other = other
 lesser (Some a) None = Some a

@@ -1,5 +1,5 @@
--- How values and lengths are printed, as bytes: 45 is the minus, 46 the point, 48 the digit 0. The
--- texts of move_text, text_pieces and others are made of these.
+-- How values and lengths are printed, as bytes: 45 is the minus, 46 the point, 48 the digit 0.
+-- text_pieces, move_text, tape_expand and 3 more crates above cite it.
 use Rattle.std.specs.Prelude.{ℕ, zero, suc, ◌+◌, ◌/◌, ◌%◌, Bool, ◌==◌, ◌&&◌, if◌then◌else◌, List, [], ◌∷◌, ◌++◌, ℤ, unsigned_abs, decimal}
 use Rattle.std.specs.Fmt.{sign_text}
 use Rattle.std.specs.Int.{is_negative}

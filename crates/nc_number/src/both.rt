@@ -1,4 +1,5 @@
-//! One thing for each path. Most crates from two_path on use it.
+//! One thing for each path, such as its tape or its turret. zone_cell, nc_verify, two_path and 10
+//! more crates above use it.
 ghost use Rattle.std.specs.Prelude.{◌≡◌};
 ghost use Rattle.nc_number.specs.Both.{of_path};
 

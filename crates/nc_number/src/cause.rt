@@ -1,6 +1,7 @@
-//! The table of alarms and refusals 1 to 90: the one place of their numbers and names. Each crate
-//! that raises one takes it from here; what raises it is in that crate. The crates that answer 91
-//! to 95 name these themselves (edit_texts, zone_cell, cycle_form, lathe_top).
+//! The table of alarms and refusals 1 to 90: the one place in code of their numbers and names. Each
+//! crate that raises one takes it from here; what raises it is in that crate. specs/Causes.antt has
+//! the same rows, and proofs/CauseTable.antt a line for each. The crates that answer 91 to 95 name
+//! these themselves (edit_texts, zone_cell, cycle_form, lathe_top).
 ghost use Rattle.std.specs.Prelude.{◌≡◌, ◌≢◌, Some, IsNone, IfSome, All};
 ghost use Rattle.nc_number.specs.Causes.{cause_number, cause_name, every_cause};
 
@@ -20,11 +21,12 @@ pub enum Cause {
     TooManyDigits,
     /// A byte that is not allowed where it stands.
     BadCharacter,
-    /// A letter without a value, something that begins no word, or a word beside an O number.
+    /// A letter without a value, something that begins no word, or a word beside an O number or a
+    /// skip sign before it (`/O2`).
     NoNumber,
     /// A line ends inside a comment.
     OpenComment,
-    /// The first block is no O number, or the tape has none.
+    /// The first block is no O number, or the tape has no O number or no `%` line.
     NoProgramNumber,
     /// The tape has no second `%` line.
     NoEnd,
@@ -54,11 +56,11 @@ pub enum Cause {
     TooDeep,
     /// The program raised it by `#3000=`.
     MacroAlarm,
-    /// An offset that does not exist, or a setting without its number.
+    /// An offset that does not exist, or a G10 without the number of one.
     OffsetNumber,
-    /// A position or an offset past 99,999.999 mm.
+    /// A target of a move or an offset past 99,999.999 mm.
     PositionRange,
-    /// The end of an arc does not lie on its circle.
+    /// The end of an arc does not lie on its circle, or lies farther from its start than 2 R.
     ArcRadius,
     /// An arc without I, K and R.
     NoCentre,
@@ -84,7 +86,8 @@ pub enum Cause {
     TwoM,
     /// An O number given before.
     ProgramTwice,
-    /// A call without its program, or with words that don't fit together.
+    /// A call without its program, or with words that don't fit together; or a P or an L that means
+    /// nothing in its block.
     BadCall,
     /// An absolute and an incremental word of one axis in a block.
     AxisTwice,
@@ -92,21 +95,22 @@ pub enum Cause {
     RanOff,
     /// A word out of its range.
     WordRange,
-    /// A jump that may pass a wait.
+    /// A jump that may pass a wait or an end, or a loop that holds one.
     BranchAtWait,
-    /// A wait that a ninth open call leads to.
+    /// A wait or an end that would be reached only through nine open calls.
     WaitTooDeep,
     /// More than 65,536 labels of a path.
     TooManyLabels,
-    /// The waits of the two paths differ.
+    /// The waits of the two paths differ, or one path ends where the other waits.
     WaitMismatch,
     /// The paths wait at different codes.
     WaitDiffers,
-    /// The journal holds a record that can't be.
+    /// The journal holds what is no header, no batch or no legal record there; `BadRecord` of
+    /// run_records says which.
     BadRecord,
     /// The disk failed.
     DiskFault,
-    /// There is no run to go on with.
+    /// There is no run to go on with or to show.
     NoRun,
     /// A run is there already.
     RunThere,
@@ -206,7 +210,7 @@ macro_rules! every {
     };
 }
 
-/// The rows of the table, by their numbers.
+/// All causes, in the order of their numbers.
 const EVERY_CAUSE: [Cause; 54] = cause_table!(every);
 
 /// One of these causes that has the number, if there is one.

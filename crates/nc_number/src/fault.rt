@@ -56,7 +56,8 @@ impl NumberFault {
 #[error("the device failed")]
 pub struct Failed;
 
-/// Memory ran out; nothing was changed.
+/// Memory ran out, or more was asked for than there can be. What the call then leaves as it was,
+/// its contract says.
 #[derive(Clone, Copy, Debug, PartialEq, Eq, Error)]
 #[error("out of memory")]
 pub struct NoMemory;

@@ -1,5 +1,5 @@
 //! What the words of the contracts mean, in laws of their own. None of these calls does anything:
-//! the contract of each is a fact for readers and for whoever calls it. No crate calls them by now.
+//! the contract of each is a fact for readers and for whoever calls it. No crate calls them yet.
 
 ghost use Rattle.std.specs.Prelude.{◌≡◌, ◌≢◌, ◌↔◌, ℕ, ℤ, pos, ◌+◌, ◌*◌, ◌%◌, ◌<◌, ◌≤◌, ◌^◌, ◌+ℤ◌, ◌-ℤ◌, ◌*ℤ◌, List, Option, Some, Ok, true, false, Contains, is_some, unsigned_abs};
 ghost use Rattle.std.specs.Int.{is_negative};
@@ -33,15 +33,16 @@ pub fn a_root_is_the_greatest()
     ensures next { (n : ℕ) → n < (square_root n + 1) * (square_root n + 1) }
 {}
 
-/// A remainder is smaller than the divisor, keeps the dividend's sign, and differs from the
-/// dividend by a multiple of the divisor.
+/// A remainder is smaller than the divisor, signs aside; it is 0 or has the dividend's sign; and
+/// it differs from the dividend by a multiple of the divisor.
 pub fn a_remainder_keeps_the_sign()
     ensures smaller { (a b r : ℤ) → remainder_of a b ≡ Ok r → unsigned_abs r < unsigned_abs b }
     ensures sign { (a b r : ℤ) → remainder_of a b ≡ Ok r → r ≢ pos 0 → is_negative r ≡ is_negative a }
     ensures multiple { (a b r : ℤ) → remainder_of a b ≡ Ok r → (q : ℤ) × (a ≡ q *ℤ b +ℤ r) }
 {}
 
-/// A fraction is dropped: what is left is the greatest whole number not above the magnitude.
+/// A fraction is dropped: what is left is the greatest whole number not above the magnitude, with
+/// the sign kept.
 pub fn a_fraction_is_dropped()
     ensures whole { (a : ℤ) → unsigned_abs (dropped a) % 1000000 ≡ 0 }
     ensures next { (a : ℤ) → (unsigned_abs (dropped a) ≤ unsigned_abs a)
@@ -49,7 +50,7 @@ pub fn a_fraction_is_dropped()
     ensures sign { (a : ℤ) → dropped a ≢ pos 0 → is_negative (dropped a) ≡ is_negative a }
 {}
 
-/// A magnitude is raised: the answer is the least whole number not below it.
+/// A magnitude is raised: the answer is the least whole number not below it, with the sign kept.
 pub fn a_magnitude_is_raised()
     ensures whole { (a w : ℤ) → raised a ≡ Ok w → unsigned_abs w % 1000000 ≡ 0 }
     ensures next { (a w : ℤ) → raised a ≡ Ok w
@@ -84,7 +85,7 @@ pub fn a_whole_number_is_its_units()
     ensures { (a n : ℤ) → (whole_of a ≡ Some n) ↔ (a ≡ n *ℤ pos 1000000) }
 {}
 
-/// No number stands for two alarms or refusals, and none is missing in the table.
+/// No number stands for two alarms or refusals, and each of them is a row of the table.
 pub fn a_number_has_one_cause()
     ensures one { (a b : Cause) → cause_number a ≡ cause_number b → a ≡ b }
     ensures listed { (cause : Cause) → Contains every_cause cause }

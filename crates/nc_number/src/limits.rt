@@ -1,5 +1,5 @@
-//! What a run, a tape and a block may have at most: the limits that more than one crate or its
-//! specs keep. nc_text, macro_expr, label_list, run_journal, run_table and others do.
+//! What a run, a tape and a block may have at most: limits that crates above and their contracts
+//! keep. nc_text, macro_expr, label_list, run_journal and run_table do, and others above.
 
 /// Records of a run.
 pub const MOST_RECORDS: u32 = 4_000_000;
@@ -7,7 +7,7 @@ pub const MOST_RECORDS: u32 = 4_000_000;
 /// Records that wait for one write of the journal.
 pub const MOST_PENDING: usize = 64;
 
-/// Shared variables that one block reads.
+/// Shared variables that one block reads; a block with more `#` signs is refused.
 pub const MOST_READS: usize = 32;
 
 /// Blocks of a tape.

@@ -1,5 +1,5 @@
 //! The literals of a tape: when a text is one, what it writes, and what it counts for a length or a
-//! time. The readers of tapes, settings and edits use it.
+//! time. line_text, macro_expr, field_lines and 6 more crates above use it.
 ghost use Rattle.std.specs.Prelude.{◌≡◌, ◌==◌, ◌^◌, ◌<◌, ◌≤◌, not, length, position, IsTrue, IfSome, unsigned_abs};
 ghost use Rattle.std.specs.List.{before_first, after_first};
 ghost use Rattle.std.specs.Str.Parse.{digits_value};
@@ -16,7 +16,7 @@ use crate::value::Value;
 pub struct Literal {
     /// The number in whole units.
     pub value: Value,
-    /// It has a decimal point, as a computed number counts as having one.
+    /// Whether it has a decimal point; a number that a block computes counts as having one.
     pub point: bool,
 }
 
@@ -148,7 +148,7 @@ fn without_leading_zeros(digits: &[u8]) -> &[u8]
     }
 }
 
-/// The number that at most 8 digits write.
+/// The number that these digits write, of which there are at most 8.
 #[tactic(auto, using(crate::proofs::DecimalDigits::digit_byte, crate::proofs::DecimalDigits::value_more, crate::proofs::DecimalDigits::part_below))]
 fn number(digits: &[u8]) -> u64
     requires digits_alone { IsTrue (all_digits digits.now) }

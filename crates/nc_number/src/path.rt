@@ -1,5 +1,5 @@
-//! The two paths of the machine, their numbers and their places in lists of two. Every crate names
-//! a path by this type, and never by a bare number.
+//! The two paths of the machine, their numbers and their places in lists of two. Most crates above
+//! name a path by this type; its bare number is for what is printed or stored.
 ghost use Rattle.std.specs.Prelude.{◌≡◌, ◌<◌};
 ghost use Rattle.nc_number.specs.Path.{number_of, path_of, index_of, other_of};
 

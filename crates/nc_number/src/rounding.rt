@@ -37,7 +37,8 @@ pub(crate) fn nearest_quotient(a: i128, b: i128) -> i128
     if (a < 0) == (b < 0) { size } else { -size }
 }
 
-/// The nearest whole number, halves away from zero; Overflow exactly past the range.
+/// The whole number of units nearest to the value, halves away from zero; Overflow exactly past the
+/// range.
 pub fn round(a: Value) -> Result<Value, NumberFault>
     ensures { result ≡ rounded a }
 {

@@ -1,5 +1,5 @@
--- The count of planned faults as calls go on: it rises by a call that is to fail, and by no other.
--- For the proof of `call` (src/plan.rt).
+-- The count of planned faults of a shelf, sink or turret in memory as its calls go on: a call that
+-- is to fail raises it, and no other call does. For the proof of `call` (src/plan.rt).
 use Rattle.std.proofs.Common.{◌≡◌, ◌==◌, ◌∙◌, refl, sym, ap, ℕ, ◌+◌, ◌<◌, ◌≤◌, false, cond, List, [], ◌∷◌, get_or, remove, Contains, arith}
 use Rattle.std.specs.List.{list_any, sum_by}
 use Rattle.std.proofs.lemmas.Bool.Decides.{nat_tests}

@@ -1,6 +1,6 @@
--- The calls of a stepper, in order: its steps with what they answered, its drains and its halts. A
--- stepper may tell them or not.
--- seat_table, path_worker and run_table say their steps by these.
+-- The calls of a stepper, which gives a path its steps (src/stepper.rt), in order: its steps with
+-- what they answered, its drains and its halts. A stepper may tell them or not. path_worker,
+-- seat_table, run_table, drive_line and turret_run cite these.
 use Rattle.std.specs.Prelude.{◌≡◌, List, [], ◌∷◌, ◌++◌, Option, Some, None}
 use Rattle.nc_outside.specs.declared.lined_move.LinedMove.{LinedMove}
 use Rattle.nc_outside.specs.Lined.{lined}
@@ -34,7 +34,7 @@ last_answer_behind before (Call.Step path answer ∷ calls) = last_answer_behind
 last_answer_behind before (Call.Drained path count ∷ calls) = last_answer_behind before calls
 last_answer_behind before (Call.Halt why ∷ calls) = last_answer_behind before calls
 
--- what the last step among these calls answered
+-- what the last step among these calls answered, and none if there is none
 abbrev pub last_answer : List Call → Option Next
 last_answer calls = last_answer_behind None calls
 

@@ -1,15 +1,15 @@
 -- The count of faults that each object of the outside keeps: shelf, sink, turret and line. The
--- contracts of these traits cite it, and so do drive_line, turret_run, lathe_looks, lathe_top and
--- others.
+-- contracts of these traits cite it, and drive_line, turret_run, turret_lines and 4 more crates
+-- above.
 use Rattle.std.specs.Prelude.{◌≡◌, ℕ, ◌≤◌}
 pub use Rattle.nc_number.specs.Faults.{next, Rose}
 
--- A call counts its fault: the count never falls, it rose if the call failed, and if it did
--- not fail it is as before.
+-- A call counts its fault: the count never falls; if the call failed, it rose or stands at the last
+-- value of u64; if the call did not fail, it is as before.
 pub record CountsFault (before now : ℕ) (failed : Type 0) : Type 0 where
   -- the count does not fall
   pub later : before ≤ now
-  -- a call that failed raised it
+  -- a call that failed raised it, or it stands at its last value
   pub rose : failed → Rose before now
   -- a call that did not fail left it
   pub kept : (failed → ⊥) → now ≡ before

@@ -1,5 +1,6 @@
 -- What contracts see of the forms in memory (src/memory_shelf.rt, vec_sink.rt, memory_turret.rt,
--- list_stepper.rt), and what their calls make of them. For this crate alone; tests use the forms.
+-- list_stepper.rt), and what their calls make of them. No other crate cites it; tests meet it in
+-- the contracts of the forms.
 use Rattle.std.specs.Prelude.{ℕ, ◌+◌, ◌-◌, ◌^◌, min, nat_le, Bool, ◌||◌, if◌then◌else◌, List, [], ◌∷◌, ◌++◌, length, map, Some, String, Vec, string_bytes}
 use Rattle.std.specs.Prelude.{slice_index_or}
 use Rattle.nc_outside.specs.declared.halt.Next.{Next}
@@ -41,7 +42,7 @@ abbrev pub sink_of : KeptBytes → SinkState
 sink_of kept = record { written = Some kept.bytes; faults = fault_count kept.plan }
 
 -- a turret in memory: what it got, how much of that it has room for, which of its calls are to
--- fail, how many others found no room, and which of its settles are to fail
+-- fail, how many of the other calls found no room, and which of its settles are to fail
 pub record KeptMoves : Type 0 where
   -- what it got, in order
   pub got : List Got
@@ -49,7 +50,7 @@ pub record KeptMoves : Type 0 where
   pub room : ℕ
   -- which calls of `place` and `hand` are to fail
   pub plan : PlanView
-  -- how many other calls found no room
+  -- how many calls that were not planned to fail found no room
   pub past : ℕ
   -- which calls of `settle` are to fail
   pub settling : PlanView
@@ -80,7 +81,7 @@ when_counted kept = record {
   settling = kept.settling;
 }
 
--- a turret in memory after its next `place` or `hand`, which gives it this
+-- a turret in memory after its next `place` or `hand`, which gives it this unless it is refused
 abbrev pub after_handing : Got → KeptMoves → KeptMoves
 after_handing what kept =
     record (when_counted kept) { got = if refuses_next kept then kept.got else kept.got ++ what ∷ [] }

@@ -1,5 +1,6 @@
 -- The plan of a shelf, sink or turret in memory: which of its calls, numbered from 1, are to fail.
--- For src/plan.rt and the forms in memory of this crate alone.
+-- For src/plan.rt and the forms in memory of this crate. No other crate cites it; tests meet it in
+-- the contracts of the forms.
 use Rattle.std.specs.Prelude.{◌≡◌, ℕ, ◌+◌, ◌^◌, ◌↔◌, Bool, true, ◌==◌, ◌&&◌, nat_lt, nat_le, List, count_by}
 use Rattle.std.specs.List.{list_any}
 use Rattle.nc_outside.specs.Faults.{CountsFault}

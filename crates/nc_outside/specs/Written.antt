@@ -1,5 +1,5 @@
--- What was written to a sink. A sink may tell it or not. The trait Sink says its call by it, and so
--- does each crate that writes a text: lathe_calls, lathe_looks, lathe_top, move_list and others.
+-- What was written to a sink. A sink may tell it or not. The trait Sink says its call by it; so do
+-- nc_verify, move_list, lathe_calls and 5 more crates above that write texts.
 use Rattle.std.specs.Prelude.{◌≡◌, ℕ, List, Option, is_some}
 use Rattle.std.specs.Io.KnownBytes.{Appends}
 

@@ -1,5 +1,5 @@
-//! Why a run ends, and what a step of a path answers. run_table and seat_table answer so,
-//! path_worker reads it.
+//! Why a run stops early, and what a step of a path answers. run_table and seat_table answer so,
+//! path_worker reads it; drive_line, turret_run and turn_order name halts too.
 ghost use Rattle.std.specs.Prelude.{◌≡◌};
 
 use nc_moves::{Alarm, Moves};

@@ -8,7 +8,8 @@
 //! gets, and `settle` waits until it stands still. A stepper tells its calls: its steps with their
 //! answers, its drains and its halts. The forms in memory (`MemoryShelf`, `VecSink`,
 //! `MemoryTurret`, `ListStepper`) tell all, and fail exactly as planned; if an object tells
-//! nothing, as a real file, no clause speaks of what it holds.
+//! nothing, as a real file, no clause speaks of what it holds. nc_verify, seat_table, turret_run
+//! and 16 more crates above use this one.
 #![tactic(auto)]
 
 mod asked;

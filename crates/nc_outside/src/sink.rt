@@ -1,5 +1,5 @@
-//! Where reports go: the trait of an output. Every crate that writes a text writes it to a sink;
-//! real_outside has that of standard output.
+//! Where reports go: the trait of an output. nc_verify, move_list, turret_lines and 6 more crates
+//! above write to a sink; real_outside has that of standard output.
 ghost use Rattle.std.specs.Prelude.{◌≡◌, ℕ, take, OnOk, OnErr, IsErrOf};
 ghost use Rattle.nc_outside.specs.declared.sink.PutFault.TheVariants.{NoMemory};
 ghost use Rattle.nc_outside.specs.Faults.{CountsFault};

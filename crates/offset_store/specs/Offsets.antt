@@ -35,11 +35,11 @@ abbrev pub shift_travel : ℕ
 shift_travel = 399999996
 
 -- the alarm of an offset that is set: 40 where G10 names none by that number, else 41 past the
--- range
+-- range, else none
 abbrev pub set_fault : OffsetForm → ℤ → Point → Option OffsetFault
 set_fault form n to =
     option_map_or (λ slot. position_fault to) (slot_of form (Some n)) (Some (fault OffsetNumber))
 
--- the offsets with the one set that G10 names by that number
+-- the offsets with the one set that G10 names by that number, if it names one
 abbrev pub with_set : OffsetTable → OffsetForm → ℤ → Point → OffsetTable
 with_set o form n to = option_map_or (λ slot. with_point o slot to) (slot_of form (Some n)) o

@@ -1,5 +1,5 @@
 //! Why an offset was not set: alarm 40 or 41. block_values raises it as an alarm of the path;
-//! path_state, named_vars and run_table cite it.
+//! path_state, two_path and 3 more crates above cite it.
 ghost use Rattle.std.specs.Prelude.{◌≡◌};
 
 use nc_number::Cause;

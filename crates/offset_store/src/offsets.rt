@@ -18,7 +18,8 @@ use nc_number::{Axis, Point, TRAVEL};
 use std::marker::Model;
 
 /// The offsets of a path, in 0.001 mm. Work offset 0 is the external one; place 0 of the tool
-/// offsets is no offset, and stays 0.
+/// offsets is no offset, and stays 0. The lists have one place more than the greatest number:
+/// `LAST_WORK` is 6, `TOOL_OFFSETS` 64 (specs/Offsets.antt has 7 and 65 too).
 #[derive(Debug, Drop)]
 pub struct Offsets {
     /// The work offsets, 0 to 6.

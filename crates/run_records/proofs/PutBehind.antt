@@ -29,7 +29,9 @@ set_third old x some = set_split old 2 x (omega arith) ∙ sym (append_assoc (ta
 pub length_third : (old : List ℕ) (x : ℕ) → 3 ≤ length old → length (take 2 old ++ x ∷ []) ≡ 3
 length_third old x some = omega (arith, length-append (take 2 old) (x ∷ []), length-take-le 2 old (omega arith))
 
--- A record is put: path and kind, and then the rest of its bytes.
+-- A record is put: path and kind, and then the rest of its bytes. `old` is the slice before, `one`
+-- that with the path `p` and the kind `k` put, `new` that with the rest, `body`, put too; `size` is
+-- the length of the record.
 module _ (p k : ℕ) (body old one new : List ℕ) (size : ℕ) (long : size ≡ suc (suc (length body))) (head : one ≡ p ∷ k ∷ drop 2 old) (is : new ≡ take 2 one ++ (body ++ drop size one)) where
   -- the slice is the record, and then what stood behind its place
   put_all : new ≡ (p ∷ k ∷ body) ++ drop size old

@@ -1,5 +1,6 @@
--- Stamps and their bytes: that they are read again, and have one spelling. For the other files of
--- proofs here and the loops of `put_each` (src/entry.rt) and `take_stamps` (src/reading.rt).
+-- Stamps and their bytes: that they are read again, and have one spelling. For OneSpelling,
+-- EditsSpelled, and the proofs of src/entry.rt, of `push` of a list of stamps (src/lists.rt) and of
+-- `take_stamps` (src/reading.rt).
 use Rattle.std.proofs.Common.{◌≡◌, ℕ, ◌+◌, ◌*◌, ◌^◌, ◌-◌, ◌≤◌, ◌<◌, List, [], ◌∷◌, ◌++◌, length, take, drop, get_or, refl, inl, inr, take-append-drop, sym, ◌∙◌, ap, subst, arith, append_assoc, length-append, length-drop}
 use Rattle.std.proofs.lemmas.List.{get_or-take, get_or-drop, get_or_past, length-take, take_at, drop_at, drop-drop, drop_all, take_rest, take_more, append-nil, length-take-le}
 use borrow.Rule.Slice.PartMut.{put_mid}

@@ -9,7 +9,8 @@ use Rattle.run_records.specs.declared.bad_record.BadRecord.TheVariants.{NoPath, 
 use Rattle.run_records.specs.declared.numbers.EditNumbers.{EditNumbers}
 use Rattle.run_records.specs.Edits.{edit_with}
 
--- the number of the cause, from 1 to 10; of several causes of one record the least is told
+-- the number of the cause, from 1 to 10, as in src/bad_record.rt; of several causes of one record
+-- the least is told
 abbrev pub cause_number : BadRecord → ℕ
 cause_number NoPath = 1
 cause_number NoKind = 2
@@ -60,7 +61,8 @@ is_cut_short bytes = nat_lt (length bytes) 3 || nat_lt (length bytes) (record_si
 abbrev pub has_bad_edit : List ℕ → Bool
 has_bad_edit bytes = is_edit bytes && is_none (edit_with (numbers_in (drop 2 bytes)))
 
--- why the bytes begin with no record: the least cause that holds of the bytes that are there
+-- why the bytes begin with no record: the least cause that holds of the bytes that are there, and
+-- none if they begin with a record
 abbrev pub cause_of : List ℕ → Option BadRecord
 cause_of bytes =
     if has_bad_path bytes then Some NoPath

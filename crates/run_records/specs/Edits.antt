@@ -1,5 +1,6 @@
 -- An edit as the four numbers that its record has: what is set, by its kind and its number, and two
--- numbers for what it gets. Spelling has their bytes. For this crate alone.
+-- numbers for what it gets. Spelling has their bytes. No other crate cites it; callers meet
+-- `IsEdit` in what is true of every record (`IsEntry`, Spelling).
 use Rattle.std.specs.Prelude.{ℕ, ◌≤◌, ◌==◌, ℤ, pos, Option, Some, None, if◌then◌else◌}
 use Rattle.std.specs.Option.{option_map, option_and_then}
 use Rattle.std.specs.Ordering.{int_eq}

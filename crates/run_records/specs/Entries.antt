@@ -1,19 +1,18 @@
 -- What clauses see of a record of a run. How it is spelled is in Spelling. Which records are legal
--- is in two_path. Every crate that speaks of a journal or a history cites it.
+-- is in two_path. run_journal, two_path, run_table and 11 more crates above cite it.
 use Rattle.std.specs.Prelude.{◌≡◌, ℕ, Bool, true, false, List, [], Option, Some, None, IsSome}
 use Rattle.nc_number.specs.declared.path.Path.{Path}
 use Rattle.run_records.specs.declared.edit.Edit.{Edit}
 use Rattle.run_records.specs.declared.entry.EntryKind.{EntryKind}
 use Rattle.run_records.specs.declared.entry.EntryKind.TheVariants.{Did, Arrived, Met, Ended, Alarmed, Edited}
 
--- The path, what it did or what was corrected, and for each read of the step the number of records
--- at that moment.
+-- A record: the path, what it did or what was corrected, and its stamps.
 pub record Entry : Type 0 where
   -- the path that made the step, or that was corrected
   pub path : Path
   -- what it did, or what was corrected
   pub kind : EntryKind
-  -- for each read of the step, the number of records at that moment
+  -- for each read of a shared variable in the step, the number of records at that moment
   pub stamps : List ℕ
 
 -- the edit that a kind is, if it is one and no step

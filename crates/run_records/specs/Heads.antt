@@ -46,7 +46,8 @@ entry_of stamps edits head = record {
 abbrev pub entries_of : List ℕ → List Edit → List Head → List Entry
 entries_of stamps edits heads = map (entry_of stamps edits) heads
 
--- from this index on stand so many stamps, or, of no step, an edit and no stamps
+-- a step's stamps, `count` of them from the index `first` on, stand among so many stamps; a record
+-- of no step has no stamps, and its edit, at `first`, stands among so many edits
 abbrev pub IsPlaced : Option EntryKind → ℕ → ℕ → ℕ → ℕ → Type 0
 IsPlaced (Some kind) first count stamps edits = first + count ≤ stamps
 IsPlaced None first count stamps edits = (count ≡ 0) × (first < edits)
@@ -54,13 +55,14 @@ IsPlaced None first count stamps edits = (count ≡ 0) × (first < edits)
 -- the record's stamps stand among the stamps, and are no more than a record may have; an edit
 -- stands among the edits
 pub record StandsIn (stamps : List ℕ) (edits : List Edit) (head : Head) : Type 0 where
-  -- it has no more stamps than a record may have
+  -- the record has no more stamps than a record may have
   pub few : head.count ≤ MOST_READS
-  -- its stamps, or its edit, stand within those of all
+  -- the record's stamps, or its edit, stand within those of all
   pub within : IsPlaced (step_of head.kind) head.first head.count (length stamps) (length edits)
 
 -- There is room for so many records in all: for the head of each, and for an edit and the most
--- stamps of each that is to come.
+-- stamps of each that is to come. `heads`, `stamps` and `edits` are how many of these there are,
+-- `most_heads`, `most_stamps` and `most_edits` how many there is memory for.
 pub record HasRoom (room heads most_heads stamps most_stamps edits most_edits : ℕ) : Type 0 where
   -- there are no more records than fit
   pub few : heads ≤ room

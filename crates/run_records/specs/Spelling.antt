@@ -49,7 +49,8 @@ abbrev pub IsKind : Option Edit → Type 0
 IsKind None = Unit {0}
 IsKind (Some edit) = IsEdit edit
 
--- what is true of every record: 32 stamps at most, each of four bytes, and none of an edit
+-- what is true of every record: 32 stamps at most, each of four bytes, none of an edit, and an edit
+-- sets what is there, to what is in range
 pub record IsEntry (entry : Entry) : Type 0 where
   -- there are 32 stamps at most
   pub few : length entry.stamps ≤ MOST_READS

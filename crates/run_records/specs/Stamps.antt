@@ -1,5 +1,6 @@
 -- What is true of the stamps of every record. A stamp is the number of records at the moment of a
--- read. For this crate alone.
+-- read of a shared variable. No other crate cites it; callers meet it in the contract of
+-- `StampList` and in `IsEntry` (Spelling).
 use Rattle.std.specs.Prelude.{ℕ, ◌^◌, ◌≤◌, ◌<◌, List, [], ◌∷◌, length}
 use Rattle.nc_number.specs.declared.limits.TheConstants.{MOST_READS}
 

@@ -1,5 +1,6 @@
 //! A record of a run, and its bytes: it is spelled here, and read in reading.rt. run_journal writes
-//! records, two_path makes them and does them again, and all crates of histories list them.
+//! records, two_path makes them and does them again, run_table, nc_restart and 4 more crates above
+//! list them.
 
 ghost use Rattle.std.specs.Prelude.{◌≡◌, ◌↔◌, ◌+◌, ◌*◌, ◌≤◌, ◌++◌, ◌∷◌, [], ℕ, List, length, take, drop, Option, Some, None, is_none, IsTrue};
 ghost use Rattle.std.specs.Option.{option_copied};
@@ -16,7 +17,7 @@ use byteorder::{BigEndian, ByteOrder};
 use nc_number::Path;
 use std::marker::Model;
 
-/// The most bytes of a record.
+/// The most bytes of a record: path, kind and number of stamps, and 32 stamps of four bytes.
 pub const LONGEST_RECORD: usize = 131;
 
 /// What a path did in a step, or what was corrected of it.
@@ -97,7 +98,7 @@ pub struct Entry {
     pub path: Path,
     /// What it did, or what was corrected.
     pub kind: EntryKind,
-    /// For each read of the step, the number of records at that moment.
+    /// For each read of a shared variable in the step, the number of records at that moment.
     pub stamps: StampList,
 }
 

@@ -15,8 +15,8 @@ use offset_store::Slot;
 use std::alloc::Global;
 use std::marker::Model;
 
-/// The stamps of a record in order, at most 32: for each read, the number of records at that
-/// moment. It takes no memory.
+/// The stamps of a record in order, at most 32: for each read of a shared variable, the number of
+/// records at that moment. It takes no memory.
 #[derive(Debug, Drop)]
 pub struct StampList {
     /// The stamps, in order.

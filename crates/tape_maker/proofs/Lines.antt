@@ -1,4 +1,5 @@
--- Lines one after the other, as the loops of `put_round` and `tape` (src/tape.rt) write them.
+-- The lines of a made tape one after the other, as the loops of `put_round` and `tape`
+-- (src/tape.rt) write them. For their proofs, and Sizes.antt.
 use Rattle.std.proofs.Common.{◌≡◌, ℕ, zero, suc, ◌+◌, ◌-◌, ◌≤◌, List, [], ◌∷◌, ◌++◌, map, refl, ap, sym, arith, append_assoc, codes}
 use Rattle.std.specs.List.{flat_map, range_with_len}
 use Rattle.std.proofs.lemmas.Grind.{flat_map-append}

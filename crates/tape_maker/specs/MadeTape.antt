@@ -23,8 +23,9 @@ unfoldable pub cut_line : Path → ℕ → ℕ → ℕ → List ℕ
 cut_line path number round cut =
     codes "G01 X" ++ decimal (cut_diameter path number round cut) ++ codes ". Z-" ++ decimal (cut_depth number round cut) ++ codes "."
 
--- the line on a variable in a round: path 1 counts the shared variable #501 in the odd rounds and
--- path 2 copies it in the even ones; in its other rounds a path counts a local
+-- the line on a variable in a round: path 1 counts #501 up in the odd rounds, and path 2 copies it
+-- to #502 in the even ones (the settings say which of these the paths share); in its other rounds a
+-- path counts its local variable #1 up
 unfoldable pub variable_line : Path → ℕ → List ℕ
 variable_line One round = if round % 2 == 1 then codes "#501=#501+1" else codes "#1=#1+1"
 variable_line Two round = if round % 2 == 1 then codes "#1=#1+1" else codes "#502=#501"

@@ -1,5 +1,5 @@
 //! Laws of the made pairs, each the contract of a function that does nothing: what a reader may
-//! rely on of `make N` without reading the text of a tape.
+//! rely on of `make N` without reading the text of a tape. No crate calls them.
 ghost use Rattle.std.specs.Prelude.{◌≡◌, ◌≢◌, ℕ, ◌+◌, ◌<◌, ◌≤◌, ◌^◌, [], ◌∷◌, ◌++◌, codes, filter, length, map};
 ghost use Rattle.std.specs.Str.Lines.{lines};
 ghost use Rattle.nc_number.specs.declared.path.Path.{Path};

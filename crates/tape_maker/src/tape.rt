@@ -14,7 +14,7 @@ const ROUNDS: u32 = 50;
 /// How many cuts a round has.
 const CUTS: u32 = 98;
 
-/// The most bytes of a made tape.
+/// The most bytes of a made tape (proofs/Sizes.antt has the same number).
 pub const LONGEST_MADE: usize = 74_389;
 
 /// The tapes of path 1 and path 2 that the number stands for.
@@ -90,8 +90,9 @@ fn depth(number: u32, round: u32, cut: u32) -> u64
     (u64::from(number) + u64::from(round) + u64::from(cut)) % 80
 }
 
-/// The line on a variable in a round: path 1 counts `#501`, which the paths share, in the odd
-/// rounds, and path 2 copies it in the even ones; else a path counts a local variable.
+/// The line on a variable in a round: path 1 counts `#501` up in the odd rounds, and path 2 copies
+/// it to `#502` in the even ones (the settings say which of these the paths share); in its other
+/// rounds a path counts its local variable `#1` up.
 #[tactic(auto, unfolding(crate::specs::MadeTape::variable_line))]
 fn line_on_variable(path: Path, round: u32) -> &'static [u8]
     ensures { result.now ≡ variable_line path round }

@@ -13,7 +13,7 @@ use Rattle.nc_number.specs.Printed.{length_text}
 abbrev pub numbered : List ℕ → ℕ → List ℕ
 numbered before number = before ++ decimal number
 
--- the name of a cause after a blank, if there is one
+-- a blank and the name of a cause, and nothing without a cause
 abbrev pub name_text : Option Cause → List ℕ
 name_text None = []
 name_text (Some cause) = codes " " ++ cause_name cause

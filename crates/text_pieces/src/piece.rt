@@ -1,6 +1,6 @@
-//! A piece of a text: up to 512 bytes in an array, for one call of a sink. All crates that write
-//! reports, verdicts, traces and zones make their lines of pieces. A clause `requires` says how
-//! much room a call asks for.
+//! A piece of a text: up to 512 bytes in an array, for one call of a sink. A clause `requires` says
+//! how much room a call asks for. move_text, nc_verify, move_list and 7 more crates above make
+//! their lines of pieces.
 ghost use Rattle.std.specs.Prelude.{◌≡◌, ◌+◌, ◌≤◌, ◌%◌, [], ◌++◌, length, codes, decimal};
 ghost use Rattle.nc_number.specs.Printed.{last_digits, length_text, value_text};
 ghost use Rattle.text_pieces.specs.Pieces.{code_text, name_text, numbered, path_name, place_text, point_text};
@@ -10,7 +10,7 @@ use itoa::Buffer;
 use nc_number::{Cause, Path, Point, Value};
 use std::marker::Model;
 
-/// The most bytes of a piece.
+/// The most bytes of a piece. Clauses say it as 512, here and in the crates that make pieces.
 const MOST_BYTES: usize = 512;
 
 /// A piece of a text, of which each part is put behind what is there. It takes no memory.

@@ -1,5 +1,5 @@
--- What a sink tells when a line was put, or a part of one, and the counts of a turret's calls. For
--- the proofs of `new`, `write` and `settle` (src/line_turret.rt).
+-- What the sink of a turret that writes lines tells when a line was put, or a part of one, and the
+-- counts of the turret's calls. For the proofs of `new`, `write` and `settle` (src/line_turret.rt).
 use Rattle.std.proofs.Common.{◌≡◌, ℕ, List, [], ◌∷◌, ◌++◌, take, Option, Some, None, is_some, refl, sym, ap, ◌∙◌, arith}
 use Rattle.std.specs.List.{flat_map}
 use Rattle.std.specs.Option.{ForSome}

@@ -1,5 +1,5 @@
--- An option of a command may stand anywhere among the names, its text apart or attached (a law of
--- src/laws.rt).
+-- An option of a command may stand anywhere among the names, its text attached, or apart if that
+-- may be a name (a law of src/laws.rt).
 use Rattle.command_words.proofs.PlainWords.{blocks_is, option_apart, option_attached, outside_is, turret1_is, turret2_is}
 use Rattle.command_words.proofs.laws.law_of_options.Goals as goal
 

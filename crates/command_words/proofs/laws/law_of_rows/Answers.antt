@@ -1,4 +1,5 @@
--- No two rows of commands have one name, and each gives a command (src/laws.rt).
+-- No two rows of commands have one name, and each gives a command for as many words `1` as it names
+-- (src/laws.rt).
 use Rattle.std.proofs.Common.{refl}
 use Rattle.command_words.specs.Number.{number_of}
 use Rattle.command_words.specs.Table.{listings}

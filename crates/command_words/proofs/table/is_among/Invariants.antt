@@ -1,5 +1,5 @@
--- None of the names of options so far is the one that is looked for (loop of `is_among`,
--- src/table.rt).
+-- The name that is looked for is among the options ahead exactly if it is among all of them (loop
+-- of `is_among`, src/table.rt).
 use Rattle.std.proofs.Common.{◌≡◌, drop, map}
 use Rattle.std.specs.List.{list_any}
 use Rattle.std.specs.Str.{bytes_eq}

@@ -1,4 +1,5 @@
--- None of the rows of commands so far has the name (loop of `row_in`, src/table.rt).
+-- The row that the rows of commands ahead have for the name is that of all rows (loop of `row_in`,
+-- src/table.rt).
 use Rattle.std.proofs.Common.{◌≡◌, drop, map}
 use Rattle.command_words.specs.Table.{row_in, row_seen}
 use Rattle.command_words.proofs.table.row_in.Given as goal

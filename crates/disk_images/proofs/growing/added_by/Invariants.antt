@@ -1,5 +1,5 @@
--- The list has each of the images so far with the first parts of the write over it (loop of
--- `added_by`, src/growing.rt).
+-- The list has what a read gave before the write, and each of the images so far with the first
+-- parts of the write over it (loop of `added_by`, src/growing.rt).
 use Rattle.std.proofs.Common.{◌≡◌, ◌∷◌, take}
 use Rattle.std.specs.List.{flat_map}
 use Rattle.disk_images.specs.Images.{torn_images}

@@ -1,5 +1,5 @@
--- `copy_written` copies one stretch more at each turn, and at the end the content is what it has
--- become (src/memory.rt).
+-- `copy_written` copies one stretch more at each turn of its loop, and at the end the content is
+-- the same as `from` (src/memory.rt).
 use Rattle.std.proofs.Common.{rules, ◌≡◌, [], length, drop, subst, ◌∙◌, arith, ◌++◌, List}
 use Rattle.std.proofs.lemmas.List.{with_items_is, drop_all}
 use Rattle.disk_model.specs.declared.stretch.Stretch.{Stretch}

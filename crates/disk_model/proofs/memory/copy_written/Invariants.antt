@@ -1,5 +1,5 @@
--- Outside the stretches that are left to copy, the content is what it has become, and room stays
--- (loop of `copy_written`, src/memory.rt).
+-- Outside the stretches that are left to copy, the content is as in `from`, and room stays (loop of
+-- `copy_written`, src/memory.rt).
 use Rattle.std.proofs.Common.{◌≤◌, drop, vec_capacity}
 use Rattle.disk_model.proofs.Copies.{IsCopied}
 use Rattle.disk_model.proofs.memory.copy_written.Given as goal

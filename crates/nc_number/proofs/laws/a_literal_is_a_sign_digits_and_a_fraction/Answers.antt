@@ -1,5 +1,5 @@
--- Each literal of a tape has a spelling of the grammar, and its parts are those of the spelling (a
--- law of src/laws.rt).
+-- Each literal of a tape has a spelling of the grammar, and the parts of a text that is spelled so
+-- are those of the spelling (a law of src/laws.rt).
 use Rattle.nc_number.proofs.Spellings.{written_literal, parts_of_written, sign_of, fraction_of}
 use Rattle.nc_number.specs.Literals.{behind_sign, whole_part}
 use Rattle.nc_number.proofs.laws.a_literal_is_a_sign_digits_and_a_fraction.Goals as goal

@@ -1,4 +1,4 @@
--- No two alarms or refusals have one number, and none is missing in the table (a law of
+-- No two alarms or refusals have one number, and each of them is a row of the table (a law of
 -- src/laws.rt).
 use Rattle.nc_number.proofs.CauseTable.{number_has_one_cause, cause_is_listed}
 use Rattle.nc_number.proofs.laws.a_number_has_one_cause.Goals as goal

@@ -1,5 +1,5 @@
--- A remainder is smaller than the divisor, has the dividend's sign, and differs from the dividend
--- by a multiple of the divisor (a law of src/laws.rt).
+-- A remainder is smaller than the divisor, signs aside; it is 0 or has the dividend's sign; and it
+-- differs from the dividend by a multiple of the divisor (a law of src/laws.rt).
 use Rattle.nc_number.proofs.Remainders.{rest_is_smaller, rest_keeps_sign, rest_of_multiples}
 use Rattle.nc_number.proofs.laws.a_remainder_keeps_the_sign.Goals as goal
 

@@ -1,4 +1,5 @@
--- No file of the shelf in memory so far has the name (loop of `find`, src/memory_shelf.rt).
+-- What the files ahead hold under the name is what all files of the shelf in memory hold under it
+-- (loop of `find`, src/memory_shelf.rt).
 use Rattle.std.proofs.Common.{◌≡◌, drop}
 use Rattle.nc_outside.specs.Files.{file_named}
 use Rattle.nc_outside.specs.Kept.{files_of}

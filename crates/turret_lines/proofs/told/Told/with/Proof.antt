@@ -43,19 +43,25 @@ stayed = (stay_none_ref (0 ∷ []) tt (plain (λ _. told.the_row)) yes, (stay_no
 module _ {M : Type 1} {𝓤 : Ura M} (𝓛 : Logic 𝓤) (mem : Memory → SProp 𝓤) (run : Routine → Fun 𝓤) (C : Calls 𝓤 𝓛.H) (Λ : Loops 𝓤 𝓛.H) where
   open 𝓛 use {H}
 
+  -- its arguments, lent for these lifetimes and shares
   module _ (κs : Lfts 2) (qs : Shares 2) (a : Args f.signature κs) where
+    -- the reference to what the turret got before
     abbrev before : Val
     before = vptr a.0.ref_ptr.0 a.0.ref_ptr.1
 
+    -- the reference to the place or move that it got now
     abbrev named_by : Val
     named_by = vptr a.1.0.ref_ptr.0 a.1.0.ref_ptr.1
 
+    -- the arguments of the call, with both references
     abbrev bound : (walk_of 𝓛 f.ended stayed (f.clauses 𝓛 mem run)).Ghost
     bound = ((κs, qs, tt, a, (before ∷ [], (named_by ∷ [], tt))), tt)
 
+    -- that both are lent to the function
     abbrev passed : Fml
     passed = owns (types_at f.signature.params κs) a (before ∷ [], (named_by ∷ [], tt))
 
+    -- the walk through the code: it makes the value without bytes, at the list with one thing more
     walk : ent 𝓤 (on_entry 𝓛 f.signature κs qs a (before ∷ [], (named_by ∷ [], tt)))
         (WpFn 𝓤 H C Λ code.function (before ∷ named_by ∷ []) ((walk_of 𝓛 f.ended stayed (f.clauses 𝓛 mem run)).post bound))
     walk =
