@@ -14,12 +14,19 @@ const MOST_NOTED: usize = 64;
 /// A call of the system.
 #[derive(Clone, Copy, Debug, PartialEq, Eq)]
 pub(crate) enum Call {
+    /// The file is opened to be read and written.
     Open,
+    /// The file is opened to be read alone.
     Look,
+    /// The file is made.
     Make,
+    /// The lock of the file is asked for.
     Hold,
+    /// Bytes are written to the file.
     Write,
+    /// The file is synced.
     Sync,
+    /// The folder is synced.
     Folder,
 }
 
@@ -59,6 +66,7 @@ pub(crate) struct System {
     pub(crate) is_held: bool,
     /// The letters of the calls since they were asked for last.
     noted: [u8; MOST_NOTED],
+    /// How many letters there are.
     count: usize,
 }
 
@@ -149,7 +157,9 @@ pub(crate) struct FakeFolder<'a> {
 /// An open file of the folder, as a program has it.
 #[derive(Drop)]
 pub(crate) struct FakeFile<'a> {
+    /// What the system knows.
     system: &'a Cell<System>,
+    /// Which file it is, whatever has its name now.
     number: u64,
 }
 
@@ -179,14 +189,17 @@ impl<'a> FakeFolder<'a> {
 impl<'a> Folder for FakeFolder<'a> {
     type File = FakeFile<'a>;
 
+    /// Opens the one file, whatever the name.
     fn open(&self, _name: &str) -> io::Result<FakeFile<'a>> {
         self.opened(Call::Open)
     }
 
+    /// Opens the one file to be read alone.
     fn open_to_read(&self, _name: &str) -> io::Result<FakeFile<'a>> {
         self.opened(Call::Look)
     }
 
+    /// Makes the file without a byte, in memory alone.
     fn make(&self, _name: &str) -> io::Result<FakeFile<'a>> {
         let mut system = ask(self.system, Call::Make)?;
         if system.is_there {
@@ -201,6 +214,7 @@ impl<'a> Folder for FakeFolder<'a> {
         })
     }
 
+    /// The number of the file that has the name now.
     fn identity(&self, _name: &str) -> io::Result<Identity> {
         let system = self.system.get();
         if !system.is_there {
@@ -213,6 +227,7 @@ impl<'a> Folder for FakeFolder<'a> {
     }
 
     fn sync(&self) -> io::Result<()> {
+        // The medium has the name of the file as memory has it.
         let mut system = ask(self.system, Call::Folder)?;
         system.is_listed = system.is_there;
         self.system.set(system);
@@ -221,6 +236,7 @@ impl<'a> Folder for FakeFolder<'a> {
 }
 
 impl FileExt for FakeFile<'_> {
+    /// Reads from memory. It is not noted as a call.
     fn read_at(&self, buf: &mut [u8], offset: u64) -> io::Result<usize> {
         let mut system = self.system.get();
         let share = system.share(buf.len());
@@ -229,6 +245,7 @@ impl FileExt for FakeFile<'_> {
         Ok(get(&system.file.memory, at, share?, buf))
     }
 
+    /// Writes into memory, and marks the pages.
     fn write_at(&self, buf: &[u8], offset: u64) -> io::Result<usize> {
         let mut system = ask(self.system, Call::Write)?;
         let share = system.share(buf.len());
@@ -242,10 +259,12 @@ impl FileExt for FakeFile<'_> {
 }
 
 impl RawFile for FakeFile<'_> {
+    /// The number of bytes in memory.
     fn length(&self) -> io::Result<u64> {
         Ok(self.system.get().file.memory.len as u64)
     }
 
+    /// The number that the file had when it was opened.
     fn identity(&self) -> io::Result<Identity> {
         Ok(Identity {
             device: 1,
@@ -253,12 +272,14 @@ impl RawFile for FakeFile<'_> {
         })
     }
 
+    /// False if another program has the lock.
     fn hold(&self) -> io::Result<bool> {
         let system = ask(self.system, Call::Hold)?;
         Ok(!system.is_held)
     }
 
     fn sync(&self) -> io::Result<()> {
+        // A sync that fails takes the marks away too, unless the system does nothing any more.
         let outcome = ask(self.system, Call::Sync);
         let mut system = self.system.get();
         if outcome.is_ok() {

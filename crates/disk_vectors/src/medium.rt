@@ -31,6 +31,7 @@ pub(crate) struct Medium {
     pub(crate) memory: Bytes,
     /// The file as the medium has it.
     pub(crate) stored: Bytes,
+    /// Whether each page was written since the last sync.
     marks: [bool; PAGES],
 }
 

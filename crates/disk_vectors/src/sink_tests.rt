@@ -11,14 +11,17 @@ use std::test::Fail;
 struct Closed;
 
 impl Print for Closed {
+    /// Fails.
     fn print<D: Display + Drop>(&self, _value: D) -> io::Result<()> {
         Err(io::Error::from(ErrorKind::BrokenPipe))
     }
 
+    /// Fails.
     fn println<D: Display + Drop>(&self, _value: D) -> io::Result<()> {
         Err(io::Error::from(ErrorKind::BrokenPipe))
     }
 
+    /// Fails.
     fn write_all(&self, _bytes: &[u8]) -> io::Result<()> {
         Err(io::Error::from(ErrorKind::BrokenPipe))
     }

@@ -15,11 +15,12 @@ ends_put status (Ok x) due is = whole due is.ok
 ends_put status (Err Failed) due is = cut due (is.fault.rose refl) is.err.0 is.err.1
 ends_put status (Err NoMemory) due is = unwritten due is.err.0 is.err.1
 
--- if nothing is due and nothing was written, the call ended without memory
+-- if nothing is due and nothing was written, the call ended with 12, as memory ran out or a thread
+-- was refused
 pub ends_untold : {Due : Answer → Type 0} (sink : SinkState) → Due nothing → Ends Due sink sink 12
 ends_untold sink due = untold due (Appends-nil sink.written)
 
--- if a text is due and nothing was written of it, the call ended without memory
+-- if a text is due and nothing was written of it, the call ended with 12, as memory ran out
 pub ends_unwritten : {Due : Answer → Type 0} (sink : SinkState) (status : ℕ) (text : List ℕ) → Due (tells status text) → Ends Due sink sink 12
 ends_unwritten sink status text due = unwritten due 0 (Appends-nil sink.written)
 

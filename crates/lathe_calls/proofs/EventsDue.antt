@@ -11,7 +11,8 @@ use Rattle.nc_verify.specs.Verdict.{Texts, IsRefusalOf}
 use Rattle.lathe_calls.specs.declared.event.Event.{Event}
 use Rattle.lathe_calls.specs.Order.{AreDue, AreEventsOf, is_order, path_at, ran, refused}
 
--- texts and an order whose bytes name paths, and what came of their verdict
+-- Texts and an order whose bytes name paths, and what came of their verdict. `status_of` and
+-- `list_of` read the status and the events of a record of the code.
 module _ {H E : Type 0} (status_of : H → ℕ) (list_of : H → List Event) (order : List ℕ) (texts : Texts) (ordered : is_order order ≡ true) where
   -- the events of the pair of accepted texts are due
   pub due_of_pair : (result : Result H E) (pair : Verified) → IsPairOf texts pair

@@ -9,7 +9,7 @@ use Rattle.nc_verify.specs.Verdict.{Texts}
 use Rattle.lathe_calls.specs.declared.pair_texts.TheConstants.{LONGEST_SETTINGS}
 use Rattle.lathe_calls.specs.Texts.{are_fit}
 
--- their settings are as short as a verdict asks for
+-- the settings of texts that a call takes are as short as a verdict asks for
 pub settings_fit : (texts : Texts) → are_fit texts ≡ true → length texts.settings < 2 ^ 32
 settings_fit texts fit =
     let tapes = nat_le (length texts.left) LONGEST_TAPE in

@@ -9,11 +9,11 @@ use Rattle.nc_outside.specs.Written.{SinkState, Writes}
 use Rattle.lathe_calls.specs.Statuses as exit
 
 -- what there is to tell: a status and its text; or nothing, if memory ran out before the text was
--- known
+-- known, or, for a run with turrets (lathe_top), a thread was refused
 pub data Answer : Type 0 where
   -- this status and text
   tells : (status : ℕ) (text : List ℕ) → Answer
-  -- no text, since memory ran out
+  -- no text, since memory ran out or a thread was refused
   nothing : Answer
 
 -- just this is to be told
@@ -22,7 +22,7 @@ IsJust due answer = answer ≡ due
 
 -- How a call ends, by what is due. The text is written whole after what was there, and the status
 -- is its own. Or the sink failed after a part of the text, or memory ran out after a part of it. Or
--- memory ran out before there was a text, and nothing was written.
+-- memory ran out or a thread was refused before there was a text, and nothing was written.
 pub data Ends (Due : Answer → Type 0) (old new : SinkState) : ℕ → Type 0 where
   -- the text was written whole
   whole : {status : ℕ} {text : List ℕ} → Due (tells status text) → Writes old new text → Ends Due old new status
@@ -32,7 +32,7 @@ pub data Ends (Due : Answer → Type 0) (old new : SinkState) : ℕ → Type 0 w
   -- memory ran out after the first n bytes
   unwritten : {status : ℕ} {text : List ℕ} → Due (tells status text) → (n : ℕ) → Writes old new (take n text)
       → Ends Due old new exit.no_memory
-  -- memory ran out before there was a text
+  -- memory ran out or a thread was refused before there was a text
   untold : Due nothing → Writes old new [] → Ends Due old new exit.no_memory
 
 -- the status after a text that was put with this result

@@ -21,8 +21,8 @@ use Rattle.lathe_calls.specs.declared.question.Question.{Question}
 use Rattle.lathe_calls.specs.declared.question.Question.TheVariants as ask
 use Rattle.lathe_calls.specs.Said.{IsSaid}
 
--- the records of the run of a pair whose paths take turns: `limit` at most, and no more than the
--- settings allow
+-- the records of the run of a pair whose paths take turns, path 1 and path 2 one after the other
+-- (turn_order): `limit` at most, and no more than the settings allow
 abbrev pub AreRecordsInTurn : ℕ → Verified → List Entry → Type 0
 AreRecordsInTurn limit pair entries = IsInTurn (tapes_in pair) (opening_of pair) (min limit pair.settings.records) entries
 

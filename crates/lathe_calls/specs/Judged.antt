@@ -23,11 +23,11 @@ pub data IsJudged (texts : Texts) : Answer → Type 0 where
   -- memory ran out
   unjudged : IsJudged texts nothing
 
--- an accepted pair is answered by its line
+-- the answer to an accepted pair: status 0 and its line
 abbrev pub IsAcceptance : Answer → Type 0
 IsAcceptance answer = (text : List ℕ) × IsVerdictText None text × (answer ≡ tells exit.done text)
 
--- a refusal is answered by its line; running out of memory by nothing
+-- the answer to a refusal: status 1 and its line; to out of memory: nothing
 abbrev pub IsRefusing : Failing Refusal → Answer → Type 0
 IsRefusing (Fault refusal) answer = (text : List ℕ) × IsVerdictText (Some refusal) text × (answer ≡ tells exit.refused text)
 IsRefusing NoMemory answer = answer ≡ nothing

@@ -1,5 +1,6 @@
 -- The statuses of calls and of the program, as `Status` (src/ending.rt) has them. A new one needs
--- its line there, and in `include/lathe.h` if a call of C can give it.
+-- its line there, and in `include/lathe.h` if a call of C can give it. 12 has a copy in
+-- twin_lathe/src/ending.rt and one in page/judge/worker.js: they change together.
 -- lathe_looks and lathe_top cite them.
 use Rattle.std.specs.Prelude.{ℕ}
 use Rattle.nc_outside.specs.declared.reason.Reason.{Reason}
@@ -52,7 +53,7 @@ stopped = 10
 abbrev pub no_memory : ℕ
 no_memory = 12
 
--- a file is missing or too long
+-- a file is missing, or a file or a text of a call is too long
 abbrev pub no_file : ℕ
 no_file = 13
 

@@ -1,5 +1,5 @@
 -- The trace that is due to three texts.
--- lathe_top takes `IsTraceOf` and `IsTraced`.
+-- Due cites it; lathe_top takes `IsTraceOf` and `IsTraced`.
 use Rattle.std.specs.Prelude.{ℕ, min, List, ◌++◌, Some}
 use Rattle.nc_outside.specs.declared.reason.Reason.{Reason}
 use Rattle.nc_restart.specs.Pair.{IsPairOf, tapes_in, opening_of}

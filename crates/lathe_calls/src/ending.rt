@@ -1,5 +1,6 @@
 //! How a call ends: a text is written, and there is a status. The numbers are those of
-//! specs/Statuses.antt.
+//! specs/Statuses.antt; 12 has copies in twin_lathe/src/ending.rt and page/judge/worker.js, which
+//! change with it.
 //! The modules of this crate that answer, lathe_looks and lathe_top use it.
 ghost use Rattle.std.specs.Prelude.{◌≡◌};
 ghost use Rattle.lathe_calls.specs.Answers.{Ends, IsJust, status_behind, tells};

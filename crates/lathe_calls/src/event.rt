@@ -1,6 +1,7 @@
-//! The events of a run, as C has them: the layout and the numbers are those of `include/lathe.h`,
-//! and change with it. How each event comes of a turn is defined in specs/Events.antt.
-//! lathe_c hands them out.
+//! The events of a run, as C has them: the layout and the numbers are those of `include/lathe.h`
+//! and of examples/simulator.py, and change with them. How each event comes of a turn is defined in
+//! specs/Events.antt, with the numbers once more.
+//! handing.rt, happening.rt, listing.rt and ordering.rt use it, and lathe_c hands the events out.
 ghost use Rattle.std.specs.Prelude.{◌≡◌};
 ghost use Rattle.lathe_calls.specs.Events.{alarm_event, arc_event, bare_event, coded_event, counting_event, flag, move_event, moving_event, placed_event};
 
@@ -49,7 +50,8 @@ pub enum Kind {
 #[repr(C)]
 #[derive(Clone, Copy, Debug, PartialEq, Eq)]
 pub struct Event {
-    /// How many records there are with its own; of a read, how many there are.
+    /// How many records the run has after the turn of the event, with that of the turn; a read
+    /// makes none. 0 where the turret is placed.
     pub records: u32,
     /// The line of the path's tape; 0 where the turret is placed.
     pub line: u32,

@@ -25,7 +25,9 @@ use two_path::{Machine, a_machine_begins_without_waits, histories_are_runs};
 /// Events, and the status that goes with them.
 #[derive(Drop)]
 struct Happened {
+    /// The status.
     status: u8,
+    /// The events, in order.
     list: Vec<Event>,
 }
 

@@ -1,11 +1,13 @@
 //! The three texts of a pair, as a caller lends them, and whether a call takes them.
-//! lathe_c and lathe_looks use it, and clauses of lathe_top the bound of the settings.
+//! The modules that answer, lathe_c and lathe_looks use it, and clauses of lathe_top the bound of
+//! the settings.
 ghost use Rattle.std.specs.Prelude.{◌≡◌};
 ghost use Rattle.lathe_calls.specs.Texts.{are_fit, texts_of, three_texts};
 
 use nc_number::LONGEST_TAPE;
 
-/// How many bytes the settings of a cell may have at most.
+/// How many bytes the settings of a cell may have at most. lathe_looks bounds the files of `zones`
+/// and `edit` by it too; race_vectors has a copy in src/listing.rt.
 pub const LONGEST_SETTINGS: usize = 65_536;
 
 /// The texts of a call: the tape of path 1, that of path 2, and the settings of the cell.

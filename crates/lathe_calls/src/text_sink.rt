@@ -10,6 +10,7 @@ use std::marker::Model;
 /// A text in memory. It fails only if memory runs out.
 #[derive(Drop)]
 pub(crate) struct TextSink {
+    /// The bytes of the text.
     bytes: Vec<u8>,
 }
 
@@ -42,10 +43,12 @@ impl TextSink {
 impl Sink for TextSink {
     ghost state = { written };
 
+    /// Always 0: out of memory is no fault that is counted.
     fn faults(&self) -> u64 {
         0
     }
 
+    /// Appends the whole piece, or nothing if memory runs out.
     fn put(&mut self, piece: &[u8]) -> Result<(), PutFault>
         ensures never { result ≢ Err PutFault.Failed }
         ensures new { self.new ≡ (if is_ok result then self.old ++ piece.now else self.old) }

@@ -48,7 +48,7 @@ pub caused : (old new : ShelfState) (file : Named) (fault : FileFault) (error : 
 caused old new file fault (Fault unfetched) cause is = (is.0, subst (λ f. FileCause old new file f) (sym is.1) cause)
 caused old new file fault NoMemory cause is = tt
 
--- If the first file can't be read, it is the list's.
+-- If the first file can't be read, or memory ran out at it, that is why the list has no texts.
 pub first_not_had : (old new : ShelfState) (one : Named) (files : List Named) (error : Failing Unfetched)
     → AreAsked old.asked new.asked (one ∷ []) → IfFault error (λ missing. (file_of missing ≡ one) × FileCause old new one missing.fault)
     → IsUnfetched old new (one ∷ files) error
@@ -60,7 +60,8 @@ first_not_had old new one files (Fault missing) asked is = record {
 }
 first_not_had old new one files NoMemory asked is = (1, asked)
 
--- If the first file has a text and the second can't be read, that is the list's.
+-- If the first file has a text, and the second can't be read or memory ran out at it, that is why
+-- the list of both has no texts.
 pub second_not_had : (old middle new : ShelfState) (one two : Named) (text : List ℕ) (error : Failing Unfetched)
     → IsText old.files one text → HoldsOn old middle → old.faults ≤ middle.faults → AreAsked old.asked middle.asked (one ∷ [])
     → AreAsked middle.asked new.asked (two ∷ [])
@@ -76,7 +77,8 @@ second_not_had old middle new one two text (Fault missing) is_text same later fi
 second_not_had old middle new one two text NoMemory is_text same later first second is =
     (2, asked_more old.asked middle.asked new.asked (one ∷ []) (two ∷ []) first second)
 
--- If the first two files have texts and the third can't be read, that is the list's.
+-- If the first two files have texts, and the third can't be read or memory ran out at it, that is
+-- why the list of the three has no texts.
 pub third_not_had : (old middle new : ShelfState) (one two three : Named) (a b : List ℕ) (error : Failing Unfetched)
     → AreHad old middle (one ∷ two ∷ []) (a ∷ b ∷ []) → HoldsOn old middle → old.faults ≤ middle.faults
     → AreAsked middle.asked new.asked (three ∷ [])
@@ -92,8 +94,8 @@ third_not_had old middle new one two three a b (Fault missing) had same later la
 third_not_had old middle new one two three a b NoMemory had same later last is =
     (3, asked_more old.asked middle.asked new.asked (one ∷ two ∷ []) (three ∷ []) had.asked last)
 
--- If one of the tapes can't be read, that is the answer for the tapes and settings, and the
--- settings were not asked for.
+-- If one of the tapes can't be read, or memory ran out at one, that is why the tapes and settings
+-- have no texts, and the settings were not asked for.
 pub tapes_not_had : (old new : ShelfState) (one two three : Named) (error : Failing Unfetched) → IsUnfetched old new (one ∷ two ∷ []) error
     → IsUnfetched old new (one ∷ two ∷ three ∷ []) error
 tapes_not_had old new one two three (Fault missing) is = go is.before is.reached is.asked
@@ -116,8 +118,8 @@ pub tape_had : (old new : ShelfState) (one : Named) (text : List ℕ) → IsText
     → AreHad old new (one ∷ []) (text ∷ [])
 tape_had old new one text is asked = record { each = (is, tt); asked = asked }
 
--- Two files that have texts are a list that has texts. Between the two calls the shelf had these
--- files, and was asked for these names.
+-- Two files that have texts are a list that has texts. Between the two calls the shelf had the
+-- files `told`, and had been asked for `names`.
 pub tapes_had : (old new : ShelfState) (told : Option Files) (names : Option (List (List ℕ))) (one two : Named) (a b : List ℕ)
     → IsText old.files one a → told ≡ old.files → AreAsked old.asked names (one ∷ []) → IsText told two b
     → AreAsked names new.asked (two ∷ []) → AreHad old new (one ∷ two ∷ []) (a ∷ b ∷ [])
@@ -178,7 +180,7 @@ lacks_no_more files name most lacks more =
     let P : Option (List ℕ) → Type 0 = λ v. IsSomeAnd v (λ bytes. most < length bytes) in
     let none : P None = subst P lacks more in none
 
--- If the shelf did not fail, a file is unreadable for one cause.
+-- If the shelf tells its files and did not fail, a file is unreadable for at most one cause.
 pub fault_once : (files : Files) (old new : ShelfState) (file : Named) (fault other : FileFault) → old.files ≡ Some files
     → (Rose old.faults new.faults → ⊥) → FileCause old new file fault → FileCause old new file other → fault ≡ other
 fault_once files old new file fault other told calm (failed rose) cause = absurd (calm rose)
@@ -191,7 +193,7 @@ fault_once files old new file fault other told calm (too_long more) (absent lack
     (subst (λ v. Lacks v file.name) told lacks) (subst (λ v. HoldsMore v file.name (most_bytes file.file)) told more))
 fault_once files old new file fault other told calm (too_long more) (too_long too) = refl
 
--- If the shelf did not fail, one file is the first that can't be read.
+-- If the shelf tells its files and did not fail, at most one file is the first that can't be read.
 pub missing_once : (files : Files) (old new : ShelfState) (list : List Named) (file other : Named) (fault fault' : FileFault) (n m : ℕ)
     → old.files ≡ Some files → (Rose old.faults new.faults → ⊥) → Reaches old.files file list n → Reaches old.files other list m
     → FileCause old new file fault → FileCause old new other fault' → file ≡ other
@@ -206,7 +208,7 @@ missing_once files old new (first ∷ list) file other fault fault' (suc n) zero
 missing_once files old new (first ∷ list) file other fault fault' (suc n) (suc m) told calm a b c d =
     missing_once files old new list file other fault fault' n m told calm a.1 b.1 c d
 
--- A list of files has one list of texts.
+-- The files of a list have at most one list of texts.
 pub texts_once : (files : Files) (list : List Named) (a b : List (List ℕ)) → AreTexts (Some files) list a → AreTexts (Some files) list b → a ≡ b
 texts_once files [] [] [] f g = refl
 texts_once files [] (x ∷ a) b f g = absurd f

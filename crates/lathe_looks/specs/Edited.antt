@@ -11,7 +11,7 @@ use Rattle.lathe_looks.specs.Fetched.{AreHad}
 use Rattle.lathe_looks.specs.Named.{alone, edits_named}
 
 -- The line of output for a text of edits whose line `line` is refused, as `refused 91 BadEdit line
--- 2`.
+-- 2`. The number and the name are those of edit_texts (specs/Faults), and change with them.
 unfoldable pub bad_edit_text : ℕ → List ℕ
 bad_edit_text line = codes "refused 91 " ++ (codes "BadEdit line " ++ (decimal line ++ codes "\n"))
 

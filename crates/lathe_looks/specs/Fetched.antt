@@ -32,14 +32,14 @@ pub data FileCause (old new : ShelfState) (file : Named) : FileFault → Type 0 
   -- Its file of the name has more bytes than the kind may have.
   too_long : HoldsMore old.files file.name (most_bytes file.file) → FileCause old new file TooLong
 
--- The file comes after n of the list, and the shelf has a text of each of these.
+-- The file comes after n of the list, and the shelf has a text of each of those n.
 abbrev pub Reaches : Option Files → Named → List Named → ℕ → Type 0
 Reaches told file [] n = ⊥
 Reaches told file (first ∷ files) zero = file ≡ first
 Reaches told file (first ∷ files) (suc n) = ((text : List ℕ) × IsText told first text) × Reaches told file files n
 
--- Meanwhile the shelf was asked for these files, in order and each once. A shelf that doesn't tell
--- what it is asked for still doesn't.
+-- Between two moments, by the names that the shelf was asked for until each, it was asked for these
+-- files, in order and each once. A shelf that doesn't tell what it is asked for still doesn't.
 abbrev pub AreAsked : Option (List (List ℕ)) → Option (List (List ℕ)) → List Named → Type 0
 AreAsked None after files = after ≡ None
 AreAsked (Some was) after files = after ≡ Some (was ++ map (λ (file : Named). file.name) files)

@@ -37,7 +37,7 @@ pub fn edits_of_file<H: Shelf, K: Sink>(
 }
 
 /// The edits of a text. If a line is bad, the first such line is written, and the error is the exit
-/// status.
+/// status; if memory ran out, nothing is written.
 fn edits_of_text<K: Sink>(alloc: Global, text: &[u8], out: &mut K) -> Result<EditList, u8>
     requires { length text.now < 2 ^ 32 }
     ensures read { IfOk result (λ edits. edits_of text.now ≡ Ok edits) }
@@ -62,7 +62,8 @@ fn tell_bad_edit<K: Sink>(fault: EditFault, out: &mut K) -> u8
     )
 }
 
-/// The line `refused 91 ..` for this line of the text. It takes no memory.
+/// The line `refused 91 ..` for this line of the text. It takes no memory. The number and the name
+/// are those of `EditFault` (edit_texts), and change with them.
 #[tactic(auto, unfolding(crate::specs::Edited::bad_edit_text))]
 fn bad_edit_line(line: u32) -> Piece
     ensures { result ≡ bad_edit_text line }

@@ -18,7 +18,8 @@ use tape_expand::{ExpandFault, expand_tape};
 use text_pieces::{push_bytes, push_numbered};
 
 /// Writes the tape with its roughing cycles as plain blocks, and gives the exit status: 0; 1 if the
-/// tape is refused; or that of a file that can't be read.
+/// tape is refused; that of a file that can't be read; 5 if the sink failed; or 12 if memory ran
+/// out.
 pub fn expand<H: Shelf, K: Sink>(alloc: Global, name: &str, shelf: &mut H, out: &mut K) -> u8
     ensures { Ends (IsOfFiles alone (tape_named name.now) (Unit {0}) IsExpanded (H.state shelf.old) (H.state shelf.new))
         (K.state out.old) (K.state out.new) result }

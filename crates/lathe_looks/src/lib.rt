@@ -3,9 +3,10 @@
 //!
 //! [`ask`] answers a question of crate `lathe_calls` over three files: `verify`, `waits`, `races`
 //! and `trace`. [`expand`] writes a tape with its roughing cycles as plain blocks. [`show`] writes
-//! a text of the run whose journal the disk has. No function here starts a thread or waits: each
-//! call returns. What running a pair has in common with looking stands here too: the texts of
-//! files, and why there is no run to go on with. lathe_top leans on this.
+//! a text of the run whose journal the disk has, [`show_zones`] its zones by a file that
+//! [`zones_of_file`] reads; [`edits_of_file`] reads the file of `edit`. No function here starts a
+//! thread or waits: each call returns. What running a pair has in common with looking stands here
+//! too: the texts of files, and why there is no run to go on with. lathe_top leans on this.
 #![tactic(auto)]
 
 mod asking;

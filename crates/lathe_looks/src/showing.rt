@@ -1,6 +1,6 @@
 //! The commands that show the run whose journal is on the disk: `moves` and `state`. They write
 //! nothing to the disk. The zones of a run are in zoning.rt.
-//! lathe_top calls `show`.
+//! lathe_top calls `show`, and answers `edit` by a `Shown` too.
 ghost use Rattle.nc_restart.specs.Recovered.{IsRecovered};
 ghost use Rattle.nc_verify.specs.Printed.{IsPut};
 ghost use Rattle.lathe_calls.specs.Answers.{Ends};
@@ -24,7 +24,8 @@ pub enum Showing {
     State,
 }
 
-/// The exit status of a command that only looks, and the disk that was handed in.
+/// The exit status of a command over a disk, and the disk that was handed in: what `show` and
+/// `show_zones` give, and in lathe_top the making of edits.
 #[derive(Drop)]
 pub struct Shown<D: Disk> {
     /// The exit status.

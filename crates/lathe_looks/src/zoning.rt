@@ -45,7 +45,7 @@ pub fn zones_of_file<H: Shelf, K: Sink>(
 }
 
 /// The zones of a text. If a line is bad, the first such line is written, and the error is the exit
-/// status.
+/// status; if memory ran out, nothing is written.
 fn zones_of_text<K: Sink>(alloc: Global, text: &[u8], out: &mut K) -> Result<Zones, u8>
     requires { length text.now < 2 ^ 32 }
     ensures read { IfOk result (λ zones. zones_of text.now ≡ Ok zones) }
@@ -70,7 +70,8 @@ fn tell_bad_zone<K: Sink>(fault: ZoneFault, out: &mut K) -> u8
     )
 }
 
-/// The line `refused 92 ..` for this line of the text. It takes no memory.
+/// The line `refused 92 ..` for this line of the text. It takes no memory. The number and the name
+/// are those of `ZoneFault` (zone_cell), and change with them.
 #[tactic(auto, unfolding(crate::specs::Zoned::bad_zone_text))]
 fn bad_zone_line(line: u32) -> Piece
     ensures { result ≡ bad_zone_text line }

@@ -21,8 +21,8 @@ abbrev pub HasStatus : ℕ → Answer → Type 0
 HasStatus wanted nothing = Unit {0}
 HasStatus wanted (tells status text) = status ≡ wanted
 
--- if all answers that are due have one status, the call ended with it, or with that of what went
--- wrong at the sink
+-- if all answers that are due have one status or are nothing, the call ended with that status, or
+-- with 5 or 12 as the sink failed, memory ran out or a thread was refused
 pub ends_or : {Due : Answer → Type 0} {old new : SinkState} (status : ℕ) (result : ℕ)
     → ((answer : Answer) → Due answer → HasStatus status answer) → Ends Due old new result → IsOr old new status result
 ends_or {Due} {old} {new} status result only (whole {status = s} {text = t} due written) =

@@ -26,11 +26,12 @@ abbrev told_by : ℕ → Result ℕ BranchFault → Answer
 told_by n (Ok k) = tells exit.done (branched_text n k)
 told_by n (Err f) = unbranched f
 
--- a number that is not below another is as great
+-- a number that is not below another is at least as great
 no_less : (a b : ℕ) → (a < b → ⊥) → b ≤ a
 no_less a b never = let more : b < suc a = lt_of_not-le never in omega (arith, more)
 
--- A run was found on the first disk, and the second disk was handed over for its branch.
+-- A run was found on the first disk, and the second disk was handed over for its branch. `a` is the
+-- first disk before the call; `onto` and `left` are the second disk before and after the branch.
 module _ {D E : Type 0} (state : D → DiskState) (second : E → DiskState) (never_bad : NeverBad) (a : DiskState) (header : Header) (pair : Verified)
     (machine : MachineView) (entries : List Entry) (log : Log D) (is : IsRecovered state header pair machine entries log)
     (recovers : Recovers a (state log.file.disk) (Ok (record { header = header; entries = entries }))) (n : ℕ) (onto left : E) where

@@ -1,5 +1,6 @@
--- If the outside makes known what it holds and did not fail, one status and one text are due. A new
--- command needs its line here.
+-- If the outside makes known what it holds and did not fail, one status and one text are due: two
+-- answers that are due agree (Agreed; `nothing` agrees with each). A new command needs its line
+-- here. Laws of crates below are defined here by name, so that lemmas can take them as premises.
 -- StopsLeave and the proof of `top` (src/control.rt) use it.
 use Rattle.std.proofs.Common.{◌≡◌, ◌⊎◌, inl, inr, ⊎_elim, ℕ, ◌+◌, ◌++◌, Option, Some, None, List, ◌∷◌, [], length, map, take, refl, sym, ap, subst, arith, ◌∙◌, Err}
 use Rattle.std.specs.Prelude.{codes}
@@ -104,24 +105,27 @@ use Rattle.lathe_top.proofs.RunsFound.{least_is}
 use Rattle.lathe_top.proofs.OneMeeting.{one_text}
 use Rattle.lathe_top.proofs.OneRaces.{races_of_once, same_races}
 
--- no three texts are both accepted and refused
+-- the law that no three texts are both accepted and refused
 abbrev pub NotBoth : Type 0
 NotBoth = (texts : Texts) (cell : Cell) (left right : List ProgramForm) (refusal : Refusal) → AreAccepted texts cell left right
     → IsRefusalOf texts refusal → ⊥
 
--- an image stands for one thing
+-- the law that an image has at most one meaning as the journal of an accepted pair: no run, a run,
+-- a journal that is cut short, or a bad one
 abbrev pub OneRun : Type 0
 OneRun = (image : List ℕ) (a b : Meaning) → StandsForRun a image → StandsForRun b image → a ≡ b
 
--- an image has one meaning: no run, a run, a journal that is cut short, or a bad one
+-- the law that an image has at most one meaning as a journal, whatever its texts and records are:
+-- no run, a run, a journal that is cut short, or a bad one
 abbrev pub OneJournal : Type 0
 OneJournal = (image : List ℕ) (a b : Meaning) → StandsFor a image → StandsFor b image → a ≡ b
 
--- texts that are accepted have one machine
+-- the law that two pairs of the same texts are the same pair: in their machine at its start, their
+-- blocks, what their tapes say, and how many records they allow
 abbrev pub OneMachine : Type 0
 OneMachine = (texts : Texts) (pair other : Verified) → IsPairOf texts pair → IsPairOf texts other → IsSamePair pair other
 
--- texts that are refused have one refusal
+-- the law that texts that are refused have one refusal
 abbrev pub OneRefusal : Type 0
 OneRefusal = (texts : Texts) (refusal other : Refusal) → IsRefusalOf texts refusal → IsRefusalOf texts other → refusal ≡ other
 
@@ -159,16 +163,16 @@ same_texts texts others same =
     let right : texts.right ≡ others.right = cc in
     let settings : texts.settings ≡ others.settings = cc in λ i. record { left = left i; right = right i; settings = settings i }
 
--- one run of a pair takes turns
+-- the law that from an opening there is one list of records in turn, for each limit
 abbrev pub OneInTurn : Type 0
 OneInTurn = (tapes : Tapes) (first second : PathView) (limit : ℕ) (one two : List Entry) → IsInTurn tapes (opening first second) limit one
     → IsInTurn tapes (opening first second) limit two → one ≡ two
 
--- no pair is both accepted for its waits and refused
+-- the law that no pair is both accepted for its waits and refused
 abbrev pub WaitsApart : Type 0
 WaitsApart = (asked : Asked) (judged : Judged) (refusal : Refusal) → waits.AreAccepted asked judged → waits.IsRefusalOf asked refusal → ⊥
 
--- texts that `waits` refuses have one refusal
+-- the law that texts that `waits` refuses have one refusal
 abbrev pub OneWaitRefusal : Type 0
 OneWaitRefusal = (asked : Asked) (refusal other : Refusal) → waits.IsRefusalOf asked refusal → waits.IsRefusalOf asked other → refusal ≡ other
 
@@ -232,7 +236,8 @@ races_once law once machine texts a b (due.refused {refusal} {text} denied v) (d
 races_once law once machine texts a b (due.refused denied v) due.unjudged = tt
 races_once law once machine texts a b due.unjudged other = tt
 
--- what follows of files that are had, whose texts are told by their list
+-- One answer is due to a command of files: if one answer is due to the texts, if texts that are
+-- listed alike are the same, and if the shelf tells its files and did not fail.
 files_once : {A : Type 0} (list_of : A → List (List ℕ)) → ((texts others : A) → list_of texts ≡ list_of others → texts ≡ others)
     → (told : Files) (files : List Named) (Rests : Type 0) (IsAnswer : A → Answer → Type 0) (old new : ShelfState) → old.files ≡ Some told
     → (Rose old.faults new.faults → ⊥) → ((texts : A) (a b : Answer) → IsAnswer texts a → IsAnswer texts b → Agree a b)
@@ -285,7 +290,8 @@ all_left header history c stands =
     let all : stands.0 ≡ length history = omega (arith, stands.1, stands.2) in
     subst (λ (l : List Entry). Stands header l c) (ap (λ n. take n history) all ∙ take-length history) stands.3
 
--- a text of a history depends only on the machine of its pair, and on what its tapes say
+-- the text of a history is the same for pairs that are the same (`IsSamePair`), whatever the reason
+-- for which the run ended
 abbrev pub HangsOnPair : TextOf → Type 0
 HangsOnPair text_of = (pair other : Verified) → IsSamePair pair other → (entries : List Entry) (reason : Reason)
     → text_of pair entries reason ≡ text_of other entries reason
@@ -335,11 +341,11 @@ shown_hangs Moves pair other same entries =
     λ i. report_text (same.tapes i) (same.opening i) entries (reason_of (fold (same.tapes i) (same.opening i) entries))
 shown_hangs State pair other same entries = λ i. state_text (same.tapes i) (fold (same.tapes i) (same.opening i) entries)
 
--- a text that is shown of a history depends only on its pair's texts
+-- the text that is shown of a history is the same for pairs that are the same (`IsSamePair`)
 abbrev pub ShownHangs : (Verified → List Entry → List ℕ) → Type 0
 ShownHangs text_of = (pair other : Verified) → IsSamePair pair other → (entries : List Entry) → text_of pair entries ≡ text_of other entries
 
--- the header and the records of a run
+-- the header of a journal that stands for a run; of others the one that is given
 abbrev pub header_in : Header → Meaning → Header
 header_in other no_run = other
 header_in other (cut_at at) = other
@@ -353,7 +359,7 @@ entries_in others (cut_at at) = others
 entries_in others (bad_at offset cause) = others
 entries_in others (a_run header entries) = entries
 
--- the offset at which a journal is bad
+-- the offset at which a journal is cut short or bad; 0 of others
 abbrev offset_in : Meaning → ℕ
 offset_in no_run = 0
 offset_in (cut_at at) = at

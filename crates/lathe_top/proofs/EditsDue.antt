@@ -29,12 +29,14 @@ use Rattle.lathe_top.specs.Kept.{Editing, RestsWhole}
 use Rattle.lathe_top.specs.Lathe.{LatheState}
 use Rattle.lathe_top.proofs.Agreed.{Agree, agree_nothing}
 
--- what is told of a text that gives no edits is due to `edit`
+-- what is told of a text that gives no edits is due to `edit`, if neither the disk nor a turret was
+-- called
 unedited_text : (old new : LatheState) (text : List ℕ) (answer : Answer) → IsUnedited text answer → RestsWhole old new → IsEdited old new text answer
 unedited_text old new text answer (looked.bad_edits is) rests = bad_edits is rests
 unedited_text old new text answer looked.unread_edits rests = unread_edits rests
 
--- what is told of a file that gives no edits is due to `edit`
+-- what is told of a file that gives no edits is due to `edit`, if neither the disk nor a turret was
+-- called
 pub unedited_due : (name : List ℕ) (shelf shelf' : ShelfState) (old new : LatheState) (answer : Answer)
     → IsOfFiles alone (edits_named name) (Unit {0}) IsUnedited shelf shelf' answer → RestsWhole old new
     → IsOfFiles alone (edits_named name) (RestsWhole old new) (IsEdited old new) shelf shelf' answer
@@ -48,13 +50,14 @@ told_by report count (Some alarm) many = tells exit.alarm (report alarm)
 told_by report count None true = tells exit.full (codes "full\n")
 told_by report count None false = tells exit.done (edited_text count)
 
--- what is told of edits in a run, unless the disk fails
+-- what is told of edits in a run, unless the disk fails or memory runs out
 abbrev told_in : Tapes → MachineView → ℕ → List Entry → List PathEdit → Answer
 told_in tapes opening records found edits =
     told_by (λ alarm. report_text tapes opening found (Reason.Alarm alarm)) (length edits) (fold tapes opening found).alarm
     (nat_lt records (length found + length edits))
 
--- what is due to edits that can be written: an alarm, a full journal, or that they are made
+-- what is told of an editing, unless the disk fails or memory runs out: an alarm, a full journal,
+-- or that the edits are made
 abbrev told_of : Editing → Answer
 told_of e = told_in (tapes_in e.pair) (opening_of e.pair) e.pair.settings.records e.found e.edits
 
@@ -67,7 +70,7 @@ by_alarm e alarm many is so =
 
 -- edits of a run, over a disk before and after them
 module _ (e : Editing) (old new : DiskState) where
-  -- the answer to edits is what is due to them, or nothing
+  -- if the disk did not fail, the answer to edits is `told_of` them, or nothing
   pub one_told : (Rose old.faults new.faults → ⊥) → (a : Answer) → IsEditOf e old new a → (a ≡ nothing) ⊎ (a ≡ told_of e)
   one_told calm a (alarmed {alarm} is only) = inr (sym (by_alarm e (Some alarm) _ is refl))
   one_told calm a (full none more only) =

@@ -40,7 +40,7 @@ pub none_of : {A : Type 0} (o : Option A) → is_some o ≡ false → o ≡ None
 none_of None none = refl
 none_of (Some x) some = absurd cc
 
--- A run was found on the disk, and these edits are asked for.
+-- A run was found on the disk, and these edits are asked for. `a` is the disk before the call.
 module _ {D : Type 0} (state : D → DiskState) (coherent : (disk : D) → IsCoherent (state disk)) (a : DiskState) (header : Header) (pair : Verified)
     (machine : MachineView) (entries : List Entry) (log : Log D) (edits : List PathEdit)
     (is : IsRecovered state header pair machine entries log)

@@ -1,5 +1,6 @@
 -- A fault of the disk goes before one of a turret, and that before all other causes, whatever the
--- outside makes known. A new command needs its line here.
+-- outside makes known. An answer of which nothing is told has any status here (`HasStatus`). A new
+-- command needs its line here.
 -- For the proof of `top` (src/control.rt).
 use Rattle.std.proofs.Common.{◌≡◌, ℕ, ◌<◌, List, Some, refl, ap, arith, Err}
 use Rattle.nc_outside.specs.Received.{TurretState}

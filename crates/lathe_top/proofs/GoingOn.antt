@@ -45,7 +45,7 @@ use Rattle.lathe_top.specs.Turrets.{due_to, AreServed, AreMissed, GetTheirs, IsE
 use Rattle.lathe_top.specs.Kept.{end_of}
 use Rattle.lathe_top.specs.Going.{KeepsGoing}
 
--- a journal of these records is small
+-- the law that a journal ends no further on than its header and its records with their gates reach
 abbrev pub AreSmall : {D : Type 0} → (D → DiskState) → Type 0
 AreSmall {D} state = (disk : D) (header : Header) (version : Version) (entries : List Entry) (end : ℕ) → Holds header version entries (state disk) end
     → end ≤ 13 + length (header_bytes header) + length (records_bytes entries) + 6 * length entries
@@ -83,7 +83,9 @@ sent_within : (live : Bool) (flushed all : ℕ) → flushed ≤ all → (if live
 sent_within true flushed all within = within
 sent_within false flushed all within = omega arith
 
--- a table that was run for so many records at most, and what has come of it
+-- A table that was run for so many records at most, and what has come of it: the table `old` before
+-- and `new` after, with the turrets before and after and how many moves each missed. It was not
+-- over, and at most 64 records wait to be flushed.
 module _ {D : Type 0} (state : D → DiskState) (small : AreSmall state) (limit : ℕ) (old new : TableView D) (may : MayRun old)
     (behind : old.machine ≡ machine_behind old.verified old.recording.history) (unended : is_over old.machine ≡ false)
     (since : Since state (record old { budget = limit }) new)

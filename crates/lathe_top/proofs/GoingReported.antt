@@ -44,7 +44,7 @@ pub told_same : (text_of : TextOf) (pair other : Verified) (items entries : List
     → told_of text_of pair items reason ≡ told_of text_of other entries reason
 told_same text_of pair other items entries reason same are = λ i. told_of text_of (same i) (are i) reason
 
--- a run with turrets of the old table that came to the new one
+-- a run with turrets of the table `old`, which was not over, that came to the table `new`
 module _ {D : Type 0} (state : D → DiskState) (coherent : (disk : D) → IsCoherent (state disk)) (small : AreSmall state) (limit : ℕ)
     (old new : TableView D) (may : MayRun old)
     (behind : old.machine ≡ machine_behind old.verified old.recording.history) (unended : is_over old.machine ≡ false)

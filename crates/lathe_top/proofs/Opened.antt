@@ -24,7 +24,9 @@ use Rattle.lathe_top.specs.Turrets.{IsEnding, IsUnprepared}
 use Rattle.lathe_top.specs.Kept.{Opening, anew, again, opening_calls, IsOfOpening, end_of, KeepsSession, RestsWhole}
 use Rattle.lathe_top.specs.Going.{Standing, session_to, KeepsGoing}
 
--- an opening, in which no call failed and no turret was called, and a run after it
+-- An opening, in which no call failed and no turret was called, and a run after it. `a` is the disk
+-- before the call, `b` after the opening; `before` are the turrets before, and `c` is what the run
+-- leaves.
 module _ (limit : ℕ) (s : Session) (a b : DiskState) (before : Both TurretState) (c : LatheState) (opened : b.faults ≡ a.faults) where
   -- what did not fail since the opening did not fail since the call began
   calm_since : NoneFailed (lathe_with b before) c → NoneFailed (lathe_with a before) c
@@ -54,7 +56,8 @@ ending_since limit s a b before c reason least opened ends = record {
 no_fewer : (found history : List Entry) → take (length found) history ≡ found → length found ≤ length history
 no_fewer found history begins = omega (arith, ap length begins, length-take (length found) history)
 
--- an opening that makes so many calls and leaves an image of its kind, before a run that goes on
+-- An opening that makes so many calls and leaves an image of its kind, before a run that goes on.
+-- `a` is the disk before the call, `begun` after the opening, and `c` at the end.
 module _ {D : Type 0} (state : D → DiskState) (opening : Opening) (s : Session) (least calls end : ℕ) (a : DiskState) (begun : D) (c : DiskState)
     (uses : Uses calls end a (state begun))
     (moments : (bytes : List ℕ) → Reads a bytes → LeavesOnly (IsOfOpening opening s a.image) a (state begun))
@@ -73,7 +76,7 @@ module _ {D : Type 0} (state : D → DiskState) (opening : Opening) (s : Session
     later = omega (arith, later, keeps.later);
   }
 
--- no history of a pair is stuck
+-- the law that no history of a pair is stuck
 abbrev pub NoneIsStuck : Type 0
 NoneIsStuck = (texts : Texts) (pair : Verified) (entries : List Entry) → IsPairOf texts pair → IsHistory pair entries
     → IsFree (tapes_in pair) (machine_behind pair entries)

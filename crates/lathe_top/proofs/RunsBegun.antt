@@ -53,7 +53,8 @@ of_begun Of header pair t begun there =
     subst (λ (l : List Entry). Of (standing header pair l)) begun.history
     (subst (λ (p : Verified). Of (standing header p t.recording.history)) begun.pair there)
 
--- a journal was begun on the disk, for a pair that is accepted
+-- A journal was begun on the disk, for a pair that is accepted. `a` is the disk before the call and
+-- `begun` after the beginning; `before` are the turrets before, and `c` is what the run leaves.
 module _ {A D : Type 0} (state : D → DiskState) (law : NoneIsStuck) (limit : ℕ) (header : Header) (pair : Verified) (a : DiskState) (begun : D)
     (before : Both TurretState) (c : LatheState) (answer : A) (begins : BeginsRun {A = A} header a (state begun) (Ok answer))
     (accepted : IsPairOf (texts_of header) pair) (version : header.version ≡ Two) where

@@ -32,7 +32,8 @@ use Rattle.lathe_top.specs.Session.{Session, GoesOn, IsLeast, EndsBy, over}
 use Rattle.lathe_top.specs.Turrets.{IsEnding}
 use Rattle.lathe_top.proofs.Opened.{NoneIsStuck, found_keeps, ending_since, is_session, unprepared_since}
 
--- a run was found on the disk, and its pair is accepted
+-- A run was found on the disk, and its pair is accepted. `a` is the disk before the call and
+-- `begun` after the recovery; `before` are the turrets before, and `c` is what the run leaves.
 module _ {D : Type 0} (state : D → DiskState) (law : NoneIsStuck) (limit : ℕ) (found : FoundRun) (pair : Verified) (a : DiskState) (begun : D)
     (before : Both TurretState) (c : LatheState) (recovers : Recovers a (state begun) (Ok found)) (accepted : IsPairOf (texts_of found.header) pair) where
   -- what is told of the run that goes on after the recovery is what `resume` answers
@@ -67,7 +68,7 @@ pub none_or_alarm : (alarm : Option Alarm) → IsNoneOrAlarm (reason_in alarm)
 none_or_alarm None = tt
 none_or_alarm (Some alarm) = tt
 
--- a disk that holds these records in a journal leaves them at a crash
+-- the law that a disk that holds these records in a journal leaves all of them at a crash
 abbrev pub LeavesRecords : {D : Type 0} → (D → DiskState) → Type 0
 LeavesRecords {D} state = (disk : D) (header : Header) (version : Version) (entries : List Entry) (end : ℕ) → Holds header version entries (state disk) end
     → (c : List ℕ) → (state disk).image c → Stands header entries c

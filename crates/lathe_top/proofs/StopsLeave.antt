@@ -27,7 +27,7 @@ use Rattle.lathe_top.specs.Kept.{Editing, HasAllOrNone, HasEdits, IsEditing, his
 use Rattle.lathe_top.specs.Stops.{GoesOnAs, IsNoneOrRun, lathe_before, lathe_behind, StoppedCall, AreStopped, images_of, BecomeOneHistory}
 use Rattle.lathe_top.proofs.DueOnce.{OneRun, header_in, entries_in}
 
--- an image that stands for a prefix of a history stands for a run with these records
+-- the law that an image that stands for a prefix of a history stands for a run with these records
 abbrev pub NeverBad : Type 0
 NeverBad = (header : Header) (history : List Entry) (kept : ℕ) (image : List ℕ) → HasHistory header history
     → Stands header (take kept history) image → StandsForRun (a_run header (take kept history)) image

@@ -93,7 +93,7 @@ told_on old new what calls settles adds was is =
     let more : Adds (Some was) new.received what calls settles = subst (λ (r : Option Received). Adds r new.received what calls settles) is adds in
     (_, more, refl)
 
--- what a turret got, if it makes that known
+-- what a turret got, or an empty list if it does not make that known
 got_of : Option Received → List Got
 got_of (Some received) = received.got
 got_of None = []
@@ -148,7 +148,7 @@ no_high n low high (inr (inl is)) = omega (arith, is, low)
 no_high n low high (inr (inr (inl is))) = omega (arith, is, low)
 no_high n low high (inr (inr (inr is))) = omega (arith, is, high)
 
--- the status of an answer, and that of nothing
+-- the status of an answer; of nothing it is 12, as memory ran out or a thread was refused
 abbrev answer_status : Answer → ℕ
 answer_status (tells status text) = status
 answer_status nothing = 12

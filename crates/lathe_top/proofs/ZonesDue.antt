@@ -17,12 +17,14 @@ use Rattle.lathe_top.specs.Kept.{RestsWhole}
 use Rattle.lathe_top.specs.Lathe.{LatheState}
 use Rattle.lathe_top.specs.Zoned.{IsZoned, bad_zones, unread_zones}
 
--- what is told of a text that gives no zones is due to `zones`
+-- what is told of a text that gives no zones is due to `zones`, if neither the disk nor a turret
+-- was called
 unzoned_text : (old new : LatheState) (text : List ℕ) (answer : Answer) → IsUnzoned text answer → RestsWhole old new → IsZoned old new text answer
 unzoned_text old new text answer (looked.bad_zones is) rests = bad_zones is rests
 unzoned_text old new text answer looked.unread_zones rests = unread_zones rests
 
--- what is told of a file that gives no zones is due to `zones`
+-- what is told of a file that gives no zones is due to `zones`, if neither the disk nor a turret
+-- was called
 pub unzoned_due : (name : List ℕ) (shelf shelf' : ShelfState) (old new : LatheState) (answer : Answer)
     → IsOfFiles alone (zones_named name) (Unit {0}) IsUnzoned shelf shelf' answer → RestsWhole old new
     → IsOfFiles alone (zones_named name) (RestsWhole old new) (IsZoned old new) shelf shelf' answer

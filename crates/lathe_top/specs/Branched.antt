@@ -26,7 +26,8 @@ use Rattle.lathe_looks.specs.Shown.{unfound}
 unfoldable pub branched_text : ℕ → ℕ → List ℕ
 branched_text n k = codes "branched " ++ (decimal n ++ (codes " records " ++ (decimal k ++ codes "\n")))
 
--- what is told if a branch is not made, by the cause; nothing if memory runs out
+-- What is told if a branch is not made, by the cause; nothing if memory runs out. The number 95 and
+-- its name stand here and in src/branching.rt, and in no other crate.
 abbrev pub unbranched : BranchFault → Answer
 unbranched fault.NoMeeting = tells exit.refused (codes "refused 95 NoMeeting\n")
 unbranched fault.RunThere = tells exit.run_or_none (codes "run there\n")

@@ -38,9 +38,13 @@ use Rattle.lathe_top.specs.Zoned.{IsZoned}
 -- What the program works on, at one moment: the shelf of the files, the disk of the journal with
 -- the turrets of both paths, the second disk, and the sink of the answer.
 pub record TopState (E : Type 0) : Type 1 where
+  -- the shelf of the files
   pub shelf : ShelfState
+  -- the disk of the journal with the turrets
   pub lathe : LatheState
+  -- the second disk, which a branch is written to, as the code has it
   pub second : E
+  -- the sink of the answer
   pub sink : SinkState
 
 -- what the program works on, from its four parts
@@ -49,8 +53,11 @@ at shelf lathe second sink = record { shelf = shelf; lathe = lathe; second = sec
 
 -- All that is known of a call: its words, and what it works on before and after it.
 pub record Call (E : Type 0) : Type 1 where
+  -- the words, each as its bytes
   pub words : List (List ℕ)
+  -- what it works on, before the call
   pub before : TopState E
+  -- what it works on, after the call
   pub after : TopState E
 
 -- a call, from its words and what it works on before and after
@@ -115,7 +122,8 @@ Performs state second command old new status =
     old.sink new.sink status
 
 -- What there is to tell of a call, and what it did: its words are no command; or there was no
--- memory to read them; or it is what its command does. Only who branches calls the second disk.
+-- memory to read them; or it is what its command does. Only a command that branches calls the
+-- second disk.
 pub data IsDue {D E : Type 0} (state : D → DiskState) (second : E → DiskState) (call : Call E) : Answer → Type 0 where
   -- the words are no command
   usage : command_of call ≡ None → RestsWhole call.before.lathe call.after.lathe → AsksNothing call.before call.after
@@ -134,23 +142,24 @@ pub data IsDue {D E : Type 0} (state : D → DiskState) (second : E → DiskStat
 abbrev pub IsDone : {D E : Type 0} → (D → DiskState) → (E → DiskState) → Call E → ℕ → Type 0
 IsDone state second call status = Ends (IsDue state second call) call.before.sink call.after.sink status
 
--- the call ended with this status; or with a fault of the sink, if one rose; or with out of memory
+-- the call ended with this status; or with a fault of the sink, if one rose; or with 12, as memory
+-- ran out or a thread was refused
 pub data IsOr (old new : SinkState) (status : ℕ) : ℕ → Type 0 where
   -- the status itself
   itself : IsOr old new status status
   -- the sink failed
   sink_failed : Rose old.faults new.faults → IsOr old new status exit.sink_fault
-  -- memory ran out
+  -- memory ran out, or a thread was refused
   memory_wanting : IsOr old new status exit.no_memory
 
 -- the text stands whole after what was there, and the status is its own; or the sink failed after a
--- part of it; or memory ran out after a part
+-- part of it; or memory ran out after a part, or a thread was refused before it
 pub data IsTold (old new : SinkState) (status : ℕ) (text : List ℕ) : ℕ → Type 0 where
   -- the text was written whole
   in_full : Writes old new text → IsTold old new status text status
   -- the sink failed after the first n bytes
   cut_off : Rose old.faults new.faults → (n : ℕ) → Writes old new (take n text) → IsTold old new status text exit.sink_fault
-  -- memory ran out after the first n bytes
+  -- memory ran out after the first n bytes, or a thread was refused and n is 0
   left_off : (n : ℕ) → Writes old new (take n text) → IsTold old new status text exit.no_memory
 
 -- if files are named, the shelf makes known what it holds, and did not fail
@@ -196,7 +205,7 @@ pub record Serves {E : Type 0} (second : E → DiskState) (call : Call E) : Type
 -- The causes of a call have one order, whatever the outside makes known. If the count of faults of
 -- either disk rose, the status is 6. Else, if that of a turret rose, it is 7. If what the command
 -- uses makes known what it holds and did not fail, what is due is told, with its text and its
--- status. Instead of each the sink may have failed, or memory run out.
+-- status. Instead of each the sink may have failed, memory run out, or a thread been refused.
 pub record GetsItsStatus {D E : Type 0} (state : D → DiskState) (second : E → DiskState) (call : Call E) (result : ℕ) : Type 0 where
   -- words that are no command are told so, with status 2
   pub usage : command_of call ≡ None → IsTold call.before.sink call.after.sink exit.usage (codes "usage\n") result

@@ -21,8 +21,11 @@ use Rattle.lathe_top.specs.Turrets.{IsEnding, IsUnprepared}
 
 -- the run that goes on: the header of its journal, its pair, and the records so far
 pub record Standing : Type 0 where
+  -- the header of the journal
   pub header : Header
+  -- the accepted pair of its texts
   pub pair : Verified
+  -- the records so far
   pub found : List Entry
 
 -- the run that goes on, from its three parts
@@ -65,7 +68,8 @@ abbrev pub IsReportOn : {D : Type 0} → (D → DiskState) → ℕ → TextOf �
 IsReportOn state limit text_of table old new before after status = (header : Header) → IsJournaled state header table.recording
     → Ends (IsReport limit text_of (standing header table.verified table.recording.history) old new) before after status
 
--- what is told of a history whose run ended for this reason; nothing if memory runs out
+-- what is told of a history whose run ended for this reason; nothing if the run did not begin, as
+-- memory ran out or a thread was refused
 abbrev pub told_of : TextOf → Verified → List Entry → Result Reason NoMemory → Answer
 told_of text_of pair entries (Ok reason) = tells (reason_status reason) (text_of pair entries reason)
 told_of text_of pair entries (Err none) = nothing

@@ -1,5 +1,5 @@
 -- What the code keeps of the lathe, as clauses see it.
--- For this crate alone: the contracts of the commands in src.
+-- For this crate alone: the contracts of the commands in src, none of which is public.
 use Rattle.disk_model.specs.Device.{DiskState}
 use Rattle.nc_outside.specs.Received.{TurretState}
 use Rattle.nc_number.specs.Both.{both_of}

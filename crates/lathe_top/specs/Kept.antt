@@ -41,8 +41,8 @@ abbrev pub opening_calls : Opening → ℕ
 opening_calls anew = 12
 opening_calls again = 20
 
--- no write of a session ends past this byte: fourteen bytes, the header, and of each record its
--- bytes and six more
+-- the byte past which no write of a session ends: fourteen bytes, the header, and of each record
+-- its bytes and six more
 abbrev pub end_of : Session → ℕ
 end_of s = 14 + length (header_bytes s.header) + length (records_bytes s.history) + 6 * length s.history
 
@@ -82,8 +82,11 @@ IsOpened again s old = (bytes : List ℕ) → Reads old bytes → StandsForRun (
 
 -- the call made no call of the disk
 pub record Untouched (old new : DiskState) : Type 0 where
+  -- nothing was written
   pub unwritten : Unwritten old new
+  -- there was no call, and no write reaches further than before
   pub uses : Uses 0 0 old new
+  -- the count of faults stayed
   pub faults : new.faults ≡ old.faults
 
 -- the call looked for a run on the disk, and wrote nothing
@@ -95,7 +98,9 @@ pub record IsLook (old new : DiskState) : Type 0 where
 
 -- the header of a new journal of these texts: it has them, and version 2
 pub record IsNewHeader (texts : Texts) (header : Header) : Type 0 where
+  -- the header has these texts
   pub same : texts_of header ≡ texts
+  -- the version of the journal is 2
   pub version : header.version ≡ Two
 
 -- a new journal for these texts, which are accepted, was refused
@@ -113,17 +118,23 @@ pub record IsRefusedBeginning (texts : Texts) (fault : GateFault) (old new : Dis
 
 -- neither the disk nor a turret was called, and no move was missed
 pub record RestsWhole (old new : LatheState) : Type 0 where
+  -- the disk was not called
   pub disk : Untouched old.disk new.disk
+  -- no turret was called, and no move was missed
   pub turrets : AreAtRest old new
 
 -- no turret was called, and the call looked for a run at most
 pub record OnlyLooks (old new : LatheState) : Type 0 where
+  -- the disk was not called, or a run was looked for there
   pub disk : Untouched old.disk new.disk ⊎ IsLook old.disk new.disk
+  -- no turret was called, and no move was missed
   pub turrets : AreAtRest old new
 
 -- no turret was called, and a new journal was refused, or not asked for
 pub record OnlyBegins (old new : LatheState) : Type 0 where
+  -- the disk was not called, or a new journal on it was refused
   pub disk : Untouched old.disk new.disk ⊎ ((texts : Texts) × (fault : GateFault) × IsRefusedBeginning texts fault old.disk new.disk)
+  -- no turret was called, and no move was missed
   pub turrets : AreAtRest old new
 
 -- a session of at most so many records
@@ -144,9 +155,13 @@ pub record HasSession {D : Type 0} (state : D → DiskState) (opening : Opening)
 -- An editing of a run: the header of its journal, the pair that its texts are, the records that
 -- were found, and the edits.
 pub record Editing : Type 0 where
+  -- the header of the journal
   pub header : Header
+  -- the accepted pair of its texts
   pub pair : Verified
+  -- the records that were found
   pub found : List Entry
+  -- the edits that are asked for
   pub edits : List PathEdit
 
 -- the records of the edits

@@ -53,7 +53,8 @@ named_by (Some (command.Zones zones)) = zones_named zones
 named_by (Some (command.Edit name)) = edits_named name
 named_by other = []
 
--- what a command of a kind does with the journal of a run, for who locks it
+-- What a command of a kind does with the journal of a run, for whoever locks its file. The second
+-- disk of a branch is not meant.
 abbrev pub journal_for : Kind → Journal
 journal_for rests = journal.None
 journal_for looks = journal.Look

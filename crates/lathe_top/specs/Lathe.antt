@@ -10,8 +10,11 @@ use Rattle.lathe_top.specs.declared.outcome.Outcome.{Outcome}
 -- What a run works on, at one moment: the disk of its journal, and the turrets of both paths; and
 -- how many moves of the call's records that are on the disk each turret has missed.
 pub record LatheState : Type 1 where
+  -- the disk of the journal
   pub disk : DiskState
+  -- the turrets of path 1 and path 2
   pub turrets : Both TurretState
+  -- how many of these moves each turret has missed
   pub missed : Both ℕ
 
 -- this disk and these turrets before a call, which has missed no move

@@ -25,6 +25,6 @@ abbrev pub made_text : ℕ → Verified → List Entry → Reason → List ℕ
 made_text number pair entries reason =
     if is_done reason then summary_text number pair.left pair.right pair.settings entries else report_of pair entries reason
 
--- the most records that a made pair makes in a call
+-- the most records that a made pair makes in a call: `MADE_LIMIT` of src/making.rt
 abbrev pub made_limit : ℕ
 made_limit = 100000

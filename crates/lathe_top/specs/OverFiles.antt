@@ -15,7 +15,7 @@ IsOfFilesAlone listed files IsAnswer old new before after =
     λ answer. IsOfFiles listed files (Unit {0}) IsAnswer before after answer × RestsWhole old new
 
 -- the command answers over the texts of its files, and does this to the disk and the turrets; if a
--- file can't be read, it calls neither
+-- file can't be read or memory runs out at one, it calls neither
 abbrev pub IsOverFiles : {A : Type 0} → (A → List (List ℕ)) → List Named → (LatheState → LatheState → A → Answer → Type 0)
     → LatheState → LatheState → ShelfState → ShelfState → Answer → Type 0
 IsOverFiles listed files Does old new before after = IsOfFiles listed files (RestsWhole old new) (Does old new) before after

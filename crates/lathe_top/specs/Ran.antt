@@ -54,7 +54,7 @@ pub data IsRun {D : Type 0} (state : D → DiskState) (limit : ℕ) (text_of : T
   -- the texts are refused
   refused : {refusal : Refusal} {text : List ℕ} → IsRefusalOf texts refusal → IsVerdictText (Some refusal) text
       → RestsWhole old new → IsRun state limit text_of texts old new (tells exit.refused text)
-  -- memory ran out for the verdict
+  -- memory ran out for the verdict, or for the texts of a made pair before it
   unjudged : RestsWhole old new → IsRun state limit text_of texts old new nothing
   -- no journal was begun, for this fault
   not_begun : (fault : GateFault) → IsRefusedBeginning texts fault old.disk new.disk → AreAtRest old new

@@ -19,9 +19,13 @@ use Rattle.lathe_top.specs.Lathe.{LatheState}
 -- the header of the journal, the pair that its texts are, the records that were found at the
 -- opening, and those at the end
 pub record Session : Type 0 where
+  -- the header of the journal
   pub header : Header
+  -- the accepted pair of its texts
   pub pair : Verified
+  -- the records that were found at the opening; none for a new journal
   pub found : List Entry
+  -- all records at the end, with those that were found
   pub history : List Entry
 
 -- the machine at the opening of a session
@@ -54,7 +58,9 @@ pub record IsSession (s : Session) : Type 0 where
 
 -- no call of the disk failed, and no call of a turret
 pub record NoneFailed (old new : LatheState) : Type 0 where
+  -- no call of the disk failed
   pub disk : new.disk.faults ≡ old.disk.faults
+  -- no call of the turret of either path failed
   pub turrets : (path : Path) → (of_path new.turrets path).faults ≡ (of_path old.turrets path).faults
 
 -- Why a session of at most so many records ended. If nothing failed: the run is over; or the
@@ -80,7 +86,7 @@ pub data EndsBy (limit : ℕ) (s : Session) (old new : LatheState) : Reason → 
 pub record AreMost (s : Session) (least : ℕ) : Type 0 where
   -- all records that were found
   pub found : length s.found ≤ least
-  -- all of the history but 64 records at most
+  -- all of the history but 64 records at most (`MOST_PENDING` of nc_number, with which it changes)
   pub most : length s.history ≤ least + 64
   -- no more than there are
   pub within : least ≤ length s.history

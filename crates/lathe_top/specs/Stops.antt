@@ -1,5 +1,5 @@
 -- What a stop at any moment of a call leaves.
--- The laws of src/laws.rt are said in these words.
+-- The public laws of src/laws.rt are said in these words; no other crate takes them.
 use Rattle.std.specs.Prelude.{◌≡◌, ◌⊎◌, ℕ, List, [], ◌∷◌, length, map, take, Option}
 use Rattle.nc_outside.specs.Received.{TurretState}
 use Rattle.nc_number.specs.declared.both.Both.{Both}
@@ -80,7 +80,9 @@ call_in state around call = call_of around.words (at around.shelf (lathe_before 
 -- the disk makes known that it reads as these bytes, and the call leaves it and the turrets as its
 -- kind of command does
 pub record IsCall {D : Type 0} (state : D → DiskState) (bytes : List ℕ) (call : CallOver D) : Type 0 where
+  -- the disk reads as these bytes before the call
   pub reads : Reads (state call.disk) bytes
+  -- the call does no more than its kind of command may
   pub leaves : Leaves state (kind_of call.asked) (lathe_before state call) (lathe_behind state call)
 
 -- a stop at some moment of the call leaves this image, also a stop inside a call of the disk
@@ -96,8 +98,11 @@ pub record StoppedCall (D : Type 0) : Type 0 where
 
 -- the call began on a disk that had these bytes and nothing unsettled, and the cut left its image
 pub record IsStopped {D : Type 0} (state : D → DiskState) (bytes : List ℕ) (stop : StoppedCall D) : Type 0 where
+  -- it is a call over a disk with these bytes
   pub is : IsCall state bytes stop.call
+  -- nothing was unsettled on the disk before the call
   pub settled : IsSettled (state stop.call.disk)
+  -- the cut may leave this image
   pub left : MayLeave state stop.call stop.image
 
 -- each call begins on the image that the cut before it left

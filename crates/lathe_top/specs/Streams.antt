@@ -1,6 +1,6 @@
 -- What the turrets of a call write, against the report: the stream of a path, and the lines that
 -- the report has for it.
--- The law of src/stream_laws.rt is said in these words.
+-- The public law of src/stream_laws.rt is said in these words; no other crate takes them.
 use Rattle.std.specs.Prelude.{◌≡◌, ◌⊎◌, ℕ, true, false, List, [], ◌++◌, length, Option, Some}
 use Rattle.std.specs.Option.{ForSome}
 use Rattle.nc_number.specs.Both.{of_path}

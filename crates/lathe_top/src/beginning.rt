@@ -66,8 +66,8 @@ where
     }
 }
 
-/// Runs the tapes of these texts, if the pair is accepted. Else it writes the refusal, and neither
-/// the disk nor a turret is called.
+/// Runs the tapes of these texts, if the pair is accepted. Else it writes the refusal, or nothing
+/// if memory ran out for the verdict, and neither the disk nor a turret is called.
 pub(crate) fn run_texts<R, D, T, K>(
     rt: &R,
     alloc: Global,

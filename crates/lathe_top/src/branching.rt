@@ -51,6 +51,7 @@ struct Branched<D: Disk, E: Disk> {
     status: u8,
     /// The disk of the run, which was only read.
     disk: D,
+    /// The second disk, which the branch was to be written to.
     second: E,
 }
 

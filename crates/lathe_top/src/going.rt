@@ -75,8 +75,8 @@ where
     }
 }
 
-/// Writes what is told of a history whose run ended so, and gives the status; if memory ran out
-/// before the first step, nothing is written.
+/// Writes what is told of a history whose run ended so, and gives the status. If the run did not
+/// begin, since memory ran out or a thread was refused, nothing is written and the status is 12.
 fn tell_run<K: Sink>(
     alloc: Global,
     telling: Telling,

@@ -1,5 +1,5 @@
 //! What holds over any calls and stops. Each law is the contract of a function that does nothing.
-//! The words are in specs/Stops.antt and specs/Turrets.antt.
+//! The words are in specs/Stops.antt, Kept.antt and Turrets.antt.
 //! No crate calls these laws: they say to a reader, and to a builder, what the contract of `top`
 //! comes to.
 ghost use Rattle.std.specs.Prelude.{◌≡◌, ℕ, ◌+◌, ◌*◌, ◌≤◌, List, length};
@@ -69,8 +69,8 @@ pub fn calls_make_one_history<D: Disk>()
 }
 
 /// What is due to a turret by a session is its place and eight moves at most for each record that
-/// the session may make. So a turret that has room for so many calls, of which none fails, never
-/// stops a run.
+/// the session may make. (A record makes seven at most: `a_record_makes_seven_moves_at_most` of
+/// run_table.) So a turret that has room for so many calls, of which none fails, never stops a run.
 pub fn a_session_hands_eight_moves_a_record_at_most()
     ensures { (s : Session) (limit upto : ℕ) (path : Path) → upto ≤ length s.history
         → length s.history ≤ length s.found + limit → length (due_to s upto path) ≤ 1 + 8 * limit }

@@ -5,8 +5,9 @@
 //! `waits`, `races`, `trace` and `expand` answer over files alone. `run` begins a journal on the
 //! disk and runs both paths at once, each with its turret, and `resume` goes on with the run that
 //! the journal holds; both end with the report of all its records. `make` runs a made pair, and
-//! ends with a summary. `edit` makes an operator's edits in the run that the journal holds.
-//! `branch` writes that run up to a meeting onto the second disk, which no other command calls.
+//! ends with a summary if both paths have ended, and else with the report. `edit` makes an
+//! operator's edits in the run that the journal holds. `branch` writes that run up to a meeting
+//! onto the second disk, which no other command calls.
 //! `moves`, `state` and `zones` show what the journal holds, and write nothing to it. Each turret
 //! gets its place and then the moves of its path's records that the call made.
 //!

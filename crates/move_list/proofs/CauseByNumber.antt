@@ -24,8 +24,8 @@ none_passes p (y ∷ ys) e k d l = go (p y) refl e (none_passes p ys) k d l
     go false is none rest zero d l = is
     go false is none rest (suc k) d l = rest none k d (omega arith)
 
--- a found cause that has the number, and that is found for each cause with it, is the cause of the
--- number
+-- What a look-up found is the cause of the number, if a cause that it found has the number, and if
+-- it found each cause that has the number.
 pub cause_by_number : (number : ℕ) (found : Option Cause) → IfSome found (λ cause. cause_number cause ≡ number)
     → ((cause : Cause) → cause_number cause ≡ number → found ≡ Some cause) → found ≡ cause_of number
 cause_by_number number found is all = go (cause_of number) refl

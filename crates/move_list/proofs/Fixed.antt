@@ -1,6 +1,7 @@
 -- What is fixed for the paths, as which variables they share, stays over a history. So the text of
 -- a state may ask the settings which variables are shared.
--- The proof of `machines_share_as_the_settings_say` (src/state.rt) uses it.
+-- The proof of `machines_share_as_the_settings_say` (src/state.rt) uses it. The lemmas on turns
+-- suppose that the blocks of both tapes keep what is fixed (`KeepFixed`).
 use Rattle.std.proofs.Common.{◌≡◌, ◌==◌, ℕ, Bool, true, false, List, [], ◌∷◌, Option, Some, None, refl, ap, sym, ◌∙◌}
 use Rattle.nc_number.specs.declared.path.Path.{Path}
 use Rattle.nc_number.specs.declared.path.Path.TheVariants.{One, Two}
@@ -21,11 +22,11 @@ use Rattle.two_path.specs.Histories.{with_reads, behind_step, behind_own, behind
 use Rattle.two_path.specs.Start.{machine_at_start}
 use Rattle.move_list.specs.State.{IsMachineOf, SharesAs}
 
--- each block keeps what is fixed
+-- each of these blocks keeps what is fixed, whatever the path and what the block has read
 abbrev pub KeepFixed : Blocks → Type 0
 KeepFixed blocks = (path : PathView) (reads : List Var) → KeepsFixed path (blocks.effect path reads)
 
--- the same is fixed for both paths of two machines
+-- what is fixed for each path is the same in both machines
 record AreFixedAs (a b : MachineView) : Type 0 where
   -- for path 1
   first : a.paths.one.path.fixed ≡ b.paths.one.path.fixed
@@ -42,7 +43,7 @@ at_wait_keeps path line m code (Some there) = go (code == there) refl
     go true e = rw e (record { first = refl; second = refl })
     go false e = rw e (record { first = refl; second = refl })
 
--- a turn that runs a block keeps what is fixed
+-- a turn that runs a block keeps what is fixed, if the block does
 block_keeps : (path : Path) (line : ℕ) (m : MachineView) (e : Effect) → KeepsFixed m.paths.one.path e
     → AreFixedAs (result_by path line m e).machine m
 block_keeps path line m (Need variable) k = record { first = refl; second = refl }

@@ -1,6 +1,6 @@
 -- The last lines of a report: how many records there are, and how the run ended.
 -- A report and a trace (trace_list) end with both lines; Summary and State take the line of the
--- records.
+-- records, and a trace tells an alarm by `cause_text`.
 use Rattle.std.specs.Prelude.{ℕ, ◌==◌, if◌then◌else◌, List, [], ◌++◌, codes, decimal}
 use Rattle.nc_number.specs.declared.cause.Cause.TheVariants.{MacroAlarm}
 use Rattle.nc_number.specs.declared.path.Path.{Path}
@@ -14,7 +14,8 @@ use Rattle.text_pieces.specs.Pieces.{name_text, path_name}
 unfoldable pub given_text : Alarm → List ℕ
 given_text alarm = if alarm.cause == cause_number MacroAlarm then codes " " ++ value_text alarm.value else []
 
--- the number of an alarm and its name, and of a macro alarm what it was given
+-- the number of an alarm, its name if the table of causes has one, and of a macro alarm what it was
+-- given
 unfoldable pub cause_text : Alarm → List ℕ
 cause_text alarm = decimal alarm.cause ++ name_text (cause_of alarm.cause) ++ given_text alarm
 

@@ -1,5 +1,5 @@
 -- One text for each of consecutive numbers, joined.
--- For this crate alone: State says with it the lines of a listing.
+-- No other crate cites it: State says with it the lines of a listing.
 use Rattle.std.specs.Prelude.{ℕ, zero, suc, ◌+◌, List, [], ◌++◌}
 
 -- the texts of so many consecutive numbers, from n on, joined

@@ -32,8 +32,8 @@ use Rattle.text_pieces.specs.Pieces.{code_text, path_name, point_text}
 use Rattle.move_list.specs.Pieces.{each_from}
 use Rattle.move_list.specs.EndText.{records_text}
 
--- the machine is the fold of a legal history from this one on, but for what unfinished blocks have
--- read
+-- the machine `m` is the fold of a legal history from the machine `start` on, but for what
+-- unfinished blocks have read
 pub record IsMachineOf (tapes : Tapes) (start m : MachineView) : Type 0 where
   -- the records of that history
   pub entries : List Entry
@@ -49,12 +49,14 @@ pub record SharesAs (settings : Settings) (fixed : Fixed) : Type 0 where
   -- as many from #500 on
   pub upper : fixed.shared500 ≡ settings.shared500
 
--- without an alarm a path has ended, waits, or is ready for its block
+-- how a path stands that has not ended, without an alarm: it waits at this code, or is ready for
+-- its block
 abbrev pub condition_at_wait : Option ℕ → Condition
 condition_at_wait None = Condition.Ready
 condition_at_wait (Some code) = Condition.Waiting code
 
--- how a path stands: after an alarm it raised it, has ended or was stopped
+-- how a path stands: after an alarm it raised it, has ended or was stopped; without one it has
+-- ended, waits or is ready
 abbrev pub condition_of : Path → Option Alarm → Part → Condition
 condition_of path (Some alarm) part =
     if is_same alarm.path path then Condition.Alarm
@@ -143,7 +145,8 @@ abbrev pub shared_line : MachineView → ℕ → List ℕ
 shared_line m v =
     if is_shared m.paths.one.path.fixed v then variable_line (codes "shared #") v (value_after m.count v m.writes) else []
 
--- the line of a number of a listing, of a path or of what both share; nothing if it is not set
+-- the line of a number of a listing, of a path or of what both share; nothing if its offset is 0 in
+-- both axes, or its variable is vacant
 abbrev pub line_of : MachineView → PathView → Listing → ℕ → List ℕ
 line_of m p Work n = offset_line (codes "work ") n (offset_at p.offsets.work n)
 line_of m p Geometry n = offset_line (codes "geometry ") n (offset_at p.offsets.geometry n)
@@ -165,8 +168,9 @@ first_of OwnUpper = 500
 first_of SharedHundreds = 100
 first_of SharedUpper = 500
 
--- how many numbers a listing has: the external work offset and G54 to G59, 64 tool offsets, #1 to
--- #33, or variables from #100 or from #500 on
+-- How many numbers a listing has: the external work offset and G54 to G59, 64 tool offsets
+-- (`TOOL_OFFSETS` of nc_number), #1 to #33 (`LOCALS` of local_levels), or the 100 variables from
+-- #100 or the 500 from #500 on (common_vars). They change together.
 abbrev pub count_of : Listing → ℕ
 count_of Work = 7
 count_of Geometry = 64

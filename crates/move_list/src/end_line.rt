@@ -1,6 +1,7 @@
 //! The last lines of a report: how many records there are, and how the run ended. Their text is
 //! defined in specs/EndText.antt.
-//! report.rt, summary.rt and state.rt use them, and trace_list ends a trace with them.
+//! report.rt, summary.rt and state.rt use them. trace_list ends a trace with them, and tells an
+//! alarm's cause by `add_cause`.
 ghost use Rattle.std.specs.Prelude.{◌≡◌, ◌+◌, ◌≤◌, ◌++◌, length};
 ghost use Rattle.nc_number.specs.Causes.{cause_of};
 ghost use Rattle.move_list.specs.EndText.{alarm_text, cause_text, end_text, given_text, reason_text, records_text, turret_text};

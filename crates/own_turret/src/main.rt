@@ -25,20 +25,24 @@ impl Turret for OwnTurret {
 
     ghost state = { λ _. record { received = None; faults = 0 } };
 
+    /// How many calls have failed: none ever does.
     fn faults(&self) -> u64 {
         0
     }
 
+    /// Takes the place of the path, which comes before its first move.
     fn place(&mut self, _at: Point) -> Result<(), Failed> {
         Ok(())
     }
 
+    /// Counts a move and keeps its line.
     fn hand(&mut self, what: &LinedMove) -> Result<(), Failed> {
         self.moves = self.moves.saturating_add(1);
         self.line = what.line;
         Ok(())
     }
 
+    /// It always stands still.
     fn settle(&mut self) -> Result<(), Failed> {
         Ok(())
     }

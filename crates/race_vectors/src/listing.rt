@@ -6,7 +6,8 @@ use race_report::{RaceList, races, write_races};
 use std::alloc::Global;
 use std::test::Fail;
 
-/// The most bytes that settings may have.
+/// The most bytes that settings may have: a copy of `LONGEST_SETTINGS` of lathe_calls
+/// (src/pair_texts.rt), which this crate does not use.
 const LONGEST_SETTINGS: usize = 65_536;
 
 /// The bytes of a text, with each `~` as the end of a line.

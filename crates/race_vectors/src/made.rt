@@ -1,7 +1,7 @@
 //! Tests of the races of made pairs: a made pair has none, and a made tape beside itself has one.
-//! Each round of a path has 98 cuts, a statement on a variable and a wait. Path 1 counts in #501 in
-//! rounds 1, 3, 5 and so on; path 2 copies it to #502 in rounds 2, 4, 6 and so on. The other rounds
-//! use variables of the path's own.
+//! As tape_maker makes them, each round of a path has 98 cuts, a statement on a variable and a
+//! wait; these tests change with it. Path 1 counts in #501 in rounds 1, 3, 5 and so on; path 2
+//! copies it to #502 in rounds 2, 4, 6 and so on. The other rounds use variables of the path's own.
 use crate::listing::{lines_of, listed};
 use std::alloc::Global;
 use std::test::Fail;

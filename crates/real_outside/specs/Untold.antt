@@ -1,5 +1,6 @@
 -- A disk and a turret of which nothing is told, as the real ones of this crate are.
--- For this crate alone: src/file_disk.rt and src/log_turret.rt.
+-- No other crate cites it; the ghost states of the public `FileDisk` (src/file_disk.rt) and
+-- `LogTurret` (src/log_turret.rt) are said in it.
 use Rattle.std.specs.Prelude.{ℕ, ◌-◌, ◌^◌, None, ⊤}
 use Rattle.disk_model.specs.Device.{DiskState, IsCoherent}
 use Rattle.nc_outside.specs.Received.{TurretState}

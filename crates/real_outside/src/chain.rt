@@ -7,10 +7,10 @@ use crate::folder::RawFile;
 use crate::pieces::read_up_to;
 use std::io;
 
-/// A file must end before this byte.
+/// A file must end before this byte: the bound that each disk keeps (disk_model, specs/Calls.antt).
 pub(crate) const END: u64 = 1 << 62;
 
-/// How many bytes stand beside a body: its length before it, and the gate after it.
+/// How many bytes of the chain go with a body: the gate before it and the four of its length.
 const FRAME: usize = 5;
 
 /// Where the gates of a journal end.
@@ -25,6 +25,7 @@ pub(crate) struct LastGate {
 /// What stands at a gate.
 #[derive(Clone, Copy, Debug, PartialEq, Eq)]
 enum Head {
+    /// It is shut.
     Shut,
     /// It is open, and this is the place of the next.
     Open(u64),
@@ -35,9 +36,9 @@ enum Head {
 /// Where the gates of a journal end, or an error of the system. It goes over the gates from the
 /// first on, reads each of them once, and goes no further than the first that is shut.
 ///
-/// Who writes a journal opens a gate only if what stands after it is whole and on the medium, and
-/// never changes what stands before a gate that is shut. So this is how far the journal counted at
-/// some moment, whatever is written meanwhile.
+/// A command that writes a journal opens a gate only if what stands after it is whole and on the
+/// medium, and never changes what stands before a gate that is shut. So this is how far the journal
+/// counted at some moment, whatever is written meanwhile.
 pub(crate) fn last_gate<F: RawFile>(file: &F) -> io::Result<LastGate>
     ensures { IfOk result (λ gate. gate.at < 2 ^ 62) }
 {

@@ -23,7 +23,7 @@ pub(crate) struct Extent {
 
 /// Sees to it that all that is shown is on the medium: it is looked at before the sync, so that
 /// nothing is shown which came later. What a sync that failed left in the memory of the system
-/// alone is shown too: only who writes the journal puts that on the medium.
+/// alone is shown too: only a command that writes the journal puts that on the medium.
 ///
 /// A medium that can't be synced since it can't be written is no fault: nothing of it waits to be
 /// written.

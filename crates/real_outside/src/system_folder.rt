@@ -104,6 +104,7 @@ impl RawFile for SystemFile {
         Ok(identity_of(&self.file.metadata()?))
     }
 
+    /// By a lock of the system, which ends when this opening of the file is closed.
     fn hold(&self) -> io::Result<bool> {
         match self.file.try_lock() {
             Ok(()) => Ok(true),

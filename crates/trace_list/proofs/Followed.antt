@@ -1,6 +1,7 @@
--- The waits and the end of a path in a trace are the labels of its tape. It is proved by induction
--- on the history, with the labels ahead of the path's place, of which the first is told already if
--- the path waits or has ended.
+-- The waits and the end of a path in a trace, its stops, are the labels of its tape. It is proved
+-- by induction on the history, with the labels ahead of the path's place, of which the first is
+-- told already if the path waits or has ended. The path of a record has its part first in the
+-- machine of the lemmas on one turn, whichever path it is.
 -- For the proof of `the_waits_of_a_trace_are_the_labels` (src/laws.rt).
 use Rattle.std.proofs.Common.{◌≡◌, ℕ, ◌==◌, ◌||◌, Bool, true, false, List, [], ◌∷◌, ◌++◌, refl, sym, subst, ap, ◌∙◌, Option, Some, None, is_some, append-nil}
 use Rattle.std.specs.Prelude.{if◌then◌else◌}
@@ -122,7 +123,9 @@ due tape p = left_of (idle p.waiting p.finished) (ahead tape p.path.place)
 
 -- a path at a place of its tape; if it waits, it stands on that wait and has not ended
 record IsSide (tape : List ControlProgram) (at : List Frame) (waiting : Option ℕ) (finished : Bool) : Type 0 where
+  -- it is a place of the tape
   place : IsPlace tape at
+  -- a path that waits at a code stands on a wait of this code, and has not ended
   waits : (code : ℕ) → waiting ≡ Some code → (standing tape at ≡ Some (control.Wait code)) × (finished ≡ false)
 
 -- the path's part of a machine is at a place of its tape, and on its wait if it waits
@@ -160,10 +163,13 @@ step_place tape law (f ∷ stack) to place (c, is, goes) = (law.step f stack pla
 
 -- a turn leaves the path at a place, and the stops that it tells are the next labels to tell
 record Passes (tape : List ControlProgram) (before after : Part) (stops : List Label) : Type 0 where
+  -- after the turn the path is at a place
   side : SideOf tape after
+  -- stops that follow the labels to tell after the turn follow, with its own stops before them, the
+  -- labels to tell before it
   follows : (rest : List Label) → Follows (list tape) (due tape after) rest → Follows (list tape) (due tape before) (stops ++ rest)
 
--- the first path, which neither waits nor has ended, in its turn
+-- the path whose part stands first, which neither waits nor has ended, in its turn
 module _ (tape : List ControlProgram) (law : KeepsLabels tape) (path : Path) (line : ℕ) (m : MachineView) (side : SideOf tape m.paths.one)
     (none_waits : m.paths.one.waiting ≡ None) (unfinished : m.paths.one.finished ≡ false) where
   -- what follows from the labels to tell at a place follows from those ahead of it, as the path
@@ -238,8 +244,9 @@ module _ (tape : List ControlProgram) (law : KeepsLabels tape) (path : Path) (li
   }
   by_effect (effect.Alarm number value) goes = record { side = side; follows = λ rest f. f }
 
--- the second path, in a turn of the first
+-- the path whose part stands second, in a turn of the other one
 module _ (tape : List ControlProgram) (law : KeepsLabels tape) (path : Path) (line : ℕ) (m : MachineView) (side : SideOf tape m.paths.two) where
+  -- a turn of the other path at a wait tells no label of this one, also if both meet
   met_there : (code : ℕ) (o : Option ℕ) → m.paths.two.waiting ≡ o → Passes tape m.paths.two (result_at_wait path line m code o).machine.paths.two []
   met_there code None is = record { side = side; follows = λ rest f. f }
   met_there code (Some there) is = go (code == there) refl
@@ -262,6 +269,7 @@ module _ (tape : List ControlProgram) (law : KeepsLabels tape) (path : Path) (li
       })
       go false e = rw e (record { side = side; follows = λ rest f. f })
 
+  -- a turn of the other path, by what its block comes to, tells no label of this one
   by_other : (e : Effect) → Passes tape m.paths.two (result_by path line m e).machine.paths.two []
   by_other (Need variable) = record { side = side; follows = λ rest f. f }
   by_other (Done to write moves) = record { side = side; follows = λ rest f. f }
@@ -269,10 +277,14 @@ module _ (tape : List ControlProgram) (law : KeepsLabels tape) (path : Path) (li
   by_other (AtEnd to moves) = record { side = side; follows = λ rest f. f }
   by_other (effect.Alarm number value) = record { side = side; follows = λ rest f. f }
 
--- a path that neither waits nor has ended, and whose turn is that of its block
+-- The path whose part stands first neither waits nor has ended, and its turn `r` is that of its
+-- block, `rest`.
 record IsAwake (m : MachineView) (r rest : TurnResult) : Type 0 where
+  -- the path does not wait
   none_waits : m.paths.one.waiting ≡ None
+  -- the path has not ended
   unfinished : m.paths.one.finished ≡ false
+  -- the turn is that of its block
   same : r ≡ rest
 
 -- a path that makes a record neither waits nor has ended, and its turn is that of its block

@@ -29,7 +29,9 @@ lines_stop a b xs ys fault one =
 pub record HasPut (a b : SinkState) (rest whole : List ℕ) : Type 0 where
   -- what is put so far
   pub front : List ℕ
+  -- it was put without a fault
   pub put : IsPut a b front (Ok tt)
+  -- with the rest it is the whole text
   pub is_whole : front ++ rest ≡ whole
 
 -- before the first piece nothing is put, and all is left

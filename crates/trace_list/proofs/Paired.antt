@@ -129,6 +129,8 @@ module _ (blocks other : Blocks) (path : Path) (met : ℕ) (m : MachineView) (be
   goes : (at : PathView) (theirs : Option OpenWait) (n : ℕ) → PairedFor path (waits blocks at m.paths.one.waiting) theirs n rest → PairedFor path None theirs n rest
   goes at theirs n p = subst (λ (w : Option ℕ). PairedFor path (waits blocks at w) theirs n rest) none p
 
+  -- the turn of a path that comes to a wait: it opens the wait, meets the other path that waits at
+  -- the same code, or raises an alarm if that waits at another code
   wait_step : (code : ℕ) (o : Option ℕ) → After blocks other path met rest (result_at_wait path (blocks.line m.paths.one.path.place) m code o) → m.paths.two.waiting ≡ o
       → PairedFor path None (waits other m.paths.two.path o) met
       (turn_lines path met before after (result_at_wait path (blocks.line m.paths.one.path.place) m code o).turn ++ rest)
@@ -150,6 +152,7 @@ module _ (blocks other : Blocks) (path : Path) (met : ℕ) (m : MachineView) (be
           rw e (raised_on path (waits other m.paths.two.path (Some far)) met (blocks.line m.paths.one.path.place) _ _ rest
           (subst (λ (w : Option ℕ). PairedFor path None (waits other m.paths.two.path w) met rest) is (goes m.paths.one.path (waits other m.paths.two.path m.paths.two.waiting) met q)))
 
+  -- the turn of a path, by what its block comes to: a read, moves, a wait, an end, or an alarm
   effect_step : (e : Effect) → After blocks other path met rest (result_by path (blocks.line m.paths.one.path.place) m e)
       → PairedFor path None (waits other m.paths.two.path m.paths.two.waiting) met
       (turn_lines path met before after (result_by path (blocks.line m.paths.one.path.place) m e).turn ++ rest)
@@ -171,7 +174,9 @@ module _ (blocks other : Blocks) (path : Path) (met : ℕ) (m : MachineView) (be
 
 -- a path that does not wait, and whose turn is that of its block
 record IsAwake (m : MachineView) (r rest : TurnResult) : Type 0 where
+  -- the path whose part stands first does not wait
   none : m.paths.one.waiting ≡ None
+  -- its turn `r` is that of its block, `rest`
   same : r ≡ rest
 
 -- a path that makes a record does not wait, and its turn is that of its block

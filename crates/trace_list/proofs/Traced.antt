@@ -71,7 +71,7 @@ pub none_left : (tapes : Tapes) (met : ℕ) (m : MachineView) (entries : List En
 unfolding traced
 none_left tapes met m entries i last le = at_drop_all (λ es. lines_text (traced tapes met m es) ++ last) entries i le
 
--- there are no more meetings than records
+-- with at most n meetings before a turn there are at most n + 1 after it
 pub met_few : (met n : ℕ) (t : Turn) → met ≤ n → met_after met t ≤ n + 1
 met_few met n (turn.Read variable stamp) le = omega (arith, le)
 met_few met n (turn.Did moves) le = omega (arith, le)

@@ -1,5 +1,6 @@
 -- The moves of one path in a trace.
--- For this crate alone: the law that a trace has the moves of the report (src/laws.rt).
+-- No other crate cites it: it is for the public law that a trace has the moves of the report
+-- (src/laws.rt).
 use Rattle.std.specs.Prelude.{if◌then◌else◌, List, [], ◌∷◌}
 use Rattle.std.specs.List.{flat_map}
 use Rattle.nc_number.specs.Path.{is_same}

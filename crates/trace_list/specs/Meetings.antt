@@ -1,5 +1,6 @@
 -- The waits and meetings of a trace, as one who reads it line by line keeps them.
--- For this crate alone: the law that meetings are numbered and paired (src/laws.rt).
+-- No other crate cites it: it is for the public law that meetings are numbered and paired
+-- (src/laws.rt).
 use Rattle.std.specs.Prelude.{◌≡◌, ℕ, ◌+◌, List, [], ◌∷◌, Option, Some, None}
 use Rattle.nc_number.specs.declared.path.Path.{Path}
 use Rattle.nc_number.specs.declared.path.Path.TheVariants.{One, Two}

@@ -1,5 +1,6 @@
 -- The waits and the end of a path in a trace, beside the labels of its tape.
--- For this crate alone: the law that the waits of a trace are the labels (src/laws.rt).
+-- No other crate cites it: it is for the public law that the waits of a trace are the labels
+-- (src/laws.rt).
 use Rattle.std.specs.Prelude.{if◌then◌else◌, List, [], ◌∷◌}
 use Rattle.std.specs.List.{flat_map}
 use Rattle.nc_number.specs.Path.{is_same}
@@ -19,7 +20,7 @@ abbrev pub stops_of : Path → List TraceLine → List Label
 stops_of path lines = flat_map (stop_of path) lines
 
 -- With these labels ahead a path comes to these stops: they are the next labels, in their order.
--- Before an M99 of the main program the list of all its labels begins anew.
+-- At an M99 of the main program (`Again`) the list `all` of its labels begins anew.
 pub data Follows (all : List Label) : List Label → List Label → Type 0 where
   -- the path comes to no stop any more
   none : (ahead : List Label) → Follows all ahead []

@@ -47,7 +47,7 @@ standing_of tapes path m = record { lines = record { one = line_of tapes One m; 
 abbrev pub is_same_point : Point → Point → Bool
 is_same_point a b = int_eq a.x b.x && int_eq a.z b.z
 
--- the spindle keeps its way: a surface speed, or none
+-- the spindle keeps a surface speed both times, or neither time
 abbrev pub is_same_way : Bool → Bool → Bool
 is_same_way true b = b
 is_same_way false true = false

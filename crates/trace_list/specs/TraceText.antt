@@ -1,5 +1,6 @@
 -- The lines of a trace, and how each is printed.
--- For this crate alone: Trace says which lines a history has.
+-- Trace says which lines a history has. No other crate cites this file, but `trace_text` of Trace,
+-- which lathe_calls leans on, is made of these lines.
 use Rattle.std.specs.Prelude.{ℕ, Bool, if◌then◌else◌, List, ◌++◌, codes, decimal}
 use Rattle.std.specs.List.{flat_map}
 use Rattle.nc_number.specs.declared.path.Path.{Path}
@@ -70,6 +71,6 @@ trace_line_text (Ended path line) = event_text path line ++ codes " end\n"
 abbrev pub lines_text : List TraceLine → List ℕ
 lines_text lines = flat_map trace_line_text lines
 
--- the first line of a trace, with the number of its form
+-- the first line of a trace, with the number of its form, which page/reading.js asks for
 unfoldable pub head_text : List ℕ
 head_text = codes "trace 2\n"

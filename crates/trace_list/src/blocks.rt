@@ -57,7 +57,7 @@ fn put_moves<K: Sink>(sink: &mut K, path: Path, line: u32, moves: &[Move]) -> Re
     Ok(())
 }
 
-/// Whether moves say the speed of the spindle.
+/// Whether one of the moves says the speed of the spindle.
 fn says_speed(moves: &[Move]) -> bool
     ensures { result ≡ says_speed moves.now }
 {

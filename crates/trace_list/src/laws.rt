@@ -1,5 +1,5 @@
-//! What holds of every trace. Each law is the contract of a function that does nothing; who calls
-//! it may use what it ensures.
+//! What holds of every trace. Each law is the contract of a function that does nothing; a caller
+//! may use what it ensures.
 //! No crate calls them: they say to a reader that a trace agrees with the report, the waits and the
 //! labels.
 ghost use Rattle.std.specs.Prelude.{◌≡◌, ℕ, List, None};

@@ -154,7 +154,8 @@ pub(crate) fn path_front(path: Path) -> Piece
     piece
 }
 
-/// The first line of a trace.
+/// The first line of a trace, with the number of its form: page/reading.js reads this form alone,
+/// and changes with it.
 #[tactic(auto, unfolding(crate::specs::TraceText::head_text))]
 pub(crate) fn head_line() -> Piece
     ensures { result ≡ head_text }

@@ -37,11 +37,12 @@ module _ (D : RattleType) (g : disk.Ghosts D.Denot) (d : IsSend D) where
   journal_sent : IsSend (journal.the_row D g)
   journal_sent = view_send _ _ _ _ _ (declared_send (journaled.the_type D g) (gate_sent, (batch_sent, (search sendable depth 20, (search sendable depth 20, tt)))))
 
-  -- a recording on such a disk may go to another thread
+  -- a recording on such a disk may go to another thread, if its list of records may
   recording_sent : IsSend entries.the_row → IsSend (recording.the_row D g)
   recording_sent list = view_send _ _ _ _ _ (declared_send (recorded.the_type D g) (list, (journal_sent, (search sendable depth 20, tt))))
 
-  -- a table on such a disk may go to another thread
+  -- a table on such a disk may go to another thread, if its pair, its machine and its list of
+  -- records may
   pub table_sent : IsSend verified.the_row → IsSend machine.the_row → IsSend entries.the_row → IsSend (table.the_row D g)
   table_sent pair m list = view_send _ _ _ _ _ (declared_send (tabled.the_type D g)
       (pair, (m, (recording_sent list, (search sendable depth 20, (search sendable depth 20, (search sendable depth 20, tt)))))))

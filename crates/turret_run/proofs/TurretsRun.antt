@@ -42,7 +42,8 @@ abbrev with_file : {D : Type 0} → RecordingView D → List Entry → ℕ → G
 with_file r history flushed file version =
     record { history = history; room = r.room; flushed = flushed; log = record r.log { file = file; version = version } }
 
--- what follows a recording with such records and file follows the recording that has them
+-- if the recording `b`, with the records and the file of `a` put into it, leads to `new`, so does
+-- `a`
 follows_with : {D : Type 0} (state : D → DiskState) (made : List Entry) (a b new : RecordingView D)
     → Follows state made (with_file b a.history a.flushed a.log.file a.log.version) new → Follows state made a new
 follows_with state made a b new p = record {
@@ -181,7 +182,7 @@ none_failed : (failed : Both Bool) → first_failed failed ≡ None → (path : 
 none_failed failed is One = (none_by failed.one failed.two is).0
 none_failed failed is Two = (none_by failed.one failed.two is).1
 
--- a reason that is no fault of the disk is none without a turret's fault either
+-- a halt that is no fault of the disk is none either after a turret's fault was taken out of it
 not_disk : (why : Option Halt) → why ≢ Some halt.Disk → without_turret why ≢ Some halt.Disk
 not_disk None other is = absurd cc
 not_disk (Some (halt.Alarm alarm)) other is = absurd cc
@@ -199,7 +200,7 @@ calm_is_no_disk (Some (halt.Turret path)) may is = may
 calm_is_no_disk (Some halt.Full) may is = may
 calm_is_no_disk (Some halt.Budget) may is = may
 
--- a reason that is an alarm or none stays when a turret's fault is dropped
+-- a halt that is an alarm or none stays as it is when a turret's fault is taken out
 pub calm_stays : (why : Option Halt) → IsNoneOrAlarm why → without_turret why ≡ why
 calm_stays None may = refl
 calm_stays (Some (halt.Alarm alarm)) may = refl
@@ -253,7 +254,7 @@ module _ {D : Type 0} (held : HeldView D) where
   no_disk : (end : Option Reason) → IsAtEnd held end → held.halt ≢ Some halt.Disk
   no_disk end at is = subst (λ why. IsNoneOrAlarm (without_turret why)) is at.halt
 
-  -- the cause that is told is the first of the two
+  -- the cause that is told is the first of the two, which has its cause in the table
   pub has_cause : (end : Option Reason) (failed : Option Path) → IfSome end (λ e. Ends held e) → IfNone end (HasNotEnded held)
       → IfSome (first_cause end failed) (λ e. HasCause held failed e)
   has_cause None None ends on = tt
@@ -314,11 +315,12 @@ module _ {D : Type 0} (state : D → DiskState) (start taken : TableView D) (sin
       two_failed false true e = (refl, refl)
       two_failed false false e = absurd cc
 
-  -- the run ended so, by its table
+  -- a run that ended by its table, for which no turret failed unless the disk did, ended as
+  -- `HasEnded` says
   run_ended : (end : Reason) → Ends held end × (end ≢ reason.DiskFault → first_failed failed ≡ None) → HasEnded state start.budget start taken before after missed end
   run_ended end cause = record { since = since; ends = ends end cause.0; turrets = ended_at end cause.1; misses = misses }
 
-  -- the run ended so, by its table or by a turret
+  -- a run that ended by its table or by a turret ended as `RunsWith` says
   pub run_ends : (end : Reason) → HasCause held (first_failed failed) end → RunsWith state start.budget start taken before after missed (Ok end)
   run_ends reason.Done cause = run_ended reason.Done cause
   run_ends (reason.Alarm alarm) cause = run_ended (reason.Alarm alarm) cause

@@ -3,7 +3,7 @@
 pub mod Served
 pub mod Runs
 pub mod Draining
--- How turrets are placed, what the threads leave and how the last turns are given: for this crate
--- alone.
+-- How turrets are placed, what the threads leave and how the last turns are given. No other crate
+-- cites them, but words of them stand in the contracts of the public `run_pair` and `give_turn`.
 pub mod Rests
 pub mod Seats

@@ -1,6 +1,7 @@
 -- How both turrets are placed before the threads, and what the turns that are left after the
 -- threads keep.
--- For this crate alone.
+-- No other crate cites it. src/placing.rt, rest.rt and run.rt do, and `ServesOn` stands in the
+-- contract of the public `give_turn` (src/turns.rt).
 use Rattle.std.specs.Prelude.{◌≡◌, ◌≢◌, ◌⊎◌, Bool, true, false, IsTrue, [], Option, Some, None}
 use Rattle.nc_number.specs.declared.both.Both.{Both}
 use Rattle.nc_number.specs.declared.path.Path.{Path}
@@ -45,7 +46,7 @@ abbrev pub who_failed : Both DrivenState → Both Bool
 who_failed turrets = both_of (λ d. has_failed d.phase) turrets
 
 -- the path whose turret failed, by whether that of path 1 and that of path 2 did; path 1 if both
--- did
+-- did, and none if neither did
 abbrev pub first_by : Bool → Bool → Option Path
 first_by true two = Some One
 first_by false true = Some Two
@@ -55,8 +56,8 @@ first_by false false = None
 abbrev pub first_failed : Both Bool → Option Path
 first_failed failed = first_by failed.one failed.two
 
--- Why no turn is given any more, by the first of these causes: a fault of the disk, the turret that
--- failed, or another end of the run.
+-- Why no turn is given any more, for a held table and the path whose turret failed, if one did: by
+-- the first of these causes, a fault of the disk, that turret, or another end of the run.
 abbrev pub HasCause : {D : Type 0} → HeldView D → Option Path → Reason → Type 0
 HasCause held failed (reason.TurretFault path) = (held.halt ≢ Some Disk) × IsTrue held.file.live × (failed ≡ Some path)
 HasCause held failed end = HasEnded held end × (end ≢ reason.DiskFault → failed ≡ None)

@@ -1,5 +1,6 @@
 -- What a run with turrets comes to: its end, its records, and what each turret got and missed.
--- The contract of `run_with_turrets` cites it, and lathe_top says by it what a session leaves.
+-- The contracts of src/run.rt and src/placing.rt and Rests cite it, and lathe_top says by it what a
+-- session leaves.
 use Rattle.std.specs.Prelude.{◌≡◌, ◌≢◌, ◌⊎◌, ℕ, List, [], length, Some, Result, Ok, Err}
 use Rattle.disk_model.specs.Device.{DiskState}
 use Rattle.nc_number.specs.declared.both.Both.{Both}
@@ -26,7 +27,8 @@ abbrev pub due : {D : Type 0} → Path → TableView D → TableView D → List 
 due path old new = told (position_of path old.machine)
     (moves_made new.verified path (length old.recording.history) new.recording.flushed new.recording.history)
 
--- at an end of the run a turret got all that is due; if the disk failed, it got a prefix of that
+-- What a turret got at an end of the run that is no fault of a turret: all that is due. If the disk
+-- failed, it got a prefix of that, and may have failed too.
 abbrev pub GetsAt : Reason → List Got → TurretState → TurretState → Type 0
 GetsAt reason.DiskFault what old new = GetsSome what old new
 GetsAt end what old new = GetsAll what old new
@@ -37,8 +39,9 @@ abbrev pub GetsBeside : Path → List Got → TurretState → TurretState → Ty
 GetsBeside One what old new = GetsAll what old new ⊎ FailsAmong what old new
 GetsBeside Two what old new = GetsAll what old new
 
--- What the other turret got if that of the named path failed at its place. That of path 2 was not
--- called then, and that of path 1 had got its place.
+-- What the other turret got if that of the named path failed at its place, of which path 1's comes
+-- first. Beside path 1 that of path 2 was not called; beside path 2 that of path 1 had got its
+-- place.
 abbrev pub StandsBeside : Path → List Got → TurretState → TurretState → Type 0
 StandsBeside One place old new = new ≡ old
 StandsBeside Two place old new = GetsAll place old new
@@ -49,12 +52,19 @@ none_missed = record { one = 0; two = 0 }
 
 -- The table is as it was, but for the room for records and the leave to make them.
 pub record Stays {D : Type 0} (old new : TableView D) : Type 0 where
+  -- the accepted pair of the run
   pub verified : new.verified ≡ old.verified
+  -- the machine after the records
   pub machine : new.machine ≡ old.machine
+  -- the records
   pub history : new.recording.history ≡ old.recording.history
+  -- how many of the records are on the disk
   pub flushed : new.recording.flushed ≡ old.recording.flushed
+  -- the file of the journal
   pub file : new.recording.log.file ≡ old.recording.log.file
+  -- the version of the journal's form
   pub version : new.recording.log.version ≡ old.recording.log.version
+  -- why the table has halted, if it has
   pub halt : new.halt ≡ old.halt
 
 -- A run of the table `old` for at most `limit` records, which left `new`, with the turrets before
@@ -90,8 +100,9 @@ module _ {D : Type 0} (state : D → DiskState) (limit : ℕ) (old new : TableVi
   -- A turret failed at its place: the table is as it was, no turret got a move, and the other one
   -- got no more than its place.
   pub record IsNotPlaced (path : Path) : Type 0 where
-    -- the table has come of the old one, without a record
+    -- the table has come of the old one
     pub since : Since state (record old { budget = limit }) new
+    -- the table is as it was, so no record was made
     pub same : Stays old new
     -- the table keeps no fault of the disk
     pub disk : new.halt ≢ Some Disk

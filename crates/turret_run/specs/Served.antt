@@ -16,7 +16,8 @@ told at moves = Placed at ∷ map Moved moves
 -- A turret got the first n of these, a call each. If it failed, that was at one call more, for
 -- the next of them, or at a settle. Only then its count of faults rose.
 pub record GetsFirst (what : List Got) (n : ℕ) (failed : Bool) (old new : TurretState) : Type 0 where
-  pub at_call : ℕ  -- how many calls failed
+  -- how many calls with one of these failed
+  pub at_call : ℕ
   -- how many settles were asked of it
   pub settles : ℕ
   -- one call failed at most, and only if the turret failed

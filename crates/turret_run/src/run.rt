@@ -27,7 +27,8 @@ use std::sync::Wait;
 use std::thread::Threads;
 
 /// Runs both paths of the opened table, and then gives the turns that are left. Both turrets must
-/// be placed. Gives back the table and the turrets, and why the run ended.
+/// be placed. Gives back the table and the turrets, and why the run ended, or that it did not begin
+/// since memory ran out.
 fn run_opened<O, R, D, T>(
     rt: &R,
     alloc: Global,
@@ -109,8 +110,8 @@ fn unbegun<D: Disk, T: Turret>(table: Table<D>, turrets: Both<T>) -> TurretRun<D
 /// threads of their own.
 ///
 /// Memory may run out only before the first step. Before a turret is placed, as many threads are
-/// made at once as the run needs; if one is refused nothing is done. A thread that is refused after
-/// that makes it wait for ever.
+/// made at once as the run needs beside the caller's; if one is refused nothing is done. A thread
+/// that is refused after that makes this call wait for ever.
 pub fn run_with_turrets<R, D, T>(
     rt: &R,
     alloc: Global,

@@ -9,7 +9,8 @@ use lathe_top::Outcome;
 use nc_outside::Turret;
 use std::process::{ExitCode, Termination};
 
-/// The status of a command that ran out of memory.
+/// The status of a command that ran out of memory: a copy of `Status::NoMemory` of lathe_calls
+/// (src/ending.rt, specs/Statuses.antt), which this crate does not use. Both change together.
 const NO_MEMORY: u8 = 12;
 
 /// The end of a command, with its status. `main` has no other way to end than with one of these.
@@ -38,6 +39,7 @@ impl Ending {
 }
 
 impl Termination for Ending {
+    /// The exit status of the program is that of the command.
     fn report<R: Eprint>(self, _rt: &R) -> ExitCode
         ensures { exit_status result ≡ self.status }
     {

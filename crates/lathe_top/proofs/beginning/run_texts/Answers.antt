@@ -1,5 +1,5 @@
--- For the proof of `run_texts` (src/beginning.rt), if the texts are refused: the refusal is told,
--- and nothing is run.
+-- For the proof of `run_texts` (src/beginning.rt), if the texts are refused or memory ran out for
+-- the verdict: the refusal is told, or nothing, and nothing is run.
 use Rattle.lathe_calls.proofs.Ended.{ends_by}
 use Rattle.lathe_top.proofs.Opened.{none_called}
 use Rattle.lathe_top.proofs.RunsBegun.{run_refused}

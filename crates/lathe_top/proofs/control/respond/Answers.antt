@@ -1,5 +1,5 @@
 -- For the proof of `respond` (src/control.rt): words that are a command are done; others are told
--- with status 2.
+-- with status 2; if memory ran out for the words, nothing is told.
 use Rattle.std.proofs.Common.{refl, rules}
 use Rattle.lathe_top.specs.Done.{usage, unread, commanded}
 use Rattle.lathe_calls.proofs.Ended.{ends_by, ends_just, ends_untold}

@@ -1,5 +1,5 @@
 -- For the proof of this law (src/laws.rt): what is due to a turret is its place and at most seven
--- moves a record.
+-- moves a record, which is less than the eight that the law says.
 use Rattle.std.proofs.Common.{length, arith}
 use Rattle.std.proofs.lemmas.List.{length-map}
 use Rattle.nc_outside.specs.declared.got.Got.TheVariants.{Moved}

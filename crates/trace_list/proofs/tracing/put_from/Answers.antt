@@ -1,5 +1,5 @@
 -- For the proof of `put_from`: it puts the trace of a history, from its machine before the first
--- record on; if the sink fails, a prefix of that (src/tracing.rt).
+-- record on; if the sink fails or memory runs out, a prefix of that (src/tracing.rt).
 use Rattle.std.proofs.Common.{◌≡◌, ◌+◌, ◌≤◌, ◌<◌, length, take, drop, refl, sym, subst, ◌∙◌, arith}
 use Rattle.std.proofs.lemmas.Result.{err_from_is_err_and}
 use Rattle.nc_number.specs.declared.path.Path.TheVariants.{One, Two}

@@ -1,5 +1,5 @@
 -- For the proof of `write_trace`: the whole text of the trace is put, or a prefix of it if the sink
--- fails (src/tracing.rt).
+-- fails or memory runs out (src/tracing.rt).
 use Rattle.trace_list.proofs.tracing.write_trace.Goals as goal
 
 pub put_trace-requires-clause-legal : goal.put_trace-requires-clause-legal

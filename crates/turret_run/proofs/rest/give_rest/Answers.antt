@@ -10,7 +10,8 @@ use Rattle.run_table.specs.Holding.{records_since}
 use Rattle.turret_run.specs.Rests.{ServesOn}
 use Rattle.turret_run.proofs.rest.give_rest.Goals as goal
 
--- the turret stood still, and the end was asked for, which makes no record
+-- A turret that has served the records so far still has after a settle and after the question for
+-- the end, which makes no record.
 still : (old new now : Records) (was is settled : DrivenState) → now ≡ new → ((moves : List LinedMove) (start : TurretState) → Serves moves start is → Serves moves start settled)
     → ServesOn old was new is → ServesOn old was now settled
 still old new now was is settled same on s = λ start before. subst (λ r. Serves (moves_in r) start settled) (sym same) (on (moves_in new) start (s start before))
