@@ -33,7 +33,7 @@ pub use reading::read_block;
 pub use statement::FlowStatement;
 pub use words::FlowWords;
 
-// For users of the library: what no crate above takes.
+// For users of the library: what no crate of the program takes.
 pub use block_words::fits_word;
 pub use laws::{the_least_refusal_is_answered, the_least_refusal_of_a_text_is_answered};
 pub use reading::{read_statement, read_words};

@@ -45,6 +45,6 @@ pub use program::{ControlBlock, ControlBlockList, ControlProgram};
 pub use sequence::{Finders, SequenceIndex};
 pub use tables::ProgramTables;
 
-// For users of the library: laws that no crate above takes.
+// For users of the library: laws that no crate of the program takes.
 pub use fitting_law::loops_that_fit_are_nested;
 pub use laws::{a_loop_ends_at_its_nearest_end, being_loud_is_reaching_a_wait_or_an_end};

@@ -13,5 +13,5 @@ mod reading;
 pub use grammar::program;
 pub use reading::read_words;
 
-// For users of the library: laws that no crate above takes.
+// For users of the library: laws that no crate of the program takes.
 pub use law::law_of_clap;

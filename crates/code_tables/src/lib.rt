@@ -24,5 +24,5 @@ pub use row::{Row, last_of_group};
 pub use system::{System, row_of_code};
 pub use table::CodeTable;
 
-// For users of the library: what no crate above takes.
+// For users of the library: what no crate of the program takes.
 pub use system::{system_a, system_b};

@@ -20,5 +20,5 @@ pub use making::command_of;
 pub use option_texts::OptionTexts;
 pub use table::{Journal, Row, Task, journal_of, row_named, rows, takes_option};
 
-// For users of the library: laws that no crate above takes.
+// For users of the library: laws that no crate of the program takes.
 pub use laws::{law_of_names, law_of_options, law_of_rows};

@@ -1,5 +1,5 @@
 //! The command that a row's task makes of the words and options that were given. specs/Listed.antt
-//! defines it by functions of the same names, and has the same least and greatest numbers;
+//! defines it, mostly by functions of the same names, and has the same least and greatest numbers;
 //! clap_reading calls [`command_of`]. A further command is an arm of `command_with` in both.
 ghost use Rattle.std.specs.Prelude.{◌≡◌, ◌≤◌, IfSome, map, option_map};
 ghost use Rattle.nc_number.specs.declared.limits.TheConstants.{MOST_RECORDS};

@@ -1,5 +1,5 @@
--- What the search along the links of a shared variable's writes finds is the latest write that is
--- early enough. For the proof of `value_at` (src/links.rt).
+-- What the search along the links of a shared variable's writes finds is the latest write that one
+-- of the first so many records made. For the proof of `value_at` (src/links.rt).
 use Rattle.std.proofs.Common.{◌≡◌, ℕ, zero, suc, ◌<◌, ◌≤◌, true, false, List, [], ◌∷◌, None, Some, length, map, arith, refl, unwrap_or, get_or, sym, ◌∙◌, ap, subst}
 use Rattle.std.proofs.lemmas.List.{get_or_default}
 use Rattle.std.proofs.lemmas.Bool.Decides.{nat_tests}

@@ -19,7 +19,7 @@ pub use own::Own;
 pub use shared::Shared;
 pub use variable::{AxisLetter, Variable, a_variable_has_one_number, variable_of};
 
-// For users of the library: what no crate above takes.
+// For users of the library: what no crate of the program takes.
 pub use own::is_common;
 pub use shared::{
     a_write_is_seen_from_its_stamp_on, is_shared, later_writes_change_no_earlier_value,

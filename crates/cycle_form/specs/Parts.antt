@@ -9,7 +9,7 @@ use Rattle.cycle_form.specs.declared.part.PartKind.{PartKind}
 use Rattle.cycle_form.specs.declared.part.PartKind.TheVariants.{Roughing, Finishing}
 
 -- What contracts see of a part: what it does, its form, the sequence numbers of its contour, its
--- feed, and the lines of its blocks.
+-- feed, and the lines of the tape that it takes the place of.
 pub record PartView : Type 0 where
   -- G71 or G70
   pub kind : PartKind
@@ -24,7 +24,7 @@ pub record PartView : Type 0 where
   -- The lines of the text that it takes the place of, from 1.
   pub lines : List ℕ
 
--- A finish starts above and before its contour; a roughing has no start of its own.
+-- A finish starts above and before its contour; a roughing starts where its form says.
 abbrev pub IsSoundStart : Rough → PartKind → Type 0
 IsSoundStart r Roughing = Unit {0}
 IsSoundStart r (Finishing start) = IsFinishStart r start

@@ -21,5 +21,5 @@ pub use memory::{Crash, MemoryDisk, read_into};
 pub use nc_number::Failed;
 pub use stretch::Stretch;
 
-// For users of the library: laws that no crate above takes.
+// For users of the library: laws that no crate of the program takes.
 pub use laws::{a_new_disk_allows_its_room, images_are_torn_writes};

@@ -17,5 +17,5 @@ mod reading;
 pub use edit_list::{EditList, MOST_EDITS, PathEdit};
 pub use reading::{EditFault, read_edits};
 
-// For users of the library: laws that no crate above takes.
+// For users of the library: laws that no crate of the program takes.
 pub use laws::a_text_gives_the_edits_of_its_lines;

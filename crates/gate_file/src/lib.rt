@@ -21,5 +21,5 @@ pub use fault::{DiskFault, GateFault};
 pub use gate::{GateFile, LONGEST_BODY};
 pub use laws::a_file_stands_for_one_thing;
 
-// For users of the library: laws that no crate above takes.
+// For users of the library: laws that no crate of the program takes.
 pub use laws::{a_file_ends_behind_its_bodies, appends_leave_prefixes};

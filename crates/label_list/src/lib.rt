@@ -22,6 +22,6 @@ pub use laws::a_pair_is_accepted_by_its_lists;
 pub use list::LabelList;
 pub use ordered::labels_of_order;
 
-// For users of the library: what no crate above takes.
+// For users of the library: what no crate of the program takes.
 pub use laws::{labels_are_those_of_the_blocks, labels_hang_on_no_number_of_calls};
 pub use listing::labels;

@@ -1,6 +1,6 @@
 -- The statuses of calls and of the program, as `Status` (src/ending.rt) has them. A new one needs
--- its line there, and in `include/lathe.h` if a call of C can give it. 12 has a copy in
--- twin_lathe/src/ending.rt and one in page/judge/worker.js: they change together.
+-- its line there, and in include/lathe.h if a call of C can give it. 12 has a copy in
+-- twin_lathe/src/ending.rt and one in page/judge/worker.js besides: they change together.
 -- lathe_looks and lathe_top cite them.
 use Rattle.std.specs.Prelude.{ℕ}
 use Rattle.nc_outside.specs.declared.reason.Reason.{Reason}
@@ -9,7 +9,8 @@ use Rattle.nc_outside.specs.declared.reason.Reason.{Reason}
 abbrev pub done : ℕ
 done = 0
 
--- a text is refused: a tape, the settings, edits or zones
+-- a text is refused (a tape, the settings, edits or zones), or a run has too few meetings to be
+-- branched there
 abbrev pub refused : ℕ
 refused = 1
 
@@ -57,7 +58,7 @@ no_memory = 12
 abbrev pub no_file : ℕ
 no_file = 13
 
--- the journal has as many records as it may
+-- the run has as many records as the settings allow, or would have more with its edits
 abbrev pub full : ℕ
 full = 14
 

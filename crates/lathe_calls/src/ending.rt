@@ -1,6 +1,6 @@
 //! How a call ends: a text is written, and there is a status. The numbers are those of
-//! specs/Statuses.antt; 12 has copies in twin_lathe/src/ending.rt and page/judge/worker.js, which
-//! change with it.
+//! specs/Statuses.antt. They have copies, which change with them: those that a call of C can give
+//! in include/lathe.h, and 12 in twin_lathe/src/ending.rt and page/judge/worker.js too.
 //! The modules of this crate that answer, lathe_looks and lathe_top use it.
 ghost use Rattle.std.specs.Prelude.{◌≡◌};
 ghost use Rattle.lathe_calls.specs.Answers.{Ends, IsJust, status_behind, tells};
@@ -8,12 +8,13 @@ ghost use Rattle.lathe_calls.specs.Statuses.{reason_status};
 
 use nc_outside::{PutFault, Reason, Sink};
 
-/// What the program ends with.
+/// What a call ends with, and the program.
 #[derive(Clone, Copy, Debug, PartialEq, Eq)]
 pub enum Status {
     /// The tapes are accepted, both paths ran to their ends, or the text was written.
     Done = 0,
-    /// A text is refused: a tape, the settings, edits or zones.
+    /// A text is refused (a tape, the settings, edits or zones), or a run has too few meetings to
+    /// be branched there.
     Refused = 1,
     /// The words are no command, or an order of turns names no path.
     Usage = 2,
@@ -35,9 +36,9 @@ pub enum Status {
     Stopped = 10,
     /// Memory ran out, or a thread was refused.
     NoMemory = 12,
-    /// A file is missing or too long.
+    /// A file is missing, or a file or a text of a call is too long.
     NoFile = 13,
-    /// The journal has as many records as it may have.
+    /// The run has as many records as the settings allow, or would have more with its edits.
     Full = 14,
 }
 

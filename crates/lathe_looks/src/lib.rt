@@ -30,5 +30,5 @@ pub use showing::{Showing, Shown, show};
 pub use standing::{is_over, reason_of};
 pub use zoning::{show_zones, zones_of_file};
 
-// For users of the library: laws that no crate above takes.
+// For users of the library: laws that no crate of the program takes.
 pub use laws::the_program_answers_what_the_library_answers;

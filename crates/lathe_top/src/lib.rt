@@ -33,7 +33,7 @@ mod telling;
 pub use control::top;
 pub use outcome::Outcome;
 
-// For users of the library: laws that no crate above takes.
+// For users of the library: laws that no crate of the program takes.
 pub use laws::{
     a_call_leaves_as_its_kind_may, a_session_hands_eight_moves_a_record_at_most,
     a_stop_leaves_one_history, calls_make_one_history,

@@ -1,6 +1,7 @@
 //! A block of words of a tape: its sequence number, its words, or the O number that it is. line.rt
-//! calls `read_pieces` for each block that is no statement. The ranges of both numbers stand in
-//! line.rt, specs/Said and specs/LineShape too, in nc_text (specs/Shape) and in tape_relation
+//! calls `read_pieces` for each block that is no statement and has nothing before its first letter.
+//! The ranges of both numbers stand in specs/Said and specs/LineShape too, that of N in line.rt,
+//! that of O in nc_text (src/progress.rt), both in nc_text (specs/Shape) and tape_relation
 //! (specs/Numbers).
 ghost use Rattle.std.specs.Prelude.{◌≡◌, ◌^◌, ◌<◌, ◌≤◌, None, ◌+◌, length, take, if◌then◌else◌, IfOk, IsTrue};
 ghost use Rattle.std.specs.List.{list_all, list_any, prefix_len};
@@ -46,7 +47,7 @@ fn sound_len(pieces: &[Piece]) -> usize
     pieces.iter().take_while(|piece| is_sound(piece)).count()
 }
 
-/// Whether one of the pieces is a number with too many digits.
+/// Whether one of the pieces is an N or O number with too many digits.
 fn any_long(pieces: &[Piece]) -> bool
     ensures { result ≡ list_any is_long pieces.now }
 {
@@ -90,7 +91,7 @@ fn sequence(pieces: &[Piece]) -> Option<u32>
     number
 }
 
-/// Whether a sequence number is at most 99,999; any other word is in range here.
+/// Whether a sequence number is a whole number from 0 to 99,999; any other word is in range here.
 fn is_in_range(piece: &Piece) -> bool
     ensures { result ≡ is_in_range piece.now }
 {
@@ -104,7 +105,7 @@ fn are_in_range(pieces: &[Piece]) -> bool
     pieces.iter().all(|piece| is_in_range(piece))
 }
 
-/// A piece that was found whole is a word.
+/// A piece as a word, without the note whether it was found whole.
 fn into_word(piece: Piece) -> Word
     ensures { result ≡ word_of piece }
 {

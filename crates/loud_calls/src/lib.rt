@@ -14,5 +14,5 @@ pub use calling::unknown_call;
 pub use known::KnownPrograms;
 pub use unforked::runs_have_one_list;
 
-// For users of the library: what no crate above takes.
+// For users of the library: what no crate of the program takes.
 pub use calling::loud_call;

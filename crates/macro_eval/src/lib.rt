@@ -25,5 +25,5 @@ pub use running::evaluate;
 pub use scope::{Eval, Look, Scope, VarFault};
 pub use whole::{variable_number, whole_number};
 
-// For users of the library: what no crate above takes.
+// For users of the library: what no crate of the program takes.
 pub use running::{count_reads, each_variable_takes_one_read_at_most, eval};

@@ -40,8 +40,9 @@ fn run<'a, S: Scope>(instrs: &[Instr], scope: &S, reads: &'a [Var]) -> (Eval, &'
 /// reads that are left. Each shared variable takes the next of `reads`, in the order of the code.
 /// An operand alone, or two and their operator, need no stack.
 ///
-/// Alarms: 1 a result past the range, 2 a division by 0, 3 the root of a negative value, 4 what
-/// must be a whole number is none, 30 a variable that does not exist or can't be read.
+/// Alarms: 1 a result past the range, 2 a division by 0, 3 the root of a negative value, 4 a
+/// variable's number with a fraction or an operand of AND, OR or XOR that is no whole number from 0
+/// on, 30 a variable that does not exist or can't be read.
 #[tactic(auto, using(crate::proofs::Compiled::run_is_meaning))]
 pub fn evaluate<'a, S: Scope>(code: &Code, scope: &S, reads: &'a [Var]) -> (Eval, &'a [Var])
     ensures { (result.0, result.1.now) ≡ meaning (S.table scope.now) code.now reads.now }

@@ -1,6 +1,7 @@
 -- The words of macro expressions and statements as tables, and runs of letters and digits.
 -- src/words.rt finds them at the head of a text, by tables of its own; macro_limits and open_forms
--- cite them. 65 is A, 90 Z, 46 the point.
+-- cite them. A keyword stands in line_text too (specs/Front, src/front.rt), which tells a statement
+-- by it, and in tape_relation. 65 is A, 90 Z, 46 the point.
 use Rattle.std.specs.Prelude.{ℕ, Bool, true, false, ◌==◌, ◌&&◌, ◌||◌, nat_le, List, [], ◌∷◌, length, take, drop, not, Option, None, Some, codes, if◌then◌else◌}
 use Rattle.std.specs.Option.{option_or, option_map}
 use Rattle.std.specs.List.{position_or_len}
@@ -61,15 +62,15 @@ is_letter b = nat_le 65 b && nat_le b 90
 abbrev pub is_number_byte : ℕ → Bool
 is_number_byte b = is_ascii_digit b || b == 46
 
--- the longest run of such bytes at the head of the text
+-- the longest run of bytes of which `p` holds at the head of the text
 abbrev pub run : (ℕ → Bool) → List ℕ → List ℕ
 run p text = take (position_or_len (λ b. not (p b)) text) text
 
--- what stands after the longest run of such bytes at the head
+-- what stands after the longest run of bytes of which `p` holds at the head
 abbrev pub behind_run : (ℕ → Bool) → List ℕ → List ℕ
 behind_run p text = drop (position_or_len (λ b. not (p b)) text) text
 
--- whether the text begins with such a byte
+-- whether the text begins with a byte of which `p` holds
 abbrev pub begins : (ℕ → Bool) → List ℕ → Bool
 begins p [] = false
 begins p (b ∷ text) = p b

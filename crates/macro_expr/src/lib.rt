@@ -20,5 +20,5 @@ pub use parse::{parse_expr, parse_statement};
 pub use stop::Stop;
 pub use tree::{Cond, Expr, ExprFault, Fun, Op, Rel, Statement, Target, VarRef};
 
-// For users of the library: laws that no crate above takes.
+// For users of the library: laws that no crate of the program takes.
 pub use parse::no_text_has_two_trees;

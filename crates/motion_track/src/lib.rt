@@ -24,7 +24,7 @@ pub use cut::is_feed_zero;
 pub use fault::MotionFault;
 pub use targets::{LONGEST, target};
 
-// For users of the library: what no crate above takes.
+// For users of the library: what no crate of the program takes.
 pub use block::return_home;
 pub use centre::centre_of;
 pub use circle::{arc, arcs_end_on_their_circle};

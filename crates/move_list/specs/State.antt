@@ -71,7 +71,7 @@ condition_text Condition.Finished = codes "finished"
 condition_text Condition.Alarm = codes "alarm"
 condition_text Condition.Stopped = codes "stopped"
 
--- a variable of a path: vacant, or its value
+-- what F or S set last: vacant, or its value
 unfoldable pub var_text : Var → List ℕ
 var_text Vacant = codes "vacant"
 var_text (Is value) = value_text value
@@ -146,7 +146,8 @@ shared_line m v =
     if is_shared m.paths.one.path.fixed v then variable_line (codes "shared #") v (value_after m.count v m.writes) else []
 
 -- the line of a number of a listing, of a path or of what both share; nothing if its offset is 0 in
--- both axes, or its variable is vacant
+-- both axes, its variable is vacant, or the number is shared in the listing of a path's own, or not
+-- shared in that of both
 abbrev pub line_of : MachineView → PathView → Listing → ℕ → List ℕ
 line_of m p Work n = offset_line (codes "work ") n (offset_at p.offsets.work n)
 line_of m p Geometry n = offset_line (codes "geometry ") n (offset_at p.offsets.geometry n)

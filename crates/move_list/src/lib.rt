@@ -24,5 +24,5 @@ pub use report::write_report;
 pub use state::write_state;
 pub use summary::write_summary;
 
-// For users of the library: laws that no crate above takes.
+// For users of the library: laws that no crate of the program takes.
 pub use laws::{law_of_later_moves, law_of_streams};

@@ -46,7 +46,7 @@ pub use printing::{length_text, text};
 pub use rounding::{fix, fup, round, to_increment};
 pub use value::{Value, Var};
 
-// For users of the library: laws that no crate above takes.
+// For users of the library: laws that no crate of the program takes.
 pub use laws::{
     a_fraction_is_dropped, a_literal_is_a_sign_digits_and_a_fraction,
     a_literal_without_a_point_counts_thousandths, a_magnitude_is_raised,

@@ -14,7 +14,7 @@ pub enum Halt {
     Disk,
     /// The turret of this path failed.
     Turret(Path),
-    /// The journal has as many records as it may have.
+    /// The run has as many records as the settings allow.
     Full,
     /// The call has made as many records as it was allowed.
     Budget,

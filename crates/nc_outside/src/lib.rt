@@ -44,5 +44,5 @@ pub use stepper::{Call, Drainable, Stepper};
 pub use turret::Turret;
 pub use vec_sink::VecSink;
 
-// For users of the library: laws that no crate above takes.
+// For users of the library: laws that no crate of the program takes.
 pub use laws::calls_add_up;

@@ -1,5 +1,5 @@
-//! Why a run ended, and which of several causes is told. run_table and turret_run end a run by it;
-//! the statuses of the reasons are in lathe_calls, their texts in move_list.
+//! Why a run ended, and which of several causes is told. run_table, turret_run and turn_order end a
+//! run by it; the statuses of the reasons are in lathe_calls, their texts in move_list.
 ghost use Rattle.std.specs.Prelude.{◌≡◌};
 ghost use Rattle.nc_outside.specs.Reasons.{end_or_bound, first_cause, reason_of};
 
@@ -9,16 +9,16 @@ use nc_number::Path;
 
 /// Why a run ended. Of several causes it is the first of these: a fault of the disk, a fault of a
 /// turret, that of path 1 before that of path 2, an alarm, the ends of both paths, as many records
-/// as a journal may have, as many as were allowed.
+/// as the settings allow, as many as the call was allowed.
 #[derive(Clone, Copy, Debug, PartialEq, Eq)]
 pub enum Reason {
     /// Both paths have finished.
     Done,
     /// A path raised an alarm, which stopped both.
     Alarm(Alarm),
-    /// The call made as many records as it was allowed.
+    /// The call made as many records as it was allowed, or its order of turns is over.
     Stopped,
-    /// The journal has as many records as it may have.
+    /// The run has as many records as the settings allow.
     Full,
     /// The disk failed.
     DiskFault,

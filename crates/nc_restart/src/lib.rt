@@ -22,5 +22,5 @@ pub use laws::{
 };
 pub use recovery::{Recovered, recover};
 
-// For users of the library: laws that no crate above takes.
+// For users of the library: laws that no crate of the program takes.
 pub use laws::{no_accepted_pair_is_stuck, restarts_make_one_history};

@@ -26,5 +26,5 @@ pub use verified::Verified;
 pub use verifying::{settings_of, verdict};
 pub use writing::write_verdict;
 
-// For users of the library: laws that no crate above takes.
+// For users of the library: laws that no crate of the program takes.
 pub use laws::no_texts_are_without_an_answer;

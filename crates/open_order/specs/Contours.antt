@@ -30,7 +30,7 @@ abbrev pub is_cycle_code : Option ℤ → Bool
 is_cycle_code None = false
 is_cycle_code (Some z) = (is_g 70000000 z || is_g 71000000 z) || (is_g 72000000 z || is_g 73000000 z)
 
--- whether a code, in millionths, is G65, a macro call, of which every other word is an argument
+-- whether a code, in millionths, is G65, a macro call, whose P names a program and no contour
 abbrev pub is_macro_code : Option ℤ → Bool
 is_macro_code None = false
 is_macro_code (Some z) = is_g 65000000 z

@@ -1,5 +1,6 @@
 //! The contour of a cycle G70 to G73: which blocks its P and Q name.
-//! cycles.rt finds what is wrong with it; trusting.rt takes `is_macro_call`.
+//! cycles.rt finds what is wrong with it; trusting.rt takes `is_macro_call`. The codes stand in
+//! open_forms too (src/codes.rt, specs/Codes), which looks at the P and Q of such a cycle.
 ghost use Rattle.std.specs.Prelude.{◌≡◌};
 ghost use Rattle.open_order.specs.Contours.{is_cycle_code, is_macro_code, has_code, contour_by, contour_in};
 
@@ -46,7 +47,7 @@ fn is_cycle(words: &[Word]) -> bool
     words.iter().any(|word| is_one_of(b"G", word.letter) && is_cycle_code(written(word)))
 }
 
-/// Whether the words are a macro call, of which every other word is an argument.
+/// Whether the words are a macro call (G65): its P names a program, and no contour.
 pub(crate) fn is_macro_call(words: &[Word]) -> bool
     ensures { result ≡ has_code is_macro_code words.now }
 {

@@ -22,5 +22,5 @@ pub use outside::Outside;
 pub use premises::Premises;
 pub use trusting::{Trust, add_tape, no_trust};
 
-// For users of the library: laws that no crate above takes.
+// For users of the library: laws that no crate of the program takes.
 pub use laws::the_first_refused_block_has_the_least_line;

@@ -97,8 +97,8 @@ fn add_words(trust: &mut Trust, dialect: &Dialect, words: &[Word]) -> Result<(),
     Ok(())
 }
 
-/// Keeps the codes of a block. A macro call has none, since its words are arguments, and a
-/// statement has none.
+/// Keeps the codes of a block. A macro call has none, since its words but G, N, O, P and L are
+/// arguments, and a statement has none.
 fn add_body(trust: &mut Trust, dialect: &Dialect, body: &Body) -> Result<(), NoMemory>
     ensures { OnOk result (seen trust.new ≡ with_body dialect.now (seen trust.old) body.now) }
 {

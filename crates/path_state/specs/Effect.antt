@@ -137,7 +137,8 @@ of_arguments tape path control (Gives arguments left) =
 of_arguments tape path control (Needs variable) = Need variable
 of_arguments tape path control (Alarms number value) = Alarm number value
 
--- the effect of a block that calls a macro: its words are arguments, and nothing moves
+-- the effect of a block that calls a macro: its words but G, N, O, P and L are arguments, and
+-- nothing moves
 abbrev pub macro_effect : List ControlProgram → Fixed → PathView → List FlowWord → Control → List Var → Effect
 macro_effect tape fixed path words control reads =
     of_arguments tape path control (arguments_taken fixed path words all_vacant reads)

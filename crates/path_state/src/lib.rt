@@ -1,12 +1,15 @@
 //! What a block does to its path: the definitions, worked blocks, and the path itself.
 //!
 //! The specs say step by step what a block comes to, from the state of its path and the values that
-//! were read: its words evaluated in order, the codes and words taken, the motion, the moves,
-//! control. What its words and operands say, and what they make of what is in force, of motion and
-//! of moves, is `block_values`. A [`PathState`] is the scope of its own variables. It decides what
-//! a block comes to before anything of it changes. two_path, which runs two of them, leans on
-//! [`PathState::advance_into`], and on [`PathState::decide`] and [`PathState::take`], its two
-//! halves: the moves of a block are put into a list that the caller lends.
+//! were read: of a block of words its words evaluated in order, the codes and words taken, the
+//! motion and the moves; of a statement its operands; of both what is written, and control. What
+//! words and operands say, and what they make of what is in force, of motion and of moves, is
+//! `block_values`. A [`PathState`] is the scope of its own variables, and takes an operator's edits.
+//! It decides what a block comes to before anything of it changes. two_path, which runs two of
+//! them, leans on [`PathState::advance_into`], and on [`PathState::decide`] and
+//! [`PathState::take`], which do the same in two calls (the kinds of blocks are told apart in both):
+//! the moves of a block are put into a list that the caller lends. Crates above that print or check
+//! a machine look at its paths, and take laws from here.
 #![tactic(auto)]
 
 mod acting;

@@ -100,7 +100,7 @@ fn text_after_g50(alloc: Global, speed: Var, tool: u16) -> Result<String, AllocE
 }
 
 #[test]
-fn beside_g50_a_speed_is_the_highest_and_a_tool_without_an_offset_is_refused(
+fn a_speed_beside_g50_is_the_highest_and_an_offset_that_does_not_exist_is_refused(
     rt: HostRuntime,
 ) -> Result<(), Fail> {
     let got = text_after_g50(rt.alloc(), units(2_000), 101)?;

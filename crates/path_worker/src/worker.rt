@@ -1,5 +1,5 @@
 //! The worker of a path: it sends the moves of each step along the line. lane.rt runs it in a
-//! thread, and tests run it alone.
+//! thread.
 ghost use Rattle.std.specs.Prelude.{◌≡◌, ◌++◌, [], ◌∷◌, List, false, map, MatchOption, ⊤};
 ghost use Rattle.nc_outside.specs.declared.halt.Next.{Next as Answer};
 ghost use Rattle.nc_outside.specs.Lined.{lined};

@@ -20,6 +20,6 @@ pub use race::Race;
 pub use racing::races;
 pub use writing::write_races;
 
-// For users of the library: laws that no crate above takes.
+// For users of the library: laws that no crate of the program takes.
 pub use laws::{a_pair_has_one_list_of_races, a_pair_without_races_has_one_outcome};
 pub use list::no_race;

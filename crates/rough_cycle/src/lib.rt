@@ -12,6 +12,6 @@ pub use block::PlainBlock;
 pub use form::RoughForm;
 pub use law::no_move_enters_the_contour;
 
-// For users of the library: what no crate above takes.
+// For users of the library: what no crate of the program takes.
 pub use contour::inside;
 pub use law::an_end_is_the_least;

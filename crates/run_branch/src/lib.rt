@@ -15,5 +15,5 @@ mod laws;
 pub use branching::branch;
 pub use fault::BranchFault;
 
-// For users of the library: laws that no crate above takes.
+// For users of the library: laws that no crate of the program takes.
 pub use laws::{a_branch_opens_as_its_records, a_branch_point_is_the_least};

@@ -1,4 +1,5 @@
-//! How the bodies of a journal are read: the header, the pieces, and of each batch the records.
+//! How the bodies of a journal are read: the header, and the pieces after it, each a batch of records
+//! or the mark that raises the journal to version 2. Each call may run out of memory.
 //! For opening.rt of this crate.
 
 ghost use Rattle.std.specs.Prelude.{◌≡◌, ◌↔◌, ◌+◌, ◌*◌, ◌^◌, ◌≤◌, ◌<◌, ◌++◌, [], ◌∷◌, List, ℕ, length, drop, take, None, Some, IsTrue, IfOk, IfErr, OnOk, vec_capacity};
@@ -109,7 +110,8 @@ fn read_piece(
     }
 }
 
-/// Whether the body is the one that raises a journal to version 2.
+/// Whether the body is the one that raises a journal to version 2: `RAISING_MARK` of journal.rt and
+/// `raising_mark` of specs/Batches.antt, which change with this.
 fn is_mark(body: &[u8]) -> bool
     ensures { IsTrue result ↔ (body.now ≡ raising_mark) }
 {

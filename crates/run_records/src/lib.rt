@@ -27,5 +27,5 @@ pub use nc_number::{ByteList, NoMemory};
 pub use reading::take_entry;
 pub use version::Version;
 
-// For users of the library: laws that no crate above takes.
+// For users of the library: laws that no crate of the program takes.
 pub use laws::{a_header_has_one_spelling, an_entry_has_one_spelling};

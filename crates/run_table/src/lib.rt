@@ -22,5 +22,5 @@ pub use held::{Held, Opening};
 pub use laws::{a_record_makes_seven_moves_at_most, a_table_opens_itself, a_taken_table_ended_so};
 pub use table::Table;
 
-// For users of the library: laws that no crate above takes.
+// For users of the library: laws that no crate of the program takes.
 pub use laws::who_is_waited_for_goes_on;

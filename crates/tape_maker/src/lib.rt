@@ -13,5 +13,5 @@ mod tape;
 pub use nc_number::{NoMemory, Path};
 pub use tape::{LONGEST_MADE, make_tapes};
 
-// For users of the library: laws that no crate above takes.
+// For users of the library: laws that no crate of the program takes.
 pub use laws::{law_of_cuts, law_of_lines, law_of_sizes, law_of_waits};

@@ -14,7 +14,7 @@ mod tracing;
 
 pub use tracing::write_trace;
 
-// For users of the library: laws that no crate above takes.
+// For users of the library: laws that no crate of the program takes.
 pub use laws::{
     a_trace_has_the_moves_of_the_report, meetings_are_numbered_and_paired,
     the_waits_of_a_trace_are_the_labels,

@@ -12,6 +12,6 @@ mod rectangle;
 pub use pass::{CyclePass, cycle_pass};
 pub use rectangle::CycleKind;
 
-// For users of the library: what no crate above takes.
+// For users of the library: what no crate of the program takes.
 pub use end::cycle_end;
 pub use rectangle::cycle;

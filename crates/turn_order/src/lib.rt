@@ -14,5 +14,5 @@ mod turns;
 pub use laws::one_run_in_turn;
 pub use turns::{InTurn, records_in_turn};
 
-// For users of the library: laws that no crate above takes.
+// For users of the library: laws that no crate of the program takes.
 pub use laws::runs_in_turn_are_legal;

@@ -12,5 +12,5 @@ mod told;
 pub use line_turret::LineTurret;
 pub use told::Told;
 
-// For users of the library: laws that no crate above takes.
+// For users of the library: laws that no crate of the program takes.
 pub use line_turret::line_turrets_cross;

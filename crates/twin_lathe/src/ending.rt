@@ -10,7 +10,8 @@ use nc_outside::Turret;
 use std::process::{ExitCode, Termination};
 
 /// The status of a command that ran out of memory: a copy of `Status::NoMemory` of lathe_calls
-/// (src/ending.rt, specs/Statuses.antt), which this crate does not use. Both change together.
+/// (src/ending.rt, which names the other copies), which this crate does not use. All change
+/// together.
 const NO_MEMORY: u8 = 12;
 
 /// The end of a command, with its status. `main` has no other way to end than with one of these.

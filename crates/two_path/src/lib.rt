@@ -30,5 +30,5 @@ pub use machine::Machine;
 pub use turn::{Answered, Turn, TurnAnswer, Turned};
 pub use walk::done_again;
 
-// For users of the library: laws that no crate above takes.
+// For users of the library: laws that no crate of the program takes.
 pub use laws::{no_block_says_that_waits_differ, restarts_keep_the_history};

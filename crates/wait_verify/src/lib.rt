@@ -19,7 +19,7 @@ pub use pair::WaitPair;
 pub use printing::push_waits;
 pub use verifying::verdict;
 
-// For users of the library: laws that no crate above takes.
+// For users of the library: laws that no crate of the program takes.
 pub use laws::{
     accepted_pairs_do_not_wait_in_vain, no_pair_is_without_an_answer,
     what_a_run_accepts_is_accepted,

@@ -22,5 +22,5 @@ pub use frame::Frame;
 pub use laws::{an_area_in_the_cell_holds_what_may_be_passed, clear_areas_keep_apart};
 pub use swept::Swept;
 
-// For users of the library: laws that no crate above takes.
+// For users of the library: laws that no crate of the program takes.
 pub use laws::{an_area_holds_what_may_be_passed, an_area_is_the_least};

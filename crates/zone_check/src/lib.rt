@@ -16,5 +16,5 @@ mod writing;
 pub use meetings::boxes;
 pub use writing::write_zones;
 
-// For users of the library: laws that no crate above takes.
+// For users of the library: laws that no crate of the program takes.
 pub use laws::{a_zone_holds_what_may_be_passed, clear_zones_keep_apart, moves_lead_to_positions};

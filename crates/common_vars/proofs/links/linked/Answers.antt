@@ -1,4 +1,5 @@
--- The jump of a new node leads to an earlier write of its variable (`linked`, src/links.rt).
+-- Of the linked writes of shared variables: the jump of a new one leads to an earlier write of its
+-- variable, if anywhere (`linked`, src/links.rt).
 use Rattle.std.proofs.Common.{subst, sym, Option, ℕ, length}
 use Rattle.common_vars.specs.Links.{IsSomeBefore}
 use Rattle.common_vars.proofs.links.linked.Goals as goal

@@ -1,5 +1,5 @@
--- A text of the grammar is within its limits (`a_text_that_reads_is_within_its_limits`,
--- src/law.rt).
+-- A macro expression or statement of the grammar has no number with too many digits and opens no
+-- sixth bracket (`a_text_that_reads_is_within_its_limits`, src/law.rt).
 use Rattle.macro_limits.proofs.Grammar.{expression_limits, statement_limits}
 use Rattle.macro_limits.proofs.law.a_text_that_reads_is_within_its_limits.Goals as goal
 
