@@ -7,9 +7,9 @@
 //! `block_values`. A [`PathState`] is the scope of its own variables, and takes an operator's edits.
 //! It decides what a block comes to before anything of it changes. two_path, which runs two of
 //! them, leans on [`PathState::advance_into`], and on [`PathState::decide`] and
-//! [`PathState::take`], which do the same in two calls (the kinds of blocks are told apart in both):
-//! the moves of a block are put into a list that the caller lends. Crates above that print or check
-//! a machine look at its paths, and take laws from here.
+//! [`PathState::take`], which do the same in two calls (the kinds of blocks are told apart in
+//! both): the moves of a block are put into a list that the caller lends. Crates above that print
+//! or check a machine look at its paths, and take laws from here.
 #![tactic(auto)]
 
 mod acting;

@@ -1,5 +1,5 @@
-//! How the bodies of a journal are read: the header, and the pieces after it, each a batch of records
-//! or the mark that raises the journal to version 2. Each call may run out of memory.
+//! How the bodies of a journal are read: the header, and the pieces after it, each a batch of
+//! records or the mark that raises the journal to version 2. Each call may run out of memory.
 //! For opening.rt of this crate.
 
 ghost use Rattle.std.specs.Prelude.{◌≡◌, ◌↔◌, ◌+◌, ◌*◌, ◌^◌, ◌≤◌, ◌<◌, ◌++◌, [], ◌∷◌, List, ℕ, length, drop, take, None, Some, IsTrue, IfOk, IfErr, OnOk, vec_capacity};

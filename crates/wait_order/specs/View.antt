@@ -1,7 +1,7 @@
 -- That a view of a program says what the program is: the view (src/view.rt) is the program among
 -- those of its tape, in which the first block is looked for that may pass a wait. For this crate
--- alone: src/view.rt requires it, and `program_line` (src/waiting.rt) makes it. A loud program comes
--- to a wait or an end, itself or by its calls; the others are quiet.
+-- alone: src/view.rt requires it, and `program_line` (src/waiting.rt) makes it. A loud program
+-- comes to a wait or an end, itself or by its calls; the others are quiet.
 use Rattle.std.specs.Prelude.{◌≡◌}
 use Rattle.wait_order.specs.declared.view.ProgramView.{ProgramView}
 use Rattle.block_order.specs.Order.{blocks, main_number}
