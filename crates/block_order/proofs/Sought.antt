@@ -310,7 +310,7 @@ pub numbered-place : (bs : List ControlBlock) (t n : ℕ) → IsNumbered bs t n
 unfolding places_of
 numbered-place bs t n w = let at = numbered-from bs t 0 n w.0 w.1 w.2 in (at.0, at.1, at.2 ∙ omega arith)
 
--- The index at which a list is parted below and from t on is that of t.
+-- The index at which the numbers of a list below t end is that of t.
 pub partition-place : (xs : List ℕ) (t p i : ℕ) → Rises 0 xs → i < length xs → get_or xs i 0 ≡ t
     → ((k : ℕ) → k < p → get_or xs k 0 < t) → ((k : ℕ) → p ≤ k → k < length xs → t ≤ get_or xs k 0) → p ≡ i
 partition-place xs t p i r within at below above =
@@ -348,7 +348,7 @@ ltb-false {a} {b} e = grind (arith, nat_tests)
 pub last-get : (xs : List ℕ) → 0 < length xs → slice_get xs (length xs - 1) ≡ Some (get_or xs (length xs - 1) 0)
 last-get xs h = slice_get-get_or xs (length xs - 1) 0 (omega arith)
 
--- If the search comes to a block exactly from before it and from the last place on, the finders
+-- If the search comes to the block t exactly from before it and from the last place on, the finders
 -- that begin at 0 and go round name exactly these blocks.
 pub finder_sides : (t last block : ℕ) (r f around : Option ℕ) → around ≡ Some last → r ≡ f
     → (f ≡ Some t) ↔ ((block < t) ⊎ (last ≤ block))

@@ -1,4 +1,4 @@
--- No tape is both accepted and refused (src/laws.rt).
+-- No tape is both accepted and refused (a law of src/laws.rt).
 use Rattle.tape_flow.proofs.Accepted.{not_both}
 use Rattle.tape_flow.proofs.laws.an_accepted_tape_is_not_refused.Goals as goal
 
