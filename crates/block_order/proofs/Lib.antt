@@ -1,5 +1,5 @@
--- The lemmas of this crate, each file by its subject. wait_order, part_order, part_lines,
--- path_state, flow_laws and open_order take some; the head of each file says which.
+-- The lemmas of this crate. The head of each file says its subject and who takes it: wait_order,
+-- part_order, part_lines, path_state, flow_laws and open_order take some.
 pub mod Items
 pub mod Sought
 pub mod Opened

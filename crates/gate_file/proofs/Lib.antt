@@ -1,4 +1,5 @@
--- The lemmas of this crate, each file by its subject. run_journal takes Ends and Unique.
+-- The lemmas of this crate, each file by its subject. run_journal takes Ends and Unique, and no
+-- other file is taken.
 pub mod Appending
 pub mod Beginning
 pub mod Bodies

@@ -1,6 +1,6 @@
 -- If a line of a tape has ended and nothing is refused, nothing is decided: two texts that may
--- follow have different answers. So a reader that has refused nothing has missed no refusal.
--- For the proof of `feed` (src/reader.rt).
+-- follow have different answers. So a reader that has refused nothing has missed no refusal. A
+-- refusal is one at most, and stays with more bytes. For the proof of `feed` (src/reader.rt).
 use Rattle.std.proofs.Common.{◌≡◌, ◌==◌, ℕ, ◌+◌, ◌≤◌, Bool, true, false, cond, List, [], ◌∷◌, ◌++◌, length, None, Ok, Err, refl, sym, ap, ◌∙◌, append_assoc, lit≤, arith}
 use Rattle.std.proofs.Math.ListN.{replicate}
 use Rattle.std.specs.Option.{is_none}
@@ -44,17 +44,17 @@ long_line n = record { bytes = long n; ended = false }
 long_is : (n : ℕ) → lines_of (long n) ≡ long_line n ∷ []
 long_is n = text_ends 88 (replicate n 88) (All-cons InLine 88 (replicate n 88) refl (All-replicate InLine n 88 refl))
 
--- a line as long as a tape may be passes its end
+-- a line longer than a tape may be passes the tape's end
 long_past : (before : Before) (n : ℕ) → LONGEST_TAPE ≤ n → is_past_end before (length (long n)) false ≡ true
 long_past before n above =
     let bytes = before.bytes in
     lt-ltb LONGEST_TAPE (bytes + length (long n)) (omega (arith, length-replicate {A = ℕ} n 88))
 
--- after the second `%` line, a line as long as a tape may be is refused as a tape that is too long
+-- after the second `%` line, a line longer than a tape may be is refused: the tape is too long
 rest_long : (before : Before) (n : ℕ) → LONGEST_TAPE ≤ n → in_rest (lines_of (long n)) before ≡ Err (fault_behind before TapeTooLong)
 rest_long before n above = ap (λ (lines : List Line). in_rest lines before) (long_is n) ∙ rw (long_past before n above) refl
 
--- before the first `%` line, a line as long as a tape may be is refused as a tape that is too long
+-- before the first `%` line, a line longer than a tape may be is refused: the tape is too long
 leader_long : (skips : ℕ) (before : Before) (n : ℕ) → LONGEST_TAPE ≤ n → in_leader skips (lines_of (long n)) before ≡ Err (fault_behind before TapeTooLong)
 leader_long skips before n above = ap (λ (lines : List Line). in_leader skips lines before) (long_is n) ∙ rw (long_past before n above) refl
 

@@ -1,6 +1,6 @@
 //! Laws of spelling: the bytes of a record or a header are those of one alone. No crate calls them;
-//! run_journal takes their lemmas (proofs/OneSpelling.antt, proofs/Texts.antt), so that a journal has
-//! one meaning, and two_path one lemma on edits.
+//! run_journal takes their lemmas (proofs/OneSpelling.antt, proofs/Texts.antt), so that a journal
+//! has one meaning, and two_path one lemma on edits.
 
 ghost use Rattle.std.specs.Prelude.{◌≡◌, ◌++◌, ℕ, List, None};
 ghost use Rattle.run_records.specs.Entries.{Entry};
@@ -9,8 +9,8 @@ ghost use Rattle.run_records.specs.Spelling.{entry_bytes, IsEntry};
 ghost use Rattle.run_records.specs.Headers.{header_bytes, IsShort};
 ghost use Rattle.run_records.specs.Causes.{cause_of};
 
-/// The bytes of a record are those of one record alone, and no prefix of another's; whatever follows
-/// them, no cause says that they are none.
+/// The bytes of a record are those of one record alone, and no prefix of another's; whatever
+/// follows them, no cause says that they are none.
 pub fn an_entry_has_one_spelling()
     ensures one { (entry other : Entry) (rest more : List ℕ) → IsEntry entry → IsEntry other
         → entry_bytes entry ++ rest ≡ entry_bytes other ++ more

@@ -1,5 +1,5 @@
--- A fault met in reading on is one of the whole reading, and with each window read the loop keeps
--- its facts (`read_bodies`, src/open.rt).
+-- A fault met in reading on is one of the whole reading, nothing was written by then, and with each
+-- window read the loop keeps its facts (`read_bodies`, src/open.rt).
 use Rattle.std.proofs.Common.{◌+◌, ◌*◌, length, ◌∙◌, ap, arith}
 use Rattle.std.proofs.lemmas.Result.{err_from_is_err_and}
 use Rattle.disk_model.proofs.Runs.{peeks_more}

@@ -1,5 +1,6 @@
 -- For the loop of `hand_all` (src/turns.rt): beside the moves that the turret had served, it has
--- served those of the block so far.
+-- served those of the block so far (took them, or missed them once it failed: `Serves` of
+-- drive_line).
 use Rattle.std.proofs.Common.{List, ◌++◌, map, take}
 use Rattle.drive_line.specs.Driving.{Serves}
 use Rattle.nc_outside.specs.declared.lined_move.LinedMove.{LinedMove}

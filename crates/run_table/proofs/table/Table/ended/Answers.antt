@@ -1,5 +1,5 @@
--- For the proof of `Table::ended` (src/table.rt): why the run ended, with its records flushed, or
--- that it goes on; a table that the disk stopped stays as it is.
+-- For the proof of `Table::ended` (src/table.rt): why the run ended, with its records flushed or a
+-- fault of the disk in that, or that it goes on; a table that the disk stopped stays as it is.
 use Rattle.std.proofs.Common.{rules, ◌≡◌, ◌≢◌, false, length, refl, sym, ◌∙◌, ap, subst, append-nil, None, Some}
 use Rattle.std.specs.Prelude.{IsTrue}
 use Rattle.nc_outside.specs.declared.halt.Halt.TheVariants as halt
