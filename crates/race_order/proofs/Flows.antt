@@ -35,7 +35,7 @@ use Rattle.named_vars.proofs.WritesMarked.{writes_are_marked}
 use Rattle.race_order.proofs.Runs.{runs_agree}
 
 -- what a block may write, it names
-may_named : (found : Option FlowBlock) (v : ℕ) → found_may_write found v ≡ true → found_names found v ≡ true
+pub may_named : (found : Option FlowBlock) (v : ℕ) → found_may_write found v ≡ true → found_names found v ≡ true
 may_named None v e = absurd cc
 may_named (Some block) v e = go block.body e
   where

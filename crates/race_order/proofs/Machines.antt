@@ -74,7 +74,7 @@ seen blocks s (effect.AtEnd after moves) = alone.AtEnd (logged blocks s after mo
 seen blocks s (effect.Alarm number value) = alone.Alarm
 
 -- a variable that a block needs is one that its part names
-needs_seen : (b : Blocks) (k : Known b) (n : ℕ) (s : Logged) (vs : List Var) (v : ℕ) → k.In n s.0
+pub needs_seen : (b : Blocks) (k : Known b) (n : ℕ) (s : Logged) (vs : List Var) (v : ℕ) → k.In n s.0
     → (e : Effect) → b.effect s.0 vs ≡ e → seen b s e ≡ alone.Need v → k.names n v
 needs_seen b k n s vs v inn (effect.Need u) is same = let e : u ≡ v = cc in subst (λ i. k.names n i) e (k.named n s.0 vs u inn is)
 needs_seen b k n s vs v inn (effect.Done after None moves) is same = absurd cc
@@ -84,7 +84,7 @@ needs_seen b k n s vs v inn (effect.AtEnd after moves) is same = absurd cc
 needs_seen b k n s vs v inn (effect.Alarm number value) is same = absurd cc
 
 -- a block that is done and writes nothing leads to a place of the same part
-done_seen : (b : Blocks) (k : Known b) (n : ℕ) (s : Logged) (vs : List Var) (to : Logged) → k.In n s.0
+pub done_seen : (b : Blocks) (k : Known b) (n : ℕ) (s : Logged) (vs : List Var) (to : Logged) → k.In n s.0
     → (e : Effect) → b.effect s.0 vs ≡ e → seen b s e ≡ alone.Done to → k.In n to.0
 done_seen b k n s vs to inn (effect.Need u) is same = absurd cc
 done_seen b k n s vs to inn (effect.Done after None moves) is same =
@@ -95,7 +95,7 @@ done_seen b k n s vs to inn (effect.AtEnd after moves) is same = absurd cc
 done_seen b k n s vs to inn (effect.Alarm number value) is same = absurd cc
 
 -- a block that writes may write the variable by its part, and leads to a place of the same part
-wrote_seen : (b : Blocks) (k : Known b) (n : ℕ) (s : Logged) (vs : List Var) (to : Logged) (v : ℕ) (x : Var) → k.In n s.0
+pub wrote_seen : (b : Blocks) (k : Known b) (n : ℕ) (s : Logged) (vs : List Var) (to : Logged) (v : ℕ) (x : Var) → k.In n s.0
     → (e : Effect) → b.effect s.0 vs ≡ e → seen b s e ≡ alone.Wrote to v x → (k.may n v) × k.In n to.0
 wrote_seen b k n s vs to v x inn (effect.Need u) is same = absurd cc
 wrote_seen b k n s vs to v x inn (effect.Done after None moves) is same = absurd cc
@@ -110,7 +110,7 @@ wrote_seen b k n s vs to v x inn (effect.AtEnd after moves) is same = absurd cc
 wrote_seen b k n s vs to v x inn (effect.Alarm number value) is same = absurd cc
 
 -- a wait that is passed leads to a place of the next part
-wait_seen : (b : Blocks) (k : Known b) (n : ℕ) (s : Logged) (vs : List Var) → k.In n s.0
+pub wait_seen : (b : Blocks) (k : Known b) (n : ℕ) (s : Logged) (vs : List Var) → k.In n s.0
     → (e : Effect) → b.effect s.0 vs ≡ e → seen b s e ≡ alone.AtWait → k.In (suc n) (path_behind_wait s.0)
 wait_seen b k n s vs inn (effect.Need u) is same = absurd cc
 wait_seen b k n s vs inn (effect.Done after None moves) is same = absurd cc
