@@ -6,7 +6,7 @@ use Rattle.std.proofs.lemmas.Bool.Decides.{nat_tests}
 use Rattle.std.proofs.lemmas.List.Sums.{sum_by-cons}
 use Rattle.nc_number.specs.Literals.{is_sign, behind_sign}
 use Rattle.line_text.specs.declared.body.Word.{Word}
-use Rattle.macro_expr.specs.Limits.{cleaned, variable_signs}
+use Rattle.macro_expr.specs.Limits.{clean_text, variable_signs}
 use Rattle.block_words.specs.declared.word.FlowWord.{FlowWord}
 use Rattle.block_forms.specs.Forms.{signs_in}
 use Rattle.block_forms.specs.Variables.{variables_of_value, variables_of_words}
@@ -35,17 +35,17 @@ upper_sign : (b : ℕ) → sign (to_ascii_uppercase b) ≤ sign b
 upper_sign b = grind (arith, nat_tests)
 
 -- To leave out blanks and comments leaves no more signs of variables.
-fewer_cleaned : (inside : Bool) (text : List ℕ) → variable_signs (cleaned inside text) ≤ variable_signs text
+fewer_cleaned : (inside : Bool) (text : List ℕ) → variable_signs (clean_text inside text) ≤ variable_signs text
 fewer_cleaned true [] = omega arith
 fewer_cleaned false [] = omega arith
 fewer_cleaned true (b ∷ text) = omega (arith, signs_at_head b text, fewer_cleaned (not (b == 41)) text)
 fewer_cleaned false (b ∷ text) = go (b == 40) (b == 32 || b == 9) (fewer_cleaned true text) (fewer_cleaned false text)
   where
-    go : (opens space : Bool) → variable_signs (cleaned true text) ≤ variable_signs text → variable_signs (cleaned false text) ≤ variable_signs text → variable_signs (cond opens (cleaned true text) (cond space (cleaned false text) (to_ascii_uppercase b ∷ cleaned false text))) ≤ variable_signs (b ∷ text)
+    go : (opens space : Bool) → variable_signs (clean_text true text) ≤ variable_signs text → variable_signs (clean_text false text) ≤ variable_signs text → variable_signs (cond opens (clean_text true text) (cond space (clean_text false text) (to_ascii_uppercase b ∷ clean_text false text))) ≤ variable_signs (b ∷ text)
     go true space inside outside = omega (arith, signs_at_head b text, inside)
     go false true inside outside = omega (arith, signs_at_head b text, outside)
     go false false inside outside =
-        omega (arith, signs_at_head b text, signs_at_head (to_ascii_uppercase b) (cleaned false text), upper_sign b, outside)
+        omega (arith, signs_at_head b text, signs_at_head (to_ascii_uppercase b) (clean_text false text), upper_sign b, outside)
 
 -- To leave out a minus in front leaves no more signs of variables.
 fewer_behind_sign : (text : List ℕ) → variable_signs (behind_sign text) ≤ variable_signs text
@@ -57,7 +57,7 @@ fewer_behind_sign (b ∷ text) = go (is_sign b)
     go false = omega arith
 
 -- To leave out a minus in front, blanks and comments leaves no more signs of variables.
-pub fewer_in_value : (text : List ℕ) → variable_signs (cleaned false (behind_sign text)) ≤ variable_signs text
+pub fewer_in_value : (text : List ℕ) → variable_signs (clean_text false (behind_sign text)) ≤ variable_signs text
 fewer_in_value text = omega (arith, fewer_cleaned false (behind_sign text), fewer_behind_sign text)
 
 -- In the loop over a block's words the variables so far and the signs of the words ahead are no

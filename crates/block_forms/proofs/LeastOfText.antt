@@ -9,13 +9,13 @@ use Rattle.line_text.specs.declared.body.Word.{Word}
 use Rattle.block_words.specs.declared.dialect.Dialect.{Dialect}
 use Rattle.block_words.specs.declared.word.FlowWord.{FlowWord}
 use Rattle.block_forms.specs.Refusals.{IsLeast, refusal_of}
-use Rattle.block_forms.specs.Forms.{word_of, joined, all_words, has_many_variables, with_refusal, judged, words_or_refusal}
+use Rattle.block_forms.specs.Forms.{word_of, word_and_rest, all_words, has_many_variables, with_refusal, words_or_number, words_or_refusal}
 use Rattle.block_forms.specs.Texts.{RefusesText, unread, many, said, IsLeastOfText}
 use Rattle.block_forms.proofs.LeastRefusal.{least_refusal, no_refusal, refusal_above_25}
 use Rattle.block_forms.proofs.WordNumbers.{Stops, word_number}
 
 -- If one word and those behind it read, those behind it do.
-rest_reads : (word : Result FlowWord ℕ) (rest : Result (List FlowWord) ℕ) (words : List FlowWord) → joined word rest ≡ Ok words → (behind : List FlowWord) × (rest ≡ Ok behind)
+rest_reads : (word : Result FlowWord ℕ) (rest : Result (List FlowWord) ℕ) (words : List FlowWord) → word_and_rest word rest ≡ Ok words → (behind : List FlowWord) × (rest ≡ Ok behind)
 rest_reads (Ok w) (Ok ws) words e = (ws, refl)
 rest_reads (Ok w) (Err n) words e = absurd (cc)
 rest_reads (Err n) (Ok ws) words e = absurd (cc)
@@ -25,7 +25,7 @@ rest_reads (Err n) (Err m) words e = absurd (cc)
 all_read : (before behind : List Word) (word : Word) (words : List FlowWord) (number : ℕ) → all_words (before ++ word ∷ behind) ≡ Ok words → word_of word ≡ Err number → ⊥
 all_read [] behind word words number all fails = go (word_of word) (all_words behind) fails all
   where
-    go : (w : Result FlowWord ℕ) (rest : Result (List FlowWord) ℕ) → w ≡ Err number → joined w rest ≡ Ok words → ⊥
+    go : (w : Result FlowWord ℕ) (rest : Result (List FlowWord) ℕ) → w ≡ Err number → word_and_rest w rest ≡ Ok words → ⊥
     go (Ok w) rest e all = absurd (cc)
     go (Err n) (Ok ws) e all = absurd (cc)
     go (Err n) (Err m) e all = absurd (cc)
@@ -41,7 +41,7 @@ first_or_rest own rest number e = let same : (if nat_le own rest then own else r
 is_least : (before behind : List Word) (word : Word) (number own : ℕ) → all_words (before ++ word ∷ behind) ≡ Err number → word_of word ≡ Err own → number ≤ own
 is_least [] behind word number own all fails = go (word_of word) (all_words behind) fails all
   where
-    go : (w : Result FlowWord ℕ) (rest : Result (List FlowWord) ℕ) → w ≡ Err own → joined w rest ≡ Err number → number ≤ own
+    go : (w : Result FlowWord ℕ) (rest : Result (List FlowWord) ℕ) → w ≡ Err own → word_and_rest w rest ≡ Err number → number ≤ own
     go (Ok w) rest e all = absurd (cc)
     go (Err n) (Ok ws) e all = let a : n ≡ own = cc in let b : n ≡ number = cc in omega arith
     go (Err n) (Err m) e all = let a : n ≡ own = cc in let b : number ≤ n = (first_or_rest n m number all).0 in omega arith
@@ -49,7 +49,7 @@ is_least (b ∷ before) behind word number own all fails =
     go (word_of b) (all_words (before ++ word ∷ behind)) refl all (λ n rest. is_least before behind word n own rest fails)
     (λ words rest. all_read before behind word words own rest fails)
   where
-    go : (w : Result FlowWord ℕ) (rest : Result (List FlowWord) ℕ) → all_words (before ++ word ∷ behind) ≡ rest → joined w rest ≡ Err number → ((n : ℕ) → all_words (before ++ word ∷ behind) ≡ Err n → n ≤ own) → ((words : List FlowWord) → all_words (before ++ word ∷ behind) ≡ Ok words → ⊥) → number ≤ own
+    go : (w : Result FlowWord ℕ) (rest : Result (List FlowWord) ℕ) → all_words (before ++ word ∷ behind) ≡ rest → word_and_rest w rest ≡ Err number → ((n : ℕ) → all_words (before ++ word ∷ behind) ≡ Err n → n ≤ own) → ((words : List FlowWord) → all_words (before ++ word ∷ behind) ≡ Ok words → ⊥) → number ≤ own
     go w (Ok ws) at all later never = absurd (never ws at)
     go (Ok w) (Err m) at all later never = let a : m ≡ number = cc in let b : m ≤ own = later m at in omega arith
     go (Err n) (Err m) at all later never = let a : number ≤ m = (first_or_rest n m number all).1 in let b : m ≤ own = later m at in omega arith
@@ -88,7 +88,7 @@ there (t ∷ ts) number all = go (word_of t) (all_words ts) refl refl all (λ n 
     either true n m at it same = here n at same
     either false n m at it same = later m it same
 
-    go : (w : Result FlowWord ℕ) (rest : Result (List FlowWord) ℕ) → word_of t ≡ w → all_words ts ≡ rest → joined w rest ≡ Err number → ((n : ℕ) → all_words ts ≡ Err n → Unread ts n) → Unread (t ∷ ts) number
+    go : (w : Result FlowWord ℕ) (rest : Result (List FlowWord) ℕ) → word_of t ≡ w → all_words ts ≡ rest → word_and_rest w rest ≡ Err number → ((n : ℕ) → all_words ts ≡ Err n → Unread ts n) → Unread (t ∷ ts) number
     go (Ok w) (Ok ws) at rest e behind = absurd (cc)
     go (Ok w) (Err m) at rest e behind = let same : m ≡ number = cc in later m (behind m rest) same
     go (Err n) (Ok ws) at rest e behind = let same : n ≡ number = cc in here n at same
@@ -157,7 +157,7 @@ answered_is_least stops dialect texts number answered =
         let same : cause_number cause ≡ number = cc in
         along dialect texts (cause_number cause) number same (said_is_least dialect texts words cause all few at)
 
-    go : (read : Result (List FlowWord) ℕ) → all_words texts ≡ read → (are : Bool) → has_many_variables texts ≡ are → judged dialect are read ≡ Err number → IsLeastOfText dialect texts number
+    go : (read : Result (List FlowWord) ℕ) → all_words texts ≡ read → (are : Bool) → has_many_variables texts ≡ are → words_or_number dialect are read ≡ Err number → IsLeastOfText dialect texts number
     go (Ok words) all true are e =
         let same : cause_number TooManyVariables ≡ number = cc in
         along dialect texts (cause_number TooManyVariables) number same (many_is_least dialect texts words all are)
@@ -184,7 +184,7 @@ accepted_has_none dialect texts words accepted =
     told own all few None at e = (all ∙ e, λ number refuses. none own all few at number refuses)
     told own all few (Some cause) at e = absurd (cc)
 
-    go : (read : Result (List FlowWord) ℕ) → all_words texts ≡ read → (are : Bool) → has_many_variables texts ≡ are → judged dialect are read ≡ Ok words → (all_words texts ≡ Ok words) × ((number : ℕ) → ¬ (RefusesText dialect texts number))
+    go : (read : Result (List FlowWord) ℕ) → all_words texts ≡ read → (are : Bool) → has_many_variables texts ≡ are → words_or_number dialect are read ≡ Ok words → (all_words texts ≡ Ok words) × ((number : ℕ) → ¬ (RefusesText dialect texts number))
     go (Ok own) all true are e = absurd (cc)
     go (Ok own) all false few e = told own all few (refusal_of dialect own) refl e
     go (Err n) all are is e = absurd (cc)

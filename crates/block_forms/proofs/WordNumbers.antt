@@ -12,8 +12,8 @@ use Rattle.macro_expr.specs.declared.stop.Stop.{Stop}
 use Rattle.macro_expr.specs.declared.stop.Stop.TheVariants as stop
 use Rattle.macro_expr.specs.Tree.{Tree}
 use Rattle.macro_expr.specs.Grammar.{IsExpression}
-use Rattle.macro_expr.specs.Statements.{expression_at, whole}
-use Rattle.macro_expr.specs.Limits.{cleaned, has_many_variables, has_long_number, has_deep_brackets, refusal, refusal_of, cause_beside, answer}
+use Rattle.macro_expr.specs.Statements.{expression_at, whole_reading}
+use Rattle.macro_expr.specs.Limits.{clean_text, has_many_variables, has_long_number, has_deep_brackets, refusal, refusal_of, cause_beside, answer}
 use Rattle.macro_limits.specs.Refusals.{Lacks, Never}
 use Rattle.macro_expr.specs.Answers.{expression_of}
 use Rattle.block_words.specs.declared.word.WordValue.{WordValue}
@@ -21,7 +21,7 @@ use Rattle.block_forms.specs.Forms.{fixed_value, computed_value, value_of, word_
 
 -- The law of macro_expr on where reading stops in an expression, as these lemmas take it.
 abbrev pub Stops : Type 0
-Stops = (text : List ℕ) (s : Stop) → whole (expression_at text) ≡ Err s → Lacks IsExpression Never text s
+Stops = (text : List ℕ) (s : Stop) → whole_reading (expression_at text) ≡ Err s → Lacks IsExpression Never text s
 
 -- An expression at which reading stops has a refusal up to 25.
 stop_number : (text : List ℕ) (many : Bool) (s : Stop) → Lacks IsExpression Never text s → cause_number (cause_beside many s) ≤ 25
@@ -50,18 +50,18 @@ fault_along a b same small = along a.number b.number (ap (λ (f : ExprFault). f.
 
 -- An expression that does not read has a refusal up to 25.
 expression_number : Stops → (text : List ℕ) (fault : ExprFault) → expression_of text ≡ Err fault → fault.number ≤ 25
-expression_number stops text fault is = go (whole (expression_at (cleaned false text))) refl is
+expression_number stops text fault is = go (whole_reading (expression_at (clean_text false text))) refl is
   where
     tree_answer : (many : Bool) (tree : Tree) → ◌≡◌ {A = Result Tree ExprFault} (if many then Err (refusal TooManyVariables) else Ok tree) (Err fault) → fault.number ≤ 25
     tree_answer true tree e = let same : refusal TooManyVariables ≡ fault = cc in fault_along (refusal TooManyVariables) fault same (lit≤ tt)
     tree_answer false tree e = absurd (cc)
 
-    go : (read : Result Tree Stop) → whole (expression_at (cleaned false text)) ≡ read → answer (cleaned false text) read ≡ Err fault → fault.number ≤ 25
-    go (Ok tree) at e = tree_answer (has_many_variables (cleaned false text)) tree e
+    go : (read : Result Tree Stop) → whole_reading (expression_at (clean_text false text)) ≡ read → answer (clean_text false text) read ≡ Err fault → fault.number ≤ 25
+    go (Ok tree) at e = tree_answer (has_many_variables (clean_text false text)) tree e
     go (Err s) at e =
-        let same : refusal_of (cleaned false text) s ≡ fault = cc in
-        let small : cause_number (cause_beside (has_many_variables (cleaned false text)) s) ≤ 25 = stop_number (cleaned false text) (has_many_variables (cleaned false text)) s (stops (cleaned false text) s at) in
-        fault_along (refusal_of (cleaned false text) s) fault same (one_of_three (has_long_number (cleaned false text)) (has_deep_brackets (cleaned false text)) (cause_beside (has_many_variables (cleaned false text)) s) small)
+        let same : refusal_of (clean_text false text) s ≡ fault = cc in
+        let small : cause_number (cause_beside (has_many_variables (clean_text false text)) s) ≤ 25 = stop_number (clean_text false text) (has_many_variables (clean_text false text)) s (stops (clean_text false text) s at) in
+        fault_along (refusal_of (clean_text false text) s) fault same (one_of_three (has_long_number (clean_text false text)) (has_deep_brackets (clean_text false text)) (cause_beside (has_many_variables (clean_text false text)) s) small)
 
 -- A value that does not read has a refusal up to 25.
 value_number : Stops → (text : List ℕ) (number : ℕ) → value_of text ≡ Err number → number ≤ 25

@@ -1,6 +1,7 @@
 -- What a block that reads does to the order of blocks. open_forms and path_state cite this; the
 -- open reading of a block has its own definition in open_forms.
 use Rattle.std.specs.Prelude.{ℕ, ◌/◌, ◌%◌, nat_le, Bool, true, ◌&&◌, ◌||◌, List, Option, Some, None, codes, if◌then◌else◌}
+use Rattle.nc_number.specs.declared.limits.TheConstants.{LAST_SEQUENCE}
 use Rattle.block_order.specs.declared.control.Control.{Control}
 use Rattle.block_order.specs.declared.control.Control.TheVariants as control
 use Rattle.macro_expr.specs.Tree.{Aim, ToNumber, ToNumberOf, Sentence, Assign, Goto, IfGoto, IfThen, WhileDo, DoOnly, EndLoop}
@@ -9,11 +10,11 @@ use Rattle.block_words.specs.declared.dialect.Dialect.{Dialect}
 use Rattle.block_words.specs.declared.purpose.Purpose.{Purpose}
 use Rattle.block_words.specs.declared.purpose.Purpose.TheVariants.{MacroCall, Subprogram, Return, Wait, Dwell, Setting, Other}
 use Rattle.block_words.specs.Words.{last_whole}
-use Rattle.block_words.specs.Codes.{natural, m_codes, has_code, is_waiting, first_waiting, purpose_of}
+use Rattle.block_words.specs.Codes.{natural_number, m_codes, has_code, is_waiting, first_waiting, purpose_of}
 
 -- The number that the last word of these letters says, if it is written out, whole and not below 0.
 abbrev pub number_of : List ℕ → List FlowWord → Option ℕ
-number_of letters words = natural (last_whole letters words)
+number_of letters words = natural_number (last_whole letters words)
 
 -- The number that is said, or the given one if there is none.
 abbrev pub or_number : ℕ → Option ℕ → ℕ
@@ -75,7 +76,7 @@ control_of_sentence (EndLoop name) = control.EndLoop name
 -- The sequence number of a jump is up to 99,999; a computed one is known in the run alone.
 abbrev pub is_sequence : Option ℕ → Bool
 is_sequence None = true
-is_sequence (Some n) = nat_le n 99999
+is_sequence (Some n) = nat_le n LAST_SEQUENCE
 
 -- A control that a block may have: loops are 1, 2 and 3; sequence numbers end at 99,999; a call is
 -- of program 0 to 9,999, of which 0 is on no tape, and repeats 1 to 9,999 times.
@@ -89,7 +90,7 @@ is_allowed (control.Wait code) = true
 is_allowed control.End = true
 is_allowed (control.Call program repeats) = nat_le program 9999 && (nat_le 1 repeats && nat_le repeats 9999)
 is_allowed control.Back = true
-is_allowed (control.BackTo n) = nat_le n 99999
+is_allowed (control.BackTo n) = nat_le n LAST_SEQUENCE
 
 -- If the control is a wait, its code is one of the waiting codes.
 abbrev pub waits_by_a_code : Dialect → Control → Bool

@@ -51,16 +51,16 @@ word_of word = word_at word.letter (value_of word.text)
 
 -- One word and those behind it, if all read; else the least number of the refusals of those that
 -- don't.
-abbrev pub joined : Result FlowWord ℕ → Result (List FlowWord) ℕ → Result (List FlowWord) ℕ
-joined (Ok word) (Ok words) = Ok (word ∷ words)
-joined (Ok word) (Err number) = Err number
-joined (Err number) (Ok words) = Err number
-joined (Err number) (Err other) = Err (if nat_le number other then number else other)
+abbrev pub word_and_rest : Result FlowWord ℕ → Result (List FlowWord) ℕ → Result (List FlowWord) ℕ
+word_and_rest (Ok word) (Ok words) = Ok (word ∷ words)
+word_and_rest (Ok word) (Err number) = Err number
+word_and_rest (Err number) (Ok words) = Err number
+word_and_rest (Err number) (Err other) = Err (if nat_le number other then number else other)
 
 -- What all words say, or the least number of those that don't read.
 abbrev pub all_words : List Word → Result (List FlowWord) ℕ
 all_words [] = Ok []
-all_words (word ∷ words) = joined (word_of word) (all_words words)
+all_words (word ∷ words) = word_and_rest (word_of word) (all_words words)
 
 -- The lesser one of two numbers, or the second if there is no first.
 abbrev pub lesser : Option ℕ → ℕ → ℕ
@@ -69,11 +69,11 @@ lesser (Some before) number = if nat_le before number then before else number
 
 -- What is answered if these words were read so far, this is the least number of a refusal so far,
 -- if there was one, and the rest says that.
-abbrev pub gathered : List FlowWord → Option ℕ → Result (List FlowWord) ℕ → Result (List FlowWord) ℕ
-gathered done None (Ok words) = Ok (done ++ words)
-gathered done None (Err number) = Err number
-gathered done (Some least) (Ok words) = Err least
-gathered done (Some least) (Err number) = Err (lesser (Some least) number)
+abbrev pub answer_so_far : List FlowWord → Option ℕ → Result (List FlowWord) ℕ → Result (List FlowWord) ℕ
+answer_so_far done None (Ok words) = Ok (done ++ words)
+answer_so_far done None (Err number) = Err number
+answer_so_far done (Some least) (Ok words) = Err least
+answer_so_far done (Some least) (Err number) = Err (lesser (Some least) number)
 
 -- How many variables the words of a block name: each sign `#` counts.
 abbrev pub signs_in : List Word → ℕ
@@ -92,13 +92,13 @@ with_refusal (Some cause) words = Err (cause_number cause)
 -- The words of a block, or its refusal. Words that don't read are refused by 5 or by 20 to 25, so
 -- that comes first; words that do, by 25 (too many variables) or by a greater number of what they
 -- say.
-abbrev pub judged : Dialect → Bool → Result (List FlowWord) ℕ → Result (List FlowWord) ℕ
-judged dialect many (Ok words) = if many then Err (cause_number TooManyVariables) else with_refusal (refusal_of dialect words) words
-judged dialect many (Err number) = Err number
+abbrev pub words_or_number : Dialect → Bool → Result (List FlowWord) ℕ → Result (List FlowWord) ℕ
+words_or_number dialect many (Ok words) = if many then Err (cause_number TooManyVariables) else with_refusal (refusal_of dialect words) words
+words_or_number dialect many (Err number) = Err number
 
 -- The words of a block, or the least number of a refusal that holds of it.
 abbrev pub words_or_refusal : Dialect → List Word → Result (List FlowWord) ℕ
-words_or_refusal dialect words = judged dialect (has_many_variables words) (all_words words)
+words_or_refusal dialect words = words_or_number dialect (has_many_variables words) (all_words words)
 
 -- What stands in a block that was read.
 pub data Form : Type 0 where

@@ -15,7 +15,7 @@ use Rattle.block_words.specs.declared.dialect.Dialect.{Dialect}
 use Rattle.block_words.specs.declared.purpose.Purpose.{Purpose}
 use Rattle.block_words.specs.declared.purpose.Purpose.TheVariants.{Subprogram}
 use Rattle.block_words.specs.Words.{is_one_of, words_of, has, is_computed, has_computed, last_whole}
-use Rattle.block_words.specs.Codes.{natural, row_of_word, gives, is_dwell, is_setting, is_limit, is_machine, is_macro_call, has_code, has_wait, purpose_of}
+use Rattle.block_words.specs.Codes.{natural_number, row_of_word, gives, is_dwell, is_setting, is_limit, is_machine, is_macro_call, has_code, has_wait, purpose_of}
 use Rattle.block_words.specs.Purposes.{fixed_letters, is_idle_p, is_idle_l, names_both}
 use Rattle.block_words.specs.Ranges.{is_in_range}
 
@@ -89,7 +89,7 @@ is_both bits (Some n) = names_both bits n
 abbrev pub is_wait_of_others : Dialect → List FlowWord → Bool
 is_wait_of_others dialect words =
     waits_there dialect words && has (codes "P") words
-    && (has_computed (codes "P") words || not (is_both dialect.bits (natural (last_whole (codes "P") words))))
+    && (has_computed (codes "P") words || not (is_both dialect.bits (natural_number (last_whole (codes "P") words))))
 
 -- 59: more than one M word outside a macro call.
 abbrev pub has_two_m : System → List FlowWord → Bool
@@ -116,7 +116,7 @@ is_many (Some n) = nat_le 10000 n
 
 -- The P of a call of a subprogram has repeats before the program's four digits.
 abbrev pub has_repeats : List FlowWord → Bool
-has_repeats words = is_many (natural (last_whole (codes "P") words))
+has_repeats words = is_many (natural_number (last_whole (codes "P") words))
 
 -- A dwell or the setting of an offset beside a call or a return.
 abbrev pub is_crowded_call : System → List FlowWord → Bool

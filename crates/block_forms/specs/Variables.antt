@@ -1,7 +1,7 @@
 -- How many variables a block names; they are at most 32. FlowBlock keeps this bound (src/block.rt),
 -- and path_state rests on it: a block asks for no more values.
 use Rattle.std.specs.Prelude.{ℕ, ◌+◌, List, [], ◌∷◌}
-use Rattle.macro_expr.specs.Tree.{variables, variables_in, evaluated, sentence_of}
+use Rattle.macro_expr.specs.Tree.{variables, variables_in, trees_of_sentence, sentence_of}
 use Rattle.block_words.specs.declared.word.FlowWord.{FlowWord}
 use Rattle.block_words.specs.declared.word.WordValue.{WordValue}
 use Rattle.block_words.specs.declared.word.WordValue.TheVariants.{Fixed, Computed}
@@ -21,4 +21,4 @@ variables_of_words (word ∷ words) = variables_of_value word.value + variables_
 -- How many variables a block names: in its computed words, or in all that its statement evaluates.
 abbrev pub variables_of_body : FlowBody → ℕ
 variables_of_body (Words words) = variables_of_words words.words
-variables_of_body (Statement statement) = variables_in (evaluated (sentence_of statement.statement))
+variables_of_body (Statement statement) = variables_in (trees_of_sentence (sentence_of statement.statement))

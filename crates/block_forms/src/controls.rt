@@ -1,6 +1,7 @@
 //! What the words or the statement of a block do to the order of blocks. For this crate alone:
 //! reading.rt gives each block its control; the definition is specs/Controls.antt.
 ghost use Rattle.std.specs.Prelude.{◌≡◌, ◌≤◌, IfSome};
+ghost use Rattle.nc_number.specs.declared.limits.TheConstants.{LARGEST_WHOLE};
 ghost use Rattle.macro_expr.specs.Tree.{aim_of, sentence_of};
 ghost use Rattle.block_forms.specs.Controls.{number_of, or_number, call_of_p, back_to, wait_at, end_or_next, number_of_aim, control_of_sentence};
 
@@ -23,7 +24,7 @@ fn number_or(words: &[FlowWord], letters: &[u8], other: u16) -> u16
 /// The call that a P says: of more than four digits it has the repeats before the program's four
 /// digits, else they stand apart.
 fn call_of_p(p: u32, repeats: u16) -> Control
-    requires { p ≤ 99999999 }
+    requires { p ≤ LARGEST_WHOLE }
     ensures { result ≡ call_of_p p repeats }
 {
     if 10_000 <= p {

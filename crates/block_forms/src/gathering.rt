@@ -4,7 +4,7 @@ ghost use Rattle.std.specs.Prelude.{◌≡◌, ◌≤◌, ◌+◌, List, ℕ, Re
 ghost use Rattle.nc_number.specs.Answers.{GivesBy};
 ghost use Rattle.block_words.specs.declared.word.FlowWord.{FlowWord};
 ghost use Rattle.block_forms.specs.Variables.{variables_of_value, variables_of_words};
-ghost use Rattle.block_forms.specs.Forms.{lesser, joined, gathered};
+ghost use Rattle.block_forms.specs.Forms.{lesser, word_and_rest, answer_so_far};
 
 use crate::fault::FormFault;
 use block_words::{FlowWord, FlowWordList};
@@ -51,8 +51,8 @@ impl Gathered {
     pub(crate) fn add(&mut self, word: Result<FlowWord, Failing<FormFault>>) -> Result<(), NoMemory>
         ensures exact { (due : Result FlowWord ℕ) (rest : Result (List FlowWord) ℕ)
             → GivesBy (λ word. word) (λ fault. fault.number) word due
-            → OnOk result (gathered self.new.words.items self.new.least rest
-            ≡ gathered self.old.words.items self.old.least (joined due rest)) }
+            → OnOk result (answer_so_far self.new.words.items self.new.least rest
+            ≡ answer_so_far self.old.words.items self.old.least (word_and_rest due rest)) }
         ensures named { (signs : ℕ) → IfOk word (λ word. variables_of_value word.value ≤ signs)
             → OnOk result (variables_of_words self.new.words.items
             ≤ variables_of_words self.old.words.items + signs) }
@@ -68,7 +68,7 @@ impl Gathered {
     /// The words, or the least number of a refusal.
     pub(crate) fn finish(self) -> Result<FlowWordList, Failing<FormFault>>
         ensures exact { GivesBy (λ words. words) (λ fault. fault.number) result
-            (gathered self.words.items self.least (Ok [])) }
+            (answer_so_far self.words.items self.least (Ok [])) }
         ensures words { IfOk result (λ words. words ≡ self.words.items) }
     {
         let Gathered { words, least } = self;

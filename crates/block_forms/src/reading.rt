@@ -6,7 +6,7 @@ ghost use Rattle.nc_number.specs.declared.limits.TheConstants.{MOST_READS};
 ghost use Rattle.nc_number.specs.Literals.{IsLiteral, behind_sign, has_minus, word_literal};
 ghost use Rattle.macro_expr.specs.Answers.{expression_of, statement_of};
 ghost use Rattle.macro_expr.specs.Limits.{variable_signs};
-ghost use Rattle.macro_expr.specs.Tree.{sentence_of, variables_in, evaluated, IsInRange};
+ghost use Rattle.macro_expr.specs.Tree.{sentence_of, variables_in, trees_of_sentence, IsInRange};
 ghost use Rattle.block_words.specs.declared.dialect.Dialect.{Dialect};
 ghost use Rattle.block_forms.specs.Refusals.{refusal_of};
 ghost use Rattle.block_forms.specs.Controls.{control_of_words, control_of_sentence, waits_by_a_code};
@@ -168,7 +168,7 @@ pub fn read_statement(alloc: Global, text: &[u8]) -> Result<FlowStatement, Faili
     ensures exact { GivesBy (λ read. sentence_of read.statement) (λ fault. fault.number) result
         (sentence_or_refusal (statement_of text.now)) }
     ensures ranges { IfOk result (λ read. IsInRange (sentence_of read.statement)) }
-    ensures few { IfOk result (λ read. variables_in (evaluated (sentence_of read.statement)) ≤ MOST_READS) }
+    ensures few { IfOk result (λ read. variables_in (trees_of_sentence (sentence_of read.statement)) ≤ MOST_READS) }
 {
     match parse_statement(alloc, text) {
         Ok(statement) => {
@@ -186,7 +186,7 @@ pub fn read_statement(alloc: Global, text: &[u8]) -> Result<FlowStatement, Faili
 #[tactic(auto, using(crate::proofs::Accepted::sentence_allowed, crate::proofs::Accepted::sentence_waits))]
 fn block_of_statement(line: u32, sequence: Option<u32>, statement: FlowStatement) -> FlowBlock
     requires ranges { IsInRange (sentence_of statement.statement) }
-    requires few { variables_in (evaluated (sentence_of statement.statement)) ≤ MOST_READS }
+    requires few { variables_in (trees_of_sentence (sentence_of statement.statement)) ≤ MOST_READS }
     ensures form { block_form result ≡ form_at line sequence (OfSentence (sentence_of statement.statement))
         (control_of_sentence (sentence_of statement.statement)) }
     ensures waits { (dialect : Dialect) → waits_by_a_code dialect result.control ≡ true }

@@ -120,7 +120,7 @@ impl FlowWords {
     ghost use Rattle.block_forms.specs.Refusals.{is_bad_subprogram, is_bad_block, is_bad_call, has_axis_twice};
     ghost use Rattle.block_forms.specs.Refusals.{is_out_of_range, refusal_of};
     ghost use Rattle.block_words.specs.Words.{has, last_whole};
-    ghost use Rattle.block_words.specs.Codes.{natural};
+    ghost use Rattle.block_words.specs.Codes.{natural_number};
 
     /// 54: whether a word that must be written out is computed.
     fn is_not_fixed(&self) -> bool
@@ -195,7 +195,7 @@ impl FlowWords {
 
     /// Whether the number of the last P names both paths.
     fn names_both(&self) -> bool
-        ensures { result ≡ is_both self.now.dialect.bits (natural (last_whole (codes "P") self.now.words)) }
+        ensures { result ≡ is_both self.now.dialect.bits (natural_number (last_whole (codes "P") self.now.words)) }
     {
         match number_of(self.words.as_slice(), b"P") {
             Some(paths) => self.dialect.names_both(paths),

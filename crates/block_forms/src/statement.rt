@@ -1,7 +1,7 @@
 //! A statement in a block: its tree, as macro_expr reads it, with the codes of what it evaluates.
 //! path_state runs it, race_report reads its variables.
 ghost use Rattle.std.specs.Prelude.{◌≡◌};
-ghost use Rattle.macro_expr.specs.Tree.{sentence_of, evaluated};
+ghost use Rattle.macro_expr.specs.Tree.{sentence_of, trees_of_sentence};
 
 use macro_eval::CodeList;
 use macro_expr::Statement;
@@ -14,5 +14,5 @@ pub struct FlowStatement {
     /// Of a condition left and right, then of a computed number on the left side, then of the
     /// value; of a jump that of its computed target.
     pub codes: CodeList,
-    ghost agrees: { codes ≡ evaluated (sentence_of statement) },
+    ghost agrees: { codes ≡ trees_of_sentence (sentence_of statement) },
 }

@@ -2,6 +2,7 @@
 //! for, and which codes it gives. Why words are refused is in refusals.rt. block_values and
 //! path_state ask these.
 ghost use Rattle.std.specs.Prelude.{◌≡◌};
+ghost use Rattle.nc_number.specs.declared.limits.TheConstants.{LARGEST_WHOLE};
 ghost use Rattle.block_words.specs.Codes.{rows as rows_in, one_shot as one_shot_in, purpose_of};
 
 use block_words::{
@@ -63,7 +64,7 @@ impl FlowWords {
     #[tactic(auto, using(crate::proofs::Accepted::code_at_most))]
     pub fn code(&self) -> Option<u32>
         ensures value { result ≡ m_code self.now.words }
-        ensures range { IfSome result (λ code. code ≤ 99999999) }
+        ensures range { IfSome result (λ code. code ≤ LARGEST_WHOLE) }
         ensures small { refusal_of self.now.dialect self.now.words ≡ None → is_macro self.now.purpose ≡ false
             → IfSome result (λ code. code ≤ 999) }
     {

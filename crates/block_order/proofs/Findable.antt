@@ -15,7 +15,7 @@ use Rattle.block_order.specs.declared.control.Control.TheVariants.{Call, BackTo}
 use Rattle.block_order.specs.declared.program.ControlBlock.{ControlBlock}
 use Rattle.block_order.specs.declared.program.ControlProgram.{ControlProgram}
 use Rattle.block_order.specs.Order.{has_sequence, first_numbered, or_else, seek, program_of, blocks_of, blocks, main_number, target_of}
-use Rattle.block_order.specs.Shape.{IsListed}
+use Rattle.block_order.specs.Shape.{IsReadTape}
 use Rattle.block_order.specs.Faults.{Stage, Fitting, Finding, Waiting, HasFault, IsClear, IsNoLater, fixed_number, Stands, twice, mismatch, lost, unknown, strays, deep}
 use Rattle.block_order.specs.Found.{JumpFault, BlockFault, jumps, calls, IsFaultOf, IsProgramFault}
 use Rattle.block_order.specs.ProgramPlaces.{place_from, place_of}
@@ -246,7 +246,7 @@ finds-more tape n p at here clear i q place b cause l there is fault =
 
 -- Of two faults of one program that of the earlier block is no later.
 later-block : (tape : List ControlProgram) (n : ℕ) (p : ControlProgram) (first place : ℕ) (a b : ControlBlock) (x y : Cause)
-    → IsListed tape → slice_get tape n ≡ Some p → slice_get p.blocks first ≡ Some a → slice_get p.blocks place ≡ Some b
+    → IsReadTape tape → slice_get tape n ≡ Some p → slice_get p.blocks first ≡ Some a → slice_get p.blocks place ≡ Some b
     → BlockFault tape p first a.control x → BlockFault tape p place b.control y → first ≤ place
     → IsNoLater a.line x b.line y
 later-block tape n p first place a b x y listed at here there f g l =
@@ -264,7 +264,7 @@ later-block tape n p first place a b x y listed at here there f g l =
     (cases_eq first place)
 
 -- The first fault of the first program that has one is the first of the stage.
-pub found-first : (tape : List ControlProgram) (n : ℕ) (p : ControlProgram) (line : ℕ) (cause : Cause) → IsListed tape
+pub found-first : (tape : List ControlProgram) (n : ℕ) (p : ControlProgram) (line : ℕ) (cause : Cause) → IsReadTape tape
     → IsClear tape Fitting → slice_get tape n ≡ Some p → ClearFinds tape n
     → IsProgramFault tape p (Some (record { cause = cause; line = line }))
     → HasFault tape Finding line cause

@@ -10,7 +10,7 @@ use Rattle.block_order.specs.declared.program.ControlBlock.{ControlBlock}
 use Rattle.block_order.specs.declared.program.ControlProgram.{ControlProgram}
 use Rattle.block_order.specs.Order.{blocks_of, blocks}
 use Rattle.block_order.specs.Loud.{has_loud_block, known_loud, loud}
-use Rattle.block_order.specs.ProgramPlaces.{place_from, place_of, flag_at, flagged}
+use Rattle.block_order.specs.ProgramPlaces.{place_from, place_of, flag_at, is_flagged}
 use Rattle.block_order.specs.Numbers.{KnowsPlaces}
 use Rattle.block_order.specs.Heard.{flag_known}
 use Rattle.block_order.proofs.Programs.{one_place}
@@ -42,17 +42,17 @@ flag_from f none (p ∷ ps) place q flags e = go (flag_from f none ps (suc place
 -- A list that has f of the blocks of each program tells, by the flag of an O number, f of its
 -- blocks.
 pub flag_of_blocks : (f : List ControlBlock → Bool) → f [] ≡ false → (tape : List ControlProgram) (q : ℕ)
-    → flagged tape (map (λ p. f p.blocks) tape) q ≡ f (blocks tape q)
+    → is_flagged tape (map (λ p. f p.blocks) tape) q ≡ f (blocks tape q)
 flag_of_blocks f none tape q = flag_from f none tape 0 q (map (λ p. f p.blocks) tape) refl
 
 -- At first no program is known to be loud.
-pub none_known : (tape : List ControlProgram) → flagged tape (map (λ p. has_loud_block (known_loud tape 0) []) tape) ≡ known_loud tape 0
+pub none_known : (tape : List ControlProgram) → is_flagged tape (map (λ p. has_loud_block (known_loud tape 0) []) tape) ≡ known_loud tape 0
 none_known tape i q = flag_of_blocks (λ bs. false) refl tape q i
 
 -- If the places of the O numbers are known, the flag that is kept of a number is that of its
 -- program.
 pub known_is_flagged : (tape : List ControlProgram) (numbers : ProgramNumbers) (flags : List Bool) → KnowsPlaces tape numbers
-    → flag_known numbers flags ≡ flagged tape flags
+    → flag_known numbers flags ≡ is_flagged tape flags
 known_is_flagged tape numbers flags knows i q = flag_at flags (knows q i)
 
 -- If a round finds nothing new, each later round knows the same programs.
@@ -79,7 +79,7 @@ same_or_not m n = grind arith
 -- flagged.
 pub flag_set : (tape : List ControlProgram) (flags : List Bool) (number place : ℕ) → place_of tape number ≡ Some place
     → place < length flags
-    → (q : ℕ) → (flagged tape (slice_set flags place true) q ≡ true) ↔ ((flagged tape flags q ≡ true) ⊎ (q ≡ number))
+    → (q : ℕ) → (is_flagged tape (slice_set flags place true) q ≡ true) ↔ ((is_flagged tape flags q ≡ true) ⊎ (q ≡ number))
 flag_set tape flags number place is within q = go (place_of tape q) refl
   where
     at_place : (i : ℕ) → place_of tape q ≡ Some i → (i ≡ place) ⊎ (i ≢ place)

@@ -10,14 +10,14 @@ use Rattle.block_order.specs.declared.label.Label.TheVariants as label
 use Rattle.block_order.specs.declared.program.ControlProgram.{ControlProgram}
 use Rattle.block_order.specs.Order.{blocks, control_at, IsLoop, Leads}
 use Rattle.block_order.specs.Loud.{loud, mark_of}
-use Rattle.block_order.specs.Labels.{room, behind, counts, IsTarget, Counts, IsUnforked}
-use Rattle.block_order.specs.Moves.{at, return_by, place_of_jump_back}
+use Rattle.block_order.specs.Labels.{room, labels_behind, counts, IsTarget, Counts, IsUnforked}
+use Rattle.block_order.specs.Moves.{frame_at_block, return_by, place_of_jump_back}
 use Rattle.block_order.specs.Steps.{Goes, IsPlace, Kept, Same}
 use Rattle.block_order.proofs.LoudReaches.{AreLoud}
 use Rattle.block_order.proofs.CallChains.{counts_below, main_below}
 use Rattle.block_order.proofs.Searches.{loop_facts}
 use Rattle.block_order.proofs.Moved.{jump_leads, exit_leads, head_leads, call_leads}
-use Rattle.block_order.proofs.LabelsAhead.{ahead-counts, ahead-quiet, moves_kept, from-next, from-jump, call_opens, repeat_begins, last_returns}
+use Rattle.block_order.proofs.LabelsAhead.{labels_ahead-counts, labels_ahead-quiet, moves_kept, from-next, from-jump, call_opens, repeat_begins, last_returns}
 
 -- If the running program's labels come, it is the main program or loud.
 pub Counts-from : (tape : List ControlProgram) (f : Frame) (stack : List Frame) → IsPlace tape (f ∷ stack)
@@ -28,7 +28,7 @@ Counts-from tape f (g ∷ stack) place e = inr e
 -- The next block, behind one that is no mark, keeps the labels ahead.
 next_kept : (tape : List ControlProgram) (f : Frame) (stack : List Frame) (c : Control)
     → control_at (blocks tape f.program) f.block ≡ Some c → mark_of (loud tape) c ≡ []
-    → Same tape f stack (at f (suc f.block) ∷ stack)
+    → Same tape f stack (frame_at_block f (suc f.block) ∷ stack)
 next_kept tape f stack c is none =
     moves_kept tape f stack (suc f.block) (λ _. from-next tape f.program f.block c is none)
 
@@ -37,7 +37,7 @@ next_kept tape f stack c is none =
 jump_kept : (tape : List ControlProgram) → IsUnforked tape → (f : Frame) (stack : List Frame)
     → IsPlace tape (f ∷ stack) → (c : Control) → control_at (blocks tape f.program) f.block ≡ Some c
     → (target : ℕ) → IsTarget tape f.program f.block c target
-    → Same tape f stack (at f target ∷ stack)
+    → Same tape f stack (frame_at_block f target ∷ stack)
 jump_kept tape un f stack place c is target to =
     moves_kept tape f stack target
     (λ e. from-jump tape f.program f.block target
@@ -46,7 +46,7 @@ jump_kept tape un f stack place c is target to =
 -- Leaving a loop from its head keeps the labels ahead.
 exit_kept : (tape : List ControlProgram) → IsUnforked tape → (f : Frame) (stack : List Frame)
     → IsPlace tape (f ∷ stack) → (close : ℕ) → IsLoop (blocks tape f.program) f.block close
-    → Same tape f stack (at f (suc close) ∷ stack)
+    → Same tape f stack (frame_at_block f (suc close) ∷ stack)
 exit_kept tape un f stack place close loop =
     let facts = loop_facts (blocks tape f.program) f.block close loop in
     moves_kept tape f stack (suc close)
@@ -56,7 +56,7 @@ exit_kept tape un f stack place close loop =
 -- Going from the end of a loop to its head keeps the labels ahead.
 loop_kept : (tape : List ControlProgram) → IsUnforked tape → (f : Frame) (stack : List Frame)
     → IsPlace tape (f ∷ stack) → (head : ℕ) → IsLoop (blocks tape f.program) head f.block
-    → Same tape f stack (at f head ∷ stack)
+    → Same tape f stack (frame_at_block f head ∷ stack)
 loop_kept tape un f stack place head loop =
     moves_kept tape f stack head
     (λ e. sym (from-jump tape f.program head f.block
@@ -70,12 +70,12 @@ call_kept : (tape : List ControlProgram) → AreLoud tape → (f : Frame) (stack
 call_kept tape are f stack q more is few = go (loud tape q) refl
   where
     go : (b : Bool) → loud tape q ≡ b → Same tape f stack (record { program = q; block = 0; left = more } ∷ f ∷ stack)
-    go false e = ahead-quiet tape (record { program = q; block = 0; left = more }) (f ∷ stack) e
+    go false e = labels_ahead-quiet tape (record { program = q; block = 0; left = more }) (f ∷ stack) e
     go true e =
         let deep : room stack ≡ suc (room (f ∷ stack)) = omega arith in
-        ahead-counts tape (record { program = q; block = 0; left = more }) (f ∷ stack) e
-        ∙ (call_opens tape (room stack) (room (f ∷ stack)) f.program f.block f.left q more (behind tape stack) deep is e
-        ∙ sym (ahead-counts tape f stack (counts_below tape are f stack q (suc more) is e)))
+        labels_ahead-counts tape (record { program = q; block = 0; left = more }) (f ∷ stack) e
+        ∙ (call_opens tape (room stack) (room (f ∷ stack)) f.program f.block f.left q more (labels_behind tape stack) deep is e
+        ∙ sym (labels_ahead-counts tape f stack (counts_below tape are f stack q (suc more) is e)))
 
 -- The return of a program with callers keeps the labels ahead, with whatever repeats.
 back_kept : (tape : List ControlProgram) → AreLoud tape → (f g : Frame) (stack : List Frame)
@@ -84,24 +84,24 @@ back_kept : (tape : List ControlProgram) → AreLoud tape → (f g : Frame) (sta
     → Same tape f (g ∷ stack) (return_by left f (g ∷ stack))
 back_kept tape are f g stack place is zero l = go (loud tape f.program) refl
   where
-    go : (b : Bool) → loud tape f.program ≡ b → Same tape f (g ∷ stack) (at g (suc g.block) ∷ stack)
+    go : (b : Bool) → loud tape f.program ≡ b → Same tape f (g ∷ stack) (frame_at_block g (suc g.block) ∷ stack)
     go false e =
-        next_kept tape g stack (Call f.program place.0) place.1 (rw e refl) ∙ sym (ahead-quiet tape f (g ∷ stack) e)
+        next_kept tape g stack (Call f.program place.0) place.1 (rw e refl) ∙ sym (labels_ahead-quiet tape f (g ∷ stack) e)
     go true e =
-        ahead-counts tape (at g (suc g.block)) stack (counts_below tape are g stack f.program place.0 place.1 e)
-        ∙ sym (ahead-counts tape f (g ∷ stack) e
-        ∙ (rw l (last_returns tape (room (g ∷ stack)) f.program f.block (behind tape (g ∷ stack)) is)))
+        labels_ahead-counts tape (frame_at_block g (suc g.block)) stack (counts_below tape are g stack f.program place.0 place.1 e)
+        ∙ sym (labels_ahead-counts tape f (g ∷ stack) e
+        ∙ (rw l (last_returns tape (room (g ∷ stack)) f.program f.block (labels_behind tape (g ∷ stack)) is)))
 back_kept tape are f g stack place is (suc left) l = go (loud tape f.program) refl
   where
     go : (b : Bool) → loud tape f.program ≡ b
         → Same tape f (g ∷ stack) (record { program = f.program; block = 0; left = left } ∷ g ∷ stack)
     go false e =
-        ahead-quiet tape (record { program = f.program; block = 0; left = left }) (g ∷ stack) e
-        ∙ sym (ahead-quiet tape f (g ∷ stack) e)
+        labels_ahead-quiet tape (record { program = f.program; block = 0; left = left }) (g ∷ stack) e
+        ∙ sym (labels_ahead-quiet tape f (g ∷ stack) e)
     go true e =
-        ahead-counts tape (record { program = f.program; block = 0; left = left }) (g ∷ stack) e
-        ∙ (repeat_begins tape (room (g ∷ stack)) f.program f.block left (behind tape (g ∷ stack)) is
-        ∙ sym (ahead-counts tape f (g ∷ stack) e ∙ rw l refl))
+        labels_ahead-counts tape (record { program = f.program; block = 0; left = left }) (g ∷ stack) e
+        ∙ (repeat_begins tape (room (g ∷ stack)) f.program f.block left (labels_behind tape (g ∷ stack)) is
+        ∙ sym (labels_ahead-counts tape f (g ∷ stack) e ∙ rw l refl))
 
 -- M99 P, which leads to a block of the caller, keeps the labels ahead.
 back_to_kept : (tape : List ControlProgram) → AreLoud tape → IsUnforked tape → (f : Frame) (stack : List Frame)
@@ -115,12 +115,12 @@ back_to_kept tape are un f (g ∷ stack) place n is to e =
     subst (Same tape f (g ∷ stack)) (sym j.2) (go j.0 j.1 (loud tape f.program) refl)
   where
     go : (target : ℕ) → Leads (blocks tape g.program) g.block n target → (b : Bool) → loud tape f.program ≡ b
-        → Same tape f (g ∷ stack) (at g target ∷ stack)
+        → Same tape f (g ∷ stack) (frame_at_block g target ∷ stack)
     go target leads true noisy =
         absurd (main_below tape are un f g stack place noisy (un.backs f.program f.block n noisy is))
     go target leads false quiet =
         jump_kept tape un g stack place.3 (Call f.program place.0) place.1 target (quiet, f.block, n, is, leads)
-        ∙ sym (ahead-quiet tape f (g ∷ stack) quiet)
+        ∙ sym (labels_ahead-quiet tape f (g ∷ stack) quiet)
 
 -- M99 of the main program begins the list of labels anew.
 restart_kept : (tape : List ControlProgram) (f : Frame) → IsPlace tape (f ∷ [])

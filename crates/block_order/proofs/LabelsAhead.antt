@@ -12,19 +12,19 @@ use Rattle.block_order.specs.declared.label.Mark.{Mark}
 use Rattle.block_order.specs.declared.program.ControlProgram.{ControlProgram}
 use Rattle.block_order.specs.Order.{blocks, control_at}
 use Rattle.block_order.specs.Loud.{loud, mark_of, marks, stretch}
-use Rattle.block_order.specs.Labels.{times, labels, whole, frame_labels, room, behind, counts, ahead}
-use Rattle.block_order.specs.Moves.{at}
+use Rattle.block_order.specs.Labels.{times, labels, labels_of_call, frame_labels, room, labels_behind, counts, labels_ahead}
+use Rattle.block_order.specs.Moves.{frame_at_block}
 use Rattle.block_order.proofs.MarksFrom.{marks-at, same_stretch}
 
 -- If the running program counts, the labels ahead begin with its own.
-pub ahead-counts : (tape : List ControlProgram) (f : Frame) (stack : List Frame) → counts tape f.program stack ≡ true
-    → ahead tape (f ∷ stack) ≡ frame_labels tape (room stack) f.program f.block f.left (behind tape stack)
-ahead-counts tape f stack e = rw e
+pub labels_ahead-counts : (tape : List ControlProgram) (f : Frame) (stack : List Frame) → counts tape f.program stack ≡ true
+    → labels_ahead tape (f ∷ stack) ≡ frame_labels tape (room stack) f.program f.block f.left (labels_behind tape stack)
+labels_ahead-counts tape f stack e = rw e
 
 -- If the running program does not count, the labels ahead are those of its callers' frames.
-pub ahead-quiet : (tape : List ControlProgram) (f : Frame) (stack : List Frame) → counts tape f.program stack ≡ false
-    → ahead tape (f ∷ stack) ≡ ahead tape stack
-ahead-quiet tape f stack e = rw e
+pub labels_ahead-quiet : (tape : List ControlProgram) (f : Frame) (stack : List Frame) → counts tape f.program stack ≡ false
+    → labels_ahead tape (f ∷ stack) ≡ labels_ahead tape stack
+labels_ahead-quiet tape f stack e = rw e
 
 -- The marks of the program from this block on.
 abbrev pub from : List ControlProgram → ℕ → ℕ → List Mark
@@ -34,13 +34,13 @@ from tape p block = marks (loud tape) (drop block (blocks tape p))
 -- frame that does not count may move anywhere.
 pub moves_kept : (tape : List ControlProgram) (f : Frame) (stack : List Frame) (block : ℕ)
     → (counts tape f.program stack ≡ true → from tape f.program block ≡ from tape f.program f.block)
-    → ahead tape (at f block ∷ stack) ≡ ahead tape (f ∷ stack)
+    → labels_ahead tape (frame_at_block f block ∷ stack) ≡ labels_ahead tape (f ∷ stack)
 moves_kept tape f stack block same = go (counts tape f.program stack) refl
   where
-    go : (b : Bool) → counts tape f.program stack ≡ b → ahead tape (at f block ∷ stack) ≡ ahead tape (f ∷ stack)
+    go : (b : Bool) → counts tape f.program stack ≡ b → labels_ahead tape (frame_at_block f block ∷ stack) ≡ labels_ahead tape (f ∷ stack)
     go true e =
-        rw e (ap (λ ms. labels (λ q k. whole tape (room stack) q k) ms
-        (times f.left (λ k. whole tape (suc (room stack)) f.program k) (behind tape stack))) (same e))
+        rw e (ap (λ ms. labels (λ q k. labels_of_call tape (room stack) q k) ms
+        (times f.left (λ k. labels_of_call tape (suc (room stack)) f.program k) (labels_behind tape stack))) (same e))
     go false e = rw e refl
 
 -- Past a block that is no mark the marks ahead stay.
@@ -61,7 +61,7 @@ from-jump tape p i j e = sym (same_stretch (loud tape) (blocks tape p) i j e)
 pub call_opens : (tape : List ControlProgram) (n m p block left q more : ℕ) (rest : List Label) → n ≡ suc m
     → control_at (blocks tape p) block ≡ Some (Call q (suc more)) → loud tape q ≡ true
     → frame_labels tape m q 0 more (frame_labels tape n p (suc block) left rest) ≡ frame_labels tape n p block left rest
-unfolding whole
+unfolding labels_of_call
 call_opens tape n m p block left q more rest e is noisy =
     rw (e, marks-at (loud tape) (blocks tape p) block (Call q (suc more)) is, noisy) refl
 
@@ -69,7 +69,7 @@ call_opens tape n m p block left q more rest e is noisy =
 pub repeat_begins : (tape : List ControlProgram) (n p block left : ℕ) (rest : List Label)
     → control_at (blocks tape p) block ≡ Some Back
     → frame_labels tape n p 0 left rest ≡ frame_labels tape n p block (suc left) rest
-unfolding whole
+unfolding labels_of_call
 repeat_begins tape n p block left rest is = rw (marks-at (loud tape) (blocks tape p) block Back is) refl
 
 -- At an M99 with no repeat left the labels of the frame are those behind it.

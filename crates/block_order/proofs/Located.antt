@@ -12,7 +12,7 @@ use Rattle.block_order.specs.declared.program.ControlBlock.{ControlBlock}
 use Rattle.block_order.specs.declared.program.ControlProgram.{ControlProgram}
 use Rattle.block_order.specs.Loops.{IsMismatch}
 use Rattle.nc_number.specs.Rising.{RiseFrom}
-use Rattle.block_order.specs.Shape.{lines_of_program, IsListed}
+use Rattle.block_order.specs.Shape.{lines_of_program, IsReadTape}
 use Rattle.block_order.specs.Faults.{Stage, Fitting, Finding, Waiting, HasFault, IsClear, IsNoLater, twice, mismatch, lost, unknown, strays, deep}
 use Rattle.block_order.specs.First.{IsMismatchLine}
 use Rattle.block_order.specs.Misplaced.{IsFirstMismatch}
@@ -130,7 +130,7 @@ clear-more tape n p at new fits clear i q line cause l there fault =
 
 -- If a program is the first with a fault, and this fault of it is no later than its others, then it
 -- is no later than any fault of the stage.
-first-in : (tape : List ControlProgram) (n : ℕ) (p : ControlProgram) (line : ℕ) (cause : Cause) → IsListed tape
+first-in : (tape : List ControlProgram) (n : ℕ) (p : ControlProgram) (line : ℕ) (cause : Cause) → IsReadTape tape
     → slice_get tape n ≡ Some p → ClearTo tape n → In line (lines_of_program p)
     → ((l : ℕ) (other : Cause) → FitFault tape n p l other → IsNoLater line cause l other)
     → (l : ℕ) (other : Cause) → HasFault tape Fitting l other → IsNoLater line cause l other
@@ -149,19 +149,19 @@ first-in tape n p line cause listed at clear here own l other fault =
       go i q there f (inr (inr behind)) = absurd (clear i q l other behind there f)
 
 -- The lines of a program's blocks rise from that of its O number.
-own-lines : (tape : List ControlProgram) (n : ℕ) (p : ControlProgram) → IsListed tape → slice_get tape n ≡ Some p
+own-lines : (tape : List ControlProgram) (n : ℕ) (p : ControlProgram) → IsReadTape tape → slice_get tape n ≡ Some p
     → RiseFrom p.line (map (λ b. b.line) p.blocks)
 own-lines tape n p listed at = (rise-own tape 0 n p listed.lines at).1.1
 
 -- No fault of a program is before that of its own O number, if that was given before.
-twice-own : (tape : List ControlProgram) (n : ℕ) (p : ControlProgram) (l : ℕ) (other : Cause) → IsListed tape
+twice-own : (tape : List ControlProgram) (n : ℕ) (p : ControlProgram) (l : ℕ) (other : Cause) → IsReadTape tape
     → slice_get tape n ≡ Some p → FitFault tape n p l other → IsNoLater p.line ProgramTwice l other
 twice-own tape n p _ _ listed at (again w) = inr (refl, omega arith)
 twice-own tape n p _ _ listed at (apart place block b m) =
     inl (block-over p.blocks p.line place block (own-lines tape n p listed at) b)
 
 -- The first program with a fault, whose number was given before, has the first fault.
-pub twice-first : (tape : List ControlProgram) (n : ℕ) (p : ControlProgram) → IsListed tape → slice_get tape n ≡ Some p
+pub twice-first : (tape : List ControlProgram) (n : ℕ) (p : ControlProgram) → IsReadTape tape → slice_get tape n ≡ Some p
     → ClearTo tape n → Contains (map (λ q. q.number) (take n tape)) p.number
     → HasFault tape Fitting p.line ProgramTwice
     × ((l : ℕ) (other : Cause) → HasFault tape Fitting l other → IsNoLater p.line ProgramTwice l other)
@@ -172,7 +172,7 @@ twice-first tape n p listed at clear w = (
 
 -- No fault of a program whose number is new is before its first mismatch.
 apart-own : (tape : List ControlProgram) (n : ℕ) (p : ControlProgram) (first : ℕ) (b : ControlBlock) (l : ℕ) (other : Cause)
-    → IsListed tape → slice_get tape n ≡ Some p → slice_get p.blocks first ≡ Some b
+    → IsReadTape tape → slice_get tape n ≡ Some p → slice_get p.blocks first ≡ Some b
     → (Contains (map (λ q. q.number) (take n tape)) p.number → ⊥)
     → ((place : ℕ) → IsMismatch p.blocks place → first ≤ place)
     → FitFault tape n p l other → IsNoLater b.line LoopMismatch l other
@@ -189,7 +189,7 @@ apart-own tape n p first b _ _ listed at here new least (apart place block there
     (cases_eq first place)
 
 -- The first program with a fault, whose loops don't fit, has the first fault.
-pub apart-first : (tape : List ControlProgram) (n : ℕ) (p : ControlProgram) (line : ℕ) → IsListed tape
+pub apart-first : (tape : List ControlProgram) (n : ℕ) (p : ControlProgram) (line : ℕ) → IsReadTape tape
     → slice_get tape n ≡ Some p → ClearTo tape n → (Contains (map (λ q. q.number) (take n tape)) p.number → ⊥)
     → IsMismatchLine p.blocks (Some line)
     → HasFault tape Fitting line LoopMismatch

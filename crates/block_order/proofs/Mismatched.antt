@@ -13,7 +13,7 @@ use Rattle.block_order.specs.declared.control.Control.{Control}
 use Rattle.block_order.specs.declared.control.Control.TheVariants.{Next, Goto, While, Do, EndLoop, Wait, End, Call, Back, BackTo}
 use Rattle.block_order.specs.declared.program.ControlBlock.{ControlBlock}
 use Rattle.block_order.specs.Order.{control_at, head_name, or_else}
-use Rattle.block_order.specs.Loops.{Open, closed, open_behind, open_after, open_before, names, places, latest, IsMismatch, unclosed, unopened, nested, overlap}
+use Rattle.block_order.specs.Loops.{Open, open_after_end, open_behind, open_after, open_before, names, places, latest, IsMismatch, unclosed, unopened, nested, overlap}
 use Rattle.block_order.specs.Misplaced.{has_name, is_latest, is_misplaced, first_misplaced, earliest, IsFirstMismatch}
 use Rattle.block_order.proofs.Opened.{within_control, Kind, opening, closing, plain, kind}
 
@@ -162,10 +162,10 @@ falls-raise m n [] l w = tt
 falls-raise m n (x ∷ xs) l w = (omega (arith, w.0), w.1)
 
 -- The places of open loops still fall if a loop is closed.
-falls-closed : (m n : ℕ) (loops : List Open) → Falls m loops → Falls m (closed n loops)
+falls-closed : (m n : ℕ) (loops : List Open) → Falls m loops → Falls m (open_after_end n loops)
 falls-closed m n [] w = tt
 falls-closed m n (x ∷ xs) w = go (falls-closed x.place n xs w.1) (eqb x.name n) where
-  go : Falls x.place (closed n xs) → (v : Bool) → Falls m (cond v xs (x ∷ closed n xs))
+  go : Falls x.place (open_after_end n xs) → (v : Bool) → Falls m (cond v xs (x ∷ open_after_end n xs))
   go more true = falls-raise x.place m xs (omega (arith, w.0)) w.1
   go more false = (w.0, more)
 
@@ -174,8 +174,8 @@ falls-behind : (place : ℕ) (c : Control) (loops : List Open) → Kind c → Fa
     → Falls (suc place) (open_behind place c loops)
 falls-behind place c loops (opening n is push other) w = rw (push place loops) (omega arith, w)
 falls-behind place c loops (closing n is) w =
-    let to : open_behind place c loops ≡ closed n loops = ap (λ x. open_behind place x loops) is in
-    rw to (falls-raise place (suc place) (closed n loops) (omega arith) (falls-closed place n loops w))
+    let to : open_behind place c loops ≡ open_after_end n loops = ap (λ x. open_behind place x loops) is in
+    rw to (falls-raise place (suc place) (open_after_end n loops) (omega arith) (falls-closed place n loops w))
 falls-behind place c loops (plain none same other) w =
     rw (same place loops) (falls-raise place (suc place) loops (omega arith) w)
 

@@ -7,7 +7,7 @@ use Rattle.block_order.specs.declared.program.ControlBlock.{ControlBlock}
 use Rattle.block_order.specs.Order.{control_at, head_name, IsLoop}
 use Rattle.block_order.specs.Loops.{open_before, nested}
 use Rattle.block_order.specs.Fitting.{Fits, IsNested}
-use Rattle.block_order.proofs.Opened.{opens, open-ends, open-inside, end-closes, closed-head, nests, has-names}
+use Rattle.block_order.proofs.Opened.{opens, open-ends, open-inside, end-closes, open_after_end-head, nests, has-names}
 use Rattle.block_order.proofs.Searches.{loop_facts}
 
 -- The head of a loop stands in the program.
@@ -41,7 +41,7 @@ loops-nested bs fits = record {
       let ends = open-ends bs head name (length bs - suc head) (suc head) fits (omega arith) has in (ends.0, ends.2);
   ends = λ end name at.
       let w = end-closes bs end name fits at in
-      (w.0, (w.3, λ other loop. some_is (sym (closed-head bs other end fits loop) ∙ w.1)));
+      (w.0, (w.3, λ other loop. some_is (sym (open_after_end-head bs other end fits loop) ∙ w.1)));
   nest = λ head end inner last outer within l. apart-or-inside bs head end inner last fits outer within l;
   names_differ = λ head end inner last outer within l m. other-name bs head end inner last fits outer within l m;
 }

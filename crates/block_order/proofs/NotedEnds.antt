@@ -9,7 +9,7 @@ use Rattle.block_order.specs.declared.program.ControlBlock.{ControlBlock}
 use Rattle.block_order.specs.Order.{control_at, head_name, IsLoop}
 use Rattle.block_order.specs.Loops.{Open, open_behind, open_before, places, latest}
 use Rattle.block_order.specs.Fitting.{Fits, innermost, IsInside, IsEnds}
-use Rattle.block_order.proofs.Opened.{Kind, opening, closing, plain, kind, open_more, at-control, end-closes, closed-head}
+use Rattle.block_order.proofs.Opened.{Kind, opening, closing, plain, kind, open_more, at-control, end-closes, open_after_end-head}
 use Rattle.block_order.proofs.Searches.{loop_facts, loop_unique}
 
 -- A control that is neither a head nor an END leaves the open loops as they are.
@@ -109,7 +109,7 @@ ends-noted bs i n h ends fits at top long known head end =
             w.0,
             ⊎_elim
                 (λ (is : end ≡ i).
-                let e : Some head ≡ Some h = sym (closed-head bs head i fits (subst (IsLoop bs head) is w.0)) ∙ top in
+                let e : Some head ≡ Some h = sym (open_after_end-head bs head i fits (subst (IsLoop bs head) is w.0)) ∙ top in
                 let k : head ≡ h = cc in absurd (other k))
                 (λ (ne : end ≢ i). omega (arith, w.1))
                 (cases_eq end i),

@@ -12,7 +12,7 @@ use Rattle.block_order.specs.declared.program.ControlBlock.{ControlBlock}
 use Rattle.nc_number.proofs.Counts.{some_is}
 use Rattle.block_order.specs.Order.{control_at, head_name, IsLoop, IsPermitted}
 use Rattle.block_order.specs.LoopFacts.{LoopFacts}
-use Rattle.block_order.specs.Loops.{Open, closed, open_behind, open_after, open_before, names, places, latest}
+use Rattle.block_order.specs.Loops.{Open, open_after_end, open_behind, open_after, open_before, names, places, latest}
 use Rattle.block_order.specs.Loops.{unclosed, unopened, nested, overlap}
 use Rattle.block_order.specs.Fitting.{Fits, innermost}
 use Rattle.block_order.proofs.Searches.{loop_facts, nearest_is, loop_unique, permitted_held}
@@ -111,13 +111,13 @@ has-cond true h n x xs ys a b = a
 has-cond false h n x xs ys a b = inr b
 
 -- A loop stays open if one of another name is closed.
-has-closed : (h n m : ℕ) (loops : List Open) → n ≢ m → Has h n loops → Has h n (closed m loops)
+has-closed : (h n m : ℕ) (loops : List Open) → n ≢ m → Has h n loops → Has h n (open_after_end m loops)
 has-closed h n m [] ne w = elim w [ ]
 has-closed h n m (x ∷ xs) ne (inl e) =
     let other : x.name ≢ m = λ k. ne (sym e.1 ∙ k) in
     let test : eqb x.name m ≡ false = ne_test x.name m other in
     rw test (inl e)
-has-closed h n m (x ∷ xs) ne (inr w) = has-cond (eqb x.name m) h n x xs (closed m xs) w (has-closed h n m xs ne w)
+has-closed h n m (x ∷ xs) ne (inr w) = has-cond (eqb x.name m) h n x xs (open_after_end m xs) w (has-closed h n m xs ne w)
 
 -- A loop stays open behind a block that is no END of its name.
 has-behind : (h n p : ℕ) (c : Control) (loops : List Open) → Kind c → c ≢ EndLoop n → Has h n loops
@@ -125,7 +125,7 @@ has-behind : (h n p : ℕ) (c : Control) (loops : List Open) → Kind c → c �
 has-behind h n p c loops (opening m is push other) ne w = rw (push p loops) (inr w)
 has-behind h n p c loops (closing m is) ne w =
     let apart : n ≢ m = λ e. ne (is ∙ ap (λ x. EndLoop x) (sym e)) in
-    let to : open_behind p c loops ≡ closed m loops = ap (λ x. open_behind p x loops) is in
+    let to : open_behind p c loops ≡ open_after_end m loops = ap (λ x. open_behind p x loops) is in
     rw to (has-closed h n m loops apart w)
 has-behind h n p c loops (plain none same other) ne w = rw (same p loops) w
 
@@ -209,7 +209,7 @@ all-behind bs p c loops fits at (closing n is) same w =
     let top = closes-latest bs p n fits ends loops same in
     let test : eqb top.0.name n ≡ true = eq_test top.0.name n top.3 in
     let to : open_behind p c loops ≡ top.1 =
-    ap (λ x. open_behind p x loops) is ∙ ap (closed n) top.2 ∙ ap (λ v. cond v top.1 (top.0 ∷ closed n top.1)) test in
+    ap (λ x. open_behind p x loops) is ∙ ap (open_after_end n) top.2 ∙ ap (λ v. cond v top.1 (top.0 ∷ open_after_end n top.1)) test in
     let split : AllOpen bs p (top.0 ∷ top.1) = subst (AllOpen bs p) top.2 w in
     rw to (all-further bs p c top.1 at (λ m k e.
     let met : EndLoop n ≡ EndLoop m = sym is ∙ e in
@@ -347,8 +347,8 @@ same-name bs p h n x xs w (inl e) is = e.0
 same-name bs p h n x xs w (inr more) is = absurd (w.3 (subst (Contains (names xs)) is (has-names h n xs more)))
 
 -- An END closes the innermost loop.
-pub closed-head : (bs : List ControlBlock) (h end : ℕ) → Fits bs → IsLoop bs h end → innermost bs end ≡ Some h
-closed-head bs h end fits is_loop =
+pub open_after_end-head : (bs : List ControlBlock) (h end : ℕ) → Fits bs → IsLoop bs h end → innermost bs end ≡ Some h
+open_after_end-head bs h end fits is_loop =
     let loop = loop_facts bs h end is_loop in
     let top = closes-latest bs end loop.name fits loop.is_close (open_before bs end) refl in
     let within = within_control bs end (EndLoop loop.name) loop.is_close in
@@ -370,7 +370,7 @@ end-closes bs end n fits at =
     let split : AllOpen bs end (top.0 ∷ top.1) = subst (AllOpen bs end) top.2 good in
     let test : eqb top.0.name n ≡ true = eq_test top.0.name n top.3 in
     let to : open_before bs (suc end) ≡ top.1 =
-    open_more bs end (EndLoop n) at ∙ ap (closed n) top.2 ∙ ap (λ v. cond v top.1 (top.0 ∷ closed n top.1)) test in (
+    open_more bs end (EndLoop n) at ∙ ap (open_after_end n) top.2 ∙ ap (λ v. cond v top.1 (top.0 ∷ open_after_end n top.1)) test in (
       top.0.place,
       ap (λ ls. latest (places ls)) top.2,
       split.0,
@@ -406,7 +406,7 @@ nests bs h end h' end' fits x y l m = go (cases_lt end' end) where
       let inner = loop_facts bs h' end' y in
       let within = within_control bs end (EndLoop outer.name) outer.is_close in
       let has = open-inside bs h' end' inner end (omega arith) k in
-      absurd (omega (arith, top-least bs end h' inner.name h fits (omega arith) has (closed-head bs h end fits x))))
+      absurd (omega (arith, top-least bs end h' inner.name h fits (omega arith) has (open_after_end-head bs h end fits x))))
       (cases_eq h' end)
 
 -- A jump to a block that no loop holds is permitted from everywhere.

@@ -8,16 +8,16 @@ use Rattle.block_order.specs.declared.frame.Frame.{Frame}
 use Rattle.block_order.specs.declared.label.Label.TheVariants as label
 use Rattle.block_order.specs.declared.program.ControlProgram.{ControlProgram}
 use Rattle.block_order.specs.Order.{blocks, control_at}
-use Rattle.block_order.specs.Labels.{room, behind, counts, ahead}
-use Rattle.block_order.specs.Moves.{at, place_behind, return_by}
-use Rattle.block_order.specs.Steps.{Goes, Step, IsPlace, standing}
+use Rattle.block_order.specs.Labels.{room, labels_behind, counts, labels_ahead}
+use Rattle.block_order.specs.Moves.{frame_at_block, place_behind, return_by}
+use Rattle.block_order.specs.Steps.{Goes, Step, IsPlace, control_of_place}
 use Rattle.block_order.proofs.LoudReaches.{AreLoud}
 use Rattle.block_order.proofs.Moved.{jump_leads, exit_leads, head_leads, call_leads}
-use Rattle.block_order.proofs.LabelsAhead.{ahead-counts, wait_begins, end_alone}
+use Rattle.block_order.proofs.LabelsAhead.{labels_ahead-counts, wait_begins, end_alone}
 
 -- A place whose running frame moves is a place.
 place_moves : (tape : List ControlProgram) (f : Frame) (stack : List Frame) (block : ℕ) → IsPlace tape (f ∷ stack)
-    → IsPlace tape (at f block ∷ stack)
+    → IsPlace tape (frame_at_block f block ∷ stack)
 place_moves tape f [] block place = place
 place_moves tape f (g ∷ stack) block place = place
 
@@ -78,19 +78,19 @@ end_counts tape are f (g ∷ stack) is = are.ends f.program f.block is
 
 -- At a wait the labels ahead begin with it, and passing it takes it away.
 pub wait_first : (tape : List ControlProgram) → AreLoud tape → (place : List Frame) (code : ℕ)
-    → standing tape place ≡ Some (Wait code)
-    → ahead tape place ≡ label.Wait code ∷ ahead tape (place_behind place)
+    → control_of_place tape place ≡ Some (Wait code)
+    → labels_ahead tape place ≡ label.Wait code ∷ labels_ahead tape (place_behind place)
 wait_first tape are [] code is = absurd cc
 wait_first tape are (f ∷ stack) code is =
     let e : counts tape f.program stack ≡ true = wait_counts tape are f stack code is in
-    ahead-counts tape f stack e
-    ∙ (wait_begins tape (room stack) f.program f.block f.left code (behind tape stack) is
-    ∙ ap (λ ls. label.Wait code ∷ ls) (sym (ahead-counts tape (at f (suc f.block)) stack e)))
+    labels_ahead-counts tape f stack e
+    ∙ (wait_begins tape (room stack) f.program f.block f.left code (labels_behind tape stack) is
+    ∙ ap (λ ls. label.Wait code ∷ ls) (sym (labels_ahead-counts tape (frame_at_block f (suc f.block)) stack e)))
 
 -- At an end the labels ahead are `End` alone.
-pub end_only : (tape : List ControlProgram) → AreLoud tape → (place : List Frame) → standing tape place ≡ Some End
-    → ahead tape place ≡ label.End ∷ []
+pub end_only : (tape : List ControlProgram) → AreLoud tape → (place : List Frame) → control_of_place tape place ≡ Some End
+    → labels_ahead tape place ≡ label.End ∷ []
 end_only tape are [] is = absurd cc
 end_only tape are (f ∷ stack) is =
-    ahead-counts tape f stack (end_counts tape are f stack is)
-    ∙ end_alone tape (room stack) f.program f.block f.left (behind tape stack) is
+    labels_ahead-counts tape f stack (end_counts tape are f stack is)
+    ∙ end_alone tape (room stack) f.program f.block f.left (labels_behind tape stack) is

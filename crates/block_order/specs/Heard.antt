@@ -6,23 +6,23 @@ use Rattle.block_order.specs.declared.numbers.ProgramNumbers.{ProgramNumbers}
 use Rattle.block_order.specs.declared.program.ControlProgram.{ControlProgram}
 use Rattle.block_order.specs.Loud.{loud}
 use Rattle.block_order.specs.Numbers.{place_known, KnowsPlaces}
-use Rattle.block_order.specs.ProgramPlaces.{flag_at, flagged}
+use Rattle.block_order.specs.ProgramPlaces.{flag_at, is_flagged}
 
 -- The flag that is kept of an O number's program.
 abbrev pub flag_known : ProgramNumbers → List Bool → ℕ → Bool
 flag_known numbers flags number = flag_at flags (place_known numbers number)
 
 -- Whether the program of this O number is flagged as loud in what is kept.
-abbrev pub heard : LoudPrograms → ℕ → Bool
-heard known number = flag_known known.numbers known.flags.items number
+abbrev pub is_kept_loud : LoudPrograms → ℕ → Bool
+is_kept_loud known number = flag_known known.numbers known.flags.items number
 
 -- No program is flagged that is not loud.
 abbrev pub AreOnlyLoud : List ControlProgram → List Bool → Type 0
-AreOnlyLoud tape flags = (q : ℕ) → flagged tape flags q ≡ true → loud tape q ≡ true
+AreOnlyLoud tape flags = (q : ℕ) → is_flagged tape flags q ≡ true → loud tape q ≡ true
 
 -- The places and the flags that are kept are those of this tape.
-pub record IsKnown (tape : List ControlProgram) (known : LoudPrograms) : Type 0 where
+pub record AreFlagsOf (tape : List ControlProgram) (known : LoudPrograms) : Type 0 where
   -- The place of each O number is that of its program.
   pub places : KnowsPlaces tape known.numbers
   -- The flag of each O number says whether its program is loud.
-  pub loud_is : heard known ≡ loud tape
+  pub loud_is : is_kept_loud known ≡ loud tape

@@ -5,15 +5,15 @@ use Rattle.block_order.specs.declared.loud.LoudPrograms.{LoudPrograms}
 use Rattle.block_order.specs.declared.program.ControlProgram.{ControlProgram}
 use Rattle.block_order.specs.declared.tables.ProgramTables.{ProgramTables}
 use Rattle.block_order.specs.Faults.{Fitting, Finding, IsClear, IsSound}
-use Rattle.block_order.specs.Heard.{IsKnown}
-use Rattle.block_order.specs.Shape.{IsListed}
+use Rattle.block_order.specs.Heard.{AreFlagsOf}
+use Rattle.block_order.specs.Shape.{IsReadTape}
 use Rattle.block_order.specs.TapeTable.{IsTapeTables}
 
 -- What a draft of an order keeps: programs that fit together and whose jumps and calls find what
 -- they name, with the tables and the loud programs of just these.
 pub record IsDrafted (tape : List ControlProgram) (tables : List ProgramTables) (known : LoudPrograms) : Type 0 where
   -- The programs are such as a tape that was read has.
-  pub listed : IsListed tape
+  pub listed : IsReadTape tape
   -- Programs and loops fit together.
   pub fits : IsClear tape Fitting
   -- Jumps and calls find what they name.
@@ -21,16 +21,16 @@ pub record IsDrafted (tape : List ControlProgram) (tables : List ProgramTables) 
   -- The tables are those of the programs.
   pub tables_are : IsTapeTables tape tables
   -- The places and the flags of loud programs are those of the tape.
-  pub loud_are : IsKnown tape known
+  pub loud_are : AreFlagsOf tape known
 
 -- What an order keeps: programs whose waits, besides, stay in order, with the tables and the loud
 -- programs of just these.
 pub record IsKept (tape : List ControlProgram) (tables : List ProgramTables) (known : LoudPrograms) : Type 0 where
   -- The programs are such as a tape that was read has.
-  pub listed : IsListed tape
+  pub listed : IsReadTape tape
   -- Nothing is wrong with the order of their blocks.
   pub sound : IsSound tape
   -- The tables are those of the programs.
   pub tables_are : IsTapeTables tape tables
   -- The places and the flags of loud programs are those of the tape.
-  pub loud_are : IsKnown tape known
+  pub loud_are : AreFlagsOf tape known

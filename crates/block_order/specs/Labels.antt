@@ -33,16 +33,17 @@ labels called (mark.Past ∷ ms) rest = Off ∷ []
 
 -- The labels of a program that is called while n calls may still be opened, its own one of them,
 -- and then `rest` if it returns; `rest` alone if none may be opened.
-unfoldable pub whole : List ControlProgram → ℕ → ℕ → List Label → List Label
-whole tape zero program rest = rest
-whole tape (suc n) program rest = labels (λ q k. whole tape n q k) (marks (loud tape) (blocks tape program)) rest
+unfoldable pub labels_of_call : List ControlProgram → ℕ → ℕ → List Label → List Label
+labels_of_call tape zero program rest = rest
+labels_of_call tape (suc n) program rest =
+    labels (λ q k. labels_of_call tape n q k) (marks (loud tape) (blocks tape program)) rest
 
 -- The labels of a frame, if its program returns each time: of its program from this block on, then
 -- of the `left` repeats still to come, then `rest`. Its program may open n further calls.
 abbrev pub frame_labels : List ControlProgram → ℕ → ℕ → ℕ → ℕ → List Label → List Label
 frame_labels tape n program block left rest =
-    labels (λ q k. whole tape n q k) (marks (loud tape) (drop block (blocks tape program)))
-    (times left (λ k. whole tape (suc n) program k) rest)
+    labels (λ q k. labels_of_call tape n q k) (marks (loud tape) (drop block (blocks tape program)))
+    (times left (λ k. labels_of_call tape (suc n) program k) rest)
 
 -- How many calls a program may still open that has these callers; eight may be open.
 abbrev pub room : List Frame → ℕ
@@ -50,9 +51,10 @@ room stack = 8 - length stack
 
 -- The labels that come once the running program has returned to these frames, its caller first.
 -- Behind the main program there is `Again`.
-abbrev pub behind : List ControlProgram → List Frame → List Label
-behind tape [] = Again ∷ []
-behind tape (f ∷ stack) = frame_labels tape (room stack) f.program (suc f.block) f.left (behind tape stack)
+abbrev pub labels_behind : List ControlProgram → List Frame → List Label
+labels_behind tape [] = Again ∷ []
+labels_behind tape (f ∷ stack) =
+    frame_labels tape (room stack) f.program (suc f.block) f.left (labels_behind tape stack)
 
 -- Whether the labels of a running program with these callers come: of the main program, which has
 -- no callers, and of each loud program they do.
@@ -62,12 +64,12 @@ counts tape program (g ∷ stack) = loud tape program
 
 -- The labels ahead of a place, which is a list of frames, the running one first. A quiet program
 -- that was called has none of its own; the main program has, even if it is quiet.
-abbrev pub ahead : List ControlProgram → List Frame → List Label
-ahead tape [] = []
-ahead tape (f ∷ stack) =
+abbrev pub labels_ahead : List ControlProgram → List Frame → List Label
+labels_ahead tape [] = []
+labels_ahead tape (f ∷ stack) =
     if counts tape f.program stack
-    then frame_labels tape (room stack) f.program f.block f.left (behind tape stack)
-    else ahead tape stack
+    then frame_labels tape (room stack) f.program f.block f.left (labels_behind tape stack)
+    else labels_ahead tape stack
 
 -- The place where a path begins: the first block of the main program.
 abbrev pub start : List ControlProgram → List Frame
@@ -75,7 +77,7 @@ start tape = record { program = main_number tape; block = 0; left = 0 } ∷ []
 
 -- The list of labels of a path: those ahead of its start.
 abbrev pub list : List ControlProgram → List Label
-list tape = ahead tape (start tape)
+list tape = labels_ahead tape (start tape)
 
 -- A block of this control, at this place of the program, may jump to the target: a GOTO, an M99 P
 -- of the main program, or the call of a quiet program that returns by an M99 P.

@@ -15,17 +15,17 @@ pub record Open : Type 0 where
   pub name : ℕ
 
 -- The loops that stay open once an END has closed the latest one of this name; all of them if none
--- has the name. The name stands for the list of open loops after a close.
-abbrev pub closed : ℕ → List Open → List Open
-closed name [] = []
-closed name (loop ∷ loops) = if loop.name == name then loops else loop ∷ closed name loops
+-- has the name.
+abbrev pub open_after_end : ℕ → List Open → List Open
+open_after_end name [] = []
+open_after_end name (loop ∷ loops) = if loop.name == name then loops else loop ∷ open_after_end name loops
 
 -- The loops that are open behind a block at a place, the latest first: an END closes the latest
 -- open one of its name.
 abbrev pub open_behind : ℕ → Control → List Open → List Open
 open_behind place (While name) loops = record { place = place; name = name } ∷ loops
 open_behind place (Do name) loops = record { place = place; name = name } ∷ loops
-open_behind place (EndLoop name) loops = closed name loops
+open_behind place (EndLoop name) loops = open_after_end name loops
 open_behind place other loops = loops
 
 -- The loops that are open behind these blocks, of which the first stands at a place, if the given

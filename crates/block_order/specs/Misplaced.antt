@@ -9,14 +9,14 @@ use Rattle.block_order.specs.declared.program.ControlBlock.{ControlBlock}
 use Rattle.block_order.specs.Order.{or_else}
 use Rattle.block_order.specs.Loops.{Open, open_behind, IsMismatch}
 
--- An entry of the code's stack as an open loop of the specs. The name stands for one opened loop.
-abbrev pub opened : OpenLoop → Open
-opened x = record { place = x.place; name = x.name }
+-- An entry of the code's stack as an open loop of the specs.
+abbrev pub open_loop_of : OpenLoop → Open
+open_loop_of x = record { place = x.place; name = x.name }
 
 -- The code's stack as the list of open loops of the specs, the latest first. The name stands for
 -- the stack as contracts see it.
-unfoldable pub seen : List OpenLoop → List Open
-seen xs = reverse (map opened xs)
+unfoldable pub open_loops : List OpenLoop → List Open
+open_loops xs = reverse (map open_loop_of xs)
 
 -- One of these loops has this name.
 abbrev pub has_name : ℕ → List Open → Bool

@@ -10,18 +10,18 @@ use Rattle.block_order.specs.declared.program.ControlProgram.{ControlProgram}
 use Rattle.block_order.specs.Order.{blocks, target_of, end_of_loop, head_of_loop}
 
 -- The frame at another block.
-abbrev pub at : Frame → ℕ → Frame
-at f block = record f { block = block }
+abbrev pub frame_at_block : Frame → ℕ → Frame
+frame_at_block f block = record f { block = block }
 
 -- The place with its running frame at another block.
 abbrev pub place_at : ℕ → List Frame → List Frame
 place_at block [] = []
-place_at block (f ∷ stack) = at f block ∷ stack
+place_at block (f ∷ stack) = frame_at_block f block ∷ stack
 
 -- The place with its running frame at the next block; a wait is passed by this move.
 abbrev pub place_behind : List Frame → List Frame
 place_behind [] = []
-place_behind (f ∷ stack) = at f (suc f.block) ∷ stack
+place_behind (f ∷ stack) = frame_at_block f (suc f.block) ∷ stack
 
 -- The place with its running frame at the block that was found, or the alarm if none was.
 abbrev pub place_to : List Frame → Result ℕ Cause → Result (List Frame) Cause
@@ -68,8 +68,8 @@ place_of_call program repeats place =
 
 -- The place after a return from a frame with so many repeats left, above these callers.
 abbrev pub return_by : ℕ → Frame → List Frame → List Frame
-return_by left f [] = at f 0 ∷ []
-return_by zero f (g ∷ stack) = at g (suc g.block) ∷ stack
+return_by left f [] = frame_at_block f 0 ∷ []
+return_by zero f (g ∷ stack) = frame_at_block g (suc g.block) ∷ stack
 return_by (suc left) f (g ∷ stack) = place_in f.program left (g ∷ stack)
 
 -- The place after an M99: the start of the main program, the start of the next repeat, or the block

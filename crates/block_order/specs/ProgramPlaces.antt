@@ -18,5 +18,5 @@ flag_at flags None = false
 flag_at flags (Some place) = slice_index_or flags place false
 
 -- Whether the program of this O number is flagged, by a list with a flag at each program's place.
-abbrev pub flagged : List ControlProgram → List Bool → ℕ → Bool
-flagged tape flags number = flag_at flags (place_of tape number)
+abbrev pub is_flagged : List ControlProgram → List Bool → ℕ → Bool
+is_flagged tape flags number = flag_at flags (place_of tape number)

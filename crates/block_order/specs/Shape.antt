@@ -4,6 +4,7 @@
 -- it.
 use Rattle.std.specs.Prelude.{ℕ, ◌<◌, ◌≤◌, List, ◌∷◌, length, map}
 use Rattle.std.specs.List.{flat_map}
+use Rattle.nc_number.specs.declared.limits.TheConstants.{MOST_BLOCKS}
 use Rattle.nc_number.specs.Rising.{RiseFrom}
 use Rattle.block_order.specs.declared.program.ControlBlock.{ControlBlock}
 use Rattle.block_order.specs.declared.program.ControlProgram.{ControlProgram}
@@ -21,12 +22,11 @@ abbrev pub blocks_in : List ControlProgram → List ControlBlock
 blocks_in tape = flat_map (λ program. program.blocks) tape
 
 -- What every tape that was read has: at least one program, lines that rise through the whole tape,
--- and at most 20,000 blocks. That number is MOST_BLOCKS of nc_number (src/limits.rt); wait_order
--- and this crate have it in more places.
-pub record IsListed (tape : List ControlProgram) : Type 0 where
+-- and at most MOST_BLOCKS blocks.
+pub record IsReadTape (tape : List ControlProgram) : Type 0 where
   -- There is a program.
   pub some : 0 < length tape
   -- The lines rise from one to the next, and the first is 1 or more.
   pub lines : RiseFrom 0 (lines_in tape)
-  -- There are at most 20,000 blocks.
-  pub few : length (blocks_in tape) ≤ 20000
+  -- There are at most MOST_BLOCKS blocks.
+  pub few : length (blocks_in tape) ≤ MOST_BLOCKS

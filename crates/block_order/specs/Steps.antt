@@ -12,7 +12,7 @@ use Rattle.block_order.specs.declared.program.ControlProgram.{ControlProgram}
 use Rattle.block_order.specs.Order.{blocks, main_number, control_at, MayBe}
 pub use Rattle.block_order.specs.Moves.{place_behind}
 use Rattle.block_order.specs.Moves.{place_of_jump, place_behind_loop, place_of_head, place_of_call, place_of_return, place_of_jump_back}
-use Rattle.block_order.specs.Labels.{ahead, list}
+use Rattle.block_order.specs.Labels.{labels_ahead, list}
 
 -- From a place that stands at a block of this control, one step may lead to the other place. A wait
 -- and an end lead nowhere by themselves.
@@ -30,13 +30,13 @@ Goes tape place Back to = to ≡ place_of_return place
 Goes tape place (BackTo n) to = place_of_jump_back tape n place ≡ Ok to
 
 -- The control of the block at which the place stands, if there is one.
-abbrev pub standing : List ControlProgram → List Frame → Option Control
-standing tape [] = None
-standing tape (f ∷ stack) = control_at (blocks tape f.program) f.block
+abbrev pub control_of_place : List ControlProgram → List Frame → Option Control
+control_of_place tape [] = None
+control_of_place tape (f ∷ stack) = control_at (blocks tape f.program) f.block
 
 -- One step leads from the first place to the other; its block is no wait and no end.
 abbrev pub Step : List ControlProgram → List Frame → List Frame → Type 0
-Step tape place to = (c : Control) × (standing tape place ≡ Some c) × Goes tape place c to
+Step tape place to = (c : Control) × (control_of_place tape place ≡ Some c) × Goes tape place c to
 
 -- A place: each frame but the running one stands on the call of the next one's program, at most
 -- eight calls are open, and the lowest frame is the main program's, with no repeat left.
@@ -49,13 +49,13 @@ IsPlace tape (f ∷ g ∷ stack) =
 
 -- The step from the frame f with these callers leaves the labels ahead as they were.
 abbrev pub Same : List ControlProgram → Frame → List Frame → List Frame → Type 0
-Same tape f stack to = ahead tape to ≡ ahead tape (f ∷ stack)
+Same tape f stack to = labels_ahead tape to ≡ labels_ahead tape (f ∷ stack)
 
 -- What a step of a block of this control, from the frame f with these callers, does to the labels
 -- ahead: nothing, but at an M99 without a number in the main program with no call open. Before that
 -- M99 the labels ahead are `Again` alone, after it they are the whole list.
 abbrev pub Kept : List ControlProgram → Frame → List Frame → Control → List Frame → Type 0
-Kept tape f [] Back to = (ahead tape (f ∷ []) ≡ label.Again ∷ []) × (ahead tape to ≡ list tape)
+Kept tape f [] Back to = (labels_ahead tape (f ∷ []) ≡ label.Again ∷ []) × (labels_ahead tape to ≡ list tape)
 Kept tape f (g ∷ stack) Back to = Same tape f (g ∷ stack) to
 Kept tape f stack Next to = Same tape f stack to
 Kept tape f stack (Goto n) to = Same tape f stack to
@@ -77,7 +77,8 @@ pub record KeepsLabels (tape : List ControlProgram) : Type 0 where
       → (c : Control) → control_at (blocks tape f.program) f.block ≡ Some c
       → (to : List Frame) → Goes tape (f ∷ stack) c to → IsPlace tape to × Kept tape f stack c to
   -- At a wait the labels ahead begin with that wait; after it come those of the place behind it.
-  pub wait : (place : List Frame) (code : ℕ) → IsPlace tape place → standing tape place ≡ Some (Wait code)
-      → IsPlace tape (place_behind place) × (ahead tape place ≡ label.Wait code ∷ ahead tape (place_behind place))
+  pub wait : (place : List Frame) (code : ℕ) → IsPlace tape place → control_of_place tape place ≡ Some (Wait code)
+      → IsPlace tape (place_behind place)
+      × (labels_ahead tape place ≡ label.Wait code ∷ labels_ahead tape (place_behind place))
   -- At an end the labels ahead are `End` alone.
-  pub ends : (place : List Frame) → IsPlace tape place → standing tape place ≡ Some End → ahead tape place ≡ label.End ∷ []
+  pub ends : (place : List Frame) → IsPlace tape place → control_of_place tape place ≡ Some End → labels_ahead tape place ≡ label.End ∷ []

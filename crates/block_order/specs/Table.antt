@@ -1,6 +1,7 @@
 -- What the table of a program's loops (src/loops.rt) says. Of one program; the tables of a whole
 -- tape are in TapeTable. wait_order cites this.
 use Rattle.std.specs.Prelude.{ℕ, ◌≤◌, List, length}
+use Rattle.nc_number.specs.declared.limits.TheConstants.{MOST_BLOCKS}
 use Rattle.block_order.specs.declared.program.ControlBlock.{ControlBlock}
 use Rattle.block_order.specs.declared.loops.LoopTable.{LoopTable}
 use Rattle.block_order.specs.declared.loops.Reach.{Reach}
@@ -10,7 +11,7 @@ use Rattle.block_order.specs.Fitting.{Fits, IsInside, IsEnds}
 -- together.
 pub record IsLoopTable (bs : List ControlBlock) (table : LoopTable) : Type 0 where
   -- There are at most 20,000 blocks.
-  pub few : length bs ≤ 20000
+  pub few : length bs ≤ MOST_BLOCKS
   -- Their loops fit together.
   pub fits : Fits bs
   -- At each head its END.

@@ -4,8 +4,8 @@
 ghost use Rattle.std.specs.Prelude.{◌≡◌, IfOk, IfErr};
 ghost use Rattle.block_order.specs.Answers.{IfFault};
 ghost use Rattle.block_order.specs.Faults.{Fitting, Finding, Waiting, IsClear, IsFirst};
-ghost use Rattle.block_order.specs.Heard.{IsKnown};
-ghost use Rattle.block_order.specs.Shape.{IsListed};
+ghost use Rattle.block_order.specs.Heard.{AreFlagsOf};
+ghost use Rattle.block_order.specs.Shape.{IsReadTape};
 ghost use Rattle.block_order.specs.TapeTable.{IsTapeTables};
 
 use crate::fault::OrderFault;
@@ -53,7 +53,7 @@ impl DraftOrder {
         alloc: Global,
         programs: Vec<ControlProgram>,
     ) -> Result<DraftOrder, Failing<OrderFault>>
-        requires listed { IsListed programs.items }
+        requires listed { IsReadTape programs.items }
         ensures same { IfOk result (λ order. order ≡ programs.items) }
         ensures first { IfErr result (λ error. IfFault error
             (λ fault. IsFirst programs.items fault.line fault.cause)) }
@@ -77,7 +77,7 @@ impl DraftOrder {
     /// The programs, in the order of the text.
     pub fn as_slice(&self) -> &[ControlProgram]
         ensures same { result.now ≡ self.now }
-        ensures listed { IsListed self.now }
+        ensures listed { IsReadTape self.now }
         ensures fits { IsClear self.now Fitting }
         ensures finds { IsClear self.now Finding }
     {
@@ -93,7 +93,7 @@ impl DraftOrder {
 
     /// Which programs are loud.
     pub fn loud(&self) -> &LoudPrograms
-        ensures { IsKnown self.now result.now }
+        ensures { AreFlagsOf self.now result.now }
     {
         &self.loud
     }

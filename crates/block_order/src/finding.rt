@@ -1,6 +1,7 @@
 //! The first fault in what jumps and calls find: 50, 51 or 53. Which faults there are is in
 //! specs/Faults.antt. draft.rt calls `finding_fault`.
 ghost use Rattle.std.specs.Prelude.{◌≡◌, ◌↔◌, ◌<◌, ◌≤◌, List, IsTrue, None, Some, is_some, length, if◌then◌else◌};
+ghost use Rattle.nc_number.specs.declared.limits.TheConstants.{MOST_BLOCKS};
 ghost use Rattle.nc_number.specs.declared.cause.Cause.TheVariants.{NoProgram};
 ghost use Rattle.block_order.specs.declared.program.ControlBlock.{ControlBlock};
 ghost use Rattle.block_order.specs.declared.program.ControlProgram.{ControlProgram};
@@ -9,7 +10,7 @@ ghost use Rattle.block_order.specs.Faults.{Fitting, Finding, IsClear};
 ghost use Rattle.block_order.specs.First.{IsFirstOf};
 ghost use Rattle.block_order.specs.Found.{JumpFault, BlockFault, IsFaultOf, IsProgramFault};
 ghost use Rattle.block_order.specs.Numbers.{KnowsPlaces};
-ghost use Rattle.block_order.specs.Shape.{IsListed};
+ghost use Rattle.block_order.specs.Shape.{IsReadTape};
 ghost use Rattle.block_order.specs.TapeTable.{IsProgramTables, IsTapeTables};
 
 use crate::control::Control;
@@ -26,7 +27,7 @@ pub(crate) fn finding_fault(
     tables: &[ProgramTables],
     numbers: &ProgramNumbers,
 ) -> Option<OrderFault>
-    requires listed { IsListed tape.now }
+    requires listed { IsReadTape tape.now }
     requires fits { IsClear tape.now Fitting }
     requires made { IsTapeTables tape.now tables.now }
     requires known { KnowsPlaces tape.now numbers.now }
@@ -50,7 +51,7 @@ fn program_fault(
     main: u16,
     program: &ControlProgram,
 ) -> Option<OrderFault>
-    requires { length program.now.blocks ≤ 20000 }
+    requires { length program.now.blocks ≤ MOST_BLOCKS }
     ensures { (tape : List ControlProgram) → KnowsPlaces tape numbers.now
         → IsProgramTables program.now.blocks own.now → main ≡ main_number tape
         → IsProgramFault tape program.now result }

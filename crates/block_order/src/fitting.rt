@@ -1,9 +1,10 @@
 //! The first fault in how programs and loops fit together: 60 or 52. Which faults there are is in
 //! specs/Faults.antt. draft.rt calls `fitting_fault`.
 ghost use Rattle.std.specs.Prelude.{◌≤◌, length, IfOk};
+ghost use Rattle.nc_number.specs.declared.limits.TheConstants.{MOST_BLOCKS};
 ghost use Rattle.block_order.specs.Faults.{Fitting};
 ghost use Rattle.block_order.specs.First.{IsFirstOf, IsMismatchLine};
-ghost use Rattle.block_order.specs.Shape.{IsListed};
+ghost use Rattle.block_order.specs.Shape.{IsReadTape};
 
 use crate::fault::OrderFault;
 use crate::mismatch::first_mismatch;
@@ -18,7 +19,7 @@ pub(crate) fn fitting_fault(
     alloc: Global,
     tape: &[ControlProgram],
 ) -> Result<Option<OrderFault>, NoMemory>
-    requires { IsListed tape.now }
+    requires { IsReadTape tape.now }
     ensures { IfOk result (λ fault. IsFirstOf tape.now Fitting fault) }
 {
     let mut numbers: IndexSet<u16> = IndexSet::new(alloc);
@@ -41,7 +42,7 @@ pub(crate) fn fitting_fault(
 
 /// The line of the program's first block that does not fit.
 fn mismatch_line(alloc: Global, program: &ControlProgram) -> Result<Option<u32>, NoMemory>
-    requires { length program.now.blocks ≤ 20000 }
+    requires { length program.now.blocks ≤ MOST_BLOCKS }
     ensures { IfOk result (λ line. IsMismatchLine program.now.blocks line) }
 {
     let blocks = program.blocks.as_slice();

@@ -2,6 +2,7 @@
 //! block, and from where a jump to a block is permitted. order.rt answers by it for path_state;
 //! wait_order asks for the reach of a block.
 ghost use Rattle.std.specs.Prelude.{◌≡◌, ℕ, suc, ◌<◌, ◌≤◌, ◌↔◌, List, Some, IsTrue, length, slice_set, IfOk};
+ghost use Rattle.nc_number.specs.declared.limits.TheConstants.{MOST_BLOCKS};
 ghost use Rattle.block_order.specs.Order.{IsLoop, IsPermitted, control_at, end_of_loop};
 ghost use Rattle.block_order.specs.declared.program.ControlBlock.{ControlBlock};
 ghost use Rattle.block_order.specs.Fitting.{Fits, innermost, IsInside, IsEnds};
@@ -45,7 +46,7 @@ impl LoopTable {
 
     /// The table of a program's loops, which fit together. The only error is that memory runs out.
     pub(crate) fn of(alloc: Global, blocks: &[ControlBlock]) -> Result<LoopTable, NoMemory>
-        requires few { length blocks.now ≤ 20000 }
+        requires few { length blocks.now ≤ MOST_BLOCKS }
         requires fit { Fits blocks.now }
         ensures { IfOk result (λ table. IsLoopTable blocks.now table) }
     {

@@ -3,9 +3,9 @@
 ghost use Rattle.std.specs.Prelude.{◌≡◌, [], true, map, IfOk};
 ghost use Rattle.block_order.specs.Loud.{is_loud_block, has_loud_block, known_loud, loud};
 ghost use Rattle.block_order.specs.Order.{blocks};
-ghost use Rattle.block_order.specs.ProgramPlaces.{flagged};
+ghost use Rattle.block_order.specs.ProgramPlaces.{is_flagged};
 ghost use Rattle.block_order.specs.Numbers.{place_known, KnowsPlaces};
-ghost use Rattle.block_order.specs.Heard.{heard, flag_known, AreOnlyLoud};
+ghost use Rattle.block_order.specs.Heard.{is_kept_loud, flag_known, AreOnlyLoud};
 
 use crate::callers::Callers;
 use crate::control::Control;
@@ -193,7 +193,7 @@ fn loud_flags(
     programs: &[ControlProgram],
 ) -> Result<Vec<bool>, NoMemory>
     requires { KnowsPlaces programs.now numbers.now }
-    ensures { IfOk result (λ flags. flagged programs.now flags.items ≡ loud programs.now) }
+    ensures { IfOk result (λ flags. is_flagged programs.now flags.items ≡ loud programs.now) }
 {
     let mut flags = heard_first(alloc, numbers, programs)?;
     for _round in 0..programs.len() {
@@ -215,7 +215,7 @@ impl LoudPrograms {
         numbers: ProgramNumbers,
     ) -> Result<Self, NoMemory>
         requires { KnowsPlaces programs.now numbers }
-        ensures loud { IfOk result (λ known. heard known ≡ loud programs.now) }
+        ensures loud { IfOk result (λ known. is_kept_loud known ≡ loud programs.now) }
         ensures places { IfOk result (λ known. KnowsPlaces programs.now known.numbers) }
     {
         let flags = loud_flags(alloc, &numbers, programs)?;
@@ -246,7 +246,7 @@ impl LoudPrograms {
 
     /// Whether the program with this O number is loud; `false` for a number without a program.
     pub fn is_loud(&self, number: u16) -> bool
-        ensures { result ≡ heard self.now number }
+        ensures { result ≡ is_kept_loud self.now number }
     {
         flag_of(&self.numbers, &self.flags, number)
     }

@@ -1,8 +1,9 @@
 //! The first block of a program that shows that its loops don't fit together. fitting.rt calls
 //! `first_mismatch` for the fault 52.
 ghost use Rattle.std.specs.Prelude.{◌≡◌, ◌≤◌, length, IfOk, OnOk};
-ghost use Rattle.block_order.specs.Loops.{closed, open_behind};
-ghost use Rattle.block_order.specs.Misplaced.{seen, has_name, is_latest, is_misplaced, earliest, IsFirstMismatch};
+ghost use Rattle.nc_number.specs.declared.limits.TheConstants.{MOST_BLOCKS};
+ghost use Rattle.block_order.specs.Loops.{open_after_end, open_behind};
+ghost use Rattle.block_order.specs.Misplaced.{open_loops, has_name, is_latest, is_misplaced, earliest, IsFirstMismatch};
 
 use crate::control::Control;
 use crate::program::ControlBlock;
@@ -24,7 +25,7 @@ pub(crate) fn first_mismatch(
     alloc: Global,
     blocks: &[ControlBlock],
 ) -> Result<Option<u32>, NoMemory>
-    requires { length blocks.now ≤ 20000 }
+    requires { length blocks.now ≤ MOST_BLOCKS }
     ensures { IfOk result (λ first. IsFirstMismatch blocks.now first) }
 {
     let mut stack: Vec<OpenLoop> = Vec::new(alloc);
@@ -40,7 +41,7 @@ pub(crate) fn first_mismatch(
 
 /// Whether a block of this control does not fit while these loops are open, the latest last.
 fn is_misplaced(stack: &[OpenLoop], control: Control) -> bool
-    ensures { result ≡ is_misplaced (seen stack.now) control }
+    ensures { result ≡ is_misplaced (open_loops stack.now) control }
 {
     match control {
         Control::While(name) => has_name(stack, name),
@@ -52,14 +53,14 @@ fn is_misplaced(stack: &[OpenLoop], control: Control) -> bool
 
 /// Whether an open loop has this name.
 fn has_name(stack: &[OpenLoop], name: u8) -> bool
-    ensures { result ≡ has_name name (seen stack.now) }
+    ensures { result ≡ has_name name (open_loops stack.now) }
 {
     stack.iter().any(|other| other.name == name)
 }
 
 /// Whether the latest open loop has this name.
 fn is_latest(stack: &[OpenLoop], name: u8) -> bool
-    ensures { result ≡ is_latest name (seen stack.now) }
+    ensures { result ≡ is_latest name (open_loops stack.now) }
 {
     match stack.last() {
         Some(latest) => latest.name == name,
@@ -69,7 +70,7 @@ fn is_latest(stack: &[OpenLoop], name: u8) -> bool
 
 /// Opens the loop of a head, or closes that of an END.
 fn pass(stack: &mut Vec<OpenLoop>, control: Control, place: u32) -> Result<(), NoMemory>
-    ensures { OnOk result (seen stack.new.items ≡ open_behind place control (seen stack.old.items)) }
+    ensures { OnOk result (open_loops stack.new.items ≡ open_behind place control (open_loops stack.old.items)) }
 {
     match control {
         Control::While(name) => stack.push(OpenLoop { place, name })?,
@@ -82,7 +83,7 @@ fn pass(stack: &mut Vec<OpenLoop>, control: Control, place: u32) -> Result<(), N
 
 /// Closes the latest open loop of this name.
 fn close(stack: &mut Vec<OpenLoop>, name: u8)
-    ensures { seen stack.new.items ≡ closed name (seen stack.old.items) }
+    ensures { open_loops stack.new.items ≡ open_after_end name (open_loops stack.old.items) }
 {
     let mut at = stack.len();
     while at > 0 {
@@ -96,7 +97,7 @@ fn close(stack: &mut Vec<OpenLoop>, name: u8)
 
 /// The head of the loop that was opened first.
 fn earliest(stack: &[OpenLoop]) -> Option<u32>
-    ensures { result ≡ earliest (seen stack.now) }
+    ensures { result ≡ earliest (open_loops stack.now) }
 {
     let head = stack.first()?;
     Some(head.place)

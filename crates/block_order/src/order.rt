@@ -7,7 +7,7 @@ ghost use Rattle.block_order.specs.Faults.{IsSound};
 ghost use Rattle.block_order.specs.Loud.{loud};
 ghost use Rattle.block_order.specs.Order.{blocks, main_number, program_of, seek, end_of_loop, head_of_loop, target_of};
 ghost use Rattle.block_order.specs.ProgramPlaces.{place_of};
-ghost use Rattle.block_order.specs.Shape.{IsListed};
+ghost use Rattle.block_order.specs.Shape.{IsReadTape};
 ghost use Rattle.block_order.specs.TapeTable.{IsProgramTables};
 
 use crate::loud::LoudPrograms;
@@ -45,7 +45,7 @@ impl BlockOrder {
     /// The programs, in the order of the text.
     pub fn as_slice(&self) -> &[ControlProgram]
         ensures same { result.now ≡ self.now }
-        ensures listed { IsListed self.now }
+        ensures listed { IsReadTape self.now }
         ensures sound { IsSound self.now }
     {
         self.programs.as_slice()

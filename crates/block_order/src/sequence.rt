@@ -1,6 +1,7 @@
 //! The blocks of a program by their sequence numbers.
 //! Part of a program's tables (tables.rt); wait_order asks for the finders of a block.
 ghost use Rattle.std.specs.Prelude.{◌≡◌, ℕ, ◌<◌, ◌≤◌, ◌↔◌, List, Some, length, IfOk};
+ghost use Rattle.nc_number.specs.declared.limits.TheConstants.{MOST_BLOCKS};
 ghost use Rattle.block_order.specs.Order.{seek};
 
 use crate::program::ControlBlock;
@@ -33,7 +34,7 @@ impl SequenceIndex {
 
     /// The index of a program's blocks.
     pub(crate) fn of(alloc: Global, blocks: &[ControlBlock]) -> Result<SequenceIndex, NoMemory>
-        requires { length blocks.now ≤ 20000 }
+        requires { length blocks.now ≤ MOST_BLOCKS }
         ensures { IfOk result (λ index. IsIndexOf blocks.now index) }
     {
         let mut places: IndexMap<u32, Vec<u32>> = IndexMap::new(alloc);

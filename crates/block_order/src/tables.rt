@@ -1,10 +1,11 @@
 //! The tables of a tape whose programs and loops fit together.
 //! draft.rt makes them; order.rt and wait_order look up in them.
 ghost use Rattle.std.specs.Prelude.{◌≤◌, IfOk, length};
+ghost use Rattle.nc_number.specs.declared.limits.TheConstants.{MOST_BLOCKS};
 ghost use Rattle.block_order.specs.Faults.{Fitting, IsClear};
 ghost use Rattle.block_order.specs.Fitting.{Fits};
 ghost use Rattle.block_order.specs.TapeTable.{IsProgramTables, IsTapeTables};
-ghost use Rattle.block_order.specs.Shape.{IsListed};
+ghost use Rattle.block_order.specs.Shape.{IsReadTape};
 
 use crate::loops::LoopTable;
 use crate::program::ControlProgram;
@@ -51,7 +52,7 @@ pub(crate) fn tape_tables(
     alloc: Global,
     tape: &[ControlProgram],
 ) -> Result<Vec<ProgramTables>, NoMemory>
-    requires listed { IsListed tape.now }
+    requires listed { IsReadTape tape.now }
     requires fits { IsClear tape.now Fitting }
     ensures { IfOk result (λ tables. IsTapeTables tape.now tables.items) }
 {
@@ -64,7 +65,7 @@ pub(crate) fn tape_tables(
 
 /// The tables of one program.
 fn program_tables(alloc: Global, program: &ControlProgram) -> Result<ProgramTables, NoMemory>
-    requires few { length program.now.blocks ≤ 20000 }
+    requires few { length program.now.blocks ≤ MOST_BLOCKS }
     requires fit { Fits program.now.blocks }
     ensures { IfOk result (λ tables. IsProgramTables program.now.blocks tables) }
 {

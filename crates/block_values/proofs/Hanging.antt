@@ -14,13 +14,13 @@ use Rattle.nc_moves.specs.declared.motion.Move.{Move}
 use Rattle.block_words.specs.declared.word.FlowWord.{FlowWord}
 use Rattle.block_words.specs.Codes.{rows}
 use Rattle.block_values.specs.Moves.{all_moves}
-use Rattle.block_values.specs.InForce.{modal_after, settings_said, modal_behind}
+use Rattle.block_values.specs.InForce.{modal_after, settings_said, modal_of_rows}
 use Rattle.block_values.specs.Drawn.{motion_said, motion_part}
 
 -- what is in force behind a block depends only on its G codes and on F, S and T
 pub modal_hangs : (modal : ModalView) (system : System) (words : List FlowWord) (values : Values)
     → modal_after modal system words values
-    ≡ modal_behind modal (rows system words) (settings_said values.feed values.speed values.tool)
+    ≡ modal_of_rows modal (rows system words) (settings_said values.feed values.speed values.tool)
 modal_hangs modal system words values = refl
 
 -- the moves of a block depend only on its motion, on S, T and the M code

@@ -12,18 +12,19 @@ use Rattle.block_words.specs.Words.{is_one_of}
 use Rattle.macro_eval.specs.declared.scope.Look.{Look}
 use Rattle.macro_eval.specs.declared.scope.VarFault.{VarFault}
 use Rattle.block_values.specs.Outcomes.{Outcome, Gives, ◌>>=◌, value_with}
-use Rattle.block_values.specs.Values.{computed}
+use Rattle.block_values.specs.Values.{computed_literal}
 
 -- the number that stands in the second list where this letter stands in the first
-abbrev pub beside : List ℕ → List ℕ → ℕ → Option ℕ
-beside [] numbers letter = None
-beside (own ∷ letters) [] letter = None
-beside (own ∷ letters) (number ∷ numbers) letter = if own == letter then Some number else beside letters numbers letter
+abbrev pub number_beside : List ℕ → List ℕ → ℕ → Option ℕ
+number_beside [] numbers letter = None
+number_beside (own ∷ letters) [] letter = None
+number_beside (own ∷ letters) (number ∷ numbers) letter =
+    if own == letter then Some number else number_beside letters numbers letter
 
 -- the local variable of an address of a macro call: below each letter stands its number
 abbrev pub local_of : ℕ → Option ℕ
 local_of letter =
-    beside (codes "ABCDEFHIJKMQRSTUVWXYZ")
+    number_beside (codes "ABCDEFHIJKMQRSTUVWXYZ")
     (1 ∷ 2 ∷ 3 ∷ 7 ∷ 8 ∷ 9 ∷ 11 ∷ 4 ∷ 5 ∷ 6 ∷ 13 ∷ 17 ∷ 18 ∷ 19 ∷ 20 ∷ 21 ∷ 22 ∷ 23 ∷ 24 ∷ 25 ∷ 26 ∷ []) letter
 
 -- the value of an argument, in 0.000001: a number without a point counts thousandths for X, Z, U,
@@ -41,7 +42,7 @@ with_argument (Some i) value arguments = slice_set arguments (i - 1) (Is value)
 -- value sets none
 abbrev pub with_var : ℕ → Bool → Var → List Var → List Var
 with_var letter minus Vacant arguments = arguments
-with_var letter minus (Is value) arguments = with_argument (local_of letter) (argument letter (computed minus value)) arguments
+with_var letter minus (Is value) arguments = with_argument (local_of letter) (argument letter (computed_literal minus value)) arguments
 
 -- the local variables behind one argument, by what a table says of each variable
 abbrev pub argument_with : (ℕ → Result Look VarFault) → ℕ → WordValue → List Var → List Var → Outcome (List Var)

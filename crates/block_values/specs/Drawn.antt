@@ -53,9 +53,9 @@ abbrev pub motion_view : Drawn → Motion
 motion_view motion = record { moves = motion.moves; cycle = motion.cycle; offset = motion.offset }
 
 -- a motion of the code as that record, or the fault for which there is none
-abbrev pub seen : {F : Type 0} → Result Drawn F → Result Motion F
-seen (Ok motion) = Ok (motion_view motion)
-seen (Err fault) = Err fault
+abbrev pub drawn_motion : {F : Type 0} → Result Drawn F → Result Motion F
+drawn_motion (Ok motion) = Ok (motion_view motion)
+drawn_motion (Err fault) = Err fault
 
 -- a step of the code with its moves, which stand in a list that was lent, as one motion
 abbrev pub step_motion : MotionStep → List Move → Motion

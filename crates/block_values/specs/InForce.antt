@@ -48,6 +48,6 @@ has_limit rows = list_any (λ row. is_limit row.kind) rows
 
 -- the modal state behind a block whose G codes have these rows; `modal_after` is this with the rows
 -- of its words
-abbrev pub modal_behind : ModalView → List Row → Values → Result ModalView ℕ
-modal_behind modal rows values =
+abbrev pub modal_of_rows : ModalView → List Row → Values → Result ModalView ℕ
+modal_of_rows modal rows values =
     unless_fault (tool_fault values.tool) (with_words (with_codes modal rows) (modal_words (has_limit rows) values))

@@ -43,8 +43,8 @@ pub record Motion : Type 0 where
   pub offset : Option (Slot × Point)
 
 -- a motion of these moves that sets no offset; `cycle` is where the cycle in force ends behind it
-abbrev pub moving : Option Point → List Move → Motion
-moving cycle moves = record { moves = moves; cycle = cycle; offset = None }
+abbrev pub motion_of_moves : Option Point → List Move → Motion
+motion_of_moves cycle moves = record { moves = moves; cycle = cycle; offset = None }
 
 -- an answer of a motion, with its fault as the number of the alarm
 abbrev pub motion_number : {A : Type 0} → Result A MotionFault → Result A ℕ
@@ -112,18 +112,18 @@ set_motion cycle (Err fault) = Err fault
 
 -- a pass of a cycle as a motion, which says where the cycle ends
 abbrev pub passed_motion : Result CyclePass MotionFault → Result Motion MotionFault
-passed_motion (Ok pass) = Ok (moving pass.kept pass.moves)
+passed_motion (Ok pass) = Ok (motion_of_moves pass.kept pass.moves)
 passed_motion (Err fault) = Err fault
 
 -- the moves of a code that is no cycle, as a motion; the cycle's end stays
-abbrev pub tracked : Option Point → Result (List Move) MotionFault → Result Motion MotionFault
-tracked cycle (Ok moves) = Ok (moving cycle moves)
-tracked cycle (Err fault) = Err fault
+abbrev pub motion_of_track : Option Point → Result (List Move) MotionFault → Result Motion MotionFault
+motion_of_track cycle (Ok moves) = Ok (motion_of_moves cycle moves)
+motion_of_track cycle (Err fault) = Err fault
 
 -- a cycle, or a line, an arc, a thread or a way home, or no motion at all
 abbrev pub cut_motion : Option CycleKind → CodeKind → Option Point → BlockMotion → Result Motion MotionFault
 cut_motion (Some cycle) kind kept block = passed_motion (pass_of cycle kept block)
-cut_motion None kind kept block = tracked kept (moves_of kind block)
+cut_motion None kind kept block = motion_of_track kept (moves_of kind block)
 
 -- the motion of a block whose code is no dwell and sets no offset; most of these codes move nothing
 abbrev pub turret_motion : Point → Point → OffsetTable → ModalView → CodeKind → Values → Result Motion ℕ
@@ -140,7 +140,7 @@ unless_incremental false motion = motion
 -- the block, which only G10 heeds.
 abbrev pub motion_of : Point → Point → OffsetTable → ModalView → CodeKind → Bool → Values → Result Motion ℕ
 motion_of home position offsets modal Dwell has_l values =
-    Ok (moving modal.cycle (move.Dwell (unwrap_or values.rest 0) ∷ []))
+    Ok (motion_of_moves modal.cycle (move.Dwell (unwrap_or values.rest 0) ∷ []))
 motion_of home position offsets modal Setting has_l values =
     offset_number (set_motion modal.cycle (setting_of offsets modal has_l values))
 motion_of home position offsets modal Machine has_l values =

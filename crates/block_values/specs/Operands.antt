@@ -20,19 +20,19 @@ use Rattle.block_values.specs.Outcomes.{Outcome, Gives, ◌>>=◌, reading_none,
 use Rattle.block_values.specs.Readings.{variable_in}
 
 -- the variable that was found for a number, or alarm 30 if none was
-abbrev pub existing : Option Variable → Result Variable Cause
-existing None = Err VariableRange
-existing (Some variable) = Ok variable
+abbrev pub variable_or_fault : Option Variable → Result Variable Cause
+variable_or_fault None = Err VariableRange
+variable_or_fault (Some variable) = Ok variable
 
 -- the variable of a computed number, or the alarm for which there is no such number
 abbrev pub number_named : ModalView → Result ℕ Cause → Result Variable Cause
-number_named modal (Ok n) = existing (variable_in modal n)
+number_named modal (Ok n) = variable_or_fault (variable_in modal n)
 number_named modal (Err cause) = Err cause
 
 -- the variable on the left side of an assignment, whose number is evaluated if it is not written
 -- out. Alarms: those of the number, and 30 if there is no such variable.
 abbrev pub variable_with : (ℕ → Result Look VarFault) → ModalView → Named → List Var → Outcome Variable
-variable_with table modal (Numbered n) reads = reading_none (existing (variable_in modal n)) reads
+variable_with table modal (Numbered n) reads = reading_none (variable_or_fault (variable_in modal n)) reads
 variable_with table modal (Computed tree) reads =
     value_with table tree reads >>= λ value left. reading_none (number_named modal (variable_number value)) left
 

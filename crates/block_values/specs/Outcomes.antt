@@ -39,11 +39,11 @@ reading_none (Ok value) left = Gives value left
 reading_none (Err cause) left = alarm cause
 
 -- the answer of an expression as an outcome
-abbrev pub answered : Answer → Outcome Var
-answered (Got value, left) = Gives value left
-answered (Need variable, left) = Needs variable
-answered (Fault number, left) = Alarms number (pos 0)
+abbrev pub outcome_of_answer : Answer → Outcome Var
+outcome_of_answer (Got value, left) = Gives value left
+outcome_of_answer (Need variable, left) = Needs variable
+outcome_of_answer (Fault number, left) = Alarms number (pos 0)
 
 -- the value of an expression, by what a table says of each variable
 abbrev pub value_with : (ℕ → Result Look VarFault) → Tree → List Var → Outcome Var
-value_with table tree reads = answered (meaning table tree reads)
+value_with table tree reads = outcome_of_answer (meaning table tree reads)

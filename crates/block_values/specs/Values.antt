@@ -18,7 +18,7 @@ use Rattle.block_words.specs.declared.purpose.Purpose.TheVariants.{Dwell, Settin
 use Rattle.block_words.specs.Words.{is_one_of}
 use Rattle.macro_eval.specs.declared.scope.Look.{Look}
 use Rattle.macro_eval.specs.declared.scope.VarFault.{VarFault}
-use Rattle.block_words.specs.Codes.{natural}
+use Rattle.block_words.specs.Codes.{natural_number}
 use Rattle.block_words.specs.Ranges.{range_of, fits}
 use Rattle.block_values.specs.Outcomes.{Outcome, Gives, ◌>>=◌, reading_none, value_with}
 
@@ -93,7 +93,7 @@ milliseconds n = Some (unsigned_abs n)
 abbrev pub with_rest : ℕ → Literal → Values → Values
 with_rest letter literal values =
     if is_one_of (codes "XU") letter then record values { rest = milliseconds (thousandths_of literal) }
-    else if is_one_of (codes "P") letter then record values { rest = natural (whole_of literal.value) }
+    else if is_one_of (codes "P") letter then record values { rest = natural_number (whole_of literal.value) }
     else values
 
 -- the values with a length taken: along an axis, to the centre of an arc, or its radius
@@ -113,7 +113,7 @@ abbrev pub with_setting : Sense → ℕ → Literal → Values → Values
 with_setting sense letter literal values =
     if is_one_of (codes "F") letter then record values { feed = Is literal.value }
     else if is_one_of (codes "S") letter then record values { speed = Is literal.value }
-    else if is_one_of (codes "T") letter then record values { tool = natural (whole_of literal.value) }
+    else if is_one_of (codes "T") letter then record values { tool = natural_number (whole_of literal.value) }
     else if is_one_of (codes "P") letter && is_offset sense.purpose then record values { number = whole_of literal.value }
     else values
 
@@ -126,25 +126,26 @@ with_word sense letter literal values =
 
 -- the values with a word taken; or 56 of I, K and R that mean nothing, then 64 of a word out of its
 -- range
-abbrev pub taken : Sense → ℕ → Literal → Values → Result Values Cause
-taken sense letter literal values =
+abbrev pub values_with : Sense → ℕ → Literal → Values → Result Values Cause
+values_with sense letter literal values =
     if not (is_meant sense letter) then Err UnknownCode
     else if fits (range_of sense.purpose letter) literal then Ok (with_word sense letter literal values)
     else Err WordRange
 
 -- a computed number counts as one with a point, behind the word's own sign
-abbrev pub computed : Bool → ℤ → Literal
-computed minus value = record { value = if minus then neg_ℤ value else value; point = true }
+abbrev pub computed_literal : Bool → ℤ → Literal
+computed_literal minus value = record { value = if minus then neg_ℤ value else value; point = true }
 
 -- the values with a computed word taken, which counts as absent if its value is vacant
 abbrev pub taken_var : Sense → ℕ → Bool → Var → Values → Result Values Cause
 taken_var sense letter minus Vacant values = Ok values
-taken_var sense letter minus (Is value) values = taken sense letter (computed minus value) values
+taken_var sense letter minus (Is value) values = values_with sense letter (computed_literal minus value) values
 
 -- the values behind one word, by what a table says of each variable: it is evaluated, and then
 -- taken
 abbrev pub word_with : (ℕ → Result Look VarFault) → Sense → ℕ → WordValue → Values → List Var → Outcome Values
-word_with table sense letter (Written literal) values reads = reading_none (taken sense letter literal values) reads
+word_with table sense letter (Written literal) values reads =
+    reading_none (values_with sense letter literal values) reads
 word_with table sense letter (Computed minus tree) values reads =
     value_with table tree reads >>= λ value left. reading_none (taken_var sense letter minus value values) left
 

@@ -1,12 +1,13 @@
 -- How long the lengths that a block says can be, so that sums of them stay within 64 bits.
 -- path_state takes `AreLengthsSaid`.
 use Rattle.std.specs.Prelude.{ℕ}
+use Rattle.nc_number.specs.declared.limits.TheConstants.{LONGEST_SAID}
 use Rattle.motion_track.specs.Centre.{IsLengthWithin}
 use Rattle.block_values.specs.declared.values.Values.{Values}
 
 -- the longest length that a number of a tape or a value can make, in 0.001 mm
 abbrev pub longest_said : ℕ
-longest_said = 100000000000
+longest_said = LONGEST_SAID
 
 -- none of the lengths that words said is longer than `longest_said`
 pub record AreLengthsSaid (said : Values) : Type 0 where

@@ -5,7 +5,7 @@
 //! [`Scope`](macro_eval::Scope), and takes the reads of shared variables one by one; the parts of a
 //! block are given what they depend on. So nothing here knows the state of a path. path_state, in
 //! which a path is such a scope, leans on [`words_taken`], [`arguments_taken`], [`value_taken`] and
-//! its like for statements, on [`modal_behind`], [`motion_behind`] and [`moves_behind`], and on the
+//! its like for statements, on [`modal_after`], [`motion_behind`] and [`moves_behind`], and on the
 //! readings of a variable.
 #![tactic(auto)]
 
@@ -21,7 +21,7 @@ mod values;
 mod words;
 
 pub use arguments::arguments_taken;
-pub use modal::modal_behind;
+pub use modal::modal_after;
 pub use motion::{MotionStep, motion_behind};
 pub use moves::{last_end, moves_behind};
 pub use operands::{condition_taken, length_of, sequence_taken, value_taken, variable_taken};
@@ -33,7 +33,7 @@ pub use words::words_taken;
 
 // For users of the library: the parts of these calls.
 pub use arguments::{argument, local_of};
-pub use modal::modal_after;
+pub use modal::modal_of_rows;
 pub use motion::{Motion, MotionWords, motion_of, setting};
 pub use moves::all_moves;
 pub use values::taken;

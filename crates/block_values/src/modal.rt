@@ -1,8 +1,8 @@
 //! Which modal state is in force behind the codes and words of a block.
-//! path_state calls `modal_behind`; tests call `modal_after`.
+//! path_state calls `modal_after`; tests call `modal_of_rows`.
 ghost use Rattle.std.specs.Prelude.{◌≡◌};
 ghost use Rattle.block_words.specs.Codes.{rows};
-ghost use Rattle.block_values.specs.InForce.{modal_after, speed_word, settings_said, has_limit, modal_behind};
+ghost use Rattle.block_values.specs.InForce.{modal_after, speed_word, settings_said, has_limit, modal_of_rows};
 ghost use Rattle.block_values.specs.Seen.{values_seen};
 
 use crate::values::Values;
@@ -14,14 +14,14 @@ use nc_number::Var;
 /// The modal state behind a block: its G codes, by their rows in the block's order, set their
 /// groups, and then F, S and T are taken. Beside G50 S is the highest speed. Alarm 40, as its
 /// number, exactly if the tool offset of T is none of 0 to 64.
-pub fn modal_after(
+pub fn modal_of_rows(
     modal: &Modal,
     rows: &[Row],
     feed: Var,
     speed: Var,
     tool: Option<u16>,
 ) -> Result<Modal, u8>
-    ensures { result ≡ modal_behind modal.now rows.now (settings_said feed speed tool) }
+    ensures { result ≡ modal_of_rows modal.now rows.now (settings_said feed speed tool) }
 {
     let mut after = *modal;
     after.take(rows);
@@ -38,10 +38,10 @@ pub fn modal_after(
 
 /// The modal state behind the codes and words of a block; alarm 40, as its number, if T names no
 /// tool offset from 0 to 64.
-pub fn modal_behind(modal: &Modal, words: &FlowWords, values: &Values) -> Result<Modal, u8>
+pub fn modal_after(modal: &Modal, words: &FlowWords, values: &Values) -> Result<Modal, u8>
     ensures { result ≡ modal_after modal.now words.now.dialect.system words.now.words (values_seen values.now) }
 {
-    modal_after(
+    modal_of_rows(
         modal,
         words.rows.as_slice(),
         values.feed,

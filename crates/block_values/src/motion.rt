@@ -13,7 +13,7 @@ ghost use Rattle.block_words.specs.Words.{has};
 ghost use Rattle.block_values.specs.Seen.{values_seen};
 ghost use Rattle.block_values.specs.Within.{longest_said, AreLengthsSaid};
 ghost use Rattle.block_values.specs.Motion.{motion_kind, axis_under, form_of, setting_of, block_motion, cut_motion, motion_of};
-ghost use Rattle.block_values.specs.Drawn.{seen, step_seen, motion_said, motion_part, AreLengthsWithin};
+ghost use Rattle.block_values.specs.Drawn.{drawn_motion, step_seen, motion_said, motion_part, AreLengthsWithin};
 ghost use Rattle.block_values.specs.Values.{Values};
 ghost use Rattle.code_tables.specs.declared.kind.CodeKind.{CodeKind};
 
@@ -150,7 +150,8 @@ pub fn motion_of(
 ) -> Result<Motion, u8>
     requires position { IsPosition position }
     requires lengths { AreLengthsWithin longest_said words.now }
-    ensures motion { seen result ≡ motion_of home position offsets.now modal.now kind has_l (motion_said words.now) }
+    ensures motion { drawn_motion result
+        ≡ motion_of home position offsets.now modal.now kind has_l (motion_said words.now) }
     ensures few { IfOk result (λ motion. length motion.moves ≤ 4) }
     ensures within { IsPosition home → IfOk result (λ motion. AreMovesWithin LONGEST motion.moves) }
     ensures cycle { IfOk result (λ motion. IfSome motion.cycle IsPosition) }

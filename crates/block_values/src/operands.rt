@@ -10,7 +10,7 @@ ghost use Rattle.macro_eval.specs.Meaning.{variable_number, whole_number};
 ghost use Rattle.block_values.specs.Readings.{variable_in};
 ghost use Rattle.block_values.specs.Outcomes.{reading_none, value_with};
 ghost use Rattle.block_values.specs.Seen.{outcome_of};
-ghost use Rattle.block_values.specs.Operands.{existing, number_named, variable_with, length_of, relation_with, condition_with, sequence_number, sequence_with};
+ghost use Rattle.block_values.specs.Operands.{variable_or_fault, number_named, variable_with, length_of, relation_with, condition_with, sequence_number, sequence_with};
 
 use crate::outcome::Stop;
 use crate::readings::variable_in;
@@ -22,7 +22,7 @@ use nc_number::{Cause, Var, to_increment};
 
 /// The variable of a number, or alarm 30 if there is none.
 fn existing(modal: &Modal, number: u32) -> Result<Variable, Cause>
-    ensures existing { result ≡ existing (variable_in modal.now number) }
+    ensures existing { result ≡ variable_or_fault (variable_in modal.now number) }
     ensures exists { IfOk result IsVariable }
 {
     match variable_in(modal, number) {

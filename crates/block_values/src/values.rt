@@ -6,8 +6,8 @@ ghost use Rattle.block_words.specs.Ranges.{fits, range_of};
 ghost use Rattle.block_words.specs.Words.{is_one_of};
 ghost use Rattle.block_words.specs.declared.range.Range.TheVariants.{Between};
 ghost use Rattle.nc_number.specs.Arithmetic.{whole_of};
-ghost use Rattle.block_words.specs.Codes.{natural};
-ghost use Rattle.block_values.specs.Values.{is_meant, is_dwell, with_rest, with_length, with_setting, with_word, taken, nothing_said};
+ghost use Rattle.block_words.specs.Codes.{natural_number};
+ghost use Rattle.block_values.specs.Values.{is_meant, is_dwell, with_rest, with_length, with_setting, with_word, values_with, nothing_said};
 ghost use Rattle.block_values.specs.Within.{longest_said, AreLengthsSaid};
 ghost use Rattle.block_values.specs.Seen.{values_seen, values_of, sense_seen};
 
@@ -69,7 +69,7 @@ impl Values {
 
 /// The number of a literal, if it is whole and not below 0.
 fn natural(literal: &Literal) -> Option<u32>
-    ensures { result ≡ natural (whole_of literal.now.value) }
+    ensures { result ≡ natural_number (whole_of literal.now.value) }
 {
     match literal.whole() {
         Some(number) if number >= 0 => Some(number.unsigned_abs() as u32),
@@ -80,7 +80,7 @@ fn natural(literal: &Literal) -> Option<u32>
 /// The number of a tool, which is whole and at most 9,999 in a literal of that range.
 fn tool_of(literal: &Literal) -> Option<u16>
     requires { fits (Between 0 9999) literal.now ≡ true }
-    ensures { result ≡ natural (whole_of literal.now.value) }
+    ensures { result ≡ natural_number (whole_of literal.now.value) }
 {
     match natural(literal) {
         Some(number) => Some(number as u16),
@@ -133,7 +133,8 @@ fn set_length(letter: u8, length: i64, values: &mut Values)
 /// Takes F, S, T or the number of an offset; every other word leaves the values.
 fn set_setting(sense: &Sense, letter: u8, literal: &Literal, values: &mut Values)
     requires { fits (range_of sense.now.purpose letter) literal.now ≡ true }
-    ensures said { values_seen values.new ≡ with_setting (sense_seen sense.now) letter literal.now (values_seen values.old) }
+    ensures said { values_seen values.new
+        ≡ with_setting (sense_seen sense.now) letter literal.now (values_seen values.old) }
     ensures within { AreLengthsSaid values.old → AreLengthsSaid values.new }
 {
     match letter {
@@ -162,7 +163,8 @@ fn is_length(letter: u8) -> bool
 /// Puts a word that is in its range into the values.
 fn set_word(sense: &Sense, letter: u8, literal: &Literal, values: &mut Values)
     requires { fits (range_of sense.now.purpose letter) literal.now ≡ true }
-    ensures said { values_seen values.new ≡ with_word (sense_seen sense.now) letter literal.now (values_seen values.old) }
+    ensures said { values_seen values.new
+        ≡ with_word (sense_seen sense.now) letter literal.now (values_seen values.old) }
     ensures within { AreLengthsSaid values.old → AreLengthsSaid values.new }
 {
     if is_dwell(sense) && is_one_of(b"XUZWP", letter) {
@@ -183,9 +185,9 @@ pub(crate) fn take_word(
     values: &mut Values,
 ) -> Result<(), Cause>
     ensures taken { OnOk result
-        (taken (sense_seen sense.now) letter literal.now (values_seen values.old) ≡ Ok (values_seen values.new)) }
+        (values_with (sense_seen sense.now) letter literal.now (values_seen values.old) ≡ Ok (values_seen values.new)) }
     ensures refused { IfErr result
-        (λ cause. taken (sense_seen sense.now) letter literal.now (values_seen values.old) ≡ Err cause) }
+        (λ cause. values_with (sense_seen sense.now) letter literal.now (values_seen values.old) ≡ Err cause) }
     ensures within { AreLengthsSaid values.old → AreLengthsSaid values.new }
 {
     if !is_meant(sense, letter) {
@@ -201,7 +203,7 @@ pub(crate) fn take_word(
 /// The values with a word taken: 56 of I, K and R that mean nothing, then 64 of a word out of its
 /// range.
 pub fn taken(sense: &Sense, letter: u8, literal: &Literal, values: Values) -> Result<Values, Cause>
-    ensures said { values_of result ≡ taken (sense_seen sense.now) letter literal.now (values_seen values) }
+    ensures said { values_of result ≡ values_with (sense_seen sense.now) letter literal.now (values_seen values) }
     ensures within { AreLengthsSaid values → IfOk result AreLengthsSaid }
 {
     let mut after = values;

@@ -2,7 +2,7 @@
 //! path_state calls `words_taken` for every block of words.
 ghost use Rattle.std.specs.Prelude.{◌≡◌, Result, Ok, Err, IfOk, IfErr, OnOk};
 ghost use Rattle.nc_number.specs.declared.cause.Cause.{Cause};
-ghost use Rattle.block_values.specs.Values.{Values as Said, nothing_said, computed, taken_var, word_with, words_with};
+ghost use Rattle.block_values.specs.Values.{Values as Said, nothing_said, computed_literal, taken_var, word_with, words_with};
 ghost use Rattle.block_values.specs.Within.{AreLengthsSaid};
 ghost use Rattle.block_values.specs.Outcomes.{reading_none};
 ghost use Rattle.block_values.specs.Seen.{values_seen, sense_seen, outcome_of};
@@ -16,7 +16,7 @@ use nc_number::{Cause, Literal, Value, Var, neg};
 
 /// A computed number, behind the word's own sign, counts as one with a point.
 pub(crate) fn computed(minus: bool, value: Value) -> Literal
-    ensures { result ≡ computed minus value }
+    ensures { result ≡ computed_literal minus value }
 {
     Literal {
         value: if minus { neg(value) } else { value },
@@ -46,7 +46,8 @@ fn take_var(
 
 /// The answer of a step that took no read: its cause, if it has one, is an alarm.
 fn answer<'a>(step: Result<(), Cause>, left: &'a [Var]) -> (Result<(), Stop>, &'a [Var])
-    ensures { (word : Result Said Cause) (said : Said) → OnOk step (word ≡ Ok said) → IfErr step (λ cause. word ≡ Err cause)
+    ensures { (word : Result Said Cause) (said : Said) → OnOk step (word ≡ Ok said)
+        → IfErr step (λ cause. word ≡ Err cause)
         → outcome_of (λ done. said) result.0 result.1.now ≡ reading_none word left.now }
 {
     match step {

@@ -16,10 +16,10 @@ use Rattle.block_words.specs.declared.purpose.Purpose.TheVariants as purpose
 use Rattle.block_words.specs.Words.{words_of, whole_value}
 
 -- The number, if there is one and it is not below 0.
-abbrev pub natural : Option ℤ → Option ℕ
-natural None = None
-natural (Some (pos n)) = Some n
-natural (Some (negsuc n)) = None
+abbrev pub natural_number : Option ℤ → Option ℕ
+natural_number None = None
+natural_number (Some (pos n)) = Some n
+natural_number (Some (negsuc n)) = None
 
 -- The row of a G code in the table of the system, if it has the code.
 abbrev pub row_of_number : System → Option ℕ → Option Row
@@ -28,7 +28,7 @@ row_of_number system (Some code) = row_of (rows_of_system system) code
 
 -- The row of a G word that is written out as a whole number, if the system has it.
 abbrev pub row_of_word : System → FlowWord → Option Row
-row_of_word system word = row_of_number system (natural (whole_value word.value))
+row_of_word system word = row_of_number system (natural_number (whole_value word.value))
 
 -- The rows of the block's G words, in their order. A word that has none is left out.
 abbrev pub rows : System → List FlowWord → List Row
@@ -74,7 +74,7 @@ one_shot system words = kind_of (last_of_group (rows system words) ONE_SHOT_GROU
 
 -- The whole numbers from 0 on that the block's M words write out, in their order.
 abbrev pub m_codes : List FlowWord → List ℕ
-m_codes words = filter_map (λ word. natural (whole_value word.value)) (words_of (codes "M") words)
+m_codes words = filter_map (λ word. natural_number (whole_value word.value)) (words_of (codes "M") words)
 
 -- The first of the codes, if there is one.
 abbrev pub first : List ℕ → Option ℕ

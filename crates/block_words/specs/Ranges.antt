@@ -3,6 +3,7 @@
 use Rattle.std.specs.Prelude.{ℕ, Bool, true, false, not, ◌&&◌, nat_le, Option, Some, None, ℤ, pos, negsuc, codes, if◌then◌else◌}
 use Rattle.std.specs.Int.{is_negative}
 use Rattle.std.specs.Option.{is_some}
+use Rattle.nc_number.specs.declared.limits.TheConstants.{LARGEST_WHOLE, LAST_SEQUENCE}
 use Rattle.nc_number.specs.declared.literal.Literal.{Literal}
 use Rattle.nc_number.specs.Arithmetic.{whole_of}
 use Rattle.block_words.specs.declared.word.FlowWord.{FlowWord}
@@ -31,10 +32,10 @@ fits (Between least greatest) literal = is_between least greatest (whole_of lite
 -- digits or without; the sequence number of a return; the program of a macro call; else any number.
 abbrev pub range_of_p : Purpose → Range
 range_of_p MacroCall = Between 1 9999
-range_of_p Subprogram = Between 1 99999999
-range_of_p Return = Between 1 99999
+range_of_p Subprogram = Between 1 LARGEST_WHOLE
+range_of_p Return = Between 1 LAST_SEQUENCE
 range_of_p Wait = Any
-range_of_p Dwell = Between 0 99999999
+range_of_p Dwell = Between 0 LARGEST_WHOLE
 range_of_p Setting = Whole
 range_of_p Other = Any
 

@@ -2,6 +2,7 @@
 //! here; the tables are in code_tables. block_forms makes its blocks of words by these functions.
 ghost use Rattle.std.specs.Prelude.{◌≡◌, ◌≤◌, IfSome, IfOk};
 ghost use Rattle.std.specs.List.{list_any};
+ghost use Rattle.nc_number.specs.declared.limits.TheConstants.{LARGEST_WHOLE};
 ghost use Rattle.code_tables.specs.Codes.{last_of_group};
 ghost use Rattle.block_words.specs.Codes.{row_of_word, rows, kind_of, m_codes, m_code, is_waiting, has_code, has_wait, first_waiting, is_macro_call, purpose_by};
 
@@ -56,7 +57,7 @@ pub fn one_shot_of(rows: &[Row]) -> Option<CodeKind>
 /// The first M code that the block writes out as a whole number from 0 on.
 pub fn first_code(words: &[FlowWord]) -> Option<u32>
     ensures value { result ≡ m_code words.now }
-    ensures range { IfSome result (λ code. code ≤ 99999999) }
+    ensures range { IfSome result (λ code. code ≤ LARGEST_WHOLE) }
 {
     for word in words {
         if is_one_of(b"M", word.letter)

@@ -1,8 +1,10 @@
-//! The words of a block by their letters. A letter is its byte, in upper case. block_forms and
-//! block_values call these; open_forms and open_order call `is_one_of`.
+//! The words of a block by their letters. A letter is its byte, in upper case. block_forms calls
+//! these; codes.rt of this crate, block_values, open_forms and open_order call `is_one_of` alone.
+//! open_forms/src/letters.rt has the others over the words of a text.
 ghost use Rattle.std.specs.Prelude.{◌≡◌, ◌≤◌, IfSome, length, if◌then◌else◌};
+ghost use Rattle.nc_number.specs.declared.limits.TheConstants.{LARGEST_WHOLE};
 ghost use Rattle.block_words.specs.Words.{is_one_of, words_of, has, has_computed, whole_value, last_whole};
-ghost use Rattle.block_words.specs.Codes.{natural};
+ghost use Rattle.block_words.specs.Codes.{natural_number};
 
 use crate::word::FlowWord;
 
@@ -42,10 +44,10 @@ pub fn count_of(words: &[FlowWord], letters: &[u8]) -> usize
 
 /// The number that this word says, if it is of these letters; else the number that was said before.
 fn later_number(before: Option<u32>, word: &FlowWord, letters: &[u8]) -> Option<u32>
-    requires { IfSome before (λ n. n ≤ 99999999) }
+    requires { IfSome before (λ n. n ≤ LARGEST_WHOLE) }
     ensures value { result
-        ≡ (if is_one_of letters.now word.now.letter then natural (whole_value word.now.value) else before) }
-    ensures range { IfSome result (λ n. n ≤ 99999999) }
+        ≡ (if is_one_of letters.now word.now.letter then natural_number (whole_value word.now.value) else before) }
+    ensures range { IfSome result (λ n. n ≤ LARGEST_WHOLE) }
 {
     if is_one_of(letters, word.letter) {
         word.value.natural()
@@ -58,8 +60,8 @@ fn later_number(before: Option<u32>, word: &FlowWord, letters: &[u8]) -> Option<
 /// 0.
 #[tactic(auto, using(crate::proofs::LastWord::last_number_more))]
 pub fn number_of(words: &[FlowWord], letters: &[u8]) -> Option<u32>
-    ensures value { result ≡ natural (last_whole letters.now words.now) }
-    ensures range { IfSome result (λ n. n ≤ 99999999) }
+    ensures value { result ≡ natural_number (last_whole letters.now words.now) }
+    ensures range { IfSome result (λ n. n ≤ LARGEST_WHOLE) }
 {
     let mut last = None;
     for word in words {

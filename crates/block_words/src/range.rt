@@ -5,7 +5,7 @@ ghost use Rattle.block_words.specs.Ranges.{fits, range_of_p, range_of_l, range_o
 
 use crate::purpose::Purpose;
 use crate::word::{FlowWord, WordValue};
-use nc_number::Literal;
+use nc_number::{LARGEST_WHOLE, LAST_SEQUENCE, Literal};
 
 /// What a word that is written out may say.
 #[derive(Clone, Copy, Debug, PartialEq, Eq)]
@@ -35,9 +35,9 @@ fn range_of_p(purpose: Purpose) -> Range
 {
     match purpose {
         Purpose::MacroCall => between(1, 9_999),
-        Purpose::Subprogram => between(1, 99_999_999),
-        Purpose::Return => between(1, 99_999),
-        Purpose::Dwell => between(0, 99_999_999),
+        Purpose::Subprogram => between(1, LARGEST_WHOLE),
+        Purpose::Return => between(1, LAST_SEQUENCE),
+        Purpose::Dwell => between(0, LARGEST_WHOLE),
         Purpose::Setting => Range::Whole,
         Purpose::Wait | Purpose::Other => Range::Any,
     }

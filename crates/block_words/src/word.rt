@@ -1,6 +1,7 @@
 //! A word of a block: its letter and its value. How its text is read is in block_forms;
 //! block_values and race_report read the values.
 ghost use Rattle.std.specs.Prelude.{◌≡◌, ◌≤◌, Some, IfSome, unsigned_abs};
+ghost use Rattle.nc_number.specs.declared.limits.TheConstants.{LARGEST_WHOLE};
 
 use macro_eval::Code;
 use nc_number::{ListOf, Literal};
@@ -29,7 +30,7 @@ pub type FlowWordList = ListOf<FlowWord>;
 
 impl WordValue {
     ghost use Rattle.block_words.specs.Words.{is_computed, whole_value};
-    ghost use Rattle.block_words.specs.Codes.{natural};
+    ghost use Rattle.block_words.specs.Codes.{natural_number};
 
     /// Whether it is a variable or an expression.
     pub fn is_computed(&self) -> bool
@@ -44,7 +45,7 @@ impl WordValue {
     /// The whole number that is written out; it may have a point, with a fraction of 0.
     pub fn whole(&self) -> Option<i64>
         ensures value { result ≡ whole_value self.now }
-        ensures range { IfSome result (λ n. unsigned_abs n ≤ 99999999) }
+        ensures range { IfSome result (λ n. unsigned_abs n ≤ LARGEST_WHOLE) }
     {
         match self {
             WordValue::Fixed(literal) => literal.whole(),
@@ -54,8 +55,8 @@ impl WordValue {
 
     /// The whole number that is written out, if it is not below 0.
     pub fn natural(&self) -> Option<u32>
-        ensures value { result ≡ natural (whole_value self.now) }
-        ensures range { IfSome result (λ n. n ≤ 99999999) }
+        ensures value { result ≡ natural_number (whole_value self.now) }
+        ensures range { IfSome result (λ n. n ≤ LARGEST_WHOLE) }
     {
         match self.whole() {
             Some(n) if n >= 0 => Some(n as u32),

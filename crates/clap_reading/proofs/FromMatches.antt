@@ -20,12 +20,10 @@ use Rattle.command_words.specs.Table.{Listing, listings, row_of}
 use Rattle.command_words.specs.declared.command.Command.{Command}
 use Rattle.command_words.specs.declared.fault.WordsFault.{WordsFault}
 use Rattle.command_words.specs.declared.fault.WordsFault.TheVariants.{Usage, NoMemory}
-use Rattle.clap_reading.specs.ClapReading.{command_from, command_in, command_met, fault_by, line_command, names_in, texts_at}
+use Rattle.clap_reading.specs.ClapReading.{command_from, command_in, command_met, fault_by, command_of_line, names_in, texts_at}
 use Rattle.clap_reading.specs.Grammar.{IsRead, program_app}
 
--- the names that a row's words were given, one by one
-
--- the command of a row, and of its name
+-- the command of a row, and of its name (that of the names of its words: reading/names_in)
 
 -- The names and texts that were found give the command of the row.
 pub from_names : (rows : List Row) (row : Listing) (names : List Text) (texts : OptionTextsView) (r : Result Command WordsFault)
@@ -45,7 +43,8 @@ in_no_row rows name e = rw e refl
 
 -- the command of a line
 
--- The program's command is simple for clap, and no argument has a rule on another.
+-- The program's command is simple for clap, and no argument has a rule on another. This and the next
+-- are computed over all rows: a further command needs nothing here.
 program_is_free : is_simple_and_free program_app ≡ true
 unfolding program_app listings
 program_is_free = refl
@@ -58,8 +57,8 @@ program_is_simple = refl
 -- If `clap` takes the line, its command is that of the subcommand that was met.
 pub line_taken : (line : List Text) (program : Parser) (found : ArgMatches) (r : Result Command WordsFault) → IsRead program_app program
     → (is_simple_and_free (app_of program) ≡ true → fault_of (app_of program) line ≡ []) → HasMatchesOf (app_of program) line found
-    → Answers (command_met (subcommand_rows_of found)) r → Answers (line_command line) r
-unfolding line_command
+    → Answers (command_met (subcommand_rows_of found)) r → Answers (command_of_line line) r
+unfolding command_of_line
 line_taken line program found r read free matches a =
     let none : fault_of program_app line ≡ []
     = subst (λ app. fault_of app line ≡ []) read.same (free (subst (λ app. is_simple_and_free app ≡ true) (sym read.same) program_is_free)) in
@@ -78,23 +77,23 @@ answers_none Usage = refl
 answers_none NoMemory = tt
 
 -- If `clap` refuses the line, it has no command.
-no_command : (line : List Text) → is_empty (fault_of program_app line) ≡ false → line_command line ≡ None
-unfolding line_command
+no_command : (line : List Text) → is_empty (fault_of program_app line) ≡ false → command_of_line line ≡ None
+unfolding command_of_line
 no_command line some = rw some refl
 
 -- If `clap` ends with an error, the line has no command, or memory ran out.
 pub line_refused : (line : List Text) (program : Parser) (error : Error) (fault : WordsFault) → IsRead program_app program
     → (is_simple_and_free (app_of program) ≡ true → HasKind (fault_of (app_of program) line) error) → fault ≡ fault_by (kind_of error)
-    → Answers (line_command line) (Err fault)
+    → Answers (command_of_line line) (Err fault)
 line_refused line program error fault read free by =
     let fails : HasKind (fault_of program_app line) error
     = subst (λ app. HasKind (fault_of app line) error) read.same (free (subst (λ app. is_simple_and_free app ≡ true) (sym read.same) program_is_free)) in
     elim fails [
       | inl memory ↦
           let short : fault ≡ NoMemory = by ∙ ap fault_by memory in
-          subst (λ f. Answers (line_command line) (Err f)) (sym short) tt
+          subst (λ f. Answers (command_of_line line) (Err f)) (sym short) tt
       | inr among ↦
-          let none : line_command line ≡ None = no_command line (among_some (kind_of error) (fault_of program_app line) among) in
+          let none : command_of_line line ≡ None = no_command line (among_some (kind_of error) (fault_of program_app line) among) in
           subst (λ value. Answers value (Err fault)) (sym none) (answers_none fault)
     ]
 

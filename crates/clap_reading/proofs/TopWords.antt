@@ -11,7 +11,7 @@ use Rattle.clap.specs.Faults.{check_fault, defaults_fault, entered_fault, settle
 use Rattle.clap.specs.Simple.{App, Shape, entered, label_of, names_of, new_shape}
 use Rattle.clap.specs.Walk.{Names, Row, Rule, Text, Walk, answers_to, finished, idle, is_empty, nothing_held, settled, subcommand_met, walk_from, walked, word_met}
 use Rattle.clap.proofs.FaultLemmas.{stopped_fault}
-use Rattle.clap_reading.specs.ClapReading.{command_from, command_in, clap_command, line_command}
+use Rattle.clap_reading.specs.ClapReading.{command_from, command_in, clap_command, command_of_line}
 use Rattle.clap_reading.specs.Grammar.{program_app}
 use Rattle.command_words.specs.Listed.{Given, command_behind, command_given, given, listed_command}
 use Rattle.command_words.specs.Table.{Listing, block_options, listings, outside_options, row_in, run_options, turret_options}
@@ -67,7 +67,7 @@ answer fault w =
 
 -- `clap` reads this command in the words.
 clap_command_is : (words : List Text) → clap_command words ≡ answer (walk_fault top_shape names_top start words) (fold (walked [] names_top) start words)
-unfolding line_command program_app listings
+unfolding command_of_line program_app listings
 clap_command_is words = refl
 
 -- a known first word: the rest goes to the subcommand

@@ -47,8 +47,8 @@ abbrev pub command_met : Option (Text × List Row) → Option Command
 command_met = option_and_then (λ met. command_in met.0 met.1)
 
 -- The command of a line: if `clap` takes the line, that of its subcommand and its arguments.
-unfoldable pub line_command : List Text → Option Command
-line_command line = if is_empty (fault_of program_app line) then command_met (subcommand_of program_app line) else None
+unfoldable pub command_of_line : List Text → Option Command
+command_of_line line = if is_empty (fault_of program_app line) then command_met (subcommand_of program_app line) else None
 
 -- The words with the program's name before them.
 abbrev pub line_of : List Text → List Text
@@ -56,7 +56,7 @@ line_of words = codes "twin_lathe" ∷ words
 
 -- The command that `clap` reads in the words.
 abbrev pub clap_command : List Text → Option Command
-clap_command words = line_command (line_of words)
+clap_command words = command_of_line (line_of words)
 
 -- Why there is no command if `clap` ends with an error of this kind: out of memory, or the words
 -- are none.

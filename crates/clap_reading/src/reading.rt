@@ -6,7 +6,7 @@ ghost use Rattle.clap.specs.Simple.{subcommand_rows_of};
 ghost use Rattle.command_words.specs.Listed.{listed_command};
 ghost use Rattle.command_words.specs.Making.{Answers, texts_seen};
 ghost use Rattle.command_words.specs.Table.{row_seen};
-ghost use Rattle.clap_reading.specs.ClapReading.{clap_command, command_from, command_in, command_met, fault_by, line_command, line_of, names_in, text_at, texts_at};
+ghost use Rattle.clap_reading.specs.ClapReading.{clap_command, command_from, command_in, command_met, fault_by, command_of_line, line_of, names_in, text_at, texts_at};
 
 use crate::grammar::program;
 use crate::law::law_of_clap;
@@ -43,7 +43,7 @@ fn line_of<'a>(alloc: Global, words: &'a [String]) -> Result<Vec<&'a str>, Alloc
 /// The command of a line, which begins with the program's name. Errors: `Usage` if it has none, or
 /// out of memory.
 fn command_of_line(alloc: Global, line: &[&str]) -> Result<Command, WordsFault>
-    ensures { Answers (line_command (map (λ s. s.now) line.now)) result }
+    ensures { Answers (command_of_line (map (λ s. s.now) line.now)) result }
 {
     match program(alloc)?.try_get_matches_from(line) {
         Ok(found) => command_met(alloc, &found),

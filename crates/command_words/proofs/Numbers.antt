@@ -11,7 +11,7 @@ use Rattle.std.specs.Str.Parse.{ParsesUnsigned, digits_value}
 use Rattle.std.proofs.lemmas.Bool.{and_parts, le-leb, leb-true}
 use Rattle.std.proofs.lemmas.Bool.Decides.{leb_tells}
 use Rattle.std.proofs.lemmas.Str.Parse.{IsNumeralModel, digits_value_short, numerals_by_value, parse_gives, tells_all_ascii_digits}
-use Rattle.command_words.specs.Number.{between, is_numeral, number_of}
+use Rattle.command_words.specs.Number.{value_between, is_numeral, number_of}
 
 -- std's test of decimal digits and that of the specs agree
 digits_alone : (text : List ℕ) → all_ascii_digits text ≡ list_all is_ascii_digit text
@@ -43,7 +43,7 @@ unfolding number_of
 no_numeral low high text e = rw e refl
 
 -- the number that a numeral gives is its value, if that lies between the limits
-numeral_gives : (low high : ℕ) (text : List ℕ) → is_numeral text ≡ true → number_of low high text ≡ between low high (digits_value 10 text)
+numeral_gives : (low high : ℕ) (text : List ℕ) → is_numeral text ≡ true → number_of low high text ≡ value_between low high (digits_value 10 text)
 unfolding number_of
 numeral_gives low high text e = rw e refl
 
@@ -53,16 +53,16 @@ pub number_in : (low high : ℕ) (text : List ℕ) (value : ℕ) → is_numeral 
 number_in low high text value numeral is_value above below =
     let over : nat_le low value ≡ true = le-leb low value above in
     let under : nat_le value high ≡ true = le-leb value high below in
-    let here : between low high value ≡ Some value = rw (over, under) refl in
-    sym (numeral_gives low high text numeral ∙ ap (between low high) (sym is_value) ∙ here)
+    let here : value_between low high value ≡ Some value = rw (over, under) refl in
+    sym (numeral_gives low high text numeral ∙ ap (value_between low high) (sym is_value) ∙ here)
 
 -- a numeral below the limits is no number
 pub number_low : (low high : ℕ) (text : List ℕ) (value : ℕ) → is_numeral text ≡ true → value ≡ digits_value 10 text → value < low
     → None ≡ number_of low high text
 number_low low high text value numeral is_value under =
     let less : nat_le low value ≡ false = not_le low value under in
-    let here : between low high value ≡ None = rw less refl in
-    sym (numeral_gives low high text numeral ∙ ap (between low high) (sym is_value) ∙ here)
+    let here : value_between low high value ≡ None = rw less refl in
+    sym (numeral_gives low high text numeral ∙ ap (value_between low high) (sym is_value) ∙ here)
 
 -- a numeral above the limits is no number
 pub number_high : (low high : ℕ) (text : List ℕ) (value : ℕ) → is_numeral text ≡ true → value ≡ digits_value 10 text → low ≤ value → high < value
@@ -70,11 +70,11 @@ pub number_high : (low high : ℕ) (text : List ℕ) (value : ℕ) → is_numera
 number_high low high text value numeral is_value above over =
     let more : nat_le low value ≡ true = le-leb low value above in
     let beyond : nat_le value high ≡ false = not_le value high over in
-    let here : between low high value ≡ None = rw (more, beyond) refl in
-    sym (numeral_gives low high text numeral ∙ ap (between low high) (sym is_value) ∙ here)
+    let here : value_between low high value ≡ None = rw (more, beyond) refl in
+    sym (numeral_gives low high text numeral ∙ ap (value_between low high) (sym is_value) ∙ here)
 
 -- a value between limits lies within the greatest
-between_within : (low high value : ℕ) → IfSome (between low high value) (λ n. n ≤ high)
+between_within : (low high value : ℕ) → IfSome (value_between low high value) (λ n. n ≤ high)
 between_within low high value = elim (leb_tells low value) [
   | inl above ↦ elim (leb_tells value high) [
     | inl within ↦ rw (above.0, within.0) within.1

@@ -10,9 +10,9 @@ abbrev pub is_numeral : List ℕ → Bool
 is_numeral text = nat_le 1 (length text) && (nat_le (length text) 7 && list_all is_ascii_digit text)
 
 -- the value, if it lies from low to high
-abbrev pub between : ℕ → ℕ → ℕ → Option ℕ
-between low high value = if nat_le low value && nat_le value high then Some value else None
+abbrev pub value_between : ℕ → ℕ → ℕ → Option ℕ
+value_between low high value = if nat_le low value && nat_le value high then Some value else None
 
 -- the number that the text writes, if it lies from low to high
 unfoldable pub number_of : ℕ → ℕ → List ℕ → Option ℕ
-number_of low high text = if is_numeral text then between low high (digits_value 10 text) else None
+number_of low high text = if is_numeral text then value_between low high (digits_value 10 text) else None

@@ -3,6 +3,8 @@
 -- first four blocks: Head.
 use Rattle.std.specs.Prelude.{ℕ, ◌+◌, Bool, true, not, ◌&&◌, ◌==◌, nat_le, List, [], ◌∷◌, length, map, take, drop, Option, Some, None, slice_get, pos, ◌+ℤ◌, int_le, if◌then◌else◌}
 use Rattle.std.specs.List.{list_all}
+use Rattle.rough_cycle.specs.declared.form.TheConstants.{TRIED}
+use Rattle.cycle_form.specs.declared.form.TheConstants.{MOST_PASSES}
 use Rattle.nc_number.specs.Options.{◌>>=◌}
 use Rattle.nc_number.specs.declared.point.Point.{Point}
 use Rattle.line_text.specs.declared.body.Word.{Word}
@@ -50,7 +52,7 @@ is_form r = descends r.first r.points && is_below_start (last_of r.first r.point
 -- Whether there are at most 1,000 passes. Passes are counted up to 1,001, which is `TRIED` of
 -- rough_cycle; 1,000 is `MOST_PASSES` (src/form.rt).
 abbrev pub is_short : Rough → Bool
-is_short r = nat_le (length (passes_from r 1 1001)) 1000
+is_short r = nat_le (length (passes_from r 1 TRIED)) MOST_PASSES
 
 -- The blocks of a form after its start: G71, G71, the contour's first block, and one for each point
 -- after that.

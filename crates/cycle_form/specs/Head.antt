@@ -2,6 +2,7 @@
 -- src/head.rt reads them; Forms makes a form of them. The letters are bytes: 71 G, 85 U, 82 R, 80
 -- P, 81 Q, 87 W, 70 F, 88 X.
 use Rattle.std.specs.Prelude.{◌≡◌, ℕ, ◌≤◌, ◌&&◌, ◌==◌, nat_lt, List, [], ◌∷◌, length, Option, Some, None, is_none, ℤ, pos, negsuc, int_lt, if◌then◌else◌}
+use Rattle.nc_number.specs.declared.limits.TheConstants.{LONGEST_SAID}
 use Rattle.nc_number.specs.Arithmetic.{whole_of}
 use Rattle.nc_number.specs.Options.{◌>>=◌, is_some_of}
 use Rattle.line_text.specs.declared.body.Word.{Word}
@@ -14,16 +15,16 @@ use Rattle.cycle_form.specs.Words.{literal_at, length_at, is_code, start_of}
 use Rattle.cycle_form.specs.Contour.{words_of}
 
 -- The number, if it is not negative.
-abbrev pub natural : ℤ → Option ℕ
-natural (pos n) = Some n
-natural (negsuc n) = None
+abbrev pub natural_number : ℤ → Option ℕ
+natural_number (pos n) = Some n
+natural_number (negsuc n) = None
 
 -- The length, in 0.001 mm, that the word at place i writes under this letter, if it is not
 -- negative.
 unfoldable pub size_at : List Word → ℕ → ℕ → Option ℕ
 size_at words i letter = do
   z ← length_at words i letter
-  natural z
+  natural_number z
 
 -- The whole number from 0 on that the word at place i writes under this letter: it names a sequence
 -- number.
@@ -31,7 +32,7 @@ unfoldable pub number_at : List Word → ℕ → ℕ → Option ℕ
 number_at words i letter = do
   literal ← literal_at words i letter
   n ← whole_of literal.value
-  natural n
+  natural_number n
 
 -- The feed above 0, in 0.000001, that the word at place i writes under this letter.
 unfoldable pub feed_at : List Word → ℕ → ℕ → Option ℤ
@@ -95,16 +96,16 @@ pub record IsSoundCut (cut : Cut) : Type 0 where
   -- the depth is above 0
   pub deep : 1 ≤ cut.depth
   -- a literal can write the depth
-  pub depth : cut.depth ≤ 100000000000
+  pub depth : cut.depth ≤ LONGEST_SAID
   -- a literal can write the retreat
-  pub retreat : cut.retreat ≤ 100000000000
+  pub retreat : cut.retreat ≤ LONGEST_SAID
 
 -- The allowances are lengths that a literal can write.
 pub record IsSoundCall (call : Call) : Type 0 where
   -- a literal can write the allowance in X
-  pub across : call.across ≤ 100000000000
+  pub across : call.across ≤ LONGEST_SAID
   -- a literal can write the allowance in Z
-  pub along : call.along ≤ 100000000000
+  pub along : call.along ≤ LONGEST_SAID
 
 -- All lengths are those that a literal can write, the depth is above 0, and the contour begins at
 -- the start's Z.

@@ -1,6 +1,7 @@
 -- The parts of a tape that are written out, and when one is sound and clear: what contracts see of
 -- the type `Part` (src/part.rt). tape_expand cites it.
 use Rattle.std.specs.Prelude.{ℕ, Bool, true, false, ◌&&◌, ◌==◌, List, ℤ}
+use Rattle.rough_cycle.specs.declared.form.TheConstants.{TRIED}
 use Rattle.rough_cycle.specs.declared.block.PlainBlock.{PlainBlock}
 use Rattle.rough_cycle.specs.Form.{IsNearForm}
 use Rattle.rough_cycle.specs.Moves.{AreClear}
@@ -42,7 +43,7 @@ pub record IsSoundPart (part : PartView) : Type 0 where
 -- The plain blocks that a form stands for, by what the part does. At most 1,001 passes are made
 -- (`TRIED` of rough_cycle).
 abbrev pub blocks_by : Rough → PartKind → List PlainBlock
-blocks_by r Roughing = rough_blocks r 1001
+blocks_by r Roughing = rough_blocks r TRIED
 blocks_by r (Finishing start) = finish_blocks r start
 
 -- The plain blocks that a part stands for.

@@ -1,5 +1,5 @@
 -- How many blocks a tape has once its parts are written out, and the part with which it first has
--- more than 20,000. src/sizes.rt computes `sized`; tape_expand cites it.
+-- more than 20,000. src/sizes.rt computes `size_verdict`; tape_expand cites it.
 use Rattle.std.specs.Prelude.{ℕ, ◌+◌, ◌-◌, ⊤, nat_lt, List, [], ◌∷◌, length, Result, Ok, Err, if◌then◌else◌}
 use Rattle.nc_number.specs.declared.limits.TheConstants.{MOST_BLOCKS}
 use Rattle.cycle_form.specs.declared.fault.CycleFault.{CycleFault}
@@ -17,7 +17,7 @@ first_line (line ∷ lines) = line
 
 -- Whether a tape of `blocks` blocks has at most 20,000 with these parts written out; else 94 at the
 -- first line of the part with which it first has more.
-unfoldable pub sized : ℕ → List PartView → Result ⊤ CycleFault
-sized blocks [] = Ok tt
-sized blocks (part ∷ parts) =
-    if nat_lt MOST_BLOCKS (blocks_with blocks part) then Err (TooLarge (first_line part.lines)) else sized (blocks_with blocks part) parts
+unfoldable pub size_verdict : ℕ → List PartView → Result ⊤ CycleFault
+size_verdict blocks [] = Ok tt
+size_verdict blocks (part ∷ parts) =
+    if nat_lt MOST_BLOCKS (blocks_with blocks part) then Err (TooLarge (first_line part.lines)) else size_verdict (blocks_with blocks part) parts

@@ -2,6 +2,7 @@
 //! first blocks say is in head.rt, its contour in contour.rt. walk.rt calls `form_at` for each
 //! block with G71; finish.rt takes `last_of`.
 ghost use Rattle.std.specs.Prelude.{◌≡◌, ◌+◌, ◌≤◌, IfOk, IfSome, All, take, drop, map};
+ghost use Rattle.nc_number.specs.declared.limits.TheConstants.{LONGEST_SAID};
 ghost use Rattle.rough_cycle.specs.Contour.{last_of};
 ghost use Rattle.rough_cycle.specs.Form.{rough_of, IsNearForm, IsWritten};
 ghost use Rattle.cycle_form.specs.Forms.{rough_by, is_below_start, goes_down, descends, is_form, is_short, form_of, form_at};
@@ -17,9 +18,8 @@ use nc_text::Block;
 use rough_cycle::RoughForm;
 use std::alloc::{AllocError, Global};
 
-/// The most passes that a form may have. `TRIED` of rough_cycle and the numbers 1,000 and 1,001 of
-/// specs/Forms and Parts go with it.
-const MOST_PASSES: u128 = 1_000;
+/// The most passes that a form may have. `TRIED` of rough_cycle is one more.
+pub const MOST_PASSES: u128 = 1_000;
 
 /// The part of the form that begins with the block `a` and goes on with `rest`; none if that is no
 /// form. The only error is out of memory.
@@ -115,7 +115,7 @@ fn is_form(rough: &RoughForm) -> bool
 /// Lengths are in 0.001 mm.
 fn is_below_start(last: &Point, across: u64, start: &Point) -> bool
     requires last { IsWritten last.now }
-    requires across { across ≤ 100000000000 }
+    requires across { across ≤ LONGEST_SAID }
     ensures { result ≡ is_below_start last.now across start.now }
 {
     last.x + across as i64 <= start.x

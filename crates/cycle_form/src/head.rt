@@ -1,7 +1,8 @@
 //! What the first four blocks of a G71 form say: its start, its two G71, and the contour's first
 //! block. form.rt makes a form of it; finish.rt reads the words of G70 with the same functions.
 ghost use Rattle.std.specs.Prelude.{◌≡◌, ◌≤◌, IfSome, Some, option_map, unsigned_abs};
-ghost use Rattle.cycle_form.specs.Head.{natural, size_at, number_at, feed_at, cut_of, call_of, plain_words, first_of, head_of, head_at, IsSoundCall, IsSoundCut, IsSoundHead};
+ghost use Rattle.nc_number.specs.declared.limits.TheConstants.{LONGEST_SAID};
+ghost use Rattle.cycle_form.specs.Head.{natural_number, size_at, number_at, feed_at, cut_of, call_of, plain_words, first_of, head_of, head_at, IsSoundCall, IsSoundCut, IsSoundHead};
 
 use crate::contour::is_numbered;
 use crate::words::{is_code, length_at, literal_at, start_of};
@@ -48,7 +49,7 @@ pub struct Head {
 
 /// The number, if it is not negative.
 fn natural(n: i64) -> Option<u64>
-    ensures { result ≡ natural n }
+    ensures { result ≡ natural_number n }
 {
     if n < 0 { None } else { Some(n as u64) }
 }
@@ -57,7 +58,7 @@ fn natural(n: i64) -> Option<u64>
 #[tactic(auto, unfolding(crate::specs::Head::size_at))]
 fn size_at(words: &[Word], i: usize, letter: u8) -> Option<u64>
     ensures size { result ≡ size_at words.now i letter }
-    ensures near { IfSome result (λ n. n ≤ 100000000000) }
+    ensures near { IfSome result (λ n. n ≤ LONGEST_SAID) }
 {
     let z = length_at(words, i, letter)?;
     natural(z)
@@ -143,7 +144,7 @@ pub(crate) fn plain_words(block: &Block) -> Option<&[Word]>
 #[tactic(auto, unfolding(crate::specs::Head::first_of))]
 fn first_of(number: u32, block: &Block) -> Option<i64>
     ensures first { result ≡ first_of number block.now }
-    ensures near { IfSome result (λ n. unsigned_abs n ≤ 100000000000) }
+    ensures near { IfSome result (λ n. unsigned_abs n ≤ LONGEST_SAID) }
 {
     let Body::Words(words) = &block.body else {
         return None;

@@ -3,7 +3,7 @@
 ghost use Rattle.std.specs.Prelude.{◌≡◌, ◌≤◌, IfOk};
 ghost use Rattle.nc_number.specs.Answers.{Gives};
 ghost use Rattle.nc_number.specs.declared.limits.TheConstants.{MOST_BLOCKS};
-ghost use Rattle.cycle_form.specs.Sizes.{blocks_with, first_line, sized};
+ghost use Rattle.cycle_form.specs.Sizes.{blocks_with, first_line, size_verdict};
 
 use crate::fault::CycleFault;
 use crate::part::Part;
@@ -34,7 +34,7 @@ fn blocks_with(alloc: Global, blocks: u128, part: &Part) -> Result<u128, AllocEr
 /// Errors: 94 at the first line of the part with which it first has more; out of memory.
 pub fn check_sizes(alloc: Global, blocks: usize, parts: &[Part]) -> Result<(), Failing<CycleFault>>
     requires { blocks ≤ MOST_BLOCKS }
-    ensures { Gives (λ _. tt) result (sized blocks parts.now) }
+    ensures { Gives (λ _. tt) result (size_verdict blocks parts.now) }
 {
     let mut count = blocks as u128;
     for part in parts {

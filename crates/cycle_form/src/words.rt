@@ -1,6 +1,7 @@
 //! The words of a block, as lengths and codes. A place is the index of a word in its block, from 0.
 //! contour.rt, finish.rt, head.rt and walk.rt read blocks with it.
 ghost use Rattle.std.specs.Prelude.{◌≡◌, ◌≤◌, IfSome, Some, unsigned_abs};
+ghost use Rattle.nc_number.specs.declared.limits.TheConstants.{LONGEST_SAID};
 ghost use Rattle.rough_cycle.specs.Form.{IsWritten};
 ghost use Rattle.cycle_form.specs.Words.{literal_of, literal_at, length_at, is_code, start_of};
 
@@ -40,7 +41,7 @@ pub(crate) fn literal_of(letter: u8, word: &Word) -> Option<Literal>
 #[tactic(auto, unfolding(crate::specs::Words::length_at))]
 pub(crate) fn length_at(words: &[Word], i: usize, letter: u8) -> Option<i64>
     ensures length { result ≡ length_at words.now i letter }
-    ensures near { IfSome result (λ n. unsigned_abs n ≤ 100000000000) }
+    ensures near { IfSome result (λ n. unsigned_abs n ≤ LONGEST_SAID) }
 {
     let literal = literal_at(words, i, letter)?;
     Some(literal.increments())

@@ -1,5 +1,6 @@
 -- What comes of a call: its faults, and whether the disk is then what is due or memory ran out. For
--- Writing, and the proofs of `write_at` and `sync` (src/disk.rt).
+-- Writing, and the proofs of `write_at` and `sync` (src/disk.rt). The numbers are those of specs/Images;
+-- 2^62 is `LENGTH_LIMIT` of src/disk.rt too.
 use Rattle.std.proofs.Common.{◌≡◌, ℕ, ◌+◌, ◌-◌, ◌^◌, ◌<◌, ◌||◌, Bool, true, false, true≢false, inl, inr, List, [], Ok, Err, refl, sym, ◌∙◌, arith, subst}
 use Rattle.std.specs.Prelude.{nat_le, ◌==◌}
 use Rattle.std.specs.List.{list_any}

@@ -7,7 +7,7 @@ use Rattle.disk_model.specs.Device.{Tears, Torn, written_over}
 use Rattle.nc_number.specs.Faults.{next}
 use Rattle.disk_model.proofs.Written.{torn_by_write, torn_not}
 use Rattle.disk_images.specs.Among.{IsAmong}
-use Rattle.disk_images.specs.Images.{Images, IsKept, after_request, grown, images_now, images_state, torn_images, torn_to}
+use Rattle.disk_images.specs.Images.{Images, IsKept, after_request, images_with_write, images_now, images_state, torn_images, torn_to}
 use Rattle.disk_images.proofs.Parts.{among_left, among_right, among_either}
 use Rattle.disk_images.proofs.Moments.{elapses, none_gone}
 
@@ -53,7 +53,7 @@ module _ (d : Images) (at : ℕ) (bytes content : List ℕ) (faults : ℕ) (kept
 
   -- the disk after the write
   abbrev wrote : Images
-  wrote = record (grown (after_request d (at + n)) at bytes) { bytes = content; faults = faults }
+  wrote = record (images_with_write (after_request d (at + n)) at bytes) { bytes = content; faults = faults }
 
   -- the images from before stay
   held : (c : List ℕ) → IsAmong (images_now d) c → IsAmong (images_now wrote) c

@@ -6,7 +6,7 @@ use Rattle.disk_model.specs.Calls.{Writes}
 use Rattle.disk_model.specs.Device.{Tears, written_over}
 use Rattle.nc_number.specs.Faults.{next}
 use Rattle.disk_model.proofs.Written.{torn_by_write, torn_not}
-use Rattle.disk_images.specs.Images.{Images, IsKept, after_request, after_write, grown, images_state, next_fails, overwritten, refuses_write, with_fault}
+use Rattle.disk_images.specs.Images.{Images, IsKept, after_request, after_write, images_with_write, images_state, next_fails, images_after_write, refuses_write, with_fault}
 use Rattle.disk_images.proofs.Moments.{tears_not}
 use Rattle.disk_images.proofs.Torn.{tears_grown}
 use Rattle.disk_images.proofs.Coming.{has_fault, no_fault}
@@ -23,18 +23,18 @@ write_refused d at bytes is = rw is refl
 
 -- a write that is to fail by its number may still be torn over each image
 pub write_listed : (d : Images) (at : ℕ) (bytes : List ℕ) → refuses_write d (at + length bytes) ≡ false → next_fails d ≡ true
-    → after_write d at bytes ≡ with_fault (grown (after_request d (at + length bytes)) at bytes)
+    → after_write d at bytes ≡ with_fault (images_with_write (after_request d (at + length bytes)) at bytes)
 write_listed d at bytes is fails = rw (is, fails) refl
 
 -- a write that isn't to fail is made of what a read gives
 pub write_done : (d : Images) (at : ℕ) (bytes : List ℕ) → refuses_write d (at + length bytes) ≡ false → next_fails d ≡ false
-    → after_write d at bytes ≡ overwritten (after_request d (at + length bytes)) at bytes
+    → after_write d at bytes ≡ images_after_write (after_request d (at + length bytes)) at bytes
 write_done d at bytes is fails = rw (is, fails) refl
 
 -- a write of these bytes at this place: `d` is the disk before it, `new` the disk after it
 module _ {T E : Type 0} (d new : Images) (at : ℕ) (bytes : List ℕ) (kept : IsKept d) where
   -- a write that failed, and wrote nothing or counts as written, keeps the trait's clause on writes
-  pub failed_writes : (e : E) → (new ≡ with_fault (after_request d (at + length bytes))) ⊎ (new ≡ with_fault (grown (after_request d (at + length bytes)) at bytes))
+  pub failed_writes : (e : E) → (new ≡ with_fault (after_request d (at + length bytes))) ⊎ (new ≡ with_fault (images_with_write (after_request d (at + length bytes)) at bytes))
       → Writes {T = T} {E = E} at bytes (images_state d) (images_state new) (Err e)
   failed_writes e (inl is) = record {
     written = tt;
@@ -52,7 +52,7 @@ module _ {T E : Type 0} (d new : Images) (at : ℕ) (bytes : List ℕ) (kept : I
   }
 
   -- a write that succeeded keeps the trait's clause on writes
-  pub done_writes : (x : T) → at + length bytes < 2 ^ 62 → new ≡ overwritten (after_request d (at + length bytes)) at bytes
+  pub done_writes : (x : T) → at + length bytes < 2 ^ 62 → new ≡ images_after_write (after_request d (at + length bytes)) at bytes
       → Writes {T = T} {E = E} at bytes (images_state d) (images_state new) (Ok x)
   done_writes x short is = record {
     written = λ before reads. let same : d.bytes ≡ before = cc in

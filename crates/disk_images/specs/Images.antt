@@ -53,8 +53,8 @@ pub record IsKept (d : Images) : Type 0 where
   pub faults_fit : d.faults < 2 ^ 64
 
 -- a disk that has had no call
-abbrev pub fresh : List ℕ → List ℕ → Images
-fresh bytes failing = record {
+abbrev pub fresh_images : List ℕ → List ℕ → Images
+fresh_images bytes failing = record {
   bytes = bytes;
   others = [];
   past = [];
@@ -107,18 +107,19 @@ torn_images at bytes image = torn_to image at bytes (length bytes)
 
 -- The disk with the images that a write adds: each image so far stays one, and each of them with a
 -- first part of the write over it is one.
-abbrev pub grown : Images → ℕ → List ℕ → Images
-grown d at bytes = record d { others = d.others ++ d.bytes ∷ flat_map (torn_images at bytes) (images_now d) }
+abbrev pub images_with_write : Images → ℕ → List ℕ → Images
+images_with_write d at bytes =
+    record d { others = d.others ++ d.bytes ∷ flat_map (torn_images at bytes) (images_now d) }
 
 -- The disk after a write that succeeded: a read gives the bytes, and a crash may leave a first part
 -- of them.
-abbrev pub overwritten : Images → ℕ → List ℕ → Images
-overwritten d at bytes = record (grown d at bytes) { bytes = written_over d.bytes at bytes }
+abbrev pub images_after_write : Images → ℕ → List ℕ → Images
+images_after_write d at bytes = record (images_with_write d at bytes) { bytes = written_over d.bytes at bytes }
 
 -- the disk after a write, if there is memory: one that is refused writes nothing, and one that is
 -- to fail by its number writes nothing and counts as written
 abbrev pub after_write : Images → ℕ → List ℕ → Images
 after_write d at bytes =
     if refuses_write d (at + length bytes) then with_fault (after_request d (at + length bytes))
-    else if next_fails d then with_fault (grown (after_request d (at + length bytes)) at bytes)
-    else overwritten (after_request d (at + length bytes)) at bytes
+    else if next_fails d then with_fault (images_with_write (after_request d (at + length bytes)) at bytes)
+    else images_after_write (after_request d (at + length bytes)) at bytes

@@ -60,13 +60,13 @@ impl Model for ImagesDisk {
 
 impl ImagesDisk {
     ghost use Rattle.disk_images.specs.Among.{IsAmong};
-    ghost use Rattle.disk_images.specs.Images.{fresh, images_since, images_state};
+    ghost use Rattle.disk_images.specs.Images.{fresh_images, images_since, images_state};
     ghost use Rattle.std.specs.Prelude.{◌↔◌, List, ℕ};
 
     /// A disk that holds these bytes, all of them settled. `failing` are the numbers of the calls
     /// that are to fail, from 1. 2^62 bytes or more are `NoMemory`.
     pub fn new(alloc: Global, bytes: Vec<u8>, failing: &[u64]) -> Result<ImagesDisk, NoMemory>
-        ensures { IfOk result (λ d. d ≡ fresh bytes.items failing.now) }
+        ensures { IfOk result (λ d. d ≡ fresh_images bytes.items failing.now) }
     {
         if bytes.len() >= LENGTH_LIMIT {
             return Err(NoMemory);
@@ -133,7 +133,7 @@ fn is_listed(failing: &[u64], number: u64) -> bool
 
 impl ImagesDisk {
     ghost use Rattle.disk_model.specs.Device.{HasCause};
-    ghost use Rattle.disk_images.specs.Images.{IsKept, after_look, after_request, after_settling, grown, images_state, next_fails, overwritten, refuses_write, with_fault};
+    ghost use Rattle.disk_images.specs.Images.{IsKept, after_look, after_request, after_settling, images_with_write, images_state, next_fails, images_after_write, refuses_write, with_fault};
 
     /// Whether the next call fails by its number: it is listed, or can't be counted any more.
     fn next_call_fails(&self) -> bool
@@ -197,7 +197,7 @@ impl ImagesDisk {
     /// disk stays as it is.
     fn grow(&mut self, at: usize, bytes: &[u8]) -> Result<(), NoMemory>
         requires { at + length bytes.now < 2 ^ 62 }
-        ensures ok { IsOk result → self.new ≡ grown self.old at bytes.now }
+        ensures ok { IsOk result → self.new ≡ images_with_write self.old at bytes.now }
         ensures err { IsErr result → self.new ≡ self.old }
     {
         let mut added = added_by(self.alloc, &self.bytes, &self.others, at, bytes)?;
@@ -209,7 +209,7 @@ impl ImagesDisk {
     /// memory the disk stays as it is.
     fn overwrite(&mut self, at: usize, bytes: &[u8]) -> Result<(), NoMemory>
         requires { at + length bytes.now < 2 ^ 62 }
-        ensures ok { IsOk result → self.new ≡ overwritten self.old at bytes.now }
+        ensures ok { IsOk result → self.new ≡ images_after_write self.old at bytes.now }
         ensures err { IsErr result → self.new ≡ self.old }
     {
         let content = write_over(self.alloc, &self.bytes, at, bytes)?;

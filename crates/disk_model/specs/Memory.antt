@@ -110,8 +110,8 @@ pub record IsFilled (with : ℕ) (synced : List ℕ) (written : List Stretch) (c
   pub inside : (i : ℕ) → i < length c → ((i < length synced) × IsOutside i written → ⊥) → slice_index c i ≡ with
 
 -- a disk that has had no call
-abbrev pub fresh : List ℕ → ℕ → ℕ → List ℕ → Memory
-fresh bytes room call_room failing = record {
+abbrev pub fresh_disk : List ℕ → ℕ → ℕ → List ℕ → Memory
+fresh_disk bytes room call_room failing = record {
   bytes = bytes;
   synced = bytes;
   written = [];
@@ -137,8 +137,8 @@ after_settling m = record m {
 }
 
 -- the same disk after a crash that left these bytes, all of which count as synced
-abbrev pub crashed : Memory → List ℕ → Memory
-crashed m bytes = after_settling (record m { bytes = bytes })
+abbrev pub disk_after_crash : Memory → List ℕ → Memory
+disk_after_crash m bytes = after_settling (record m { bytes = bytes })
 
 -- the disk after a call that writes nothing: it is counted, and a fault if it fails
 abbrev pub after_look : Memory → Memory

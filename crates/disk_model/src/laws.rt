@@ -6,7 +6,7 @@ ghost use Rattle.std.specs.Prelude.{◌≡◌, ◌↔◌, ◌-◌, ◌^◌, ◌�
 ghost use Rattle.disk_model.specs.declared.stretch.Stretch.{Stretch};
 ghost use Rattle.disk_model.specs.Device.{Torn};
 ghost use Rattle.disk_model.specs.Image.{IsImage};
-ghost use Rattle.disk_model.specs.Memory.{fresh, memory_state};
+ghost use Rattle.disk_model.specs.Memory.{fresh_disk, memory_state};
 ghost use Rattle.disk_model.specs.Fuse.{fuse_state};
 
 /// The images since a sync are what torn writes leave, one after another: with none, what was
@@ -22,9 +22,9 @@ pub fn images_are_torn_writes()
 /// for, and writes up to its room; a fuse round it as many of them as it passes on.
 pub fn a_new_disk_allows_its_room()
     ensures memory { (bytes : List ℕ) (room calls used end : ℕ) → used ≤ calls → used < 2 ^ 64 - 1 → end ≤ room
-        → (memory_state (fresh bytes room calls [])).allows used end }
+        → (memory_state (fresh_disk bytes room calls [])).allows used end }
     ensures fuse { (bytes : List ℕ) (room calls passes used end : ℕ) → used ≤ calls → used < 2 ^ 64 - 1
         → end ≤ room → used ≤ passes
-        → (fuse_state (record { inner = fresh bytes room calls []; passes = passes; burnt = 0; reach = 0 })).allows
+        → (fuse_state (record { inner = fresh_disk bytes room calls []; passes = passes; burnt = 0; reach = 0 })).allows
         used end }
 {}

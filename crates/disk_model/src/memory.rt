@@ -82,7 +82,7 @@ pub enum Crash {
 }
 
 impl MemoryDisk {
-    ghost use Rattle.disk_model.specs.Memory.{fresh};
+    ghost use Rattle.disk_model.specs.Memory.{fresh_disk};
 
     /// An empty disk, with room for so many bytes and for a record of so many calls. `failing` are
     /// the numbers of the calls that are to fail, from 1. A room of 2^62 bytes or more is
@@ -93,7 +93,7 @@ impl MemoryDisk {
         calls: usize,
         failing: &[u64],
     ) -> Result<MemoryDisk, NoMemory>
-        ensures { IfOk result (λ d. d ≡ fresh [] room calls failing.now) }
+        ensures { IfOk result (λ d. d ≡ fresh_disk [] room calls failing.now) }
     {
         if room >= LENGTH_LIMIT {
             return Err(NoMemory);
@@ -110,7 +110,7 @@ impl MemoryDisk {
         calls: usize,
         failing: &[u64],
     ) -> Result<MemoryDisk, NoMemory>
-        ensures { IfOk result (λ d. d ≡ fresh bytes.items (length bytes.items + 1048576) calls failing.now) }
+        ensures { IfOk result (λ d. d ≡ fresh_disk bytes.items (length bytes.items + 1048576) calls failing.now) }
     {
         let mut bytes = bytes;
         bytes.reserve(SPARE_ROOM)?;
@@ -132,7 +132,7 @@ impl MemoryDisk {
         requires fits { length bytes.items ≤ room }
         requires room { room ≤ vec_capacity bytes }
         requires small { room < 2 ^ 62 }
-        ensures { IfOk result (λ d. d ≡ fresh bytes.items room calls failing.now) }
+        ensures { IfOk result (λ d. d ≡ fresh_disk bytes.items room calls failing.now) }
     {
         let mut present = Epoch::with_room(alloc, room, calls)?;
         let mut earlier = Epoch::with_room(alloc, room, calls)?;
@@ -325,14 +325,14 @@ impl MemoryDisk {
 }
 
 impl MemoryDisk {
-    ghost use Rattle.disk_model.specs.Memory.{memory_state, crashed, IsFilled};
+    ghost use Rattle.disk_model.specs.Memory.{memory_state, disk_after_crash, IsFilled};
 
     /// The disk after a crash, with what was written since the last sync as `pick` says. All of it
     /// is on the disk then. It takes no memory.
     pub fn crash(self, pick: Crash) -> MemoryDisk
         ensures image { (memory_state self).image result.bytes }
         ensures torn { IsImage self.synced self.written result.bytes }
-        ensures crashed { result ≡ crashed self result.bytes }
+        ensures crashed { result ≡ disk_after_crash self result.bytes }
         ensures kept { pick ≡ Crash.Kept → result.bytes ≡ self.bytes }
         ensures lost { pick ≡ Crash.Lost → result.bytes ≡ self.synced }
         ensures filled { (with : ℕ) → pick ≡ Crash.Fill with → IsFilled with self.synced self.written result.bytes }

@@ -9,7 +9,7 @@ use Rattle.nc_outside.specs.Faults.{Rose, CountsFault}
 use Rattle.nc_outside.specs.Received.{TurretState, Adds, Receives, Settles}
 use Rattle.drive_line.specs.declared.phase.Phase.{Phase}
 use Rattle.drive_line.specs.declared.phase.Phase.TheVariants.{Moving, Still, Failed}
-use Rattle.drive_line.specs.Driving.{DrivenState, fresh, has_failed, most, Serves}
+use Rattle.drive_line.specs.Driving.{DrivenState, fresh_drive, has_failed, most, Serves}
 use Rattle.drive_line.proofs.Adding.{adds_none, adds_both}
 
 -- a turret that may be on its way does not count as standing still, so a settle need not have come
@@ -41,7 +41,7 @@ failing a b c before more rose =
     }
 
 -- a turret that was handed nothing has served no moves
-pub serves_none : (start : TurretState) → Serves [] start (fresh start)
+pub serves_none : (start : TurretState) → Serves [] start (fresh_drive start)
 serves_none start = record {
   all = refl;
   none = λ _. refl;

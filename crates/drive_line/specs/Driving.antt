@@ -21,8 +21,8 @@ pub record DrivenState : Type 0 where
   pub phase : Phase
 
 -- a turret that was handed nothing; it may be on its way still to where it was placed
-abbrev pub fresh : TurretState → DrivenState
-fresh state = record { state = state; taken = 0; missed = 0; phase = Moving }
+abbrev pub fresh_drive : TurretState → DrivenState
+fresh_drive state = record { state = state; taken = 0; missed = 0; phase = Moving }
 
 -- whether the turret failed, be the run halted for that or not
 abbrev pub has_failed : Phase → Bool

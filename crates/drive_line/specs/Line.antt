@@ -79,8 +79,8 @@ pub record IsSending (n : ℕ) (items : List Item) (received : List ℕ) : Type 
   pub answered : All (Contains received) (mark_counts 0 items)
 
 -- the answer that is still to be given: the number of moves, if one is owed
-abbrev pub owed : Bool → ℕ → List ℕ
-owed asked n = if asked then n ∷ [] else []
+abbrev pub owed_answer : Bool → ℕ → List ℕ
+owed_answer asked n = if asked then n ∷ [] else []
 
 -- What the end of the drive keeps, which counts n moves and knows whether it took the end and
 -- whether it owes an answer: it gave the others.
@@ -90,7 +90,7 @@ pub record IsTaking (n : ℕ) (is_ended asked : Bool) (items : List Item) (given
   -- it knows whether it took the end
   pub ended : is_ended ≡ has_end items
   -- it gave the answers of all marks, but for the one that it owes
-  pub given_back : given ++ owed asked n ≡ mark_counts 0 items
+  pub given_back : given ++ owed_answer asked n ≡ mark_counts 0 items
 
 -- A drain behind so many moves: it sent a mark, and received answers up to one with that number.
 pub record IsDrained (old new : Sending) (n : ℕ) : Type 0 where

@@ -7,7 +7,7 @@ ghost use Rattle.nc_outside.specs.declared.lined_move.LinedMove.{LinedMove as Li
 ghost use Rattle.nc_outside.specs.declared.stepper.Call.TheVariants as Call;
 ghost use Rattle.nc_outside.specs.Received.{TurretState};
 ghost use Rattle.drive_line.specs.declared.phase.Phase.TheVariants.{Still, Failed, Halted};
-ghost use Rattle.drive_line.specs.Driving.{fresh, has_failed, HasMoved, Serves, SettlesFrom};
+ghost use Rattle.drive_line.specs.Driving.{fresh_drive, has_failed, HasMoved, Serves, SettlesFrom};
 
 use crate::Phase;
 use crate::counting::next_count;
@@ -46,7 +46,7 @@ impl<T: Turret> Model for Driven<T> {
 impl<T: Turret> Driven<T> {
     /// A turret that was handed nothing yet. It may be on its way still to where it was placed.
     pub fn new(turret: T) -> Driven<T>
-        ensures { result ≡ fresh (T.state turret) }
+        ensures { result ≡ fresh_drive (T.state turret) }
     {
         Driven {
             turret,

@@ -13,7 +13,7 @@ use Rattle.nc_text.specs.Lines.{Line, lines_of, is_percent}
 use Rattle.line_text.specs.Said.{line_says}
 use Rattle.nc_text.specs.Shape.{blocks_in}
 use Rattle.nc_text.specs.ReadShape.{RiseTo}
-use Rattle.nc_text.specs.Tape.{Before, Answer, nothing_read, programs_of, next, with_said, with_block, program_at, block_at, said_refusal, percent_refusal, outer_refusal, unless_refused, after_said, goes_on, in_rest, in_body, in_leader, begun, tape_of}
+use Rattle.nc_text.specs.Tape.{Before, Answer, nothing_read, programs_of, next, with_said, with_block, program_at, block_at, said_refusal, percent_refusal, outer_refusal, unless_refused, after_said, goes_on, in_rest, in_body, in_leader, tape_begun, tape_of}
 use Rattle.nc_text.proofs.Shaping.{blocks_last, rise_from, rise_last, rise_on}
 use Rattle.flow_laws.specs.Answers.{HasRisingBlocks}
 
@@ -112,8 +112,8 @@ leader_rises skips (line ∷ rest) before h =
     let after = next before (length line.bytes) line.ended in
     let own : Rises after = line_more before (length line.bytes) line.ended h in
     either (is_percent line.bytes) _ _
-    (goes before after (percent_refusal before (length line.bytes) line.ended) (λ b. in_body skips rest (begun b))
-    (body_rises skips rest (begun after) own))
+    (goes before after (percent_refusal before (length line.bytes) line.ended) (λ b. in_body skips rest (tape_begun b))
+    (body_rises skips rest (tape_begun after) own))
     (goes before after (outer_refusal before (length line.bytes) line.ended) (in_leader skips rest) (leader_rises skips rest after own))
 
 -- What is read of a whole text answers rising lines.

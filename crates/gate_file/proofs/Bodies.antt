@@ -3,7 +3,7 @@
 use Rattle.std.proofs.Common.{◌≡◌, ℕ, ◌+◌, ◌-◌, ◌^◌, ◌≤◌, ◌<◌, List, [], ◌∷◌, ◌++◌, length, get_or, take, drop, refl, sym, ◌∙◌, ap, subst, arith, zero, suc, append_assoc, length-append, length-drop, length-take, length-take-le, take-append-drop}
 use Rattle.std.proofs.lemmas.List.{append-nil, take-append-le, drop-append-le, take_all, drop_at}
 use Rattle.std.specs.Int.{w32, to_be_bytes}
-use Rattle.gate_file.specs.Bodies.{between, bodies_from, AreEnds, AreBodies}
+use Rattle.gate_file.specs.Bodies.{bytes_between, bodies_from, AreEnds, AreBodies}
 use Rattle.gate_file.specs.Chain.{entry, Opens, IsStaged, ends_at}
 use Rattle.gate_file.proofs.Chains.{length-entry, opens_push, opens_before, opens_alone, opens_anew}
 use Rattle.gate_file.proofs.Ends.{opens_length}
@@ -25,13 +25,13 @@ body_within start (end ∷ ends) len zero are below = (are.0, start_within end e
 body_within start (end ∷ ends) len (suc i) are below = body_within end ends len i are.1 (omega (arith, below))
 
 -- the body of an index lies five bytes after the end of the one before it
-pub body_of : (start : ℕ) (ends bytes : List ℕ) (i : ℕ) → i < length ends → get_or (bodies_from start ends bytes) i [] ≡ between (get_or (start ∷ ends) i 0 + 5) (get_or ends i 0) bytes
+pub body_of : (start : ℕ) (ends bytes : List ℕ) (i : ℕ) → i < length ends → get_or (bodies_from start ends bytes) i [] ≡ bytes_between (get_or (start ∷ ends) i 0 + 5) (get_or ends i 0) bytes
 body_of start [] bytes i below = absurd (omega (arith, below))
 body_of start (end ∷ ends) bytes zero below = refl
 body_of start (end ∷ ends) bytes (suc i) below = body_of end ends bytes i (omega (arith, below))
 
 -- a body has as many bytes as there are between its offsets
-length_between : (start end : ℕ) (bytes : List ℕ) → start + 5 ≤ end → end ≤ length bytes → length (between (start + 5) end bytes) + 5 + start ≡ end
+length_between : (start end : ℕ) (bytes : List ℕ) → start + 5 ≤ end → end ≤ length bytes → length (bytes_between (start + 5) end bytes) + 5 + start ≡ end
 length_between start end bytes room within = omega (arith, length-take-le (end - (start + 5)) (drop (start + 5) bytes) (omega (arith, length-drop (start + 5) bytes, within)), length-drop (start + 5) bytes, room, within)
 
 -- the gate before a body stands where the bodies before it end
@@ -62,15 +62,15 @@ bodies_more start [] bytes frame body end are five is_end =
     let place : length (bytes ++ frame) ≡ start + 5 = omega (arith, are, five, length-append bytes frame) in
     let behind : drop (start + 5) (bytes ++ (frame ++ body)) ≡ body = ap (drop (start + 5)) joined ∙ drop_at (bytes ++ frame) body (start + 5) place in
     let size : length body ≤ end - (start + 5) = omega (arith, are, is_end) in
-    let is : between (start + 5) end (bytes ++ (frame ++ body)) ≡ body = ap (take (end - (start + 5))) behind ∙ take_all (end - (start + 5)) body size in
+    let is : bytes_between (start + 5) end (bytes ++ (frame ++ body)) ≡ body = ap (take (end - (start + 5))) behind ∙ take_all (end - (start + 5)) body size in
     ap (λ (l : List ℕ). l ∷ []) is
 bodies_more start (first ∷ ends) bytes frame body end are five is_end =
     let within = start_within first ends (length bytes) are.1 in
     let new : List ℕ = frame ++ body in
     let behind : drop (start + 5) (bytes ++ new) ≡ drop (start + 5) bytes ++ new = drop-append-le (start + 5) bytes new (omega (arith, are.0, within)) in
-    let front : between (start + 5) first (bytes ++ new) ≡ between (start + 5) first bytes = ap (take (first - (start + 5))) behind ∙ take-append-le (first - (start + 5)) (drop (start + 5) bytes) new (omega (arith, length-drop (start + 5) bytes, within)) in
+    let front : bytes_between (start + 5) first (bytes ++ new) ≡ bytes_between (start + 5) first bytes = ap (take (first - (start + 5))) behind ∙ take-append-le (first - (start + 5)) (drop (start + 5) bytes) new (omega (arith, length-drop (start + 5) bytes, within)) in
     let more = bodies_more first ends bytes frame body end are.1 five is_end in
-    ap (λ (l : List ℕ). l ∷ bodies_from first (ends ++ end ∷ []) (bytes ++ new)) front ∙ ap (λ (l : List (List ℕ)). between (start + 5) first bytes ∷ l) more
+    ap (λ (l : List ℕ). l ∷ bodies_from first (ends ++ end ∷ []) (bytes ++ new)) front ∙ ap (λ (l : List (List ℕ)). bytes_between (start + 5) first bytes ∷ l) more
 
 -- the bodies with one more, after its entry's frame
 pub more_bodies : (ends bytes body : List ℕ) (end : ℕ) → AreBodies ends bytes → end ≡ length bytes + 5 + length body → bodies_from 0 (ends ++ end ∷ []) (bytes ++ (1 ∷ entry body)) ≡ bodies_from 0 ends bytes ++ body ∷ []

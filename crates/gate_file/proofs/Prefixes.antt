@@ -6,7 +6,7 @@ use Rattle.disk_model.specs.Device.{DiskState}
 use Rattle.disk_model.specs.Moments.{LeavesOnly}
 use Rattle.gate_file.specs.Chain.{Spells, IsBeforeOrAfter}
 use Rattle.gate_file.specs.Gate.{Keeps}
-use Rattle.gate_file.specs.Run.{after}
+use Rattle.gate_file.specs.Run.{bodies_after}
 
 -- So many appends, each acknowledged, and one more under way; the k-th of them finds the disk k.
 module _ {D : Type 0} (state : D → DiskState) (disk : ℕ → D) (end : ℕ → ℕ) (body : ℕ → List ℕ) (first : List (List ℕ)) (count : ℕ)
@@ -14,17 +14,17 @@ module _ {D : Type 0} (state : D → DiskState) (disk : ℕ → D) (end : ℕ �
     (acknowledged : (k : ℕ) → k < count → (bodies : List (List ℕ)) → Keeps bodies (state (disk k)) (end k) → Keeps (bodies ++ body k ∷ []) (state (disk (k + 1))) (end (k + 1)))
     (moments : (k : ℕ) → k ≤ count → (bodies : List (List ℕ)) → Keeps bodies (state (disk k)) (end k) → LeavesOnly (IsBeforeOrAfter bodies (body k ∷ [])) (state (disk k)) (state (disk (k + 1)))) where
   -- after k appends the disk keeps the first bodies and those of the appends
-  keeps_at : (k : ℕ) → k ≤ count → Keeps (after first body k) (state (disk k)) (end k)
+  keeps_at : (k : ℕ) → k ≤ count → Keeps (bodies_after first body k) (state (disk k)) (end k)
   keeps_at zero le = start
   keeps_at (suc k) le =
       let e : k + 1 ≡ suc k = omega arith in
-      subst (λ (i : ℕ). Keeps (after first body k ++ body k ∷ []) (state (disk i)) (end i)) e (acknowledged k (omega arith) (after first body k) (keeps_at k (omega arith)))
+      subst (λ (i : ℕ). Keeps (bodies_after first body k ++ body k ∷ []) (state (disk i)) (end i)) e (acknowledged k (omega arith) (bodies_after first body k) (keeps_at k (omega arith)))
 
   -- a crash in the k-th append leaves the bodies before it, or those with its own
-  step : (k : ℕ) → k ≤ count → LeavesOnly (IsBeforeOrAfter (after first body k) (body k ∷ [])) (state (disk k)) (state (disk (suc k)))
+  step : (k : ℕ) → k ≤ count → LeavesOnly (IsBeforeOrAfter (bodies_after first body k) (body k ∷ [])) (state (disk k)) (state (disk (suc k)))
   step k le =
       let e : k + 1 ≡ suc k = omega arith in
-      subst (λ (i : ℕ). LeavesOnly (IsBeforeOrAfter (after first body k) (body k ∷ [])) (state (disk k)) (state (disk i))) e (moments k le (after first body k) (keeps_at k le))
+      subst (λ (i : ℕ). LeavesOnly (IsBeforeOrAfter (bodies_after first body k) (body k ∷ [])) (state (disk k)) (state (disk i))) e (moments k le (bodies_after first body k) (keeps_at k le))
 
   -- the time at which the k-th append begins
   clock_at : ℕ → ℕ
@@ -45,10 +45,10 @@ module _ {D : Type 0} (state : D → DiskState) (disk : ℕ → D) (end : ℕ �
 
   -- the file spells the first bodies and those of m appends, with m at least j and at most n + 1
   Prefix : ℕ → ℕ → List ℕ → Type 0
-  Prefix j n c = (m : ℕ) × (j ≤ m) × (m ≤ suc n) × Spells (after first body m) c
+  Prefix j n c = (m : ℕ) × (j ≤ m) × (m ≤ suc n) × Spells (bodies_after first body m) c
 
   -- what a crash in one append leaves is such a prefix
-  spelled : (j n : ℕ) (c : List ℕ) → j ≤ n → IsBeforeOrAfter (after first body n) (body n ∷ []) c → Prefix j n c
+  spelled : (j n : ℕ) (c : List ℕ) → j ≤ n → IsBeforeOrAfter (bodies_after first body n) (body n ∷ []) c → Prefix j n c
   unfolding Prefix
   spelled j n c jn (inl same) = (n, jn, omega arith, same)
   spelled j n c jn (inr more) = (suc n, omega arith, omega arith, more)
@@ -71,7 +71,7 @@ module _ {D : Type 0} (state : D → DiskState) (disk : ℕ → D) (end : ℕ �
   ]
 
   -- a crash at any moment since the j-th append began leaves the bodies of the first m appends
-  pub prefixes : (j : ℕ) → j ≤ count → (c : List ℕ) → (state (disk (count + 1))).image_since (state (disk j)).clock c → (m : ℕ) × (j ≤ m) × (m ≤ count + 1) × Spells (after first body m) c
+  pub prefixes : (j : ℕ) → j ≤ count → (c : List ℕ) → (state (disk (count + 1))).image_since (state (disk j)).clock c → (m : ℕ) × (j ≤ m) × (m ≤ count + 1) × Spells (bodies_after first body m) c
   unfolding Prefix clock_at
   prefixes j jn c since =
       let e : count + 1 ≡ suc count = omega arith in

@@ -1,5 +1,5 @@
 -- How whole entries are taken from a window of a file of gates, the bytes of one read.
--- `mark_entries` (src/body_list.rt) and `head_of` and `read_on` (src/open.rt) rest on it.
+-- `list_ends` (src/body_list.rt) and `head_of` and `read_on` (src/open.rt) rest on it.
 use Rattle.std.proofs.Common.{◌≡◌, ℕ, ◌+◌, ◌-◌, ◌≤◌, ◌<◌, min, List, [], ◌∷◌, ◌++◌, length, take, drop, inl, inr, sym, ◌∙◌, ap, subst, arith, append_assoc, length-append, length-drop, take-append-drop}
 use Rattle.std.proofs.Math.Seq.{take-add}
 use Rattle.std.proofs.lemmas.Bool.{cases_lt}

@@ -5,14 +5,14 @@ use Rattle.std.specs.Prelude.{◌≡◌, ℕ, ◌+◌, ◌-◌, ◌≤◌, List,
 use Rattle.gate_file.specs.Chain.{Opens}
 
 -- the bytes between two offsets
-abbrev pub between : ℕ → ℕ → List ℕ → List ℕ
-between start end bytes = take (end - start) (drop start bytes)
+abbrev pub bytes_between : ℕ → ℕ → List ℕ → List ℕ
+bytes_between start end bytes = take (end - start) (drop start bytes)
 
 -- the bodies in a list of bytes, by the offsets of their ends: the first stands after the five
 -- bytes at `start`, and each next one after the five at the end before it
 abbrev pub bodies_from : ℕ → List ℕ → List ℕ → List (List ℕ)
 bodies_from start [] bytes = []
-bodies_from start (end ∷ ends) bytes = between (start + 5) end bytes ∷ bodies_from end ends bytes
+bodies_from start (end ∷ ends) bytes = bytes_between (start + 5) end bytes ∷ bodies_from end ends bytes
 
 -- the offsets are ends of bodies from `start` on: before each body there is room for five bytes,
 -- and the last offset is the length

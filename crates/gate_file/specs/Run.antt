@@ -3,6 +3,6 @@
 use Rattle.std.specs.Prelude.{ℕ, zero, suc, List, [], ◌∷◌, ◌++◌}
 
 -- the bodies that a file has at first, and the first k of those that are appended
-abbrev pub after : List (List ℕ) → (ℕ → List ℕ) → ℕ → List (List ℕ)
-after first body zero = first
-after first body (suc k) = after first body k ++ body k ∷ []
+abbrev pub bodies_after : List (List ℕ) → (ℕ → List ℕ) → ℕ → List (List ℕ)
+bodies_after first body zero = first
+bodies_after first body (suc k) = bodies_after first body k ++ body k ∷ []

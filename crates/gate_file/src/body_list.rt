@@ -3,7 +3,7 @@
 //! journal into one, and run_branch begins a file with that.
 
 ghost use Rattle.std.specs.Prelude.{◌≡◌, ◌+◌, ◌*◌, ◌^◌, ◌<◌, ◌≤◌, ◌++◌, ◌==◌, [], ◌∷◌, List, ℕ, length, take, drop, get_or, IfOk, IfSome, IfNone, OnOk, OnErr, vec_capacity};
-ghost use Rattle.gate_file.specs.Bodies.{between, bodies_from, AreEnds};
+ghost use Rattle.gate_file.specs.Bodies.{bytes_between, bodies_from, AreEnds};
 ghost use Rattle.gate_file.specs.Chain.{entry, Opens, IsStaged, ends_at};
 
 use crate::open::{FRAME, entry_in};
@@ -130,7 +130,7 @@ impl BodyList {
         let start = self.bytes.len();
         self.ends.reserve(seen.len() / FRAME as usize)?;
         self.bytes.extend_from_slice(seen)?;
-        let taken = mark_entries(seen, start, &mut self.ends);
+        let taken = list_ends(seen, start, &mut self.ends);
         self.bytes.truncate(start + taken);
         Ok(taken)
     }
@@ -171,7 +171,7 @@ pub(crate) fn put_entry(room: &mut Vec<u8>, body: &[u8])
 
 /// Notes where each entry ends that lies whole in these bytes, the first of which stands at an
 /// offset. Gives how many of the bytes they take.
-fn mark_entries(seen: &[u8], start: usize, ends: &mut Vec<usize>) -> usize
+fn list_ends(seen: &[u8], start: usize, ends: &mut Vec<usize>) -> usize
     requires room { 5 * length ends.old.items + length seen.now ≤ 5 * vec_capacity ends.old + 4 }
     requires small { start + length seen.now < 2 ^ 63 }
     ensures marks { (bytes file behind : List ℕ) → length bytes ≡ start → AreEnds 0 ends.old.items start
@@ -201,7 +201,7 @@ fn start_of(ends: &[usize], index: usize) -> usize
 /// The bytes from one place up to another, without the byte there.
 fn stretch(bytes: &[u8], start: usize, end: usize) -> &[u8]
     requires { (start ≤ end) × (end ≤ length bytes.now) }
-    ensures { result.now ≡ between start end bytes.now }
+    ensures { result.now ≡ bytes_between start end bytes.now }
 {
     let (_, rest) = bytes.split_at(start);
     let (body, _) = rest.split_at(end - start);

@@ -5,7 +5,7 @@ ghost use Rattle.std.specs.Prelude.{◌≡◌, ◌+◌, ◌≤◌, ◌<◌, ◌+
 ghost use Rattle.disk_model.specs.Moments.{LeavesOnly};
 ghost use Rattle.gate_file.specs.Chain.{Spells, IsNoRun, IsCutAt, IsBeforeOrAfter, ends_at};
 ghost use Rattle.gate_file.specs.Gate.{Keeps};
-ghost use Rattle.gate_file.specs.Run.{after};
+ghost use Rattle.gate_file.specs.Run.{bodies_after};
 
 use disk_model::Disk;
 
@@ -31,7 +31,7 @@ pub fn appends_leave_prefixes<D: Disk>()
         → ((k : ℕ) → k ≤ n → (bodies : List (List ℕ)) → Keeps bodies (D.state (disk k)) (end k)
         → LeavesOnly (IsBeforeOrAfter bodies (body k ∷ [])) (D.state (disk k)) (D.state (disk (k + 1))))
         → (j : ℕ) → j ≤ n → (c : List ℕ) → (D.state (disk (n + 1))).image_since (D.state (disk j)).clock c
-        → (m : ℕ) × (j ≤ m) × (m ≤ n + 1) × Spells (after first body m) c }
+        → (m : ℕ) × (j ≤ m) × (m ≤ n + 1) × Spells (bodies_after first body m) c }
 {}
 
 /// A file of gates ends where its bodies put it.

@@ -10,7 +10,7 @@ use Rattle.block_order.specs.declared.program.ControlProgram.{ControlProgram}
 use Rattle.block_order.specs.Order.{blocks, main_number, program_of}
 use Rattle.block_order.specs.Loud.{loud}
 use Rattle.label_list.specs.declared.labelled.Labelled.{Labelled}
-use Rattle.label_list.specs.Lists.{at, times, block_labels, blocks_labels, off_line, whole, path_labels, IsEnded}
+use Rattle.label_list.specs.Lists.{label_with_line, times, block_labels, blocks_labels, off_line, labels_of_program, path_labels, IsEnded}
 
 -- If a program before labels that end a path still does so, it does when it is called many times.
 times_ended : (n : ℕ) (f : List Labelled → List Labelled) (behind : List Labelled)
@@ -47,14 +47,14 @@ blocks_ended ld f back off (b ∷ bs) keeps ends =
 
 -- A program with all that it calls gives labels that end a path, if what follows its M99 does.
 whole_ended : (tape : List ControlProgram) (n program : ℕ) (back : ℕ → List Labelled) → ((line : ℕ) → IsEnded (back line))
-    → IsEnded (whole tape n program back)
-unfolding whole
+    → IsEnded (labels_of_program tape n program back)
+unfolding labels_of_program
 whole_ended tape zero program back ends = ends 0
 whole_ended tape (suc n) program back ends =
-    blocks_ended (loud tape) (λ q behind. whole tape n q (λ line. behind)) back (off_line (program_of tape program)) (blocks tape program)
+    blocks_ended (loud tape) (λ q behind. labels_of_program tape n q (λ line. behind)) back (off_line (program_of tape program)) (blocks tape program)
     (λ q k e. whole_ended tape n q (λ line. k) (λ line. e)) ends
 
 -- The list of a path has one label that ends it, and it is the last.
 pub path_ended : (tape : List ControlProgram) → IsEnded (path_labels tape)
 unfolding path_labels
-path_ended tape = whole_ended tape 9 (main_number tape) (λ line. at label.Again line ∷ []) (λ line. refl)
+path_ended tape = whole_ended tape 9 (main_number tape) (λ line. label_with_line label.Again line ∷ []) (λ line. refl)

@@ -10,7 +10,7 @@ use Rattle.block_order.specs.declared.program.ControlProgram.{ControlProgram}
 use Rattle.block_order.specs.Order.{blocks, program_of, control_at}
 use Rattle.block_order.specs.Loud.{loud}
 use Rattle.label_list.specs.declared.labelled.Labelled.{Labelled}
-use Rattle.label_list.specs.Lists.{at, times, block_labels, blocks_labels, off_line, whole}
+use Rattle.label_list.specs.Lists.{label_with_line, times, block_labels, blocks_labels, off_line, labels_of_program}
 use Rattle.loud_calls.specs.Calls.{IsShort}
 
 -- Two meanings of a program that agree give the same labels, however often it is called.
@@ -33,7 +33,7 @@ block_same ld f g back line (Goto n) one two here more = more
 block_same ld f g back line (While m) one two here more = more
 block_same ld f g back line (Do m) one two here more = more
 block_same ld f g back line (EndLoop m) one two here more = more
-block_same ld f g back line (Wait code) one two here more = ap (λ ls. at (label.Wait code) line ∷ ls) more
+block_same ld f g back line (Wait code) one two here more = ap (λ ls. label_with_line (label.Wait code) line ∷ ls) more
 block_same ld f g back line End one two here more = refl
 block_same ld f g back line Back one two here more = refl
 block_same ld f g back line (BackTo n) one two here more = more
@@ -54,11 +54,11 @@ blocks_same ld f g back off (b ∷ bs) same =
 -- If no chain of n calls of loud programs begins in a program, it gives the same labels with n
 -- calls to follow and with more.
 pub enough : (tape : List ControlProgram) (n m program : ℕ) (back : ℕ → List Labelled) → IsShort tape n program → n ≤ m
-    → whole tape n program back ≡ whole tape m program back
-unfolding whole
+    → labels_of_program tape n program back ≡ labels_of_program tape m program back
+unfolding labels_of_program
 enough tape zero m program back short le = absurd (short tt)
 enough tape (suc n) zero program back short le = absurd (omega arith)
 enough tape (suc n) (suc m) program back short le =
-    blocks_same (loud tape) (λ q behind. whole tape n q (λ line. behind)) (λ q behind. whole tape m q (λ line. behind)) back
+    blocks_same (loud tape) (λ q behind. labels_of_program tape n q (λ line. behind)) (λ q behind. labels_of_program tape m q (λ line. behind)) back
     (off_line (program_of tape program)) (blocks tape program)
     (λ i q r is noisy k. enough tape n m q (λ line. k) (λ chain. short (i, q, r, is, noisy, chain)) (omega arith))

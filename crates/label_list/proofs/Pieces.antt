@@ -21,8 +21,8 @@ use Rattle.label_list.specs.declared.fault.PairFault.{PairFault}
 use Rattle.label_list.specs.declared.labelled.Labelled.{Labelled}
 use Rattle.label_list.specs.declared.piece.Ending.{Ending}
 use Rattle.label_list.specs.declared.piece.Ending.TheVariants.{Stops, Returns}
-use Rattle.label_list.specs.Lists.{at, times, blocks_labels, off_line, whole, path_labels}
-use Rattle.label_list.specs.Pieces.{coming, from_block, IsAppended, IsTooLong, IsPiece, IsTaken, IsSoFar, IsLong, FailsAt, FailsInCall, FailsLong, IsListTooLong}
+use Rattle.label_list.specs.Lists.{label_with_line, times, blocks_labels, off_line, labels_of_program, path_labels}
+use Rattle.label_list.specs.Pieces.{labels_to_come, from_block, IsAppended, IsTooLong, IsPiece, IsTaken, IsSoFar, IsLong, FailsAt, FailsInCall, FailsLong, IsListTooLong}
 
 -- If P gives Q of each fault, and P is so of the fault of an error, Q is so of it.
 pub by_fault : (P Q : PairFault → Type 0) (error : Failing PairFault) → ((fault : PairFault) → P fault → Q fault)
@@ -32,7 +32,7 @@ by_fault P Q NoMemory follows p = tt
 
 -- Before the first block there is no label, and all blocks are left.
 pub so_far_start : (tape : List ControlProgram) (p : ℕ) → IsSoFar tape p [] (blocks tape p)
-unfolding whole
+unfolding labels_of_program
 so_far_start tape p = record {
   few = omega arith;
   calls = λ place c is. (place, is);
@@ -62,7 +62,7 @@ short_call tape n p labels b rest so short = go b.control refl
 -- The labels of the blocks that are left.
 abbrev pub left_labels : List ControlProgram → ℕ → ℕ → (ℕ → List Labelled) → List ControlBlock → List Labelled
 left_labels tape p n back rest =
-    blocks_labels (loud tape) (λ q behind. whole tape n q (λ line. behind)) back (off_line (program_of tape p)) rest
+    blocks_labels (loud tape) (λ q behind. labels_of_program tape n q (λ line. behind)) back (off_line (program_of tape p)) rest
 
 -- If the program goes on at a block that was taken, the labels so far are the new ones, with one
 -- block less left.
@@ -78,7 +78,7 @@ so_far_next tape p old new b rest so taken = record {
 
 -- If a program ends, its labels do not hang on what would come if it went on.
 ending_alone : (ending : Ending) (back : ℕ → List Labelled) (behind : List Labelled)
-    → coming (Some ending) back behind ≡ coming (Some ending) back []
+    → labels_to_come (Some ending) back behind ≡ labels_to_come (Some ending) back []
 ending_alone Stops back behind = refl
 ending_alone (Returns line) back behind = refl
 
@@ -90,7 +90,7 @@ piece_at tape p old new b rest ending so taken = record {
   are = λ n back short. go n back short;
 }
   where
-    go : (n : ℕ) (back : ℕ → List Labelled) → IsShort tape n p → whole tape n p back ≡ new ++ coming (Some ending) back []
+    go : (n : ℕ) (back : ℕ → List Labelled) → IsShort tape n p → labels_of_program tape n p back ≡ new ++ labels_to_come (Some ending) back []
     go zero back short = absurd (short tt)
     go (suc n) back short =
         so.are n back short
@@ -100,29 +100,29 @@ piece_at tape p old new b rest ending so taken = record {
 -- If no block is left, the labels so far with `Off` behind them are the piece of a program that
 -- stops.
 pub piece_off : (tape : List ControlProgram) (p line : ℕ) (old new : List Labelled) → IsSoFar tape p old [] → line ≡ off_line (program_of tape p)
-    → IsAppended old new (at label.Off line ∷ []) → IsPiece tape p new Stops
+    → IsAppended old new (label_with_line label.Off line ∷ []) → IsPiece tape p new Stops
 piece_off tape p line old new so is appended = record {
   few = appended.few;
   are = λ n back short. go n back short;
 }
   where
-    go : (n : ℕ) (back : ℕ → List Labelled) → IsShort tape n p → whole tape n p back ≡ new ++ []
+    go : (n : ℕ) (back : ℕ → List Labelled) → IsShort tape n p → labels_of_program tape n p back ≡ new ++ []
     go zero back short = absurd (short tt)
     go (suc n) back short =
-        so.are n back short ∙ (ap (λ k. old ++ (at label.Off k ∷ [])) (sym is) ∙ (sym appended.are ∙ sym (append-nil new)))
+        so.are n back short ∙ (ap (λ k. old ++ (label_with_line label.Off k ∷ [])) (sym is) ∙ (sym appended.are ∙ sym (append-nil new)))
 
 -- If there is no room for the `Off` behind the last block, the program has too many labels.
 pub fails_off : (tape : List ControlProgram) (p line : ℕ) (old : List Labelled) (fault : PairFault) → IsSoFar tape p old []
-    → IsTooLong old (at label.Off line ∷ []) fault → FailsLong tape p fault
+    → IsTooLong old (label_with_line label.Off line ∷ []) fault → FailsLong tape p fault
 fails_off tape p line old fault so long = record {
   is = long.is;
   long = λ n back short. go n back short;
 }
   where
-    go : (n : ℕ) (back : ℕ → List Labelled) → IsShort tape n p → MOST_LABELS < length (whole tape n p back)
+    go : (n : ℕ) (back : ℕ → List Labelled) → IsShort tape n p → MOST_LABELS < length (labels_of_program tape n p back)
     go zero back short = absurd (short tt)
     go (suc n) back short =
-        omega (arith, ap length (so.are n back short), long.long, length-append old (at label.Off (off_line (program_of tape p)) ∷ []))
+        omega (arith, ap length (so.are n back short), long.long, length-append old (label_with_line label.Off (off_line (program_of tape p)) ∷ []))
 
 -- If there are too many labels with a block of the program, the program has too many.
 pub fails_at : (tape : List ControlProgram) (p : ℕ) (old : List Labelled) (b : ControlBlock) (rest : List ControlBlock) (fault : PairFault)
@@ -132,7 +132,7 @@ fails_at tape p old b rest fault so fails = record {
   long = λ n back short. go n back short;
 }
   where
-    go : (n : ℕ) (back : ℕ → List Labelled) → IsShort tape n p → MOST_LABELS < length (whole tape n p back)
+    go : (n : ℕ) (back : ℕ → List Labelled) → IsShort tape n p → MOST_LABELS < length (labels_of_program tape n p back)
     go zero back short = absurd (short tt)
     go (suc n) back short =
         subst (λ ys. MOST_LABELS < length ys) (sym (so.are n back short))
@@ -143,7 +143,7 @@ called_long : (tape : List ControlProgram) (n q r line : ℕ) (back : ℕ → Li
     → IsLong tape q → IsShort tape n q → MOST_LABELS < length (from_block tape n back line (Call q r) behind)
 called_long tape n q zero line back behind noisy some long short = absurd (omega arith)
 called_long tape n q (suc r) line back behind noisy some long short =
-    rw noisy (long n (λ at_line. times r (λ k. whole tape n q (λ at_line. k)) behind) short)
+    rw noisy (long n (λ at_line. times r (λ k. labels_of_program tape n q (λ at_line. k)) behind) short)
 
 -- If a called program has too many labels, so has the calling one.
 pub fails_in_call : (tape : List ControlProgram) (p : ℕ) (old : List Labelled) (b : ControlBlock) (rest : List ControlBlock) (fault : PairFault)
@@ -153,7 +153,7 @@ fails_in_call tape p old b rest fault so fails = record {
   long = λ n back short. go n back short;
 }
   where
-    go : (n : ℕ) (back : ℕ → List Labelled) → IsShort tape n p → MOST_LABELS < length (whole tape n p back)
+    go : (n : ℕ) (back : ℕ → List Labelled) → IsShort tape n p → MOST_LABELS < length (labels_of_program tape n p back)
     go zero back short = absurd (short tt)
     go (suc n) back short =
         let behind = left_labels tape p n back rest in
@@ -194,10 +194,10 @@ short_left tape (suc n) p labels b rest so short =
 -- The list of a path is the piece of its main program, and `Again` behind it if that returns.
 pub path_whole : (tape : List ControlProgram) (main : ℕ) (labels : List Labelled) (ending : Ending) → main ≡ main_number tape
     → IsShort tape 9 (main_number tape) → IsPiece tape main labels ending
-    → path_labels tape ≡ labels ++ coming (Some ending) (λ line. at label.Again line ∷ []) []
+    → path_labels tape ≡ labels ++ labels_to_come (Some ending) (λ line. label_with_line label.Again line ∷ []) []
 unfolding path_labels
 path_whole tape main labels ending is short piece =
-    (subst (λ p. IsPiece tape p labels ending) is piece).are 9 (λ line. at label.Again line ∷ []) short
+    (subst (λ p. IsPiece tape p labels ending) is piece).are 9 (λ line. label_with_line label.Again line ∷ []) short
 
 -- If the main program has too many labels whatever follows, the list of the path is too long.
 pub path_long : (tape : List ControlProgram) (main : ℕ) (fault : PairFault) → main ≡ main_number tape
@@ -205,5 +205,5 @@ pub path_long : (tape : List ControlProgram) (main : ℕ) (fault : PairFault) �
 unfolding path_labels
 path_long tape main fault is short fails = record {
   is = fails.is;
-  long = subst (λ p. IsLong tape p) is fails.long 9 (λ line. at label.Again line ∷ []) short;
+  long = subst (λ p. IsLong tape p) is fails.long 9 (λ line. label_with_line label.Again line ∷ []) short;
 }

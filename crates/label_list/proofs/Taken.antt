@@ -11,9 +11,9 @@ use Rattle.label_list.specs.declared.fault.PairFault.{PairFault}
 use Rattle.label_list.specs.declared.labelled.Labelled.{Labelled}
 use Rattle.label_list.specs.declared.piece.Ending.{Ending}
 use Rattle.label_list.specs.declared.piece.Ending.TheVariants.{Stops, Returns}
-use Rattle.label_list.specs.Lists.{times, whole}
+use Rattle.label_list.specs.Lists.{times, labels_of_program}
 use Rattle.loud_calls.specs.Calls.{IsShortCall}
-use Rattle.label_list.specs.Pieces.{copies, stop_of, coming, from_block, IsAppended, IsTooLong, IsPiece, IsTaken, FailsAt}
+use Rattle.label_list.specs.Pieces.{copies, stop_of, labels_to_come, from_block, IsAppended, IsTooLong, IsPiece, IsTaken, FailsAt}
 use Rattle.label_list.proofs.Joined.{times_repeated}
 
 -- The old labels, more behind them, and the rest are the new ones and the rest.
@@ -23,12 +23,12 @@ joined old new more behind e = sym (append_assoc old more behind) ∙ ap (λ xs.
 -- A call of a loud program gives its labels as often as it runs, and what comes by how it ends.
 call_gives : (tape : List ControlProgram) (line q r n : ℕ) (back : ℕ → List Labelled) (xs behind : List Labelled) (ending : Ending)
     → loud tape q ≡ true → 0 < r → IsPiece tape q xs ending → IsShortCall tape n (Call q r)
-    → from_block tape n back line (Call q r) behind ≡ copies ending r xs ++ coming (stop_of ending) back behind
+    → from_block tape n back line (Call q r) behind ≡ copies ending r xs ++ labels_to_come (stop_of ending) back behind
 call_gives tape line q zero n back xs behind ending noisy some piece short = absurd (omega arith)
 call_gives tape line q (suc r) n back xs behind Stops noisy some piece short =
-    rw noisy (piece.are n (λ at_line. times r (λ k. whole tape n q (λ at_line. k)) behind) (short noisy))
+    rw noisy (piece.are n (λ at_line. times r (λ k. labels_of_program tape n q (λ at_line. k)) behind) (short noisy))
 call_gives tape line q (suc r) n back xs behind (Returns l) noisy some piece short =
-    rw noisy (times_repeated (suc r) (λ k. whole tape n q (λ at_line. k)) xs behind (λ k. piece.are n (λ at_line. k) (short noisy)))
+    rw noisy (times_repeated (suc r) (λ k. labels_of_program tape n q (λ at_line. k)) xs behind (λ k. piece.are n (λ at_line. k) (short noisy)))
 
 -- If the labels of a loud program are added as often as it runs, its call is taken.
 pub taken_call : (tape : List ControlProgram) (line q r : ℕ) (old new xs : List Labelled) (ending : Ending)
@@ -39,7 +39,7 @@ taken_call tape line q r old new xs ending noisy some piece appended =
       few = appended.few;
       are = λ n back behind short.
           ap (λ ys. old ++ ys) (call_gives tape line q r n back xs behind ending noisy some piece short)
-          ∙ joined old new (copies ending r xs) (coming (stop_of ending) back behind) appended.are;
+          ∙ joined old new (copies ending r xs) (labels_to_come (stop_of ending) back behind) appended.are;
     }
 
 -- Labels that are too many are too many whatever follows.
@@ -56,5 +56,5 @@ fails_call tape line q r old xs ending fault noisy some piece long =
       is = long.is;
       long = λ n back behind short.
           subst (λ ys. MOST_LABELS < length (old ++ ys)) (sym (call_gives tape line q r n back xs behind ending noisy some piece short))
-          (too_long old (copies ending r xs) (coming (stop_of ending) back behind) long.long);
+          (too_long old (copies ending r xs) (labels_to_come (stop_of ending) back behind) long.long);
     }

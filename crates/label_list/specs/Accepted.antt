@@ -5,7 +5,7 @@ use Rattle.std.specs.Prelude.{◌≡◌, ◌≤◌, List, length}
 use Rattle.nc_number.specs.declared.limits.TheConstants.{MOST_LABELS}
 use Rattle.block_order.specs.declared.program.ControlProgram.{ControlProgram}
 use Rattle.block_order.specs.Labels.{IsUnforked, list}
-use Rattle.label_list.specs.Lists.{bare, path_labels}
+use Rattle.label_list.specs.Lists.{bare_labels, path_labels}
 
 -- Each tape has one list of labels, which is not too long, and the two lists are equal.
 pub record IsAcceptedPair (left right : List ControlProgram) : Type 0 where
@@ -27,4 +27,4 @@ pub record AgreeOnLabels (left right : List ControlProgram) : Type 0 where
   -- The list of path 2 has at most 65,536 labels.
   pub right_few : length (path_labels right) ≤ MOST_LABELS
   -- Both lists are equal, lines aside.
-  pub same : bare (path_labels left) ≡ bare (path_labels right)
+  pub same : bare_labels (path_labels left) ≡ bare_labels (path_labels right)

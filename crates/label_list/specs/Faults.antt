@@ -5,7 +5,7 @@ use Rattle.nc_number.specs.declared.cause.Cause.TheVariants.{TooManyLabels, Wait
 use Rattle.nc_number.specs.Causes.{cause_number}
 use Rattle.label_list.specs.declared.fault.PairFault.{PairFault}
 use Rattle.label_list.specs.declared.labelled.Labelled.{Labelled}
-use Rattle.label_list.specs.Lists.{bare}
+use Rattle.label_list.specs.Lists.{bare_labels}
 
 -- The fault of a path that has too many labels. Which path it is, the caller knows.
 abbrev pub too_many : PairFault
@@ -22,7 +22,7 @@ pub record IsMismatch (left right : List Labelled) (fault : PairFault) : Type 0 
   -- The label of path 2 there.
   pub two : Labelled
   -- All labels before these two are equal.
-  pub equal : bare (take fault.after left) ≡ bare (take fault.after right)
+  pub equal : bare_labels (take fault.after left) ≡ bare_labels (take fault.after right)
   -- The label of path 1 stands behind as many labels as the fault tells.
   pub is_one : slice_get left fault.after ≡ Some one
   -- The label of path 2 stands behind as many labels as the fault tells.

@@ -15,8 +15,8 @@ use Rattle.tape_flow.specs.Places.{last_line}
 use Rattle.label_list.specs.declared.labelled.Labelled.{Labelled}
 
 -- The label with the line of its block.
-abbrev pub at : Label → ℕ → Labelled
-at label line = record { label = label; line = line }
+abbrev pub label_with_line : Label → ℕ → Labelled
+label_with_line label line = record { label = label; line = line }
 
 -- The labels that f puts before others, put n times before `behind`.
 abbrev pub times : ℕ → (List Labelled → List Labelled) → List Labelled → List Labelled
@@ -27,8 +27,8 @@ times (suc n) f behind = f (times n f behind)
 -- labels, as often as it is to run, before those behind the call. `back` is what follows an M99
 -- that stands on a line; behind an end nothing follows.
 abbrev pub block_labels : (ℕ → Bool) → (ℕ → List Labelled → List Labelled) → (ℕ → List Labelled) → ℕ → Control → List Labelled → List Labelled
-block_labels loud called back line (Wait code) behind = at (label.Wait code) line ∷ behind
-block_labels loud called back line End behind = at label.End line ∷ []
+block_labels loud called back line (Wait code) behind = label_with_line (label.Wait code) line ∷ behind
+block_labels loud called back line End behind = label_with_line label.End line ∷ []
 block_labels loud called back line (Call program repeats) behind =
     if loud program then times repeats (called program) behind else behind
 block_labels loud called back line Back behind = back line
@@ -37,7 +37,7 @@ block_labels loud called back line other behind = behind
 -- The labels from these blocks on, of which the last one is the program's last; `off` is the line
 -- of the place past it.
 abbrev pub blocks_labels : (ℕ → Bool) → (ℕ → List Labelled → List Labelled) → (ℕ → List Labelled) → ℕ → List ControlBlock → List Labelled
-blocks_labels loud called back off [] = at label.Off off ∷ []
+blocks_labels loud called back off [] = label_with_line label.Off off ∷ []
 blocks_labels loud called back off (b ∷ bs) =
     block_labels loud called back b.line b.control (blocks_labels loud called back off bs)
 
@@ -48,19 +48,19 @@ off_line (Some program) = last_line program
 
 -- The labels of a program that is run with fewer than n calls of loud programs to follow in it, one
 -- in another; `back` is what follows an M99 of it, by the line of that M99.
-unfoldable pub whole : List ControlProgram → ℕ → ℕ → (ℕ → List Labelled) → List Labelled
-whole tape zero program back = back 0
-whole tape (suc n) program back =
-    blocks_labels (loud tape) (λ q behind. whole tape n q (λ line. behind)) back (off_line (program_of tape program)) (blocks tape program)
+unfoldable pub labels_of_program : List ControlProgram → ℕ → ℕ → (ℕ → List Labelled) → List Labelled
+labels_of_program tape zero program back = back 0
+labels_of_program tape (suc n) program back =
+    blocks_labels (loud tape) (λ q behind. labels_of_program tape n q (λ line. behind)) back (off_line (program_of tape program)) (blocks tape program)
 
 -- The labels of a path, with their lines: those of its main program, whose M99 begins it anew. At
 -- most eight calls may be open (MOST_CALLS of block_order), so fewer than 9 follow one in another.
 unfoldable pub path_labels : List ControlProgram → List Labelled
-path_labels tape = whole tape 9 (main_number tape) (λ line. at label.Again line ∷ [])
+path_labels tape = labels_of_program tape 9 (main_number tape) (λ line. label_with_line label.Again line ∷ [])
 
 -- The labels, lines aside.
-abbrev pub bare : List Labelled → List Label
-bare xs = map (λ (x : Labelled). x.label) xs
+abbrev pub bare_labels : List Labelled → List Label
+bare_labels xs = map (λ (x : Labelled). x.label) xs
 
 -- What must be so of the labels behind this one: behind a wait the list goes on, behind each other
 -- label it is over.

@@ -17,17 +17,17 @@ use Rattle.label_list.specs.declared.piece.Ending.{Ending}
 use Rattle.label_list.specs.declared.piece.Ending.TheVariants.{Stops, Returns}
 use Rattle.label_list.specs.declared.piece.Piece.{Piece}
 use Rattle.label_list.specs.Faults.{too_many}
-use Rattle.label_list.specs.Lists.{block_labels, blocks_labels, off_line, whole}
+use Rattle.label_list.specs.Lists.{block_labels, blocks_labels, off_line, labels_of_program}
 
--- These labels n times, one after another. The name stands for the list.
-abbrev pub repeated : ℕ → List Labelled → List Labelled
-repeated zero xs = []
-repeated (suc n) xs = xs ++ repeated n xs
+-- These labels n times, one after another.
+abbrev pub repeated_labels : ℕ → List Labelled → List Labelled
+repeated_labels zero xs = []
+repeated_labels (suc n) xs = xs ++ repeated_labels n xs
 
 -- The labels that so many runs of a program give. If it stops, its first run is its last.
 abbrev pub copies : Ending → ℕ → List Labelled → List Labelled
 copies Stops n xs = xs
-copies (Returns line) n xs = repeated n xs
+copies (Returns line) n xs = repeated_labels n xs
 
 -- How the calling program ends at the call of a program that ends so, if it ends there.
 abbrev pub stop_of : Ending → Option Ending
@@ -50,10 +50,10 @@ pub record IsTooLong (old more : List Labelled) (fault : PairFault) : Type 0 whe
 
 -- What comes behind the labels of a program by how it ends there: `behind` if it goes on, nothing
 -- if it stops, `back` if it returns.
-abbrev pub coming : Option Ending → (ℕ → List Labelled) → List Labelled → List Labelled
-coming None back behind = behind
-coming (Some Stops) back behind = []
-coming (Some (Returns line)) back behind = back line
+abbrev pub labels_to_come : Option Ending → (ℕ → List Labelled) → List Labelled → List Labelled
+labels_to_come None back behind = behind
+labels_to_come (Some Stops) back behind = []
+labels_to_come (Some (Returns line)) back behind = back line
 
 -- These are the labels of the program, of which there are not too many, and it ends so.
 pub record IsPiece (tape : List ControlProgram) (program : ℕ) (labels : List Labelled) (ending : Ending) : Type 0 where
@@ -62,11 +62,11 @@ pub record IsPiece (tape : List ControlProgram) (program : ℕ) (labels : List L
   -- They, and what comes by how the program ends, are the program's labels, for each number n of
   -- calls that may follow, if no chain of n calls of loud programs begins in the program.
   pub are : (n : ℕ) (back : ℕ → List Labelled) → IsShort tape n program
-      → whole tape n program back ≡ labels ++ coming (Some ending) back []
+      → labels_of_program tape n program back ≡ labels ++ labels_to_come (Some ending) back []
 
 -- Whatever follows its M99, the program has too many labels.
 abbrev pub IsLong : List ControlProgram → ℕ → Type 0
-IsLong tape program = (n : ℕ) (back : ℕ → List Labelled) → IsShort tape n program → MOST_LABELS < length (whole tape n program back)
+IsLong tape program = (n : ℕ) (back : ℕ → List Labelled) → IsShort tape n program → MOST_LABELS < length (labels_of_program tape n program back)
 
 -- It is the fault 70: the program has too many labels.
 pub record FailsLong (tape : List ControlProgram) (program : ℕ) (fault : PairFault) : Type 0 where
@@ -84,7 +84,7 @@ AreKnown tape known =
 -- another.
 abbrev pub from_block : List ControlProgram → ℕ → (ℕ → List Labelled) → ℕ → Control → List Labelled → List Labelled
 from_block tape n back line control behind =
-    block_labels (loud tape) (λ q rest. whole tape n q (λ at_line. rest)) back line control behind
+    block_labels (loud tape) (λ q rest. labels_of_program tape n q (λ at_line. rest)) back line control behind
 
 -- The new labels are the old ones with what a block of this control gives; the program ends there
 -- as told, or goes on.
@@ -94,7 +94,7 @@ pub record IsTaken (tape : List ControlProgram) (line : ℕ) (control : Control)
   -- The old ones with what the block gives, and what is behind it, are the new ones with what comes
   -- by how the program ends there.
   pub are : (n : ℕ) (back : ℕ → List Labelled) (behind : List Labelled) → IsShortCall tape n control
-      → old ++ from_block tape n back line control behind ≡ new ++ coming ending back behind
+      → old ++ from_block tape n back line control behind ≡ new ++ labels_to_come ending back behind
 
 -- It is the fault 70: with what the block gives there are too many labels, whatever follows.
 pub record FailsAt (tape : List ControlProgram) (line : ℕ) (control : Control) (old : List Labelled) (fault : PairFault) : Type 0 where
@@ -124,8 +124,8 @@ pub record IsSoFar (tape : List ControlProgram) (program : ℕ) (labels : List L
       → (own : ℕ) × (control_at (blocks tape program) own ≡ Some c)
   -- Both together are its labels, for each number of calls that is enough for what follows in it.
   pub are : (n : ℕ) (back : ℕ → List Labelled) → IsShort tape (suc n) program
-      → whole tape (suc n) program back
-      ≡ labels ++ blocks_labels (loud tape) (λ q behind. whole tape n q (λ line. behind)) back (off_line (program_of tape program)) rest
+      → labels_of_program tape (suc n) program back
+      ≡ labels ++ blocks_labels (loud tape) (λ q behind. labels_of_program tape n q (λ line. behind)) back (off_line (program_of tape program)) rest
 
 -- It is the fault 70: the list of a path is too long.
 pub record IsListTooLong (labels : List Labelled) (fault : PairFault) : Type 0 where

@@ -2,7 +2,7 @@
 //! pair, its own or one of wait_verify; 72 is the refusal.
 ghost use Rattle.std.specs.Prelude.{◌≡◌, ◌≤◌, length, IsOk, IfErr, IfSome, IfNone};
 ghost use Rattle.nc_number.specs.declared.limits.TheConstants.{MOST_LABELS};
-ghost use Rattle.label_list.specs.Lists.{bare, IsEnded};
+ghost use Rattle.label_list.specs.Lists.{bare_labels, IsEnded};
 ghost use Rattle.label_list.specs.Faults.{IsMismatch};
 
 use crate::fault::PairFault;
@@ -15,7 +15,7 @@ fn first_difference(left: &[Labelled], right: &[Labelled]) -> Option<PairFault>
     requires right_ended { IsEnded right.now }
     requires few { length left.now ≤ MOST_LABELS }
     ensures some { IfSome result (IsMismatch left.now right.now) }
-    ensures none { IfNone result (bare left.now ≡ bare right.now) }
+    ensures none { IfNone result (bare_labels left.now ≡ bare_labels right.now) }
 {
     for after in 0..left.len().min(right.len()) {
         let one = left[after];
@@ -32,7 +32,7 @@ fn first_difference(left: &[Labelled], right: &[Labelled]) -> Option<PairFault>
 /// Errors: 72 with the number of equal labels before the first difference, and the lines of the two
 /// labels there.
 pub fn compare(left: &LabelList, right: &LabelList) -> Result<(), PairFault>
-    ensures same { IsOk result → bare left.now ≡ bare right.now }
+    ensures same { IsOk result → bare_labels left.now ≡ bare_labels right.now }
     ensures differ { IfErr result (IsMismatch left.now right.now) }
 {
     match first_difference(left.as_slice(), right.as_slice()) {

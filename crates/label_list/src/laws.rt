@@ -6,12 +6,12 @@ ghost use Rattle.block_order.specs.declared.program.ControlProgram.{ControlProgr
 ghost use Rattle.block_order.specs.Labels.{IsUnforked, list};
 ghost use Rattle.label_list.specs.Accepted.{AgreeOnLabels, IsAcceptedPair};
 ghost use Rattle.label_list.specs.declared.labelled.Labelled.{Labelled};
-ghost use Rattle.label_list.specs.Lists.{bare, path_labels, whole};
+ghost use Rattle.label_list.specs.Lists.{bare_labels, path_labels, labels_of_program};
 ghost use Rattle.loud_calls.specs.Calls.{IsShort};
 
 /// The labels of a path with their lines are, lines aside, the labels ahead of its start.
 pub fn labels_are_those_of_the_blocks()
-    ensures { (tape : List ControlProgram) → bare (path_labels tape) ≡ list tape }
+    ensures { (tape : List ControlProgram) → bare_labels (path_labels tape) ≡ list tape }
 {}
 
 /// The labels of a program do not depend on how many calls may follow in it, n or more, if no chain
@@ -19,7 +19,7 @@ pub fn labels_are_those_of_the_blocks()
 pub fn labels_hang_on_no_number_of_calls()
     ensures { (tape : List ControlProgram) (n m program : ℕ) (back : ℕ → List Labelled)
         → IsShort tape n program → n ≤ m
-        → whole tape n program back ≡ whole tape m program back }
+        → labels_of_program tape n program back ≡ labels_of_program tape m program back }
 {}
 
 /// Two tapes that have one list of labels each are an accepted pair exactly if the lists with their

@@ -9,9 +9,9 @@ ghost use Rattle.block_order.specs.Answers.{IfFault};
 ghost use Rattle.block_order.specs.Order.{program_of};
 ghost use Rattle.loud_calls.specs.Calls.{IsReady, IsShort, IsShortCall};
 ghost use Rattle.loud_calls.specs.Known.{piece_known};
-ghost use Rattle.label_list.specs.Lists.{at, off_line, path_labels};
+ghost use Rattle.label_list.specs.Lists.{label_with_line, off_line, path_labels};
 ghost use Rattle.label_list.specs.Pieces.{AreKnown, IsPiece, IsTaken};
-ghost use Rattle.label_list.specs.Pieces.{coming, FailsAt, FailsInCall, FailsLong, IsListTooLong};
+ghost use Rattle.label_list.specs.Pieces.{labels_to_come, FailsAt, FailsInCall, FailsLong, IsListTooLong};
 
 use crate::fault::PairFault;
 use crate::labelled::Labelled;
@@ -171,10 +171,10 @@ fn piece_of(
 fn with_start(piece: Piece) -> Result<Vec<Labelled>, Failing<PairFault>>
     requires { length piece.labels.items ≤ MOST_LABELS }
     ensures list { IfOk result (λ labels. labels.items ≡ piece.labels.items
-        ++ coming (Some piece.ending) (λ line. at Label.Again line ∷ []) []) }
+        ++ labels_to_come (Some piece.ending) (λ line. label_with_line Label.Again line ∷ []) []) }
     ensures few { IfOk result (λ labels. length labels.items ≤ MOST_LABELS) }
     ensures many { IfErr result (λ error. IfFault error (IsListTooLong (piece.labels.items
-        ++ coming (Some piece.ending) (λ line. at Label.Again line ∷ []) []))) }
+        ++ labels_to_come (Some piece.ending) (λ line. label_with_line Label.Again line ∷ []) []))) }
 {
     let Piece { mut labels, ending } = piece;
     match ending {

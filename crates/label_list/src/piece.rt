@@ -3,8 +3,8 @@
 ghost use Rattle.std.specs.Prelude.{◌≡◌, ◌≤◌, ◌∷◌, [], length, OnOk, IfOk, IfErr};
 ghost use Rattle.nc_number.specs.declared.limits.TheConstants.{MOST_LABELS};
 ghost use Rattle.block_order.specs.Answers.{IfFault};
-ghost use Rattle.label_list.specs.Lists.{at};
-ghost use Rattle.label_list.specs.Pieces.{repeated, copies, stop_of, IsTooLong, IsAppended};
+ghost use Rattle.label_list.specs.Lists.{label_with_line};
+ghost use Rattle.label_list.specs.Pieces.{repeated_labels, copies, stop_of, IsTooLong, IsAppended};
 
 use crate::fault::PairFault;
 use crate::labelled::Labelled;
@@ -52,9 +52,10 @@ pub(crate) fn push_at(
     line: u32,
     ending: Option<Ending>,
 ) -> Result<Option<Ending>, Failing<PairFault>>
-    ensures added { OnOk result (IsAppended labels.old.items labels.new.items (at label line ∷ [])) }
+    ensures added { OnOk result (IsAppended labels.old.items labels.new.items (label_with_line label line ∷ [])) }
     ensures ending { IfOk result (λ told. told ≡ ending) }
-    ensures many { IfErr result (λ error. IfFault error (IsTooLong labels.old.items (at label line ∷ []))) }
+    ensures many { IfErr result (λ error. IfFault error
+        (IsTooLong labels.old.items (label_with_line label line ∷ []))) }
 {
     match push_label(labels, Labelled { label, line }) {
         Ok(()) => Ok(ending),
@@ -84,8 +85,8 @@ fn append_times(
     times: u16,
 ) -> Result<(), Failing<PairFault>>
     requires { length labels.old.items ≤ MOST_LABELS }
-    ensures added { OnOk result (IsAppended labels.old.items labels.new.items (repeated times more.now)) }
-    ensures many { IfErr result (λ error. IfFault error (IsTooLong labels.old.items (repeated times more.now))) }
+    ensures added { OnOk result (IsAppended labels.old.items labels.new.items (repeated_labels times more.now)) }
+    ensures many { IfErr result (λ error. IfFault error (IsTooLong labels.old.items (repeated_labels times more.now))) }
 {
     if more.is_empty() {
         return Ok(());

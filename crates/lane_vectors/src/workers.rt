@@ -1,7 +1,7 @@
 //! Tests of path_worker: a worker and the drive beside it, over a stepper that answers from a list
 //! and a turret in memory. drains.rt takes its blocks from here.
 ghost use Rattle.std.specs.Prelude.{◌≡◌, ◌<◌, ◌≤◌, length, IfOk};
-ghost use Rattle.drive_line.specs.Driving.{fresh};
+ghost use Rattle.drive_line.specs.Driving.{fresh_drive};
 
 use drive_line::{Driven, Line};
 use nc_moves::{Move, MoveList, Moves};
@@ -28,7 +28,7 @@ fn lane_of<'r, R>(
     failing: u64,
     unsettled: u64,
 ) -> Result<ListLane<'r, R>, NoMemory>
-    ensures { IfOk result (λ lane. lane.driven ≡ fresh lane.driven.state) }
+    ensures { IfOk result (λ lane. lane.driven ≡ fresh_drive lane.driven.state) }
 {
     let turret = MemoryTurret::with_plans(alloc, 2000, &[failing], &[unsettled])?;
     Ok(Lane {
@@ -45,7 +45,7 @@ fn run<'r, R: Threads + Wait + Sync>(
     bound: usize,
     lane: ListLane<'r, R>,
 ) -> Result<End<'r, R>, NoMemory>
-    requires { (0 < bound) × (lane.driven ≡ fresh lane.driven.state) }
+    requires { (0 < bound) × (lane.driven ≡ fresh_drive lane.driven.state) }
 {
     match Line::new(rt, alloc, bound) {
         Ok(ends) => Ok(run_lane(rt, Path::One, ends, lane)),

@@ -9,7 +9,7 @@ ghost use Rattle.std.specs.Prelude.{◌≡◌, Some};
 ghost use Rattle.lathe_calls.specs.declared.question.Question.TheVariants as ask;
 ghost use Rattle.lathe_calls.specs.Due.{IsAnswerTo};
 ghost use Rattle.lathe_calls.specs.Order.{AreToldOf};
-ghost use Rattle.lathe_calls.specs.Said.{said};
+ghost use Rattle.lathe_calls.specs.Said.{answer_with};
 ghost use Rattle.lathe_calls.specs.Texts.{three_texts};
 
 use lathe_calls::{Event, PairTexts, Question, Said, answer, events};
@@ -18,7 +18,7 @@ use std::alloc::Global;
 
 /// Gives the status of an answer, and puts its length into `len`.
 fn told(it: Said, len: &mut usize) -> u8
-    ensures { it ≡ said result len.new }
+    ensures { it ≡ answer_with result len.new }
 {
     *len = it.len;
     it.status
@@ -35,7 +35,7 @@ pub extern "C" fn lathe_verify(
     len: &mut usize,
 ) -> u8
     ensures { IsAnswerTo ask.Verify (three_texts left.now right.now settings.now)
-        room.old room.new (said result len.new) }
+        room.old room.new (answer_with result len.new) }
 {
     let texts = PairTexts::of(left, right, settings);
     told(answer(alloc, &texts, Question::Verify, room), len)
@@ -54,7 +54,7 @@ pub extern "C" fn lathe_run(
     len: &mut usize,
 ) -> u8
     ensures { IsAnswerTo (ask.Run limit) (three_texts left.now right.now settings.now)
-        room.old room.new (said result len.new) }
+        room.old room.new (answer_with result len.new) }
 {
     let texts = PairTexts::of(left, right, settings);
     told(answer(alloc, &texts, Question::Run(limit), room), len)
@@ -73,7 +73,7 @@ pub extern "C" fn lathe_trace(
     len: &mut usize,
 ) -> u8
     ensures { IsAnswerTo (ask.Trace limit) (three_texts left.now right.now settings.now)
-        room.old room.new (said result len.new) }
+        room.old room.new (answer_with result len.new) }
 {
     let texts = PairTexts::of(left, right, settings);
     told(answer(alloc, &texts, Question::Trace(limit), room), len)
@@ -92,7 +92,7 @@ pub extern "C" fn lathe_state(
     len: &mut usize,
 ) -> u8
     ensures { IsAnswerTo (ask.State limit) (three_texts left.now right.now settings.now)
-        room.old room.new (said result len.new) }
+        room.old room.new (answer_with result len.new) }
 {
     let texts = PairTexts::of(left, right, settings);
     told(answer(alloc, &texts, Question::State(limit), room), len)
@@ -112,7 +112,7 @@ pub extern "C" fn lathe_waits(
     len: &mut usize,
 ) -> u8
     ensures { IsAnswerTo (ask.Waits (Some (record { least = least; greatest = greatest })))
-        (three_texts left.now right.now settings.now) room.old room.new (said result len.new) }
+        (three_texts left.now right.now settings.now) room.old room.new (answer_with result len.new) }
 {
     let texts = PairTexts::of(left, right, settings);
     told(
@@ -139,7 +139,7 @@ pub extern "C" fn lathe_events(
     len: &mut usize,
 ) -> u8
     ensures { AreToldOf order.now (three_texts left.now right.now settings.now)
-        room.old room.new (said result len.new) }
+        room.old room.new (answer_with result len.new) }
 {
     let texts = PairTexts::of(left, right, settings);
     told(events(alloc, &texts, order, room), len)

@@ -7,13 +7,13 @@ use Rattle.lathe_calls.specs.Answers.{Answer, tells, Ends}
 use Rattle.lathe_calls.specs.declared.event.Event.{Event}
 use Rattle.lathe_calls.specs.declared.said.Said.{Said}
 use Rattle.lathe_calls.specs.Order.{AreDue, AreToldOf}
-use Rattle.lathe_calls.specs.Said.{IsHanded, IsSaid, handed, said}
+use Rattle.lathe_calls.specs.Said.{IsHanded, IsSaid, room_with, answer_with}
 use Rattle.lathe_calls.specs.Said as says
-use Rattle.lathe_calls.specs.Texts.{are_fit, written}
+use Rattle.lathe_calls.specs.Texts.{are_fit, sink_with}
 
 -- if a text that was told into memory was handed out, the call said what is due
 pub said_of : {IsDue : Answer → Type 0} {texts : Texts} {text before after : List ℕ} {it : Said} (status : ℕ) → are_fit texts ≡ true
-    → Ends IsDue (written []) (written text) status → IsHanded status text before after it
+    → Ends IsDue (sink_with []) (sink_with text) status → IsHanded status text before after it
     → IsSaid texts (λ s t. IsDue (tells s t)) before after it
 said_of status fit ends (says.lacking is same left) = says.lacking fit same left
 said_of {IsDue} status fit (answers.whole {text = told} due is) (says.whole some same left) =
@@ -24,7 +24,7 @@ said_of status fit (answers.untold due is) (says.whole some same left) = absurd 
 
 -- if events that are due were handed out, the call told them
 pub events_said : {order : List ℕ} {texts : Texts} {list given before after : List Event} {it : Said} (status : ℕ) → are_fit texts ≡ true
-    → AreDue order texts status list → given ≡ list → it ≡ said status (length given) → after ≡ handed given before
+    → AreDue order texts status list → given ≡ list → it ≡ answer_with status (length given) → after ≡ room_with given before
     → AreToldOf order texts before after it
 events_said {before = before} status fit due same is left =
-    says.whole fit due (is ∙ ap (λ (es : List Event). said status (length es)) same) (left ∙ ap (λ (es : List Event). handed es before) same)
+    says.whole fit due (is ∙ ap (λ (es : List Event). answer_with status (length es)) same) (left ∙ ap (λ (es : List Event). room_with es before) same)

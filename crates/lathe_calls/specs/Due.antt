@@ -11,7 +11,7 @@ use Rattle.run_records.specs.Entries.{Entry}
 use Rattle.turn_order.specs.InTurn.{IsInTurn}
 use Rattle.lathe_calls.specs.Answers.{Answer, tells, nothing}
 use Rattle.lathe_calls.specs.Judged.{IsJudged}
-use Rattle.lathe_calls.specs.Races.{AreRacesOf}
+use Rattle.lathe_calls.specs.Races.{IsRaceAnswer}
 use Rattle.lathe_calls.specs.Reported.{report_of, state_of}
 use Rattle.lathe_calls.specs.Traced.{IsTraced, end_of}
 use Rattle.lathe_calls.specs.Waited.{AreWaits}
@@ -62,7 +62,7 @@ IsDueTo (ask.Run limit) texts = IsOfPair (IsReportOf limit) texts
 IsDueTo (ask.Trace limit) texts = IsTraced limit texts
 IsDueTo (ask.State limit) texts = IsOfPair (IsStateOf limit) texts
 IsDueTo (ask.Waits outside) texts = AreWaits outside texts
-IsDueTo ask.Races texts = IsOfPair AreRacesOf texts
+IsDueTo ask.Races texts = IsOfPair IsRaceAnswer texts
 
 -- what a call says of three texts and a question, and what it leaves in the caller's room
 abbrev pub IsAnswerTo : Question → Texts → List ℕ → List ℕ → Said → Type 0

@@ -29,10 +29,10 @@ path_at byte = if byte == 2 then Two else One
 
 -- the turns of an order that are given: no more of them once there are as many records as there may
 -- be
-abbrev pub given : Tapes → ℕ → MachineView → List Path → List Path
-given tapes most m [] = []
-given tapes most m (path ∷ order) =
-    if nat_le most m.count then [] else path ∷ given tapes most (turn_of tapes path m).machine order
+abbrev pub turns_given : Tapes → ℕ → MachineView → List Path → List Path
+turns_given tapes most m [] = []
+turns_given tapes most m (path ∷ order) =
+    if nat_le most m.count then [] else path ∷ turns_given tapes most (turn_of tapes path m).machine order
 
 -- the events of the turns of these paths, from a machine on
 abbrev pub events_from : Tapes → MachineView → List Path → List Event
@@ -54,11 +54,12 @@ end_after most m = unwrap_or (end_of m) (if nat_le most m.count then Reason.Full
 -- turns are one legal history, and the status says how far it has come.
 pub record AreEventsFrom (tapes : Tapes) (start : MachineView) (most : ℕ) (order : List Path) (status : ℕ) (list : List Event) : Type 0 where
   -- the records of the turns that are given are a legal history
-  pub legal : IsLegal tapes start (history tapes start (turns_of (given tapes most start order)))
+  pub legal : IsLegal tapes start (history tapes start (turns_of (turns_given tapes most start order)))
   -- the events are where both turrets begin, and those of the turns that are given
-  pub events : list ≡ placed_events start ++ events_from tapes start (given tapes most start order)
+  pub events : list ≡ placed_events start ++ events_from tapes start (turns_given tapes most start order)
   -- the status says how far the run has come
-  pub ends : status ≡ exit.reason_status (end_after most (run tapes start (turns_of (given tapes most start order))))
+  pub ends : status ≡ exit.reason_status
+      (end_after most (run tapes start (turns_of (turns_given tapes most start order))))
 
 -- the events of a pair in this order of turns, up to as many records as its settings allow
 abbrev pub AreEventsOf : Verified → List Path → ℕ → List Event → Type 0

@@ -1,5 +1,6 @@
--- The races that are due to the pair of three texts.
--- Due and Traced cite it; lathe_top takes `AreRaces`, `AreRacesOf`, `listed` and `unlisted`.
+-- The races that are due to the pair of three texts: src/racing.rt answers `IsRaceAnswer`, and
+-- src/running.rt takes `AreRaces`.
+-- Due and Traced cite it; lathe_top takes `AreRaces`, `IsRaceAnswer`, `listed` and `unlisted`.
 use Rattle.std.specs.Prelude.{List}
 use Rattle.nc_verify.specs.declared.verified.Verified.{Verified}
 use Rattle.race_report.specs.declared.race.Race.{Race}
@@ -13,8 +14,8 @@ abbrev pub AreRaces : Verified → List Race → Type 0
 AreRaces pair races = IsRaceList (shared_by pair.settings) pair.left pair.right races
 
 -- status 0 and the list of the races of a pair; nothing if memory runs out
-pub data AreRacesOf (pair : Verified) : Answer → Type 0 where
+pub data IsRaceAnswer (pair : Verified) : Answer → Type 0 where
   -- the list of all races
-  listed : (races : List Race) → AreRaces pair races → AreRacesOf pair (tells exit.done (list_text races))
+  listed : (races : List Race) → AreRaces pair races → IsRaceAnswer pair (tells exit.done (list_text races))
   -- memory ran out
-  unlisted : AreRacesOf pair nothing
+  unlisted : IsRaceAnswer pair nothing

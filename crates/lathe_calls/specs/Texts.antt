@@ -22,5 +22,5 @@ are_fit texts =
     && nat_le (length texts.settings) LONGEST_SETTINGS
 
 -- the state of a sink that holds this text in memory, and whose calls never failed
-abbrev pub written : List ℕ → SinkState
-written text = record { written = Some text; faults = 0 }
+abbrev pub sink_with : List ℕ → SinkState
+sink_with text = record { written = Some text; faults = 0 }

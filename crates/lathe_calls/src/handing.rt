@@ -2,7 +2,7 @@
 //! whole.
 //! For this crate alone: answering.rt and happening.rt use it.
 ghost use Rattle.std.specs.Prelude.{◌≡◌, length};
-ghost use Rattle.lathe_calls.specs.Said.{IsHanded, handed, said};
+ghost use Rattle.lathe_calls.specs.Said.{IsHanded, room_with, answer_with};
 
 use crate::ending::Status;
 use crate::event::Event;
@@ -11,7 +11,7 @@ use crate::said::Said;
 /// Copies the front of a text into the room, as far as it holds, and tells how long the whole text
 /// is.
 fn hand_out(text: &[u8], room: &mut [u8]) -> usize
-    ensures room { room.new ≡ handed text.now room.old }
+    ensures room { room.new ≡ room_with text.now room.old }
     ensures len { result ≡ length text.now }
 {
     let count = text.len().min(room.len());
@@ -22,7 +22,7 @@ fn hand_out(text: &[u8], room: &mut [u8]) -> usize
 /// Copies the front of a list of events into the room, as far as it holds, and tells how long the
 /// whole list is.
 fn hand_out_events(list: &[Event], room: &mut [Event]) -> usize
-    ensures room { room.new ≡ handed list.now room.old }
+    ensures room { room.new ≡ room_with list.now room.old }
     ensures len { result ≡ length list.now }
 {
     let count = list.len().min(room.len());
@@ -45,8 +45,8 @@ pub(crate) fn hand_text(status: u8, text: &[u8], room: &mut [u8]) -> Said
 
 /// Hands out events, which go with this status.
 pub(crate) fn hand_events(status: u8, list: &[Event], room: &mut [Event]) -> Said
-    ensures said { result ≡ said status (length list.now) }
-    ensures room { room.new ≡ handed list.now room.old }
+    ensures said { result ≡ answer_with status (length list.now) }
+    ensures room { room.new ≡ room_with list.now room.old }
 {
     Said {
         status,

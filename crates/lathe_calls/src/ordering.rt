@@ -6,7 +6,7 @@ ghost use Rattle.two_path.specs.Turns.{tapes_of, turn_of};
 ghost use Rattle.two_path.specs.Histories.{run, turns_of};
 ghost use Rattle.two_path.specs.Joined.{AreAtTheirWaits};
 ghost use Rattle.trace_list.specs.Trace.{line_of};
-ghost use Rattle.lathe_calls.specs.Order.{end_after, events_from, given, is_order, path_at};
+ghost use Rattle.lathe_calls.specs.Order.{end_after, events_from, turns_given, is_order, path_at};
 ghost use Rattle.lathe_calls.specs.Events.{stamp_of, turn_events};
 
 use crate::event::{Event, Stamp};
@@ -82,9 +82,9 @@ pub(crate) fn give_turns(
     requires waits { AreAtTheirWaits left.now.order right.now.order machine.old.machine }
     ensures list { OnOk result (list.new.items ≡ list.old.items
         ++ events_from (tapes_of left.now right.now) machine.old.machine
-        (given (tapes_of left.now right.now) most machine.old.machine (map path_at order.now))) }
+        (turns_given (tapes_of left.now right.now) most machine.old.machine (map path_at order.now))) }
     ensures machine { OnOk result (machine.new.machine ≡ run (tapes_of left.now right.now) machine.old.machine
-        (turns_of (given (tapes_of left.now right.now) most machine.old.machine (map path_at order.now)))) }
+        (turns_of (turns_given (tapes_of left.now right.now) most machine.old.machine (map path_at order.now)))) }
 {
     for byte in order {
         if machine.count() >= most {

@@ -1,7 +1,7 @@
 //! What a call says beside its text: its status, and how long the whole is.
 //! answering.rt, handing.rt and happening.rt make it, and lathe_c uses it.
 ghost use Rattle.std.specs.Prelude.{◌≡◌};
-ghost use Rattle.lathe_calls.specs.Said.{said};
+ghost use Rattle.lathe_calls.specs.Said.{answer_with};
 
 /// What a call says of what it handed out: the status, as the program's, and how many items the
 /// whole has, also those that found no room.
@@ -17,7 +17,7 @@ pub struct Said {
 impl Said {
     /// There is nothing to hand out, only this status.
     pub(crate) fn nothing(status: u8) -> Said
-        ensures { result ≡ said status 0 }
+        ensures { result ≡ answer_with status 0 }
     {
         Said { status, len: 0 }
     }

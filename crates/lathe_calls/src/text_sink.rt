@@ -1,7 +1,7 @@
 //! A sink that is a text in memory.
 //! For this crate alone: `answer` (answering.rt) has its text written there before it hands it out.
 ghost use Rattle.std.specs.Prelude.{◌≡◌, ◌≢◌, [], ◌++◌, Err, if◌then◌else◌, is_ok};
-ghost use Rattle.lathe_calls.specs.Texts.{written};
+ghost use Rattle.lathe_calls.specs.Texts.{sink_with};
 
 use nc_outside::{PutFault, Sink};
 use std::alloc::Global;
@@ -41,7 +41,7 @@ impl TextSink {
 }
 
 impl Sink for TextSink {
-    ghost state = { written };
+    ghost state = { sink_with };
 
     /// Always 0: out of memory is no fault that is counted.
     fn faults(&self) -> u64 {

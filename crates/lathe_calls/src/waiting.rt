@@ -1,7 +1,7 @@
 //! The meetings of texts that are read for their waits alone.
 //! For this crate alone: answering.rt uses it.
 ghost use Rattle.std.specs.Prelude.{◌<◌, ◌^◌, length};
-ghost use Rattle.open_order.specs.Basis.{seen};
+ghost use Rattle.open_order.specs.Basis.{trust_view};
 ghost use Rattle.wait_verify.specs.Printed.{waits_text};
 ghost use Rattle.lathe_calls.specs.Answers.{Ends, IsJust, tells};
 ghost use Rattle.lathe_calls.specs.Statuses as exit;
@@ -18,7 +18,8 @@ use wait_verify::{WaitPair, push_waits, verdict};
 
 /// Writes the text of a pair that is accepted for its waits.
 fn tell_waits<K: Sink>(alloc: Global, pair: &WaitPair, out: &mut K) -> u8
-    ensures { Ends (IsJust (tells exit.done (waits_text pair.now.labels.one pair.now.labels.two (seen pair.now.trust))))
+    ensures { Ends (IsJust (tells exit.done
+        (waits_text pair.now.labels.one pair.now.labels.two (trust_view pair.now.trust))))
         (K.state out.old) (K.state out.new) result }
 {
     let mut text = Vec::new(alloc);

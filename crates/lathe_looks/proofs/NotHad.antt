@@ -12,12 +12,12 @@ use Rattle.lathe_looks.specs.declared.fetching.FileFault.{FileFault}
 use Rattle.lathe_looks.specs.declared.fetching.Unfetched.{Unfetched}
 use Rattle.lathe_calls.specs.Answers.{Answer}
 use Rattle.lathe_looks.specs.Named.{Named, most_bytes}
-use Rattle.lathe_looks.specs.Fetched.{AreAsked, AreHad, AreSome, AreTexts, FileCause, failed, absent, too_long, IsNotHad, IsOfFiles, not_had, unread, IsText, IsUnfetched, Reaches, file_of, unfetched}
+use Rattle.lathe_looks.specs.Fetched.{AreAsked, AreHad, AreSome, AreTexts, FileCause, failed, absent, too_long, IsNotHad, IsOfFiles, not_had, unread, IsText, IsUnfetched, Reaches, file_of, unfetched_answer}
 
 -- The line of the file that can't be read is due to a command of these files.
 pub unfetched_due : {A : Type 0} {listed : A → List (List ℕ)} {Rests : Type 0} {IsAnswer : A → Answer → Type 0} (files : List Named)
     (old new : ShelfState) (error : Failing Unfetched) → IsUnfetched old new files error → Rests
-    → IsOfFiles listed files Rests IsAnswer old new (unfetched error)
+    → IsOfFiles listed files Rests IsAnswer old new (unfetched_answer error)
 unfetched_due files old new (Fault missing) is rests = not_had is rests
 unfetched_due files old new NoMemory is rests = unread is rests
 

@@ -8,19 +8,19 @@ use Rattle.zone_cell.specs.Zones.{ZonesView, zones_of}
 use Rattle.lathe_calls.specs.Answers.{Ends}
 use Rattle.lathe_calls.proofs.Ended.{ends_by}
 use Rattle.lathe_looks.specs.Fetched.{AreHad, IsOfFiles, answers}
-use Rattle.lathe_looks.specs.Named.{alone, zones_named}
+use Rattle.lathe_looks.specs.Named.{single_text, zones_named}
 use Rattle.lathe_looks.specs.Zoned.{AreZonesOf, IsUnzoned}
 
 -- The zones of the text are those of the file that has it.
-pub zones_read : (old new : ShelfState) (name text : List ℕ) (result : Result ZonesView ℕ) → AreHad old new (zones_named name) (alone text)
+pub zones_read : (old new : ShelfState) (name text : List ℕ) (result : Result ZonesView ℕ) → AreHad old new (zones_named name) (single_text text)
     → IfOk result (λ zones. zones_of text ≡ Ok zones) → IfOk result (λ zones. AreZonesOf old new name zones)
 zones_read old new name text (Ok zones) had are = record { text = text; had = had; are = are }
 zones_read old new name text (Err status) had are = tt
 
 -- What is due to a text of zones that can't be read is due to its file.
 pub zones_unread : (old new : ShelfState) (before after : SinkState) (name text : List ℕ) (result : Result ZonesView ℕ)
-    → AreHad old new (zones_named name) (alone text)
+    → AreHad old new (zones_named name) (single_text text)
     → IfErr result (λ status. Ends (IsUnzoned text) before after status)
-    → IfErr result (λ status. Ends (IsOfFiles alone (zones_named name) (Unit {0}) IsUnzoned old new) before after status)
+    → IfErr result (λ status. Ends (IsOfFiles single_text (zones_named name) (Unit {0}) IsUnzoned old new) before after status)
 zones_unread old new before after name text (Ok zones) had ends = tt
 zones_unread old new before after name text (Err status) had ends = ends_by status (λ answer is. answers text had is) ends

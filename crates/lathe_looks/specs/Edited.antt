@@ -8,7 +8,7 @@ use Rattle.nc_outside.specs.Files.{ShelfState}
 use Rattle.lathe_calls.specs.Answers.{Answer, tells, nothing}
 use Rattle.lathe_calls.specs.Statuses as exit
 use Rattle.lathe_looks.specs.Fetched.{AreHad}
-use Rattle.lathe_looks.specs.Named.{alone, edits_named}
+use Rattle.lathe_looks.specs.Named.{single_text, edits_named}
 
 -- The line of output for a text of edits whose line `line` is refused, as `refused 91 BadEdit line
 -- 2`. The number and the name are those of edit_texts (specs/Faults), and change with them.
@@ -27,6 +27,6 @@ pub record AreEditsOf (old new : ShelfState) (name : List ℕ) (edits : List Pat
   -- the text of the file
   pub text : List ℕ
   -- the shelf has this text, and was asked for the file
-  pub had : AreHad old new (edits_named name) (alone text)
+  pub had : AreHad old new (edits_named name) (single_text text)
   -- the edits of the text are these
   pub are : edits_of text ≡ Ok edits

@@ -4,7 +4,7 @@
 use Rattle.std.specs.Prelude.{◌≡◌, ℕ, List, ◌++◌, codes, Option, Ok, Err}
 use Rattle.nc_number.specs.declared.cause.Cause.{Cause}
 use Rattle.cycle_form.specs.Faults.{fault_name}
-use Rattle.text_pieces.specs.Pieces.{name_text, numbered}
+use Rattle.text_pieces.specs.Pieces.{name_text, text_with_number}
 use Rattle.nc_verify.specs.Printed.{IsCauseOf}
 use Rattle.tape_expand.specs.declared.fault.ExpandFault.{ExpandFault}
 use Rattle.tape_expand.specs.declared.fault.ExpandFault.TheVariants.{Unreadable, Cycle}
@@ -21,12 +21,12 @@ fault_name_text cause (Cycle fault) = codes " " ++ fault_name fault
 
 -- The line of the tape at which it is refused, and the end of the line of output.
 unfoldable pub at_line_text : ℕ → List ℕ
-at_line_text line = numbered (codes " line ") line ++ codes "\n"
+at_line_text line = text_with_number (codes " line ") line ++ codes "\n"
 
 -- A refusal as a line of output, as `refused 93 BadCycle line 5`.
 unfoldable pub refusal_text : Option Cause → ExpandFault → List ℕ
 refusal_text cause fault =
-    numbered (codes "refused ") (expand_number fault) ++ (fault_name_text cause fault ++ at_line_text (expand_line fault))
+    text_with_number (codes "refused ") (expand_number fault) ++ (fault_name_text cause fault ++ at_line_text (expand_line fault))
 
 -- This text is the line of the refusal, with the name of the cause that has its number.
 abbrev pub IsRefusalText : ExpandFault → List ℕ → Type 0

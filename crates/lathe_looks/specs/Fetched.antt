@@ -10,7 +10,7 @@ use Rattle.lathe_looks.specs.declared.fetching.FileFault.{FileFault}
 use Rattle.lathe_looks.specs.declared.fetching.FileFault.TheVariants.{Failed, Absent, TooLong}
 use Rattle.lathe_looks.specs.declared.fetching.Unfetched.{Unfetched}
 use Rattle.lathe_calls.specs.Answers.{Answer, tells, nothing}
-use Rattle.lathe_looks.specs.Named.{Named, named, most_bytes}
+use Rattle.lathe_looks.specs.Named.{Named, named_file, most_bytes}
 use Rattle.lathe_calls.specs.Statuses as exit
 
 -- The shelf has this text under the name of the file, and it is not too long for its kind.
@@ -69,7 +69,7 @@ AreSome old new files = (n : ℕ) × AreAsked old.asked new.asked (take n files)
 
 -- The file that the code could not read, as clauses see it.
 abbrev pub file_of : Unfetched → Named
-file_of unfetched = named unfetched.file unfetched.name.now
+file_of unfetched = named_file unfetched.file unfetched.name.now
 
 -- The exit status for a file that can't be read.
 abbrev pub fault_status : FileFault → ℕ
@@ -90,9 +90,9 @@ IsUnfetched old new files NoMemory = AreSome old new files
 
 -- The answer if the files can't be read: the status and line of the file, or no text if memory ran
 -- out.
-abbrev pub unfetched : Failing Unfetched → Answer
-unfetched (Fault missing) = tells (fault_status missing.fault) (fault_text missing.name.now missing.fault)
-unfetched NoMemory = nothing
+abbrev pub unfetched_answer : Failing Unfetched → Answer
+unfetched_answer (Fault missing) = tells (fault_status missing.fault) (fault_text missing.name.now missing.fault)
+unfetched_answer NoMemory = nothing
 
 -- What a command of these files answers: about its first file that can't be read, if `Rests` holds
 -- besides; or its answer over their texts. `listed` lists the texts in the order of the files.

@@ -16,8 +16,8 @@ pub record Named : Type 0 where
   pub name : List ℕ
 
 -- A file of this kind and name.
-abbrev pub named : CommandFile → List ℕ → Named
-named file name = record { file = file; name = name }
+abbrev pub named_file : CommandFile → List ℕ → Named
+named_file file name = record { file = file; name = name }
 
 -- The most bytes that a file of this kind may have.
 abbrev pub most_bytes : CommandFile → ℕ
@@ -30,28 +30,28 @@ most_bytes Edits = LONGEST_SETTINGS
 
 -- The files of both tapes, that of path 1 first.
 abbrev pub tapes_of : List ℕ → List ℕ → List Named
-tapes_of left right = named Left left ∷ named Right right ∷ []
+tapes_of left right = named_file Left left ∷ named_file Right right ∷ []
 
 -- The files of a pair of tapes and the settings, in the order in which they are read.
 abbrev pub files_of : List ℕ → List ℕ → List ℕ → List Named
-files_of left right settings = named Left left ∷ named Right right ∷ named Settings settings ∷ []
+files_of left right settings = named_file Left left ∷ named_file Right right ∷ named_file Settings settings ∷ []
 
 -- The one file of `expand`.
 abbrev pub tape_named : List ℕ → List Named
-tape_named name = named Tape name ∷ []
+tape_named name = named_file Tape name ∷ []
 
 -- The one file of `zones`.
 abbrev pub zones_named : List ℕ → List Named
-zones_named name = named Zones name ∷ []
+zones_named name = named_file Zones name ∷ []
 
 -- The one file of `edit`.
 abbrev pub edits_named : List ℕ → List Named
-edits_named name = named Edits name ∷ []
+edits_named name = named_file Edits name ∷ []
 
 -- The texts of a pair, in the order of its files.
-abbrev pub listed : Texts → List (List ℕ)
-listed texts = texts.left ∷ texts.right ∷ texts.settings ∷ []
+abbrev pub text_list : Texts → List (List ℕ)
+text_list texts = texts.left ∷ texts.right ∷ texts.settings ∷ []
 
 -- The list of one text.
-abbrev pub alone : List ℕ → List (List ℕ)
-alone text = text ∷ []
+abbrev pub single_text : List ℕ → List (List ℕ)
+single_text text = text ∷ []

@@ -1,6 +1,6 @@
 -- What a command answers that shows the run whose journal is on a disk (`moves`, `state`, `zones`),
 -- or why there is none.
--- lathe_top cites it, and takes `unfound` also for `resume`, `branch` and `edit`.
+-- lathe_top cites it, and takes `unfound_answer` also for `resume`, `branch` and `edit`.
 use Rattle.std.specs.Prelude.{ℕ, List, ◌++◌, codes, decimal, Ok, Err}
 use Rattle.disk_model.specs.Device.{DiskState}
 use Rattle.nc_restart.specs.declared.fault.RestartFault.{RestartFault}
@@ -23,12 +23,12 @@ bad_text offset = codes "bad journal" ++ (codes " at " ++ (decimal offset ++ cod
 
 -- The answer if no run is found: the disk failed, there is no run, or the journal is damaged; no
 -- text if memory ran out.
-abbrev pub unfound : RestartFault → Answer
-unfound restart.DiskFault = tells exit.disk_fault (codes "disk fault\n")
-unfound restart.NoRun = tells exit.run_or_none (codes "no run\n")
-unfound (restart.Cut at) = tells exit.bad_journal (bad_text at)
-unfound (restart.BadRecord offset cause) = tells exit.bad_journal (bad_text offset)
-unfound restart.NoMemory = nothing
+abbrev pub unfound_answer : RestartFault → Answer
+unfound_answer restart.DiskFault = tells exit.disk_fault (codes "disk fault\n")
+unfound_answer restart.NoRun = tells exit.run_or_none (codes "no run\n")
+unfound_answer (restart.Cut at) = tells exit.bad_journal (bad_text at)
+unfound_answer (restart.BadRecord offset cause) = tells exit.bad_journal (bad_text offset)
+unfound_answer restart.NoMemory = nothing
 
 -- The text that is shown of a history: its report, or the state of its machine.
 abbrev pub shown_text : Showing → Verified → List Entry → List ℕ
@@ -39,7 +39,7 @@ shown_text State = state_of
 -- none is found, or that text. It writes nothing to the disk.
 pub data IsShown (text_of : Verified → List Entry → List ℕ) (old new : DiskState) : Answer → Type 0 where
   -- no run is found
-  unshown : (fault : RestartFault) → Recovers old new (Err fault) → IsShown text_of old new (unfound fault)
+  unshown : (fault : RestartFault) → Recovers old new (Err fault) → IsShown text_of old new (unfound_answer fault)
   -- the text of the history that is found
   shown : (found : FoundRun) (pair : Verified) → IsPairOf (texts_of found.header) pair → IsHistory pair found.entries
       → Recovers old new (Ok found) → IsShown text_of old new (tells exit.done (text_of pair found.entries))

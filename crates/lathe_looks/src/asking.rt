@@ -6,7 +6,7 @@ ghost use Rattle.lathe_calls.specs.Answers.{Ends};
 ghost use Rattle.lathe_calls.specs.Due.{IsDueTo};
 ghost use Rattle.lathe_calls.specs.Texts.{texts_of as lent_texts};
 ghost use Rattle.lathe_looks.specs.Fetched.{IsOfFiles};
-ghost use Rattle.lathe_looks.specs.Named.{listed};
+ghost use Rattle.lathe_looks.specs.Named.{text_list};
 ghost use Rattle.lathe_looks.specs.Texts.{files_in, texts_of};
 
 use crate::fetching::{Texts, fetch_texts, tell_unfetched};
@@ -25,7 +25,7 @@ pub fn ask<H: Shelf, K: Sink>(
     shelf: &mut H,
     out: &mut K,
 ) -> u8
-    ensures { Ends (IsOfFiles listed (files_in names.now) (Unit {0}) (IsDueTo question)
+    ensures { Ends (IsOfFiles text_list (files_in names.now) (Unit {0}) (IsDueTo question)
         (H.state shelf.old) (H.state shelf.new)) (K.state out.old) (K.state out.new) result }
 {
     match fetch_texts(alloc, shelf, names) {

@@ -5,9 +5,9 @@ ghost use Rattle.std.specs.Prelude.{◌≡◌, ◌≤◌, ◌<◌, ◌^◌, [], 
 ghost use Rattle.block_order.specs.Answers.{IfFault};
 ghost use Rattle.nc_outside.specs.Files.{HoldsOn};
 ghost use Rattle.lathe_calls.specs.Answers.{Ends, IsJust, tells};
-ghost use Rattle.lathe_looks.specs.Named.{alone, edits_named, listed, named, tape_named, zones_named};
+ghost use Rattle.lathe_looks.specs.Named.{single_text, edits_named, text_list, named_file, tape_named, zones_named};
 ghost use Rattle.lathe_looks.specs.Texts.{files_in, tape_files, texts_of};
-ghost use Rattle.lathe_looks.specs.Fetched.{AreAsked, AreHad, FileCause, IsText, IsUnfetched, fault_status, fault_text, file_of, unfetched};
+ghost use Rattle.lathe_looks.specs.Fetched.{AreAsked, AreHad, FileCause, IsText, IsUnfetched, fault_status, fault_text, file_of, unfetched_answer};
 
 use crate::files::{CommandFile, FileNames};
 use lathe_calls::{Status, write_text};
@@ -54,11 +54,11 @@ fn fetch<'a, H: Shelf>(
     file: CommandFile,
     name: &'a str,
 ) -> Result<Vec<u8>, Failing<Unfetched<'a>>>
-    ensures text { IfOk result (λ text. IsText (H.state shelf.old).files (named file name.now) text.items) }
-    ensures not_had { IfErr result (λ error. IfFault error (λ unfetched. (file_of unfetched ≡ named file name.now)
-        × FileCause (H.state shelf.old) (H.state shelf.new) (named file name.now) unfetched.fault)) }
+    ensures text { IfOk result (λ text. IsText (H.state shelf.old).files (named_file file name.now) text.items) }
+    ensures not_had { IfErr result (λ error. IfFault error (λ unfetched. (file_of unfetched ≡ named_file file name.now)
+        × FileCause (H.state shelf.old) (H.state shelf.new) (named_file file name.now) unfetched.fault)) }
     ensures files { HoldsOn (H.state shelf.old) (H.state shelf.new) }
-    ensures asked { AreAsked (H.state shelf.old).asked (H.state shelf.new).asked (named file name.now ∷ []) }
+    ensures asked { AreAsked (H.state shelf.old).asked (H.state shelf.new).asked (named_file file name.now ∷ []) }
     ensures later { (H.state shelf.old).faults ≤ (H.state shelf.new).faults }
 {
     let mut text = Vec::new(alloc);
@@ -73,7 +73,7 @@ fn fetch<'a, H: Shelf>(
 
 /// The error for a file that can't be read.
 fn not_had(file: CommandFile, name: &str, fault: FileFault) -> Failing<Unfetched<'_>>
-    ensures { IfFault result (λ unfetched. (file_of unfetched ≡ named file name.now) × (unfetched.fault ≡ fault)) }
+    ensures { IfFault result (λ unfetched. (file_of unfetched ≡ named_file file name.now) × (unfetched.fault ≡ fault)) }
 {
     Failing::Fault(Unfetched { file, name, fault })
 }
@@ -110,7 +110,7 @@ pub fn fetch_texts<'a, H: Shelf>(
     names: &FileNames<'a>,
 ) -> Result<Texts, Failing<Unfetched<'a>>>
     ensures texts { IfOk result (λ texts. AreHad (H.state shelf.old) (H.state shelf.new) (files_in names.now)
-        (listed (texts_of texts))) }
+        (text_list (texts_of texts))) }
     ensures not_had { IfErr result (IsUnfetched (H.state shelf.old) (H.state shelf.new) (files_in names.now)) }
 {
     let tapes = match fetch_tapes(alloc, shelf, &names.tapes) {
@@ -130,7 +130,7 @@ pub(crate) fn fetch_tape<'a, H: Shelf>(
     name: &'a str,
 ) -> Result<Vec<u8>, Failing<Unfetched<'a>>>
     ensures text { IfOk result (λ text. AreHad (H.state shelf.old) (H.state shelf.new)
-        (tape_named name.now) (alone text.items)) }
+        (tape_named name.now) (single_text text.items)) }
     ensures not_had { IfErr result (IsUnfetched (H.state shelf.old) (H.state shelf.new) (tape_named name.now)) }
 {
     match fetch(alloc, shelf, CommandFile::Tape, name) {
@@ -146,7 +146,7 @@ pub(crate) fn fetch_zones<'a, H: Shelf>(
     name: &'a str,
 ) -> Result<Vec<u8>, Failing<Unfetched<'a>>>
     ensures text { IfOk result (λ text. AreHad (H.state shelf.old) (H.state shelf.new)
-        (zones_named name.now) (alone text.items)) }
+        (zones_named name.now) (single_text text.items)) }
     ensures short { IfOk result (λ text. length text.items < 2 ^ 32) }
     ensures not_had { IfErr result (IsUnfetched (H.state shelf.old) (H.state shelf.new) (zones_named name.now)) }
 {
@@ -163,7 +163,7 @@ pub(crate) fn fetch_edits<'a, H: Shelf>(
     name: &'a str,
 ) -> Result<Vec<u8>, Failing<Unfetched<'a>>>
     ensures text { IfOk result (λ text. AreHad (H.state shelf.old) (H.state shelf.new)
-        (edits_named name.now) (alone text.items)) }
+        (edits_named name.now) (single_text text.items)) }
     ensures short { IfOk result (λ text. length text.items < 2 ^ 32) }
     ensures not_had { IfErr result (IsUnfetched (H.state shelf.old) (H.state shelf.new) (edits_named name.now)) }
 {
@@ -176,7 +176,7 @@ pub(crate) fn fetch_edits<'a, H: Shelf>(
 /// Writes the line for a file that can't be read, and gives the exit status; if memory ran out,
 /// nothing is written.
 pub fn tell_unfetched<K: Sink>(alloc: Global, error: &Failing<Unfetched<'_>>, out: &mut K) -> u8
-    ensures { Ends (IsJust (unfetched error.now)) (K.state out.old) (K.state out.new) result }
+    ensures { Ends (IsJust (unfetched_answer error.now)) (K.state out.old) (K.state out.new) result }
 {
     match error {
         Failing::Fault(missing) => tell_fault(alloc, missing, out),

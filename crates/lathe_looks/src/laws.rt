@@ -6,7 +6,7 @@ ghost use Rattle.nc_outside.specs.Files.{Files, ShelfState};
 ghost use Rattle.nc_verify.specs.Verdict.{Texts};
 ghost use Rattle.lathe_calls.specs.Answers.{Answer, nothing};
 ghost use Rattle.lathe_looks.specs.Fetched.{AreTexts, IsOfFiles};
-ghost use Rattle.lathe_looks.specs.Named.{files_of, listed};
+ghost use Rattle.lathe_looks.specs.Named.{files_of, text_list};
 ghost use Rattle.lathe_calls.specs.declared.question.Question.{Question};
 ghost use Rattle.lathe_calls.specs.Due.{IsDueTo};
 
@@ -17,7 +17,7 @@ ghost use Rattle.lathe_calls.specs.Due.{IsDueTo};
 pub fn the_program_answers_what_the_library_answers()
     ensures { (files : Files) (old new : ShelfState) (left right settings : List ℕ) (texts : Texts)
         → (question : Question) (answer : Answer) → old.files ≡ Some files → (Rose old.faults new.faults → ⊥)
-        → AreTexts (Some files) (files_of left right settings) (listed texts)
-        → IsOfFiles listed (files_of left right settings) (Unit {0}) (IsDueTo question) old new answer
+        → AreTexts (Some files) (files_of left right settings) (text_list texts)
+        → IsOfFiles text_list (files_of left right settings) (Unit {0}) (IsDueTo question) old new answer
         → (answer ≡ nothing) ⊎ IsDueTo question texts answer }
 {}

@@ -4,7 +4,7 @@
 //! that are no command.
 ghost use Rattle.std.specs.Prelude.{◌≡◌, codes};
 ghost use Rattle.lathe_calls.specs.Answers.{Ends, IsJust, tells};
-ghost use Rattle.lathe_looks.specs.Shown.{bad_text, unfound};
+ghost use Rattle.lathe_looks.specs.Shown.{bad_text, unfound_answer};
 ghost use Rattle.lathe_calls.specs.Statuses as exit;
 
 use lathe_calls::{Status, write_text};
@@ -21,7 +21,7 @@ pub fn tell_usage<K: Sink>(out: &mut K) -> u8
 
 /// Writes why no run was found, and gives the exit status; if memory ran out, nothing is written.
 pub fn tell_unfound<K: Sink>(fault: RestartFault, out: &mut K) -> u8
-    ensures { Ends (IsJust (unfound fault)) (K.state out.old) (K.state out.new) result }
+    ensures { Ends (IsJust (unfound_answer fault)) (K.state out.old) (K.state out.new) result }
 {
     match fault {
         RestartFault::DiskFault => write_text(out, b"disk fault\n", Status::DiskFault as u8),

@@ -18,13 +18,13 @@ use Rattle.run_branch.specs.Branches.{Branches, IsBranch, IsBranching, IsNoMeeti
 use Rattle.run_branch.specs.Meetings.{meetings}
 use Rattle.lathe_calls.specs.Answers.{Answer, tells}
 use Rattle.lathe_calls.specs.Statuses as exit
-use Rattle.lathe_top.specs.Branched.{IsBranched, branched, IsBranchOf, no_meeting, made, run_seen, failed, unmade, IsWhileBranching, KeepsBranch, StandsForBranch, branched_text, unbranched}
+use Rattle.lathe_top.specs.Branched.{IsBranched, branched, IsBranchOf, no_meeting, made, run_seen, failed, unmade, IsWhileBranching, KeepsBranch, StandsForBranch, branched_text, unbranched_answer}
 use Rattle.lathe_top.proofs.StopsLeave.{NeverBad}
 
 -- what is told of a branch, by what crate run_branch answered
 abbrev told_by : ℕ → Result ℕ BranchFault → Answer
 told_by n (Ok k) = tells exit.done (branched_text n k)
-told_by n (Err f) = unbranched f
+told_by n (Err f) = unbranched_answer f
 
 -- a number that is not below another is at least as great
 no_less : (a b : ℕ) → (a < b → ⊥) → b ≤ a
@@ -100,5 +100,5 @@ module _ {D E : Type 0} (state : D → DiskState) (second : E → DiskState) (ne
 
   -- a branch that is not made is told with its cause
   pub unmade_due : (f : BranchFault) → Branches second header entries n onto left (Err f)
-      → IsBranched second n a (state log.file.disk) onto left (unbranched f)
+      → IsBranched second n a (state log.file.disk) onto left (unbranched_answer f)
   unmade_due f does = branched run pair is.accepted is.behind.history recovers (of_run (Err f) does)

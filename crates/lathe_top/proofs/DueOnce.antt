@@ -60,7 +60,7 @@ use Rattle.lathe_looks.specs.Expanded.{IsExpanded, refusal_text}
 use Rattle.lathe_looks.specs.Fetched.{AreTexts, FileCause, IsOfFiles, not_had, unread, answers, fault_status, fault_text}
 use Rattle.lathe_calls.specs.Judged as judged
 use Rattle.lathe_calls.specs.Judged.{IsJudged}
-use Rattle.lathe_looks.specs.Named.{Named, alone, edits_named, files_of, listed, tape_named, zones_named}
+use Rattle.lathe_looks.specs.Named.{Named, single_text, edits_named, files_of, text_list, tape_named, zones_named}
 use Rattle.edit_texts.specs.declared.edit_list.PathEdit.{PathEdit}
 use Rattle.lathe_looks.specs.Edited.{bad_edit_text}
 use Rattle.lathe_top.specs.Branched as branch
@@ -73,7 +73,7 @@ use Rattle.lathe_looks.specs.Zoned.{bad_zone_text, zones_text}
 use Rattle.zone_cell.specs.Zones.{ZonesView}
 use Rattle.lathe_top.specs.Zoned.{IsZoned, bad_zones, unread_zones, zoned}
 use Rattle.lathe_top.proofs.ZonesDue.{zones_hang}
-use Rattle.lathe_looks.specs.Shown.{IsShown, shown, unshown, unfound, bad_text, shown_text}
+use Rattle.lathe_looks.specs.Shown.{IsShown, shown, unshown, unfound_answer, bad_text, shown_text}
 use Rattle.lathe_calls.specs.Reported.{report_of}
 use Rattle.lathe_looks.specs.Standing.{are_finished, is_over, reason_of}
 use Rattle.open_order.specs.declared.outside.Outside.{Outside}
@@ -82,7 +82,7 @@ use Rattle.wait_verify.specs.Verdict as waits
 use Rattle.wait_verify.specs.Verdict.{Judged}
 use Rattle.lathe_calls.specs.Due as due
 use Rattle.lathe_calls.specs.Due.{IsOfPair}
-use Rattle.lathe_calls.specs.Races.{AreRacesOf}
+use Rattle.lathe_calls.specs.Races.{IsRaceAnswer}
 use Rattle.lathe_calls.specs.Waited as waited
 use Rattle.lathe_calls.specs.Waited.{AreWaits, asked_of}
 use Rattle.lathe_top.specs.Outside.{outside_in}
@@ -97,7 +97,7 @@ use Rattle.lathe_top.specs.Session.{Session, EndsBy, over, full, stopped, disk_f
 use Rattle.lathe_top.specs.Kept.{Editing, Opening, HadNoRun, IsRefusedBeginning, KeepsSession, RestsWhole}
 use Rattle.lathe_top.specs.Kinds.{kind_of, named_by}
 use Rattle.lathe_top.specs.Ran as run
-use Rattle.lathe_top.specs.Ran.{TextOf, IsRun, IsReported, reported, IsResumed, unbegun}
+use Rattle.lathe_top.specs.Ran.{TextOf, IsRun, IsReported, reported, IsResumed, unbegun_answer}
 use Rattle.lathe_top.specs.Done as done
 use Rattle.lathe_top.specs.Done.{Call, command_of, IsDue, IsDueTo, Serves, ServesFiles, ServesKind}
 use Rattle.lathe_top.proofs.Agreed.{Agree, agree_nothing}
@@ -157,7 +157,7 @@ judged_once law one texts a b (judged.refused is v) judged.unjudged = tt
 judged_once law one texts a b judged.unjudged other = tt
 
 -- texts that are one list are the same
-same_texts : (texts others : Texts) → listed texts ≡ listed others → texts ≡ others
+same_texts : (texts others : Texts) → text_list texts ≡ text_list others → texts ≡ others
 same_texts texts others same =
     let left : texts.left ≡ others.left = cc in
     let right : texts.right ≡ others.right = cc in
@@ -223,7 +223,7 @@ traced_once law once machine run limit texts a b (traced.refused denied v) trace
 traced_once law once machine run limit texts a b traced.untraced other = tt
 
 -- one answer of `races` is due to three texts
-races_once : NotBoth → OneRefusal → OneMachine → (texts : Texts) (a b : Answer) → IsOfPair AreRacesOf texts a → IsOfPair AreRacesOf texts b → Agree a b
+races_once : NotBoth → OneRefusal → OneMachine → (texts : Texts) (a b : Answer) → IsOfPair IsRaceAnswer texts a → IsOfPair IsRaceAnswer texts b → Agree a b
 races_once law once machine texts a b (due.accepted pair is one) (due.accepted other is' two) =
     races_of_once pair other a b (machine texts pair other is is') one two
 races_once law once machine texts a b (due.accepted pair is one) (due.refused {refusal} denied w) =
@@ -262,7 +262,7 @@ files_once {A} list_of by_list told files Rests IsAnswer old new holds calm once
     once texts' a b (subst (λ (x : A). IsAnswer x a) (by_list texts texts' same) from) from'
 
 -- texts that are one list of one are the same
-same_text : (text other : List ℕ) → alone text ≡ alone other → text ≡ other
+same_text : (text other : List ℕ) → single_text text ≡ single_text other → text ≡ other
 same_text text other same = cc
 
 -- one answer of `expand` is due to a text
@@ -375,7 +375,7 @@ pairs_same one_machine header other pair pair' same is also =
 -- two answers over one disk that made its bytes known and did not fail
 module _ (one_run : OneRun) (one_machine : OneMachine) (old new : DiskState) (bytes : List ℕ) (holds : Reads old bytes) (calm : DiskRose old.faults new.faults → ⊥) where
   -- two answers for which no run is found agree
-  unfound_once : (f g : RestartFault) → Recovers old new (Err f) → Recovers old new (Err g) → Agree (unfound f) (unfound g)
+  unfound_once : (f g : RestartFault) → Recovers old new (Err f) → Recovers old new (Err g) → Agree (unfound_answer f) (unfound_answer g)
   unfound_once restart.DiskFault g one two = absurd (calm one.refused)
   unfound_once restart.NoMemory g one two = tt
   unfound_once restart.NoRun restart.DiskFault one two = absurd (calm two.refused)
@@ -406,7 +406,7 @@ module _ (one_run : OneRun) (one_machine : OneMachine) (old new : DiskState) (by
 
   -- if a run is found, the answer that none is found is `nothing`
   none_found : (f : RestartFault) (header : Header) (entries : List Entry) → Recovers old new (Err f) → StandsForRun (a_run header entries) bytes
-      → unfound f ≡ nothing
+      → unfound_answer f ≡ nothing
   none_found restart.DiskFault header entries one stands = absurd (calm one.refused)
   none_found restart.NoRun header entries one stands =
       let e = one_run bytes no_run (a_run header entries) (one.refused.1 bytes holds) stands in absurd (cc)
@@ -523,7 +523,7 @@ module _ {D : Type 0} (state : D → DiskState) (both : NotBoth) (one_refusal : 
 
   -- if no journal is begun, one cause is told
   unbegun_once : (texts : Texts) (f g : GateFault) → IsRefusedBeginning texts f old.disk new.disk → IsRefusedBeginning texts g old.disk new.disk
-      → Agree (unbegun f) (unbegun g)
+      → Agree (unbegun_answer f) (unbegun_answer g)
   unbegun_once texts gate.DiskFault g one two = absurd (calm one.begins.refused)
   unbegun_once texts gate.NoRun g one two = tt
   unbegun_once texts (gate.Cut at) g one two = tt
@@ -535,7 +535,7 @@ module _ {D : Type 0} (state : D → DiskState) (both : NotBoth) (one_refusal : 
   unbegun_once texts gate.RunThere gate.NoMemory one two = tt
 
   -- if the disk had no run, the answer that there is one is not due
-  none_there : (texts : Texts) (f : GateFault) → IsRefusedBeginning texts f old.disk new.disk → HadNoRun old.disk → unbegun f ≡ nothing
+  none_there : (texts : Texts) (f : GateFault) → IsRefusedBeginning texts f old.disk new.disk → HadNoRun old.disk → unbegun_answer f ≡ nothing
   none_there texts gate.DiskFault one had = absurd (calm one.begins.refused)
   none_there texts gate.NoRun one had = refl
   none_there texts (gate.Cut at) one had = refl
@@ -602,7 +602,7 @@ module _ (one_run : OneRun) (one_machine : OneMachine) (old new : LatheState) (b
 module _ (one_run : OneRun) (one_machine : OneMachine) (old new : LatheState) (bytes : List ℕ) (holds : Reads old.disk bytes)
     (calm : DiskRose old.disk.faults new.disk.faults → ⊥) where
   -- if edits are answered in a run, the answer that no run is found is `nothing`
-  edits_there : (f : RestartFault) (e : Editing) (b : Answer) → Recovers old.disk new.disk (Err f) → IsEditOf e old.disk new.disk b → unfound f ≡ nothing
+  edits_there : (f : RestartFault) (e : Editing) (b : Answer) → Recovers old.disk new.disk (Err f) → IsEditOf e old.disk new.disk b → unfound_answer f ≡ nothing
   edits_there f e b one is =
       none_found one_run one_machine old.disk new.disk bytes holds calm f e.header e.found one (found_there e old.disk new.disk b is bytes holds)
 
@@ -647,18 +647,18 @@ module _ {D E : Type 0} (state : D → DiskState) (second : E → DiskState) (bo
   due_to_once : (asked : Command) (a b : Answer) → ServesFiles (named_by (Some asked)) call → ServesKind second (kind_of (Some asked)) call
       → IsDueTo state second asked call.before call.after a → IsDueTo state second asked call.before call.after b → Agree a b
   due_to_once (command.Verify l r c) a b files others one two =
-      files_once listed same_texts files.0.0 (files_of l r c) (Unit {0}) IsJudged call.before.shelf call.after.shelf files.0.1 files.1 (judged_once both one_refusal) a b one.0 two.0
+      files_once text_list same_texts files.0.0 (files_of l r c) (Unit {0}) IsJudged call.before.shelf call.after.shelf files.0.1 files.1 (judged_once both one_refusal) a b one.0 two.0
   due_to_once (command.Waits l r c o) a b files others one two =
-      files_once listed same_texts files.0.0 (files_of l r c) (Unit {0}) (AreWaits (outside_in o)) call.before.shelf call.after.shelf files.0.1 files.1
+      files_once text_list same_texts files.0.0 (files_of l r c) (Unit {0}) (AreWaits (outside_in o)) call.before.shelf call.after.shelf files.0.1 files.1
       (waits_once waits_apart one_wait_refusal (outside_in o)) a b one.0 two.0
   due_to_once (command.Races l r c) a b files others one two =
-      files_once listed same_texts files.0.0 (files_of l r c) (Unit {0}) (IsOfPair AreRacesOf) call.before.shelf call.after.shelf files.0.1 files.1
+      files_once text_list same_texts files.0.0 (files_of l r c) (Unit {0}) (IsOfPair IsRaceAnswer) call.before.shelf call.after.shelf files.0.1 files.1
       (races_once both one_refusal one_machine) a b one.0 two.0
   due_to_once (command.Trace l r c n) a b files others one two =
-      files_once listed same_texts files.0.0 (files_of l r c) (Unit {0}) (IsTraced n) call.before.shelf call.after.shelf files.0.1 files.1
+      files_once text_list same_texts files.0.0 (files_of l r c) (Unit {0}) (IsTraced n) call.before.shelf call.after.shelf files.0.1 files.1
       (traced_once both one_refusal one_machine in_turn n) a b one.0 two.0
   due_to_once (command.Run l r c n turrets) a b files others one two =
-      files_once listed same_texts files.0.0 (files_of l r c) (RestsWhole call.before.lathe call.after.lathe)
+      files_once text_list same_texts files.0.0 (files_of l r c) (RestsWhole call.before.lathe call.after.lathe)
       (λ texts. IsRun state n report_of texts call.before.lathe call.after.lathe) call.before.shelf call.after.shelf files.0.1 files.1
       (run_once state both one_refusal one_run one_journal one_machine call.before.lathe call.after.lathe coherent others.0.bytes others.0.tells others.0.calm
       others.1 n report_of report_hangs)
@@ -667,7 +667,7 @@ module _ {D E : Type 0} (state : D → DiskState) (second : E → DiskState) (bo
       resumed_once state both one_refusal one_run one_journal one_machine call.before.lathe call.after.lathe coherent others.0.bytes others.0.tells others.0.calm
       others.1 n a b one.0 two.0
   due_to_once (command.Edit name) a b files others one two =
-      files_once alone same_text files.0.0 (edits_named name) (RestsWhole call.before.lathe call.after.lathe) (IsEdited call.before.lathe call.after.lathe)
+      files_once single_text same_text files.0.0 (edits_named name) (RestsWhole call.before.lathe call.after.lathe) (IsEdited call.before.lathe call.after.lathe)
       call.before.shelf call.after.shelf files.0.1 files.1
       (edited_once one_run one_machine call.before.lathe call.after.lathe others.bytes others.tells others.calm) a b one two
   due_to_once command.Moves a b files others one two =
@@ -678,14 +678,14 @@ module _ {D E : Type 0} (state : D → DiskState) (second : E → DiskState) (bo
       run_once state both one_refusal one_run one_journal one_machine call.before.lathe call.after.lathe coherent others.0.bytes others.0.tells others.0.calm
       others.1 made_limit (made_text n) (made_hangs n) (made_texts n) a b one.0 two.0
   due_to_once (command.Zones name) a b files others one two =
-      files_once alone same_text files.0.0 (zones_named name) (RestsWhole call.before.lathe call.after.lathe) (IsZoned call.before.lathe call.after.lathe)
+      files_once single_text same_text files.0.0 (zones_named name) (RestsWhole call.before.lathe call.after.lathe) (IsZoned call.before.lathe call.after.lathe)
       call.before.shelf call.after.shelf files.0.1 files.1
       (zoned_once one_run one_machine call.before.lathe call.after.lathe others.bytes others.tells others.calm) a b one two
   due_to_once (command.Branch n) a b files others one two =
       branched_once one_run one_machine call.before.lathe.disk call.after.lathe.disk others.0.bytes others.0.tells others.0.calm second n
       call.before.second call.after.second others.1.bytes others.1.tells others.1.calm a b one.0 two.0
   due_to_once (command.Expand tape) a b files others one two =
-      files_once alone same_text files.0.0 (tape_named tape) (Unit {0}) IsExpanded call.before.shelf call.after.shelf files.0.1 files.1 expanded_once
+      files_once single_text same_text files.0.0 (tape_named tape) (Unit {0}) IsExpanded call.before.shelf call.after.shelf files.0.1 files.1 expanded_once
       a b one.0 two.0
 
   -- one answer is due to a call, if the outside tells what it holds and did not fail

@@ -24,9 +24,9 @@ use Rattle.nc_restart.specs.declared.fault.RestartFault.TheVariants as restart
 use Rattle.nc_restart.specs.Recovered.{FoundRun, Recovers}
 use Rattle.lathe_calls.specs.Answers.{Answer}
 use Rattle.lathe_looks.specs.Fetched.{IsOfFiles, not_had, unread, answers}
-use Rattle.lathe_looks.specs.Named.{Named, alone, edits_named, listed, zones_named}
+use Rattle.lathe_looks.specs.Named.{Named, single_text, edits_named, text_list, zones_named}
 use Rattle.edit_texts.specs.declared.edit_list.PathEdit.{PathEdit}
-use Rattle.lathe_looks.specs.Shown.{IsShown, shown, unshown, unfound}
+use Rattle.lathe_looks.specs.Shown.{IsShown, shown, unshown, unfound_answer}
 use Rattle.lathe_calls.specs.Statuses as exit
 use Rattle.lathe_top.specs.Done as done
 use Rattle.lathe_top.specs.Branched as branch
@@ -38,7 +38,7 @@ use Rattle.lathe_top.specs.Kinds.{kind_of}
 use Rattle.lathe_top.specs.Kept.{Editing, Opening, IsRefusedBeginning, RestsWhole}
 use Rattle.lathe_top.specs.Lathe.{LatheState, AreAtRest}
 use Rattle.lathe_top.specs.Ran as run
-use Rattle.lathe_top.specs.Ran.{TextOf, IsRun, IsReported, reported, unprepared, IsResumed, not_found, resumed, unbegun}
+use Rattle.lathe_top.specs.Ran.{TextOf, IsRun, IsReported, reported, unprepared, IsResumed, not_found, resumed, unbegun_answer}
 use Rattle.lathe_calls.specs.Statuses.{reason_status}
 use Rattle.lathe_top.specs.Session.{Session, NoneFailed, EndsBy, over, full, stopped, disk_failed, turret_failed}
 use Rattle.lathe_top.specs.Zoned.{IsZoned, bad_zones, unread_zones, zoned}
@@ -62,7 +62,7 @@ module _ {D : Type 0} (state : D → DiskState) (wanted : ℕ) (old new : LatheS
   not_rested rests = not_calm rests.turrets rests.disk.faults
 
   -- an answer that no run is found has the wanted status
-  unfound_first : (f : RestartFault) → Recovers old.disk new.disk (Err f) → AreAtRest old new → HasStatus wanted (unfound f)
+  unfound_first : (f : RestartFault) → Recovers old.disk new.disk (Err f) → AreAtRest old new → HasStatus wanted (unfound_answer f)
   unfound_first restart.DiskFault r rest = of_disk r.refused
   unfound_first restart.NoRun r rest = absurd (not_calm rest (r.calm (λ is. absurd cc)))
   unfound_first (restart.Cut at) r rest = absurd (not_calm rest (r.calm (λ is. absurd cc)))
@@ -75,7 +75,7 @@ module _ {D : Type 0} (state : D → DiskState) (wanted : ℕ) (old new : LatheS
   shown_first text_of a (shown found pair is history r) rest = absurd (not_calm rest (r.calm (λ fault. fault)))
 
   -- an answer that no journal is begun has the wanted status
-  unbegun_first : (texts : Texts) (f : GateFault) → IsRefusedBeginning texts f old.disk new.disk → AreAtRest old new → HasStatus wanted (unbegun f)
+  unbegun_first : (texts : Texts) (f : GateFault) → IsRefusedBeginning texts f old.disk new.disk → AreAtRest old new → HasStatus wanted (unbegun_answer f)
   unbegun_first texts gate.DiskFault r rest = of_disk r.begins.refused
   unbegun_first texts gate.RunThere r rest = absurd (not_calm rest (r.begins.calm (λ is. absurd cc)))
   unbegun_first texts gate.NoRun r rest = tt
@@ -110,7 +110,7 @@ module _ {D : Type 0} (state : D → DiskState) (wanted : ℕ) (old new : LatheS
 
   -- an answer of `run` over its files has the wanted status
   files_first : (limit : ℕ) (text_of : TextOf) (files : List Named) (shelf shelf' : ShelfState) (a : Answer)
-      → IsOfFiles listed files (RestsWhole old new) (λ texts. IsRun state limit text_of texts old new) shelf shelf' a → HasStatus wanted a
+      → IsOfFiles text_list files (RestsWhole old new) (λ texts. IsRun state limit text_of texts old new) shelf shelf' a → HasStatus wanted a
   files_first limit text_of files shelf shelf' a (not_had missing rests) = absurd (not_rested rests)
   files_first limit text_of files shelf shelf' a (unread all rests) = tt
   files_first limit text_of files shelf shelf' a (answers texts are from) = run_first limit text_of texts a from
@@ -123,7 +123,7 @@ module _ {D : Type 0} (state : D → DiskState) (wanted : ℕ) (old new : LatheS
 
   -- an answer of `zones` over its file has the wanted status
   zones_first : (files : List Named) (shelf shelf' : ShelfState) (a : Answer)
-      → IsOfFiles alone files (RestsWhole old new) (IsZoned old new) shelf shelf' a → HasStatus wanted a
+      → IsOfFiles single_text files (RestsWhole old new) (IsZoned old new) shelf shelf' a → HasStatus wanted a
   zones_first files shelf shelf' a (not_had missing rests) = absurd (not_rested rests)
   zones_first files shelf shelf' a (unread all rests) = tt
   zones_first files shelf shelf' a (answers text are from) = zoned_first text a from
@@ -154,7 +154,7 @@ module _ {D : Type 0} (state : D → DiskState) (wanted : ℕ) (old new : LatheS
 
   -- an answer of `edit` over its file has the wanted status
   edits_first : (files : List Named) (shelf shelf' : ShelfState) (a : Answer)
-      → IsOfFiles alone files (RestsWhole old new) (IsEdited old new) shelf shelf' a → HasStatus wanted a
+      → IsOfFiles single_text files (RestsWhole old new) (IsEdited old new) shelf shelf' a → HasStatus wanted a
   edits_first files shelf shelf' a (not_had missing rests) = absurd (not_rested rests)
   edits_first files shelf shelf' a (unread all rests) = tt
   edits_first files shelf shelf' a (answers text are from) = edited_first text a from

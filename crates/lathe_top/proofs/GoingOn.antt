@@ -28,12 +28,12 @@ use Rattle.run_journal.specs.Batches.{records_bytes}
 use Rattle.run_journal.specs.Stands.{Holds}
 use Rattle.run_table.specs.Kept.{TableView}
 use Rattle.run_table.specs.Made.{moves_made}
-use Rattle.run_table.specs.Recording.{StandsForPrefix, IsJournaled, sent, most_bytes}
+use Rattle.run_table.specs.Recording.{StandsForPrefix, IsJournaled, sent_count, most_bytes}
 use Rattle.run_table.specs.Running as running
 use Rattle.run_table.specs.Running.{MayRun}
 use Rattle.run_table.specs.Since.{Since}
-use Rattle.turret_run.specs.Served.{told, GetsAll, GetsSome, FailsAmong, Misses}
-use Rattle.turret_run.specs.Runs.{due, GetsAt, GetsBeside, StandsBeside, none_missed, Stays}
+use Rattle.turret_run.specs.Served.{moves_told, GetsAll, GetsSome, FailsAmong, Misses}
+use Rattle.turret_run.specs.Runs.{due_to_turret, GetsAt, GetsBeside, StandsBeside, none_missed, Stays}
 use Rattle.two_path.specs.Machine.{MachineView, position_of}
 use Rattle.two_path.specs.Ending.{end_of as machine_end}
 use Rattle.two_path.specs.Histories.{IsKept}
@@ -165,13 +165,13 @@ module _ {D : Type 0} (state : D → DiskState) (small : AreSmall state) (limit 
   spent none = omega (arith, none, longer, since.budget)
 
   -- if the journal may be written and each turret got all that is due, no call failed
-  calm_by : IsTrue new.recording.log.file.live → ((path : Path) → GetsAll (due path old new) (of_path before path) (of_path after path))
+  calm_by : IsTrue new.recording.log.file.live → ((path : Path) → GetsAll (due_to_turret path old new) (of_path before path) (of_path after path))
       → NoneFailed d e
   calm_by live got = record { disk = since.recording.calm live; turrets = λ path. (got path).counted.kept (λ is. absurd cc) }
 
   -- why the table ended is why the session ended
   ends_by : (x : Reason) → running.EndsBy state old new x
-      → ((path : Path) → GetsAt x (due path old new) (of_path before path) (of_path after path)) → EndsBy limit session d e x
+      → ((path : Path) → GetsAt x (due_to_turret path old new) (of_path before path) (of_path after path)) → EndsBy limit session d e x
   ends_by Reason.Done ends got = is_ended Reason.Done ends.machine (calm_by ends.live got)
   ends_by (Reason.Alarm alarm) ends got = is_ended (Reason.Alarm alarm) ends.machine (calm_by ends.live got)
   ends_by Reason.Full ends got = full (is_open ends.0.machine) ends.1 (calm_by ends.0.live got)
@@ -205,23 +205,23 @@ module _ {D : Type 0} (state : D → DiskState) (small : AreSmall state) (limit 
   enough (Reason.TurretFault path) ends = absurd ends
 
   -- what is due by the table is due by the session
-  due_is : (path : Path) → due path old new ≡ due_to session least path
+  due_is : (path : Path) → due_to_turret path old new ≡ due_to session least path
   due_is path =
-      ap (λ (m : MachineView). told (position_of path m) (moves_made new.verified path (length found) least history)) machine_is
+      ap (λ (m : MachineView). moves_told (position_of path m) (moves_made new.verified path (length found) least history)) machine_is
 
   -- what a turret got in full by the table, it got by the session
-  got_all : (path : Path) → GetsAll (due path old new) (of_path before path) (of_path after path)
+  got_all : (path : Path) → GetsAll (due_to_turret path old new) (of_path before path) (of_path after path)
       → GetsAll (due_to session least path) (of_path before path) (of_path after path)
   got_all path got = subst (λ (what : List Got). GetsAll what (of_path before path) (of_path after path)) (due_is path) got
 
   -- a turret that got a prefix of what is due by the table got a prefix of what is due by the
   -- session
-  got_some : (path : Path) → GetsSome (due path old new) (of_path before path) (of_path after path)
+  got_some : (path : Path) → GetsSome (due_to_turret path old new) (of_path before path) (of_path after path)
       → GetsSome (due_to session least path) (of_path before path) (of_path after path)
   got_some path got = subst (λ (what : List Got). GetsSome what (of_path before path) (of_path after path)) (due_is path) got
 
   -- both turrets are served as the reason says
-  served : (x : Reason) → running.EndsBy state old new x → ((path : Path) → GetsAt x (due path old new) (of_path before path) (of_path after path))
+  served : (x : Reason) → running.EndsBy state old new x → ((path : Path) → GetsAt x (due_to_turret path old new) (of_path before path) (of_path after path))
       → AreServed x session least before after
   served Reason.Done ends got = λ path. got_all path (got path)
   served (Reason.Alarm alarm) ends got = λ path. got_all path (got path)
@@ -231,12 +231,12 @@ module _ {D : Type 0} (state : D → DiskState) (small : AreSmall state) (limit 
   served (Reason.TurretFault path) ends got = absurd ends
 
   -- a turret that failed in what is due by the table failed in what is due by the session
-  failed_at : (path : Path) → FailsAmong (due path old new) (of_path before path) (of_path after path)
+  failed_at : (path : Path) → FailsAmong (due_to_turret path old new) (of_path before path) (of_path after path)
       → FailsAmong (due_to session least path) (of_path before path) (of_path after path)
   failed_at path got = subst (λ (what : List Got). FailsAmong what (of_path before path) (of_path after path)) (due_is path) got
 
   -- what the turret beside a failed one got by the table it got by the session
-  got_beside : (path other : Path) → GetsBeside path (due other old new) (of_path before other) (of_path after other)
+  got_beside : (path other : Path) → GetsBeside path (due_to_turret other old new) (of_path before other) (of_path after other)
       → GetsBeside path (due_to session least other) (of_path before other) (of_path after other)
   got_beside path other got =
       subst (λ (what : List Got). GetsBeside path what (of_path before other) (of_path after other)) (due_is other) got
@@ -247,7 +247,7 @@ module _ {D : Type 0} (state : D → DiskState) (small : AreSmall state) (limit 
 
   -- each turret missed what it did not get of what is due by the table
   abbrev pub Missing : Type 0
-  Missing = (path : Path) → Misses (due path old new) (of_path missed path) (of_path before path) (of_path after path)
+  Missing = (path : Path) → Misses (due_to_turret path old new) (of_path missed path) (of_path before path) (of_path after path)
 
   -- what the turrets missed by the table they missed by the session
   missing : Missing → AreMissed session least d e
@@ -256,7 +256,7 @@ module _ {D : Type 0} (state : D → DiskState) (small : AreSmall state) (limit 
 
   -- how the run ended is how the session ended
   pub ending : (x : Reason) → running.EndsBy state old new x
-      → ((path : Path) → GetsAt x (due path old new) (of_path before path) (of_path after path)) → Missing
+      → ((path : Path) → GetsAt x (due_to_turret path old new) (of_path before path) (of_path after path)) → Missing
       → IsEnding limit x session least d e
   ending x ends got miss = record {
     few = no_more;
@@ -266,8 +266,8 @@ module _ {D : Type 0} (state : D → DiskState) (small : AreSmall state) (limit 
   }
 
   -- if the turret of a path failed and no call of the disk, that is how the session ended
-  pub failing : (path : Path) → e.disk.faults ≡ d.disk.faults → FailsAmong (due path old new) (of_path before path) (of_path after path)
-      → GetsBeside path (due (other_of path) old new) (of_path before (other_of path)) (of_path after (other_of path))
+  pub failing : (path : Path) → e.disk.faults ≡ d.disk.faults → FailsAmong (due_to_turret path old new) (of_path before path) (of_path after path)
+      → GetsBeside path (due_to_turret (other_of path) old new) (of_path before (other_of path)) (of_path after (other_of path))
       → Missing → IsEnding limit (Reason.TurretFault path) session least d e
   failing path calm failed other miss = record {
     few = no_more;
@@ -277,8 +277,8 @@ module _ {D : Type 0} (state : D → DiskState) (small : AreSmall state) (limit 
   }
 
   -- a turret that failed at its place, in a run without a record
-  pub unplaced : (path : Path) → Stays old new → FailsAmong (told (position_of path old.machine) []) (of_path before path) (of_path after path)
-      → StandsBeside path (told (position_of (other_of path) old.machine) []) (of_path before (other_of path)) (of_path after (other_of path))
+  pub unplaced : (path : Path) → Stays old new → FailsAmong (moves_told (position_of path old.machine) []) (of_path before path) (of_path after path)
+      → StandsBeside path (moves_told (position_of (other_of path) old.machine) []) (of_path before (other_of path)) (of_path after (other_of path))
       → missed ≡ none_missed → IsEnding limit (Reason.TurretFault path) session least d e
   unplaced path same failed other none = record {
     few = no_more;
@@ -288,19 +288,19 @@ module _ {D : Type 0} (state : D → DiskState) (small : AreSmall state) (limit 
         (inr (record {
           none = same.history;
           failed =
-              subst (λ (m : MachineView). FailsAmong (told (position_of path m) []) (of_path before path) (of_path after path)) machine_is failed;
+              subst (λ (m : MachineView). FailsAmong (moves_told (position_of path m) []) (of_path before path) (of_path after path)) machine_is failed;
           other =
-              subst (λ (m : MachineView). StandsBeside path (told (position_of (other_of path) m) []) (of_path before (other_of path))
+              subst (λ (m : MachineView). StandsBeside path (moves_told (position_of (other_of path) m) []) (of_path before (other_of path))
               (of_path after (other_of path))) machine_is other;
         })) (inr (same.history, none));
   }
 
   -- the records that were sent before the run are those found
-  sent_old : sent old.recording ≡ length found
+  sent_old : sent_count old.recording ≡ length found
   sent_old = sent_all old.recording.log.file.live old.recording.flushed (length found) may.all
 
   -- no more records are sent than there are
-  sent_new : sent new.recording ≤ length history
+  sent_new : sent_count new.recording ≤ length history
   sent_new = sent_within new.recording.log.file.live new.recording.flushed (length history) (since.recording.sends within).within
 
   -- the records that were not flushed before are those made
@@ -344,8 +344,8 @@ module _ {D : Type 0} (state : D → DiskState) (small : AreSmall state) (limit 
   pub keeps_going : KeepsGoing session least d.disk e.disk
   keeps_going = record {
     left = λ bytes reads c image.
-        let told = since.recording.told bytes reads in
-        (since.recording.journal header journaled).journaled.left told.0 told.1 c image;
+        let moves_told = since.recording.told bytes reads in
+        (since.recording.journal header journaled).journaled.left moves_told.0 moves_told.1 c image;
     moments = λ bytes reads.
         subst (λ n. LeavesOnly (StandsForPrefix header n history) d.disk e.disk) may.all ((since.recording.journal header journaled).any_moment bytes reads);
     uses = uses;

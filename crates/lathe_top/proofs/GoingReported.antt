@@ -17,7 +17,7 @@ use Rattle.run_records.specs.declared.header.Header.{Header}
 use Rattle.run_table.specs.Kept.{TableView}
 use Rattle.run_table.specs.Recording.{StandsForPrefix, IsJournaled}
 use Rattle.run_table.specs.Running.{MayRun}
-use Rattle.turret_run.specs.Served.{told, GetsPart}
+use Rattle.turret_run.specs.Served.{moves_told, GetsPart}
 use Rattle.turret_run.specs.Runs.{HasEnded, HasNotBegun, RunsWith}
 use Rattle.two_path.specs.Machine.{MachineView, position_of}
 use Rattle.two_path.specs.Histories.{IsKept}
@@ -28,16 +28,16 @@ use Rattle.lathe_looks.specs.Standing.{is_over}
 use Rattle.lathe_top.specs.Lathe.{LatheState, lathe_with}
 use Rattle.lathe_top.specs.Ran.{TextOf}
 use Rattle.lathe_top.specs.Kept.{end_of}
-use Rattle.lathe_top.specs.Going.{Standing, standing, session_to, IsReport, report, stayed, told_of}
+use Rattle.lathe_top.specs.Going.{Standing, standing_run, session_to, IsReport, report, stayed, told_of}
 use Rattle.lathe_top.proofs.GoingOn.{AreSmall, goes_on, ending, failing, unplaced, keeps_going}
 
 -- what holds of a run and the disk that it leaves holds of a run of the same pair with the same
 -- disk
 pub for_pair : {D : Type 0} (state : D → DiskState) (Of : Standing → DiskState → Type 0) (header : Header) (found : List Entry) (pair other : Verified)
-    (disk left : D) → pair ≡ other → left ≡ disk → Of (standing header pair found) (state disk) → Of (standing header other found) (state left)
+    (disk left : D) → pair ≡ other → left ≡ disk → Of (standing_run header pair found) (state disk) → Of (standing_run header other found) (state left)
 for_pair state Of header found pair other disk left same is there =
-    subst (λ (p : Verified). Of (standing header p found) (state left)) same
-    (subst (λ f. Of (standing header pair found) (state f)) (sym is) there)
+    subst (λ (p : Verified). Of (standing_run header p found) (state left)) same
+    (subst (λ f. Of (standing_run header pair found) (state f)) (sym is) there)
 
 -- what is told of a pair and of records is told of the same pair and records
 pub told_same : (text_of : TextOf) (pair other : Verified) (items entries : List Entry) (reason : Result Reason NoMemory) → pair ≡ other → items ≡ entries
@@ -54,7 +54,7 @@ module _ {D : Type 0} (state : D → DiskState) (coherent : (disk : D) → IsCoh
     (header : Header) (journaled : IsJournaled state header old.recording) (before after : Both TurretState) (missed : Both ℕ) where
   -- the run that goes on
   abbrev pub run : Standing
-  run = standing header new.verified old.recording.history
+  run = standing_run header new.verified old.recording.history
 
   -- the disk and the turrets before the run
   abbrev pub d : LatheState
@@ -98,7 +98,7 @@ module _ {D : Type 0} (state : D → DiskState) (coherent : (disk : D) → IsCoh
           none = refl;
           all = refl;
           places = λ path.
-              subst (λ (m : MachineView). GetsPart (told (position_of path m) []) (of_path before path) (of_path after path)) machine_is
+              subst (λ (m : MachineView). GetsPart (moves_told (position_of path m) []) (of_path before path) (of_path after path)) machine_is
               (not_begun.turrets path);
           missed = not_begun.none;
         })

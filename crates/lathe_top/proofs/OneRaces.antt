@@ -8,7 +8,7 @@ use Rattle.race_report.specs.RaceLists.{shared_by}
 use Rattle.race_report.specs.Texts.{list_text}
 use Rattle.race_report.proofs.SameForms.{same_list}
 use Rattle.lathe_calls.specs.Answers.{Answer}
-use Rattle.lathe_calls.specs.Races.{AreRaces, AreRacesOf, listed, unlisted}
+use Rattle.lathe_calls.specs.Races.{AreRaces, IsRaceAnswer, listed, unlisted}
 use Rattle.lathe_top.proofs.Agreed.{Agree}
 
 -- pairs that are the same (`IsSamePair`) share the same variables
@@ -26,7 +26,7 @@ same_races pair other same races others are also =
     (shares_same pair other same) same.left same.right races others are also
 
 -- two answers of `races` to pairs that are the same agree
-pub races_of_once : (pair other : Verified) (a b : Answer) → IsSamePair pair other → AreRacesOf pair a → AreRacesOf other b → Agree a b
+pub races_of_once : (pair other : Verified) (a b : Answer) → IsSamePair pair other → IsRaceAnswer pair a → IsRaceAnswer other b → Agree a b
 races_of_once pair other a b same (listed races are) (listed others also) =
     (refl, ap list_text (same_races pair other same races others are also))
 races_of_once pair other a b same (listed races are) unlisted = tt

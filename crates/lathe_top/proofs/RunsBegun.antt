@@ -27,10 +27,10 @@ use Rattle.lathe_calls.specs.Answers.{Answer, nothing}
 use Rattle.lathe_calls.specs.Judged.{IsRefusing}
 use Rattle.lathe_looks.specs.Standing.{is_over}
 use Rattle.lathe_calls.specs.declared.pair_texts.TheConstants.{LONGEST_SETTINGS}
-use Rattle.lathe_top.specs.Going.{Standing, IsReport, report, stayed, standing}
+use Rattle.lathe_top.specs.Going.{Standing, IsReport, report, stayed, standing_run}
 use Rattle.lathe_top.specs.Kept.{IsRefusedBeginning, RestsWhole}
 use Rattle.lathe_top.specs.Lathe.{LatheState, lathe_with}
-use Rattle.lathe_top.specs.Ran.{TextOf, IsRun, refused, unjudged, ran, reported, unprepared, unbegun}
+use Rattle.lathe_top.specs.Ran.{TextOf, IsRun, refused, unjudged, ran, reported, unprepared, unbegun_answer}
 use Rattle.lathe_top.specs.Session.{Session}
 use Rattle.lathe_top.proofs.Opened.{NoneIsStuck, begun_keeps, ending_since, is_session, unprepared_since}
 
@@ -48,10 +48,10 @@ begun_unended pair t begun = subst (λ (m : MachineView). is_over m ≡ false) (
 
 -- what holds of the run of a table that was begun holds of a run of the pair without records
 pub of_begun : {D : Type 0} (Of : Standing → Type 0) (header : Header) (pair : Verified) (t : TableView D) → IsBegun pair t
-    → Of (standing header t.verified t.recording.history) → Of (standing header pair [])
+    → Of (standing_run header t.verified t.recording.history) → Of (standing_run header pair [])
 of_begun Of header pair t begun there =
-    subst (λ (l : List Entry). Of (standing header pair l)) begun.history
-    (subst (λ (p : Verified). Of (standing header p t.recording.history)) begun.pair there)
+    subst (λ (l : List Entry). Of (standing_run header pair l)) begun.history
+    (subst (λ (p : Verified). Of (standing_run header p t.recording.history)) begun.pair there)
 
 -- A journal was begun on the disk, for a pair that is accepted. `a` is the disk before the call and
 -- `begun` after the beginning; `before` are the turrets before, and `c` is what the run leaves.
@@ -60,16 +60,16 @@ module _ {A D : Type 0} (state : D → DiskState) (law : NoneIsStuck) (limit : �
     (accepted : IsPairOf (texts_of header) pair) (version : header.version ≡ Two) where
   -- what is told of the run that goes on after the beginning is what `run` answers
   pub begun_run : (text_of : TextOf) (told : Answer)
-      → IsReport limit text_of (standing header pair []) (lathe_with (state begun) before) c told
+      → IsReport limit text_of (standing_run header pair []) (lathe_with (state begun) before) c told
       → IsRun state limit text_of (texts_of header) (lathe_with a before) c told
   begun_run text_of told (report history {reason} least goes ends keeps) =
       let s : Session = record { header = header; pair = pair; found = []; history = history } in
-      ran s (is_session law (standing header pair []) history accepted goes) (record { same = refl; version = version }) (refl, begins.vacant)
+      ran s (is_session law (standing_run header pair []) history accepted goes) (record { same = refl; version = version }) (refl, begins.vacant)
       (reported least (ending_since limit s a (state begun) before c reason least (begins.calm (λ fault. fault)) ends)
       (begun_keeps state header a begun c.disk answer begins pair history least keeps))
   begun_run text_of told (stayed history least goes none keeps) =
       let s : Session = record { header = header; pair = pair; found = []; history = history } in
-      ran s (is_session law (standing header pair []) history accepted goes) (record { same = refl; version = version }) (refl, begins.vacant)
+      ran s (is_session law (standing_run header pair []) history accepted goes) (record { same = refl; version = version }) (refl, begins.vacant)
       (unprepared least (unprepared_since s a (state begun) before c least none)
       (begun_keeps state header a begun c.disk answer begins pair history least keeps))
 
@@ -94,10 +94,10 @@ refused_beginning header pair fault a c accepted version begins = record {
 }
 
 -- for `NoRun`, `Cut` and out of memory nothing is told
-pub none_told : (fault : GateFault) → (fault ≡ gate.NoRun) ⊎ (((at : ℕ) × (fault ≡ gate.Cut at)) ⊎ (fault ≡ gate.NoMemory)) → nothing ≡ unbegun fault
-none_told fault (inl is) = sym (ap unbegun is)
-none_told fault (inr (inl is)) = sym (ap unbegun is.1)
-none_told fault (inr (inr is)) = sym (ap unbegun is)
+pub none_told : (fault : GateFault) → (fault ≡ gate.NoRun) ⊎ (((at : ℕ) × (fault ≡ gate.Cut at)) ⊎ (fault ≡ gate.NoMemory)) → nothing ≡ unbegun_answer fault
+none_told fault (inl is) = sym (ap unbegun_answer is)
+none_told fault (inr (inl is)) = sym (ap unbegun_answer is.1)
+none_told fault (inr (inr is)) = sym (ap unbegun_answer is)
 
 -- the line of a refusal, or nothing without memory, is due to `run` of texts with that refusal
 pub run_refused : {D : Type 0} (state : D → DiskState) (limit : ℕ) (text_of : TextOf) (texts : Texts) (a c : LatheState) (error : Failing Refusal)

@@ -24,7 +24,7 @@ use Rattle.nc_restart.specs.Recovered.{FoundRun, IsRecovered, Recovers}
 use Rattle.lathe_calls.specs.Answers.{Answer}
 use Rattle.lathe_calls.specs.Reported.{report_of}
 use Rattle.lathe_looks.specs.Standing.{are_finished, is_over, reason_by, reason_of}
-use Rattle.lathe_top.specs.Going.{IsReport, report, stayed, KeepsGoing, standing}
+use Rattle.lathe_top.specs.Going.{IsReport, report, stayed, KeepsGoing, standing_run}
 use Rattle.lathe_top.specs.Kept.{end_of}
 use Rattle.lathe_top.specs.Lathe.{LatheState, lathe_with}
 use Rattle.lathe_top.specs.Ran.{IsResumed, resumed, reported, unprepared}
@@ -38,16 +38,16 @@ module _ {D : Type 0} (state : D → DiskState) (law : NoneIsStuck) (limit : ℕ
     (before : Both TurretState) (c : LatheState) (recovers : Recovers a (state begun) (Ok found)) (accepted : IsPairOf (texts_of found.header) pair) where
   -- what is told of the run that goes on after the recovery is what `resume` answers
   pub found_run : (answer : Answer)
-      → IsReport limit report_of (standing found.header pair found.entries) (lathe_with (state begun) before) c answer
+      → IsReport limit report_of (standing_run found.header pair found.entries) (lathe_with (state begun) before) c answer
       → IsResumed state limit (lathe_with a before) c answer
   found_run answer (report history {reason} least goes ends keeps) =
       let s : Session = record { header = found.header; pair = pair; found = found.entries; history = history } in
-      resumed s (is_session law (standing found.header pair found.entries) history accepted goes) recovers.found.means
+      resumed s (is_session law (standing_run found.header pair found.entries) history accepted goes) recovers.found.means
       (reported least (ending_since limit s a (state begun) before c reason least (recovers.calm (λ fault. fault)) ends)
       (found_keeps state found a begun c.disk recovers pair history least goes.extends keeps))
   found_run answer (stayed history least goes none keeps) =
       let s : Session = record { header = found.header; pair = pair; found = found.entries; history = history } in
-      resumed s (is_session law (standing found.header pair found.entries) history accepted goes) recovers.found.means
+      resumed s (is_session law (standing_run found.header pair found.entries) history accepted goes) recovers.found.means
       (unprepared least (unprepared_since s a (state begun) before c least none)
       (found_keeps state found a begun c.disk recovers pair history least goes.extends keeps))
 

@@ -28,25 +28,25 @@ use Rattle.two_path.specs.Turns.{Tapes}
 use Rattle.turret_lines.specs.Stream.{stream_of}
 use Rattle.run_table.specs.Made.{moves_made, shown_from}
 use Rattle.nc_outside.specs.declared.reason.Reason.{Reason}
-use Rattle.two_path.specs.Made.{made_in, moves_in, moves_of, turns_from}
+use Rattle.two_path.specs.Made.{moves_made_in, moves_in, moves_of, turns_from}
 use Rattle.move_list.specs.Report.{lined_text}
 use Rattle.move_list.proofs.Streams.{later_moves, stream_is}
 use Rattle.nc_restart.specs.Pair.{tapes_in, opening_of}
-use Rattle.turret_run.specs.Served.{told, GetsAll}
+use Rattle.turret_run.specs.Served.{moves_told, GetsAll}
 use Rattle.two_path.specs.Machine.{position_of}
 use Rattle.lathe_calls.specs.Answers.{Answer, tells, nothing, whole, cut, unwritten, untold}
 use Rattle.lathe_looks.specs.declared.fetching.FileFault.{FileFault}
 use Rattle.lathe_looks.specs.declared.fetching.FileFault.TheVariants.{Failed, Absent, TooLong}
 use Rattle.lathe_looks.specs.Fetched.{IsOfFiles, not_had, unread, answers, fault_status}
-use Rattle.lathe_looks.specs.Shown.{unfound}
-use Rattle.lathe_looks.specs.Named.{Named, listed}
+use Rattle.lathe_looks.specs.Shown.{unfound_answer}
+use Rattle.lathe_looks.specs.Named.{Named, text_list}
 use Rattle.lathe_looks.specs.Standing.{is_over}
 use Rattle.lathe_top.specs.Done as done
 use Rattle.lathe_top.specs.Done.{Call, command_of, IsDone, IsDue, IsDueTo}
 use Rattle.lathe_top.specs.Kept.{Opening, anew, again, IsOpened, KeepsSession, RestsWhole}
 use Rattle.lathe_top.specs.Kinds.{kind_of}
 use Rattle.lathe_top.specs.Lathe.{AreAtRest}
-use Rattle.lathe_top.specs.Ran.{TextOf, IsReported, reported, unprepared, IsRun, refused, unjudged, not_begun, ran, unbegun, IsResumed, not_found, resumed}
+use Rattle.lathe_top.specs.Ran.{TextOf, IsReported, reported, unprepared, IsRun, refused, unjudged, not_begun, ran, unbegun_answer, IsResumed, not_found, resumed}
 use Rattle.lathe_calls.specs.Statuses.{reason_status}
 use Rattle.lathe_top.specs.Session.{IsSession, Session, machine_found}
 use Rattle.lathe_top.specs.Streams.{GetsStream, HasStreams, IsStream, IsUncut, MakesRecords, report_lines}
@@ -63,7 +63,7 @@ same_moves tapes m path (e ∷ entries) =
     go : (b : Bool) → is_same path e.path ≡ b
         → seat.moves_in (shown_from tapes (behind_entry tapes e m) path entries) ≡ moves_of tapes (behind_entry tapes e m) path entries
         → seat.moves_in (shown_from tapes m path (e ∷ entries)) ≡ moves_of tapes m path (e ∷ entries)
-    go true is rest = rw is (ap (λ (l : List LinedMove). made_in (turn_of_entry tapes e m) ++ l) rest)
+    go true is rest = rw is (ap (λ (l : List LinedMove). moves_made_in (turn_of_entry tapes e m) ++ l) rest)
     go false is rest = rw is rest
 
 -- what is due to a turret is written as the stream of its path
@@ -79,7 +79,7 @@ stream_due s path extends =
     let parts : s.history ≡ s.found ++ later = sym (take-append-drop (length s.found) s.history) ∙ ap (λ (h : List Entry). h ++ later) extends in
     record {
       lines = flat_map lined_text (moves_of tapes (machine_found s) path later);
-      stream = ap (λ (l : List LinedMove). stream_of (told (position_of path (machine_found s)) l)) moves
+      stream = ap (λ (l : List LinedMove). stream_of (moves_told (position_of path (machine_found s)) l)) moves
           ∙ stream_is (position_of path (machine_found s)) (moves_of tapes (machine_found s) path later);
       report = ap (report_lines s.pair path) parts
           ∙ ap (flat_map lined_text) (later_moves tapes (opening_of s.pair) path s.found later)
@@ -160,7 +160,7 @@ missing_status Absent uncut = no_high 13 (omega arith) (omega arith) uncut
 missing_status TooLong uncut = no_high 13 (omega arith) (omega arith) uncut
 
 -- the status of a journal that is not begun is none of a run that was not cut off
-unbegun_status : (fault : GateFault) → IsUncut (answer_status (unbegun fault)) → ⊥
+unbegun_status : (fault : GateFault) → IsUncut (answer_status (unbegun_answer fault)) → ⊥
 unbegun_status gate.DiskFault uncut = no_mid 6 (omega arith) (omega arith) uncut
 unbegun_status gate.RunThere uncut = no_mid 8 (omega arith) (omega arith) uncut
 unbegun_status gate.NoRun uncut = no_high 12 (omega arith) (omega arith) uncut
@@ -168,7 +168,7 @@ unbegun_status (gate.Cut at) uncut = no_high 12 (omega arith) (omega arith) uncu
 unbegun_status gate.NoMemory uncut = no_high 12 (omega arith) (omega arith) uncut
 
 -- the status of a run that is not found is none of a run that was not cut off
-unfound_status : (fault : RestartFault) → IsUncut (answer_status (unfound fault)) → ⊥
+unfound_status : (fault : RestartFault) → IsUncut (answer_status (unfound_answer fault)) → ⊥
 unfound_status restart.DiskFault uncut = no_mid 6 (omega arith) (omega arith) uncut
 unfound_status restart.NoRun uncut = no_mid 8 (omega arith) (omega arith) uncut
 unfound_status (restart.Cut at) uncut = no_mid 9 (omega arith) (omega arith) uncut
@@ -238,7 +238,7 @@ module _ {D E : Type 0} (state : D → DiskState) (second : E → DiskState) (ca
   -- `run` over its files, with the status of a run that was not cut off, wrote the stream of each
   -- path
   files_streams : (limit : ℕ) (text_of : TextOf) (files : List Named) (answer : Answer)
-      → IsOfFiles listed files (RestsWhole call.before.lathe call.after.lathe)
+      → IsOfFiles text_list files (RestsWhole call.before.lathe call.after.lathe)
       (λ texts. IsRun state limit text_of texts call.before.lathe call.after.lathe) call.before.shelf call.after.shelf answer
       → IsUncut (answer_status answer) → HasStreams state call (answer_status answer)
   files_streams limit text_of files answer (not_had {fault = fault} missing rests) uncut = absurd (missing_status fault uncut)

@@ -20,7 +20,7 @@ use Rattle.run_branch.specs.Branches.{branch_end}
 use Rattle.run_branch.specs.Meetings.{meetings, branch_point}
 use Rattle.lathe_calls.specs.Answers.{Answer, tells, nothing}
 use Rattle.lathe_calls.specs.Statuses as exit
-use Rattle.lathe_looks.specs.Shown.{unfound}
+use Rattle.lathe_looks.specs.Shown.{unfound_answer}
 
 -- the line of output for a branch at the n-th meeting, which has k records
 unfoldable pub branched_text : ℕ → ℕ → List ℕ
@@ -28,11 +28,11 @@ branched_text n k = codes "branched " ++ (decimal n ++ (codes " records " ++ (de
 
 -- What is told if a branch is not made, by the cause; nothing if memory runs out. The number 95 and
 -- its name stand here and in src/branching.rt, and in no other crate.
-abbrev pub unbranched : BranchFault → Answer
-unbranched fault.NoMeeting = tells exit.refused (codes "refused 95 NoMeeting\n")
-unbranched fault.RunThere = tells exit.run_or_none (codes "run there\n")
-unbranched fault.NewDisk = tells exit.disk_fault (codes "disk fault\n")
-unbranched fault.NoMemory = nothing
+abbrev pub unbranched_answer : BranchFault → Answer
+unbranched_answer fault.NoMeeting = tells exit.refused (codes "refused 95 NoMeeting\n")
+unbranched_answer fault.RunThere = tells exit.run_or_none (codes "run there\n")
+unbranched_answer fault.NewDisk = tells exit.disk_fault (codes "disk fault\n")
+unbranched_answer fault.NoMemory = nothing
 
 -- The image stands for the branch: the texts of the run in a journal of version 2, and the shortest
 -- prefix of its records that has n meetings, which is a history of their pair.
@@ -87,16 +87,16 @@ pub record IsRunSeen (old new : DiskState) : Type 0 where
 -- branch is made; or there is a run; or the disk failed; nothing if memory runs out.
 pub data IsBranchOf {E : Type 0} (state : E → DiskState) (run : FoundRun) (n : ℕ) (old new : E) : Answer → Type 0 where
   -- the run has fewer meetings, and the second disk was not called
-  no_meeting : meetings run.entries < n → new ≡ old → IsBranchOf state run n old new (unbranched fault.NoMeeting)
+  no_meeting : meetings run.entries < n → new ≡ old → IsBranchOf state run n old new (unbranched_answer fault.NoMeeting)
   -- the branch was made
   made : (k : ℕ) → n ≤ meetings run.entries → IsBranchMade run n k (state old) (state new) → KeepsBranch run n (state old) (state new)
       → IsBranchOf state run n old new (tells exit.done (branched_text n k))
   -- the second disk has a run already
   run_seen : n ≤ meetings run.entries → IsRunSeen (state old) (state new) → KeepsBranch run n (state old) (state new)
-      → IsBranchOf state run n old new (unbranched fault.RunThere)
+      → IsBranchOf state run n old new (unbranched_answer fault.RunThere)
   -- a call of the second disk failed
   failed : n ≤ meetings run.entries → Rose (state old).faults (state new).faults → KeepsBranch run n (state old) (state new)
-      → IsBranchOf state run n old new (unbranched fault.NewDisk)
+      → IsBranchOf state run n old new (unbranched_answer fault.NewDisk)
   -- memory ran out before anything was written
   unmade : Unwritten (state old) (state new) → (state new).faults ≡ (state old).faults → KeepsBranch run n (state old) (state new)
       → IsBranchOf state run n old new nothing
@@ -105,7 +105,7 @@ pub data IsBranchOf {E : Type 0} (state : E → DiskState) (run : FoundRun) (n :
 -- or what is answered to a branch of the run that is found. Nothing is written to the first disk.
 pub data IsBranched {E : Type 0} (state : E → DiskState) (n : ℕ) (old new : DiskState) (onto left : E) : Answer → Type 0 where
   -- no run is found on the first disk, and the second disk was not called
-  not_found : (fault : RestartFault) → Recovers old new (Err fault) → left ≡ onto → IsBranched state n old new onto left (unfound fault)
+  not_found : (fault : RestartFault) → Recovers old new (Err fault) → left ≡ onto → IsBranched state n old new onto left (unfound_answer fault)
   -- the run that is found is branched, or it is answered why not
   branched : {answer : Answer} (run : FoundRun) (pair : Verified) → IsPairOf (texts_of run.header) pair → IsHistory pair run.entries
       → Recovers old new (Ok run) → IsBranchOf state run n onto left answer → IsBranched state n old new onto left answer

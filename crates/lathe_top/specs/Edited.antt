@@ -19,7 +19,7 @@ use Rattle.lathe_calls.specs.Answers.{Answer, tells, nothing}
 use Rattle.lathe_calls.specs.Reported.{report_of}
 use Rattle.lathe_calls.specs.Statuses as exit
 use Rattle.lathe_looks.specs.Edited.{bad_edit_text}
-use Rattle.lathe_looks.specs.Shown.{unfound}
+use Rattle.lathe_looks.specs.Shown.{unfound_answer}
 use Rattle.lathe_top.specs.Kept.{Editing, IsWriting, RestsWhole, history_with}
 use Rattle.lathe_top.specs.Lathe.{LatheState, AreAtRest}
 
@@ -85,7 +85,7 @@ pub data IsEditOf (e : Editing) (old new : DiskState) : Answer → Type 0 where
 -- the run that is found.
 pub data IsEditedRun (edits : List PathEdit) (old new : DiskState) : Answer → Type 0 where
   -- no run is found on the disk
-  not_found : (fault : RestartFault) → Recovers old new (Err fault) → IsEditedRun edits old new (unfound fault)
+  not_found : (fault : RestartFault) → Recovers old new (Err fault) → IsEditedRun edits old new (unfound_answer fault)
   -- what is answered to these edits in the run that is found
   in_run : {answer : Answer} (e : Editing) → e.edits ≡ edits → IsEditOf e old new answer → IsEditedRun edits old new answer
 

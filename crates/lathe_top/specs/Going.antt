@@ -29,8 +29,8 @@ pub record Standing : Type 0 where
   pub found : List Entry
 
 -- the run that goes on, from its three parts
-abbrev pub standing : Header → Verified → List Entry → Standing
-standing header pair found = record { header = header; pair = pair; found = found }
+abbrev pub standing_run : Header → Verified → List Entry → Standing
+standing_run header pair found = record { header = header; pair = pair; found = found }
 
 -- the session of a run that goes on, by the records at its end
 abbrev pub session_to : Standing → List Entry → Session
@@ -66,7 +66,8 @@ pub data IsReport (limit : ℕ) (text_of : TextOf) (run : Standing) (old new : L
 abbrev pub IsReportOn : {D : Type 0} → (D → DiskState) → ℕ → TextOf → TableView D → LatheState → LatheState → SinkState → SinkState → ℕ
     → Type 0
 IsReportOn state limit text_of table old new before after status = (header : Header) → IsJournaled state header table.recording
-    → Ends (IsReport limit text_of (standing header table.verified table.recording.history) old new) before after status
+    → Ends (IsReport limit text_of (standing_run header table.verified table.recording.history) old new)
+    before after status
 
 -- what is told of a history whose run ended for this reason; nothing if the run did not begin, as
 -- memory ran out or a thread was refused

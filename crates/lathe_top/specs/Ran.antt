@@ -14,7 +14,7 @@ use Rattle.run_records.specs.Entries.{Entry}
 use Rattle.nc_restart.specs.declared.fault.RestartFault.{RestartFault}
 use Rattle.nc_restart.specs.Recovered.{Recovers}
 use Rattle.lathe_calls.specs.Answers.{Answer, tells, nothing}
-use Rattle.lathe_looks.specs.Shown.{unfound}
+use Rattle.lathe_looks.specs.Shown.{unfound_answer}
 use Rattle.lathe_calls.specs.Reported.{report_of}
 use Rattle.lathe_calls.specs.Statuses as exit
 use Rattle.lathe_top.specs.Lathe.{LatheState, AreAtRest}
@@ -40,12 +40,12 @@ pub data IsReported {D : Type 0} (state : D → DiskState) (opening : Opening) (
 
 -- what is told if no journal is begun: the disk failed, or there is a run; nothing if memory runs
 -- out. `NoRun` and `Cut` do not come of a beginning.
-abbrev pub unbegun : GateFault → Answer
-unbegun gate.DiskFault = tells exit.disk_fault (codes "disk fault\n")
-unbegun gate.RunThere = tells exit.run_or_none (codes "run there\n")
-unbegun gate.NoRun = nothing
-unbegun (gate.Cut at) = nothing
-unbegun gate.NoMemory = nothing
+abbrev pub unbegun_answer : GateFault → Answer
+unbegun_answer gate.DiskFault = tells exit.disk_fault (codes "disk fault\n")
+unbegun_answer gate.RunThere = tells exit.run_or_none (codes "run there\n")
+unbegun_answer gate.NoRun = nothing
+unbegun_answer (gate.Cut at) = nothing
+unbegun_answer gate.NoMemory = nothing
 
 -- What is answered to run these texts: their refusal; or why no journal of them was begun; or what
 -- is told of the session that they made. Only a session calls a turret, and only for these texts a
@@ -58,7 +58,7 @@ pub data IsRun {D : Type 0} (state : D → DiskState) (limit : ℕ) (text_of : T
   unjudged : RestsWhole old new → IsRun state limit text_of texts old new nothing
   -- no journal was begun, for this fault
   not_begun : (fault : GateFault) → IsRefusedBeginning texts fault old.disk new.disk → AreAtRest old new
-      → IsRun state limit text_of texts old new (unbegun fault)
+      → IsRun state limit text_of texts old new (unbegun_answer fault)
   -- a journal was begun, and what is told of the session is due
   ran : {answer : Answer} (s : Session) → IsSession s → IsNewHeader texts s.header → IsOpened anew s old.disk
       → IsReported state anew limit text_of s old new answer → IsRun state limit text_of texts old new answer
@@ -68,7 +68,7 @@ pub data IsRun {D : Type 0} (state : D → DiskState) (limit : ℕ) (text_of : T
 pub data IsResumed {D : Type 0} (state : D → DiskState) (limit : ℕ) (old new : LatheState) : Answer → Type 0 where
   -- no run is found on the disk
   not_found : (fault : RestartFault) → Recovers old.disk new.disk (Err fault) → AreAtRest old new
-      → IsResumed state limit old new (unfound fault)
+      → IsResumed state limit old new (unfound_answer fault)
   -- a run is found, and what is told of the session that goes on from it is due
   resumed : {answer : Answer} (s : Session) → IsSession s → IsOpened again s old.disk
       → IsReported state again limit report_of s old new answer → IsResumed state limit old new answer

@@ -1,6 +1,7 @@
 -- A session of a run: what one call made of it, from its opening on.
 -- What `top` promises is said in it; no other crate takes it.
 use Rattle.std.specs.Prelude.{◌≡◌, ℕ, ◌+◌, ◌≤◌, true, false, List, length, take}
+use Rattle.nc_number.specs.declared.limits.TheConstants.{MOST_PENDING}
 use Rattle.nc_number.specs.Both.{of_path}
 use Rattle.nc_number.specs.declared.path.Path.{Path}
 use Rattle.disk_model.specs.Device.{Rose}
@@ -81,13 +82,13 @@ pub data EndsBy (limit : ℕ) (s : Session) (old new : LatheState) : Reason → 
   turret_failed : (path : Path) → TurretRose (of_path old.turrets path).faults (of_path new.turrets path).faults
       → new.disk.faults ≡ old.disk.faults → EndsBy limit s old new (Reason.TurretFault path)
 
--- the disk holds `least` records at least: all that were found, and all of the history but 64 at
--- most
+-- the disk holds `least` records at least: all that were found, and all of the history but
+-- MOST_PENDING at most
 pub record AreMost (s : Session) (least : ℕ) : Type 0 where
   -- all records that were found
   pub found : length s.found ≤ least
-  -- all of the history but 64 records at most (`MOST_PENDING` of nc_number, with which it changes)
-  pub most : length s.history ≤ least + 64
+  -- all of the history but MOST_PENDING records at most
+  pub most : length s.history ≤ least + MOST_PENDING
   -- no more than there are
   pub within : least ≤ length s.history
 

@@ -13,7 +13,7 @@ use Rattle.nc_restart.specs.Lives.{AreOneHistory}
 use Rattle.nc_restart.specs.Meaning.{StandsForRun}
 use Rattle.nc_outside.specs.Files.{ShelfState}
 use Rattle.nc_outside.specs.Written.{SinkState}
-use Rattle.lathe_top.specs.Done.{Call, at, call_of}
+use Rattle.lathe_top.specs.Done.{Call, top_state, call_of}
 use Rattle.lathe_top.specs.Kinds.{kind_of}
 use Rattle.lathe_top.specs.Kept.{Leaves}
 use Rattle.lathe_top.specs.Lathe.{LatheState, lathe_with}
@@ -74,8 +74,9 @@ pub record Around (E : Type 0) : Type 0 where
 
 -- all that is known of the call
 abbrev pub call_in : {D E : Type 0} → (D → DiskState) → Around E → CallOver D → Call E
-call_in state around call = call_of around.words (at around.shelf (lathe_before state call) around.second around.sink)
-    (at around.shelf_after (lathe_behind state call) around.second_after around.sink_after)
+call_in state around call =
+    call_of around.words (top_state around.shelf (lathe_before state call) around.second around.sink)
+    (top_state around.shelf_after (lathe_behind state call) around.second_after around.sink_after)
 
 -- the disk makes known that it reads as these bytes, and the call leaves it and the turrets as its
 -- kind of command does

@@ -11,7 +11,7 @@ use Rattle.nc_outside.specs.declared.got.Got.{Got}
 use Rattle.nc_outside.specs.declared.reason.Reason.{Reason}
 use Rattle.two_path.specs.Machine.{position_of}
 use Rattle.run_table.specs.Made.{moves_made}
-use Rattle.turret_run.specs.Served.{told, GetsAll, GetsPart, GetsSome, FailsAmong, Misses}
+use Rattle.turret_run.specs.Served.{moves_told, GetsAll, GetsPart, GetsSome, FailsAmong, Misses}
 use Rattle.turret_run.specs.Runs.{GetsBeside, StandsBeside, none_missed}
 use Rattle.lathe_top.specs.Lathe.{LatheState, AreAtRest}
 use Rattle.lathe_looks.specs.Standing.{is_over}
@@ -20,7 +20,8 @@ use Rattle.lathe_top.specs.Session.{Session, EndsBy, IsLeast, machine_found}
 -- What is due to the turret of a path by a session up to this record: its place, and then the moves
 -- of its path's records after those that were found, in order.
 abbrev pub due_to : Session → ℕ → Path → List Got
-due_to s upto path = told (position_of path (machine_found s)) (moves_made s.pair path (length s.found) upto s.history)
+due_to s upto path =
+    moves_told (position_of path (machine_found s)) (moves_made s.pair path (length s.found) upto s.history)
 
 -- The turret of a path failed at its place. No record was made and no turret got a move. Beside
 -- path 1 that of path 2 was not called; beside path 2 that of path 1 had got its place.
@@ -28,9 +29,10 @@ pub record AreUnplaced (path : Path) (s : Session) (old new : Both TurretState) 
   -- no record was made
   pub none : s.history ≡ s.found
   -- the turret of this path failed at its place
-  pub failed : FailsAmong (told (position_of path (machine_found s)) []) (of_path old path) (of_path new path)
+  pub failed : FailsAmong (moves_told (position_of path (machine_found s)) []) (of_path old path) (of_path new path)
   -- what the other turret got
-  pub other : StandsBeside path (told (position_of (other_of path) (machine_found s)) []) (of_path old (other_of path))
+  pub other : StandsBeside path (moves_told (position_of (other_of path) (machine_found s)) [])
+      (of_path old (other_of path))
       (of_path new (other_of path))
 
 -- What the turrets got of a session that might make records, by records that are on the disk: all
@@ -86,7 +88,7 @@ pub record IsUnprepared (s : Session) (least : ℕ) (old new : LatheState) : Typ
   -- the disk holds all records
   pub all : least ≡ length s.history
   -- each turret got its place at most
-  pub places : (path : Path) → GetsPart (told (position_of path (machine_found s)) []) (of_path old.turrets path)
+  pub places : (path : Path) → GetsPart (moves_told (position_of path (machine_found s)) []) (of_path old.turrets path)
       (of_path new.turrets path)
   -- no move was missed
   pub missed : new.missed ≡ none_missed

@@ -7,7 +7,7 @@ ghost use Rattle.run_records.specs.Headers.{IsShort};
 ghost use Rattle.nc_restart.specs.Recovered.{IsRecovered, Recovers, run_found};
 ghost use Rattle.lathe_calls.specs.Answers.{Ends, IsJust, tells};
 ghost use Rattle.lathe_calls.specs.Statuses as exit;
-ghost use Rattle.lathe_top.specs.Branched.{IsBranched, branched_text, unbranched};
+ghost use Rattle.lathe_top.specs.Branched.{IsBranched, branched_text, unbranched_answer};
 ghost use Rattle.lathe_top.specs.Held.{lathe_of, lathe_left};
 ghost use Rattle.lathe_top.specs.Lathe.{AreAtRest};
 
@@ -122,7 +122,7 @@ fn tell_branched<K: Sink>(meetings: u32, records: u32, out: &mut K) -> u8
 
 /// Writes why a branch was not made, and gives the status of the cause.
 fn tell_unbranched<K: Sink>(fault: BranchFault, out: &mut K) -> u8
-    ensures { Ends (IsJust (unbranched fault)) (K.state out.old) (K.state out.new) result }
+    ensures { Ends (IsJust (unbranched_answer fault)) (K.state out.old) (K.state out.new) result }
 {
     match fault {
         BranchFault::NoMeeting => {

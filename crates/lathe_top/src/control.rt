@@ -5,7 +5,7 @@ ghost use Rattle.std.specs.Prelude.{◌≡◌, map};
 ghost use Rattle.std.specs.String.{string_bytes};
 ghost use Rattle.lathe_looks.specs.Named.{files_of};
 ghost use Rattle.lathe_looks.specs.Texts.{files_in};
-ghost use Rattle.lathe_top.specs.Done.{GetsItsStatus, IsDone, Performs, at, call_of};
+ghost use Rattle.lathe_top.specs.Done.{GetsItsStatus, IsDone, Performs, top_state, call_of};
 ghost use Rattle.lathe_top.specs.Held.{lathe_of, lathe_left};
 ghost use Rattle.lathe_top.specs.Lathe.{lathe_at, lathe_after};
 ghost use Rattle.lathe_top.specs.Outside.{outside_in};
@@ -74,12 +74,16 @@ where
     // any moment leaves of them; and what the turrets got. All of one command and of the texts of
     // its files, whatever the status.
     ensures done { IsDone D.state E.state (call_of (map string_bytes words.now)
-        (at (H.state shelf.old) (lathe_at (D.state disk) (T.state left) (T.state right)) second (K.state out.old))
-        (at (H.state shelf.new) (lathe_after D.state T.state result) result.second (K.state out.new))) result.status }
+        (top_state (H.state shelf.old) (lathe_at (D.state disk) (T.state left) (T.state right)) second
+        (K.state out.old))
+        (top_state (H.state shelf.new) (lathe_after D.state T.state result) result.second
+        (K.state out.new))) result.status }
     // If a cause holds, its status comes.
     ensures due { GetsItsStatus D.state E.state (call_of (map string_bytes words.now)
-        (at (H.state shelf.old) (lathe_at (D.state disk) (T.state left) (T.state right)) second (K.state out.old))
-        (at (H.state shelf.new) (lathe_after D.state T.state result) result.second (K.state out.new))) result.status }
+        (top_state (H.state shelf.old) (lathe_at (D.state disk) (T.state left) (T.state right)) second
+        (K.state out.old))
+        (top_state (H.state shelf.new) (lathe_after D.state T.state result) result.second
+        (K.state out.new))) result.status }
 {
     accepted_texts_are_not_refused();
     texts_have_one_refusal();
@@ -132,8 +136,9 @@ where
     T: Turret + Send,
     K: Sink,
     ensures { IsDone D.state E.state (call_of (map string_bytes words.now)
-        (at (H.state shelf.old) (lathe_of D.state T.state lathe) second (K.state out.old))
-        (at (H.state shelf.new) (lathe_left D.state T.state result.0) result.1 (K.state out.new))) result.0.status }
+        (top_state (H.state shelf.old) (lathe_of D.state T.state lathe) second (K.state out.old))
+        (top_state (H.state shelf.new) (lathe_left D.state T.state result.0) result.1
+        (K.state out.new))) result.0.status }
 {
     match read_words(alloc, words) {
         Ok(command) => perform(rt, alloc, &command, shelf, lathe, second, out),
@@ -160,8 +165,9 @@ where
     T: Turret + Send,
     K: Sink,
     ensures { Performs D.state E.state command.now
-        (at (H.state shelf.old) (lathe_of D.state T.state lathe) second (K.state out.old))
-        (at (H.state shelf.new) (lathe_left D.state T.state result.0) result.1 (K.state out.new)) result.0.status }
+        (top_state (H.state shelf.old) (lathe_of D.state T.state lathe) second (K.state out.old))
+        (top_state (H.state shelf.new) (lathe_left D.state T.state result.0) result.1
+        (K.state out.new)) result.0.status }
 {
     match command {
         Command::Verify(left, right, settings) => {

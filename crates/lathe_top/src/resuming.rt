@@ -3,7 +3,7 @@
 //! For control.rt of this crate.
 ghost use Rattle.lathe_calls.specs.Answers.{Ends};
 ghost use Rattle.lathe_calls.specs.Reported.{report_of};
-ghost use Rattle.lathe_top.specs.Going.{IsReport, standing};
+ghost use Rattle.lathe_top.specs.Going.{IsReport, standing_run};
 ghost use Rattle.lathe_top.specs.Held.{lathe_of, lathe_left};
 ghost use Rattle.lathe_top.specs.Lathe.{lathe_with};
 ghost use Rattle.lathe_top.specs.Ran.{IsResumed};
@@ -66,7 +66,7 @@ where
     K: Sink,
     requires { IsRecovered D.state found.header found.verified found.machine.machine found.entries.items
         found.journal }
-    ensures { Ends (IsReport limit report_of (standing found.header found.verified found.entries.items)
+    ensures { Ends (IsReport limit report_of (standing_run found.header found.verified found.entries.items)
         (lathe_with (D.state found.journal.file.disk) (both_of T.state turrets)) (lathe_left D.state T.state result))
         (K.state out.old) (K.state out.new) result.status }
 {

@@ -6,7 +6,7 @@ use Rattle.line_text.specs.declared.refusal.Refusal.TheVariants.{TooManyDigits, 
 use Rattle.line_text.specs.declared.said.Said.{Said}
 use Rattle.line_text.specs.declared.said.Said.TheVariants as said
 use Rattle.line_text.specs.declared.said.Reading.{Reading}
-use Rattle.line_text.specs.Said.{judged}
+use Rattle.line_text.specs.Said.{said_or_refusal}
 
 -- the least refusal of a line by itself, or what it says; the flags: too many digits in a block
 -- that is not skipped, a bad byte, something where no word can stand or an O not alone, an open
@@ -35,5 +35,5 @@ least_ok false true false false false what says e = record { allowed_is = refl; 
 
 -- a line that is not refused by itself has allowed bytes and whole words, and says what its reading
 -- says, or nothing if it is skipped
-pub judged_ok : (skipped allowed unclosed : Bool) (reading : Reading) (says : Said) → judged skipped allowed unclosed reading ≡ Ok says → IsReadable skipped allowed reading.broken reading.said says
+pub judged_ok : (skipped allowed unclosed : Bool) (reading : Reading) (says : Said) → said_or_refusal skipped allowed unclosed reading ≡ Ok says → IsReadable skipped allowed reading.broken reading.said says
 judged_ok skipped allowed unclosed reading says e = least_ok (reading.long && not skipped) allowed reading.broken unclosed skipped reading.said says e

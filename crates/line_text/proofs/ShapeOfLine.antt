@@ -25,7 +25,7 @@ use Rattle.line_text.specs.Signs.{Scan, is_blank, add_sign, inside_behind, scan_
 use Rattle.line_text.specs.Pieces.{Group, Cut, is_comment, depth_behind, begins_word, add_to_cut, cut_at, bytes_of, value_part, piece_of, pieces_of, value_len}
 use Rattle.line_text.specs.Front.{behind_comments, switch_of, behind_digit, behind_switch, sentence_of, is_statement, number_part, behind_number, is_numbered, is_number_sign, is_switch}
 use Rattle.line_text.specs.Values.{is_value, number_in, range_of, in_range}
-use Rattle.line_text.specs.Said.{is_sequence, is_sound, has_program_letter, stands_alone, sequence_from, word_of, words_of, is_program, program_number, read_pieces, read_words, read_numbered, read_statement, read_block, read_head, judged, is_skipped, line_says, numbered_text, numbered_sentence, is_in_range}
+use Rattle.line_text.specs.Said.{is_sequence, is_sound, has_program_letter, stands_alone, sequence_from, word_of, words_of, is_program, program_number, read_pieces, read_words, read_numbered, read_statement, read_block, read_head, said_or_refusal, is_skipped, line_says, numbered_text, numbered_sentence, is_in_range}
 use Rattle.line_text.specs.LineShape.{IsWordShape, IsAlone}
 use Rattle.line_text.specs.LineShape.{IsSaid}
 use Rattle.line_text.proofs.Judged.{judged_ok}
@@ -372,7 +372,7 @@ head_read most (sign ∷ signs) short =
     block_read most (is_some (switch_of (sign ∷ signs))) (behind_comments (behind_switch (sign ∷ signs))) (omega arith)
 
 -- what is said of a line that isn't refused has the right shape
-judged_said : (most : ℕ) (skipped allowed unclosed : Bool) (reading : Reading) (says : Said) → IsRead most reading → judged skipped allowed unclosed reading ≡ Ok says → IsSaid most says
+judged_said : (most : ℕ) (skipped allowed unclosed : Bool) (reading : Reading) (says : Said) → IsRead most reading → said_or_refusal skipped allowed unclosed reading ≡ Ok says → IsSaid most says
 judged_said most skipped allowed unclosed reading says is e =
     let read = judged_ok skipped allowed unclosed reading says e in
     let P : Said → Type 0 = IsSaid most in

@@ -4,6 +4,7 @@
 use Rattle.std.specs.Prelude.{◌≡◌, ℕ, ◌≤◌, ◌==◌, true, false, List, length, All, Option, None, Some, IfSome}
 use Rattle.std.specs.Char.{is_ascii_uppercase}
 use Rattle.std.specs.List.{list_any}
+use Rattle.nc_number.specs.declared.limits.TheConstants.{LAST_SEQUENCE}
 use Rattle.nc_number.specs.Literals.{is_literal}
 use Rattle.line_text.specs.declared.body.Word.{Word}
 use Rattle.line_text.specs.declared.body.Body.{Body}
@@ -41,7 +42,7 @@ IsBodyShape most sequence (Statement text) = (is_statement text ≡ true) × (le
 -- a block on a line of at most so many bytes: its sequence number and its body
 pub record IsSaidShape (most : ℕ) (sequence : Option ℕ) (body : Body) : Type 0 where
   -- a sequence number is at most 99,999
-  pub sequence_is : IfSome sequence (λ n. n ≤ 99999)
+  pub sequence_is : IfSome sequence (λ n. n ≤ LAST_SEQUENCE)
   -- the words or the statement have their shape
   pub body_is : IsBodyShape most sequence body
 

@@ -5,6 +5,7 @@
 use Rattle.std.specs.Prelude.{◌≡◌, ℕ, ◌<◌, ◌+◌, ◌/◌, ◌%◌, ◌^◌, Bool, true, false, not, ◌&&◌, ◌||◌, ◌==◌, nat_lt, List, [], ◌∷◌, length, map, filter, take, All, Option, Some, None, Result, Ok, Err, is_some, if◌then◌else◌}
 use Rattle.std.specs.List.{list_all, list_any, prefix_len}
 use Rattle.std.specs.Global.{Vec}
+use Rattle.nc_number.specs.declared.limits.TheConstants.{LAST_SEQUENCE}
 use Rattle.nc_number.specs.Literals.{is_literal, has_too_many_digits}
 use Rattle.line_text.specs.declared.sign.Sign.{Sign}
 use Rattle.line_text.specs.declared.piece.Piece.{Piece}
@@ -50,11 +51,11 @@ stands_alone slash pieces = not (has_program_letter pieces) || (not slash && len
 -- before, if no piece is one
 abbrev pub sequence_from : Option ℕ → List Piece → Option ℕ
 sequence_from before [] = before
-sequence_from before (piece ∷ pieces) = sequence_from (if is_sequence piece then number_in 0 99999 piece.text else before) pieces
+sequence_from before (piece ∷ pieces) = sequence_from (if is_sequence piece then number_in 0 LAST_SEQUENCE piece.text else before) pieces
 
 -- whether a piece is in range: a sequence number is from 0 to 99,999; any other word always is here
 abbrev pub is_in_range : Piece → Bool
-is_in_range piece = not (is_sequence piece) || is_some (number_in 0 99999 piece.text)
+is_in_range piece = not (is_sequence piece) || is_some (number_in 0 LAST_SEQUENCE piece.text)
 
 -- a piece as a word of a block, without the note whether it is whole
 abbrev pub word_of : Piece → Word
@@ -92,12 +93,12 @@ read_pieces slash pieces = record {
 }
 
 -- how a block reads in which something stands before its first letter: broken
-abbrev pub unreadable : Reading
-unreadable = record { long = false; broken = true; said = said.Nothing }
+abbrev pub broken_reading : Reading
+broken_reading = record { long = false; broken = true; said = said.Nothing }
 
 -- how the signs of a block of words read; the flag says whether there is a skip sign
 unfoldable pub read_words : Bool → List Sign → Reading
-read_words slash signs = if value_len signs 0 == 0 then read_pieces slash (pieces_of signs) else unreadable
+read_words slash signs = if value_len signs 0 == 0 then read_pieces slash (pieces_of signs) else broken_reading
 
 -- the bytes after the first sign that can belong to a literal: the literal after N, if the signs
 -- are a statement with a sequence number
@@ -116,7 +117,7 @@ unfoldable pub read_numbered : List Sign → Reading
 read_numbered signs = record {
   long = has_too_many_digits (numbered_text signs);
   broken = false;
-  said = said.Block (record { sequence = number_in 0 99999 (numbered_text signs); in_range = is_some (number_in 0 99999 (numbered_text signs)); body = Statement (numbered_sentence signs) });
+  said = said.Block (record { sequence = number_in 0 LAST_SEQUENCE (numbered_text signs); in_range = is_some (number_in 0 LAST_SEQUENCE (numbered_text signs)); body = Statement (numbered_sentence signs) });
 }
 
 -- how a statement without a sequence number reads
@@ -145,8 +146,8 @@ is_skipped skips (Some switch) = (skips / 2 ^ switch) % 2 == 1
 -- The least refusal of a line by itself, or what the line says, by how it reads. The flags say
 -- whether its block is skipped, whether all its signs are allowed, and whether it ends inside a
 -- comment. A skipped block says nothing; too many digits do not refuse it, its other faults do.
-abbrev pub judged : Bool → Bool → Bool → Reading → Result Said Refusal
-judged skipped allowed unclosed reading =
+abbrev pub said_or_refusal : Bool → Bool → Bool → Reading → Result Said Refusal
+said_or_refusal skipped allowed unclosed reading =
     if reading.long && not skipped then Err TooManyDigits
     else (if not allowed then Err BadCharacter
     else (if reading.broken then Err NoNumber
@@ -163,7 +164,7 @@ read_head (sign ∷ signs) = read_block (is_some (switch_of (sign ∷ signs))) (
 -- what the signs of a line say, or the least refusal; bit n of skips is switch n
 abbrev pub judged_signs : ℕ → Scan → Result Said Refusal
 judged_signs skips scan =
-    judged (is_skipped skips (switch_of (behind_comments scan.list))) (are_allowed scan.list) scan.unclosed (read_head (behind_comments scan.list))
+    said_or_refusal (is_skipped skips (switch_of (behind_comments scan.list))) (are_allowed scan.list) scan.unclosed (read_head (behind_comments scan.list))
 
 -- What a line says, or its least refusal by itself: the definition that `read_line` computes and
 -- nc_text's `tape_of` is built on. The flag says whether a line feed ends the line.

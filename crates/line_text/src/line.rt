@@ -3,7 +3,7 @@
 ghost use Rattle.std.specs.Prelude.{◌≡◌, ◌-◌, ◌^◌, ◌<◌, length, IfOk, IfSome, ◌≤◌};
 ghost use Rattle.nc_number.specs.Answers.{Gives};
 ghost use Rattle.line_text.specs.Places.{ArePlaced};
-ghost use Rattle.line_text.specs.Said.{read_words, read_numbered, read_statement, read_block, read_head, is_skipped, judged, line_says, IsNumbered, statement_reading};
+ghost use Rattle.line_text.specs.Said.{read_words, read_numbered, read_statement, read_block, read_head, is_skipped, said_or_refusal, line_says, IsNumbered, statement_reading};
 
 use crate::body::Body;
 use crate::cut::{bytes, pieces, value_len};
@@ -14,7 +14,7 @@ use crate::said::{Reading, Said, SaidBlock};
 use crate::sign::{Sign, are_allowed, read_signs};
 use crate::values::{has_too_many_digits, number_in};
 use crate::words::read_pieces;
-use nc_number::{ByteList, Failing, is_literal};
+use nc_number::{ByteList, Failing, LAST_SEQUENCE, is_literal};
 use std::alloc::{AllocError, Global};
 
 /// Reads a block of words, with or without a skip sign.
@@ -85,7 +85,7 @@ fn read_block(alloc: Global, slash: bool, signs: &[Sign]) -> Result<Reading, All
 {
     if let Some((number, text)) = numbered(alloc, signs)? {
         let long = has_too_many_digits(number.as_slice());
-        let sequence = number_in(0, 99_999, number.as_slice());
+        let sequence = number_in(0, LAST_SEQUENCE, number.as_slice());
         return Ok(statement(sequence, sequence.is_some(), text, long));
     }
     if begins_statement(signs) {
@@ -114,7 +114,7 @@ fn judged(
     unclosed: bool,
     reading: Reading,
 ) -> Result<Said, Failing<Refusal>>
-    ensures { Gives (λ said. said) result (judged skipped allowed unclosed reading) }
+    ensures { Gives (λ said. said) result (said_or_refusal skipped allowed unclosed reading) }
 {
     if reading.long && !skipped {
         Err(Failing::Fault(Refusal::TooManyDigits))

@@ -5,6 +5,7 @@
 //! (specs/Numbers).
 ghost use Rattle.std.specs.Prelude.{◌≡◌, ◌^◌, ◌<◌, ◌≤◌, None, ◌+◌, length, take, if◌then◌else◌, IfOk, IsTrue};
 ghost use Rattle.std.specs.List.{list_all, list_any, prefix_len};
+ghost use Rattle.nc_number.specs.declared.limits.TheConstants.{LAST_SEQUENCE};
 ghost use Rattle.line_text.specs.Values.{number_in};
 ghost use Rattle.line_text.specs.Said.{AreShort, is_sequence, is_sound, is_long, has_program_letter, stands_alone, sequence_from, is_in_range, word_of, words_of, is_program, program_number, said_by, read_pieces};
 
@@ -12,7 +13,7 @@ use crate::body::{Body, Word, WordList};
 use crate::piece::Piece;
 use crate::said::{Reading, Said, SaidBlock};
 use crate::values::{has_long_front, is_value, number_in};
-use nc_number::is_literal;
+use nc_number::{LAST_SEQUENCE, is_literal};
 use std::alloc::{AllocError, Global};
 
 /// Whether the piece is the block's sequence number: an N with a literal.
@@ -71,10 +72,10 @@ fn stands_alone(slash: bool, pieces: &[Piece]) -> bool
 
 /// The sequence number after one more piece: a later one replaces an earlier one.
 fn sequence_number(piece: &Piece, before: Option<u32>) -> Option<u32>
-    ensures { result ≡ (if is_sequence piece.now then number_in 0 99999 piece.now.text else before) }
+    ensures { result ≡ (if is_sequence piece.now then number_in 0 LAST_SEQUENCE piece.now.text else before) }
 {
     if is_sequence(piece) {
-        number_in(0, 99_999, piece.text.as_slice())
+        number_in(0, LAST_SEQUENCE, piece.text.as_slice())
     } else {
         before
     }
@@ -95,7 +96,7 @@ fn sequence(pieces: &[Piece]) -> Option<u32>
 fn is_in_range(piece: &Piece) -> bool
     ensures { result ≡ is_in_range piece.now }
 {
-    !is_sequence(piece) || number_in(0, 99_999, piece.text.as_slice()).is_some()
+    !is_sequence(piece) || number_in(0, LAST_SEQUENCE, piece.text.as_slice()).is_some()
 }
 
 /// Whether every sequence number is in its range, though only the last one stays.

@@ -11,12 +11,12 @@ abbrev pub all_vacant : List Var
 all_vacant = replicate LOCALS Vacant
 
 -- A level just opened: its variables hold the arguments.
-abbrev pub opened : List Var → Level
-opened arguments = record { arguments = arguments; values = arguments }
+abbrev pub opened_level : List Var → Level
+opened_level arguments = record { arguments = arguments; values = arguments }
 
 -- The level that exists before any call.
 abbrev pub base_level : Level
-base_level = opened all_vacant
+base_level = opened_level all_vacant
 
 -- What variable `#i` of the running level holds, counted from 1; vacant if there is no such one.
 abbrev pub local : ℕ → List Level → Var
@@ -29,11 +29,11 @@ with_local i v [] = []
 with_local i v (running ∷ below) = record running { values = slice_set running.values (i - 1) v } ∷ below
 
 -- The stack with its running level opened anew, with the same arguments.
-abbrev pub reopened : List Level → List Level
-reopened [] = []
-reopened (running ∷ below) = opened running.arguments ∷ below
+abbrev pub reopened_stack : List Level → List Level
+reopened_stack [] = []
+reopened_stack (running ∷ below) = opened_level running.arguments ∷ below
 
 -- The stack without its running level.
-abbrev pub closed : List Level → List Level
-closed [] = []
-closed (running ∷ below) = below
+abbrev pub stack_below : List Level → List Level
+stack_below [] = []
+stack_below (running ∷ below) = below

@@ -1,7 +1,7 @@
 //! The levels of local variables `#1` to `#33` of one path. path_state opens, repeats and closes
 //! them as macro calls do, and says which call does what; block_values takes `LOCALS`.
 ghost use Rattle.std.specs.Prelude.{◌≡◌, ◌+◌, ◌<◌, ◌≤◌, ◌∷◌, [], length};
-ghost use Rattle.local_levels.specs.Stack.{base_level, opened, local, with_local, reopened, closed};
+ghost use Rattle.local_levels.specs.Stack.{base_level, opened_level, local, with_local, reopened_stack, stack_below};
 
 use arrayvec::ArrayVec;
 use nc_number::Var;
@@ -25,7 +25,7 @@ pub struct Level {
 impl Level {
     /// A level that begins with these arguments.
     fn opened(arguments: &[Var; LOCALS]) -> Level
-        ensures { result ≡ opened arguments.now }
+        ensures { result ≡ opened_level arguments.now }
     {
         let mut level = Level {
             arguments: [Var::Vacant; LOCALS],
@@ -78,7 +78,7 @@ impl Levels {
     /// Opens a level whose variables hold `arguments`, as a macro call does.
     pub fn open_level(&mut self, arguments: &[Var; LOCALS])
         requires { length self.old ≤ MOST_OPEN }
-        ensures { self.new ≡ opened arguments.now ∷ self.old }
+        ensures { self.new ≡ opened_level arguments.now ∷ self.old }
     {
         self.below.push(self.running);
         self.running = Level::opened(arguments);
@@ -88,7 +88,7 @@ impl Levels {
     /// of a macro call does.
     pub fn repeat_level(&mut self)
         requires { 1 < length self.old }
-        ensures { self.new ≡ reopened self.old }
+        ensures { self.new ≡ reopened_stack self.old }
     {
         self.running = Level::opened(&self.running.arguments);
     }
@@ -97,7 +97,7 @@ impl Levels {
     /// below are as they were before the call.
     pub fn close_level(&mut self)
         requires { 1 < length self.old }
-        ensures { self.new ≡ closed self.old }
+        ensures { self.new ≡ stack_below self.old }
     {
         self.running = self.below.remove(self.below.len() - 1);
     }

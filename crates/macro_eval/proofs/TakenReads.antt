@@ -12,7 +12,7 @@ use Rattle.macro_eval.specs.declared.scope.Look.TheVariants as look
 use Rattle.macro_eval.specs.declared.scope.VarFault.{VarFault}
 use Rattle.macro_eval.specs.declared.scope.Eval.{Eval}
 use Rattle.macro_eval.specs.declared.scope.Eval.TheVariants.{Got, Need, Fault}
-use Rattle.macro_eval.specs.Meaning.{Answer, made, function_value, operator_value, variable_number, seen, looked_by, looked_up, then_with, meaning}
+use Rattle.macro_eval.specs.Meaning.{Answer, eval_of_number, function_value, operator_value, variable_number, answer_of_look, looked_by, looked_up, then_with, meaning}
 
 -- One more than the reads that are left, or 0 if a read is needed.
 abbrev spare : Eval → ℕ → ℕ
@@ -38,12 +38,12 @@ then_takes m k most both reads (Need v, left) next first further = omega arith
 then_takes m k most both reads (Fault v, left) next first further = omega arith
 
 -- A calculated number takes no read.
-of_made : (reads : List Var) (r : Result ℤ NumberFault) → Takes 0 reads (made r, reads)
+of_made : (reads : List Var) (r : Result ℤ NumberFault) → Takes 0 reads (eval_of_number r, reads)
 of_made reads (Ok z) = omega arith
 of_made reads (Err fault) = omega arith
 
 -- A look at a variable takes one read at most.
-seen_takes : (looked : Result Look VarFault) (n : ℕ) (reads : List Var) → Takes 1 reads (seen looked n reads)
+seen_takes : (looked : Result Look VarFault) (n : ℕ) (reads : List Var) → Takes 1 reads (answer_of_look looked n reads)
 seen_takes (Ok (look.Is v)) n reads = omega arith
 seen_takes (Ok look.Shared) n [] = omega arith
 seen_takes (Ok look.Shared) n (v ∷ left) = omega arith

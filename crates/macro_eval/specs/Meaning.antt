@@ -9,10 +9,10 @@ use Rattle.nc_number.specs.declared.cause.Cause.TheVariants.{NotWhole, VariableR
 use Rattle.nc_number.specs.declared.value.Var.{Var}
 use Rattle.nc_number.specs.declared.value.Var.TheVariants.{Is}
 use Rattle.nc_number.specs.declared.fault.NumberFault.{NumberFault}
-use Rattle.nc_number.specs.Signs.{signed as with_sign}
+use Rattle.nc_number.specs.Signs.{signed_number}
 use Rattle.nc_number.specs.Causes.{cause_number, cause_of_number_fault}
 use Rattle.nc_number.specs.Variables.{or_zero}
-use Rattle.nc_number.specs.Arithmetic.{sum_of, difference_of, product_of, quotient_of, remainder_of, and_of, or_of, xor_of, root_of, rounded, dropped, raised, whole_of}
+use Rattle.nc_number.specs.Arithmetic.{sum_of, difference_of, product_of, quotient_of, remainder_of, and_of, or_of, xor_of, root_of, rounded_value, value_toward_zero, value_from_zero, whole_of}
 use Rattle.macro_expr.specs.declared.tree.Fun.{Fun}
 use Rattle.macro_expr.specs.declared.tree.Fun.TheVariants.{Sqrt, Abs, Fix, Fup, Round}
 use Rattle.macro_expr.specs.declared.tree.Op.{Op}
@@ -29,25 +29,25 @@ abbrev pub alarm : Cause → Eval
 alarm cause = Fault (cause_number cause)
 
 -- A calculated number, or the alarm of its fault.
-abbrev pub made : Result ℤ NumberFault → Eval
-made (Ok z) = Got (Is z)
-made (Err fault) = alarm (cause_of_number_fault fault)
+abbrev pub eval_of_number : Result ℤ NumberFault → Eval
+eval_of_number (Ok z) = Got (Is z)
+eval_of_number (Err fault) = alarm (cause_of_number_fault fault)
 
 -- The value after a sign, which makes a vacant one 0.
-abbrev pub signed : Bool → Var → Eval
-signed minus v = Got (Is (with_sign minus (or_zero v)))
+abbrev pub value_with_sign : Bool → Var → Eval
+value_with_sign minus v = Got (Is (signed_number minus (or_zero v)))
 
 -- What the function makes of a number.
 abbrev pub function_value : Fun → ℤ → Result ℤ NumberFault
 function_value Sqrt z = root_of z
 function_value Abs z = Ok (pos (unsigned_abs z))
-function_value Fix z = Ok (dropped z)
-function_value Fup z = raised z
-function_value Round z = rounded z
+function_value Fix z = Ok (value_toward_zero z)
+function_value Fup z = value_from_zero z
+function_value Round z = rounded_value z
 
 -- What the function makes of a value; a vacant one counts as 0.
-abbrev pub applied : Fun → Var → Eval
-applied f v = made (function_value f (or_zero v))
+abbrev pub value_of_function : Fun → Var → Eval
+value_of_function f v = eval_of_number (function_value f (or_zero v))
 
 -- What the operator makes of two numbers.
 abbrev pub operator_value : Op → ℤ → ℤ → Result ℤ NumberFault
@@ -61,8 +61,8 @@ operator_value BitAnd a b = and_of a b
 operator_value Modulo a b = remainder_of a b
 
 -- What the operator makes of two values; a vacant one counts as 0.
-abbrev pub joined : Op → Var → Var → Eval
-joined op a b = made (operator_value op (or_zero a) (or_zero b))
+abbrev pub value_of_operator : Op → Var → Var → Eval
+value_of_operator op a b = eval_of_number (operator_value op (or_zero a) (or_zero b))
 
 -- The number, or alarm 4 if there is none.
 abbrev pub whole_or_alarm : Option ℤ → Result ℤ Cause
@@ -92,16 +92,16 @@ next_read n [] = (Need n, [])
 next_read n (v ∷ left) = (Got v, left)
 
 -- What a look at variable n gives: what it holds; the next read if the paths share it; or alarm 30.
-abbrev pub seen : Result Look VarFault → ℕ → List Var → Answer
-seen (Ok (look.Is v)) n reads = (Got v, reads)
-seen (Ok look.Shared) n reads = next_read n reads
-seen (Err fault) n reads = (alarm VariableRange, reads)
+abbrev pub answer_of_look : Result Look VarFault → ℕ → List Var → Answer
+answer_of_look (Ok (look.Is v)) n reads = (Got v, reads)
+answer_of_look (Ok look.Shared) n reads = next_read n reads
+answer_of_look (Err fault) n reads = (alarm VariableRange, reads)
 
 -- `table` says what is known of each variable.
 module _ (table : ℕ → Result Look VarFault) where
   -- What variable n gives, by what is known of each variable.
   abbrev pub looked_at : ℕ → List Var → Answer
-  looked_at n reads = seen (table n) n reads
+  looked_at n reads = answer_of_look (table n) n reads
 
   -- What the variable gives whose number was calculated, or the alarm of that number.
   abbrev pub looked_by : Result ℕ Cause → List Var → Answer
@@ -124,7 +124,8 @@ abbrev pub meaning : (ℕ → Result Look VarFault) → Tree → List Var → An
 meaning table (Number z) reads = (Got (Is z), reads)
 meaning table (Variable n) reads = looked_at table n reads
 meaning table (VariableOf e) reads = then_with (meaning table e reads) (looked_up table)
-meaning table (Signed minus e) reads = then_with (meaning table e reads) (λ v left. (signed minus v, left))
-meaning table (Applied f e) reads = then_with (meaning table e reads) (λ v left. (applied f v, left))
+meaning table (Signed minus e) reads = then_with (meaning table e reads) (λ v left. (value_with_sign minus v, left))
+meaning table (Applied f e) reads = then_with (meaning table e reads) (λ v left. (value_of_function f v, left))
 meaning table (Joined op a b) reads =
-    then_with (meaning table a reads) (λ v left. then_with (meaning table b left) (λ w left. (joined op v w, left)))
+    then_with (meaning table a reads)
+    (λ v left. then_with (meaning table b left) (λ w left. (value_of_operator op v w, left)))

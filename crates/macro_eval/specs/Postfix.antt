@@ -12,7 +12,7 @@ use Rattle.macro_eval.specs.declared.scope.Eval.TheVariants.{Got, Fault}
 use Rattle.macro_eval.specs.declared.code.Instr.{Instr}
 use Rattle.macro_eval.specs.declared.code.Instr.TheVariants as instr
 use Rattle.macro_eval.specs.declared.code.TheConstants.{OPERANDS}
-use Rattle.macro_eval.specs.Meaning.{Answer, looked_at, looked_up, signed, applied, joined, then_with}
+use Rattle.macro_eval.specs.Meaning.{Answer, looked_at, looked_up, value_with_sign, value_of_function, value_of_operator, then_with}
 
 -- The code of a tree, its operands first, before the code that goes on with it.
 abbrev pub code_before : Tree → List Instr → List Instr
@@ -29,19 +29,19 @@ postfix t = code_before t []
 
 -- What an instruction makes of the trees on a stack, of which the last one is first; without its
 -- operands it leaves them.
-abbrev pub put : Instr → List Tree → List Tree
-put (instr.Number z) trees = Number z ∷ trees
-put (instr.Variable n) trees = Variable n ∷ trees
-put instr.LookUp (e ∷ trees) = VariableOf e ∷ trees
-put (instr.Sign minus) (e ∷ trees) = Signed minus e ∷ trees
-put (instr.Call f) (e ∷ trees) = Applied f e ∷ trees
-put (instr.Join op) (b ∷ a ∷ trees) = Joined op a b ∷ trees
-put i trees = trees
+abbrev pub trees_with : Instr → List Tree → List Tree
+trees_with (instr.Number z) trees = Number z ∷ trees
+trees_with (instr.Variable n) trees = Variable n ∷ trees
+trees_with instr.LookUp (e ∷ trees) = VariableOf e ∷ trees
+trees_with (instr.Sign minus) (e ∷ trees) = Signed minus e ∷ trees
+trees_with (instr.Call f) (e ∷ trees) = Applied f e ∷ trees
+trees_with (instr.Join op) (b ∷ a ∷ trees) = Joined op a b ∷ trees
+trees_with i trees = trees
 
 -- What the code makes of the trees on a stack.
-abbrev pub built : List Instr → List Tree → List Tree
-built [] trees = trees
-built (i ∷ code) trees = built code (put i trees)
+abbrev pub trees_after : List Instr → List Tree → List Tree
+trees_after [] trees = trees
+trees_after (i ∷ code) trees = trees_after code (trees_with i trees)
 
 -- The tree on top of the stack; without one, the number 0.
 abbrev pub first_tree : List Tree → Tree
@@ -50,11 +50,11 @@ first_tree (e ∷ trees) = e
 
 -- The tree whose code the instructions are.
 abbrev pub tree_of_code : List Instr → Tree
-tree_of_code code = first_tree (built code [])
+tree_of_code code = first_tree (trees_after code [])
 
 -- The code of a tree puts it on the stack, and goes on.
 built_is : (t : Tree) (code : List Instr) (trees : List Tree)
-    → built (code_before t code) trees ≡ built code (t ∷ trees)
+    → trees_after (code_before t code) trees ≡ trees_after code (t ∷ trees)
 built_is (Number z) code trees = refl
 built_is (Variable n) code trees = refl
 built_is (VariableOf e) code trees = built_is e (instr.LookUp ∷ code) trees
@@ -96,9 +96,9 @@ abbrev pub step : (ℕ → Result Look VarFault) → Instr → List Var → List
 step table (instr.Number z) stack reads = ((Got (Is z), reads), stack)
 step table (instr.Variable n) stack reads = (looked_at table n reads, stack)
 step table instr.LookUp (v ∷ stack) reads = (looked_up table v reads, stack)
-step table (instr.Sign minus) (v ∷ stack) reads = ((signed minus v, reads), stack)
-step table (instr.Call f) (v ∷ stack) reads = ((applied f v, reads), stack)
-step table (instr.Join op) (w ∷ v ∷ stack) reads = ((joined op v w, reads), stack)
+step table (instr.Sign minus) (v ∷ stack) reads = ((value_with_sign minus v, reads), stack)
+step table (instr.Call f) (v ∷ stack) reads = ((value_of_function f v, reads), stack)
+step table (instr.Join op) (w ∷ v ∷ stack) reads = ((value_of_operator op v w, reads), stack)
 step table i stack reads = ((Fault 0, reads), stack)
 
 -- The value on top of the stack, or vacant if there is none.

@@ -2,7 +2,7 @@
 //! them, a list for each statement of a tape; path_state runs the statement, and block_values
 //! evaluates its codes.
 ghost use Rattle.std.specs.Prelude.{◌≡◌, ◌≤◌, [], ◌∷◌, ◌++◌, length, IfOk, OnOk};
-ghost use Rattle.macro_expr.specs.Tree.{tree_of, variable_of, test_of, aim_of, sentence_of, evaluated, evaluated_name, evaluated_test, evaluated_aim};
+ghost use Rattle.macro_expr.specs.Tree.{tree_of, variable_of, test_of, aim_of, sentence_of, trees_of_sentence, evaluated_name, evaluated_test, evaluated_aim};
 
 use crate::code::{Code, compile};
 use macro_expr::{Cond, Expr, Statement, Target, VarRef};
@@ -48,7 +48,7 @@ impl CodeList {
 ///
 /// The errors are those of [`compile`].
 pub fn compile_statement(alloc: Global, statement: &Statement) -> Result<CodeList, NoMemory>
-    ensures { IfOk result (λ list. list ≡ evaluated (sentence_of statement.now)) }
+    ensures { IfOk result (λ list. list ≡ trees_of_sentence (sentence_of statement.now)) }
 {
     let mut codes = Vec::with_capacity(alloc, count(statement))?;
     put_statement(alloc, &mut codes, statement)?;
@@ -57,7 +57,7 @@ pub fn compile_statement(alloc: Global, statement: &Statement) -> Result<CodeLis
 
 /// How many codes the statement has.
 fn count(statement: &Statement) -> usize
-    ensures { result ≡ length (evaluated (sentence_of statement.now)) }
+    ensures { result ≡ length (trees_of_sentence (sentence_of statement.now)) }
 {
     match statement {
         Statement::Assign(variable, _) => count_name(variable) + 1,
@@ -98,7 +98,7 @@ fn put_statement(
     codes: &mut Vec<Code>,
     statement: &Statement,
 ) -> Result<(), NoMemory>
-    ensures { OnOk result (codes.new.items ≡ codes.old.items ++ evaluated (sentence_of statement.now)) }
+    ensures { OnOk result (codes.new.items ≡ codes.old.items ++ trees_of_sentence (sentence_of statement.now)) }
 {
     match statement {
         Statement::Assign(variable, tree) => put_assignment(alloc, codes, variable, tree),

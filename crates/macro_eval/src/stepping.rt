@@ -2,7 +2,7 @@
 //! calls it in order.
 ghost use Rattle.std.specs.Prelude.{◌≡◌, ◌≤◌, ◌==◌, [], ◌∷◌, List, length};
 ghost use Rattle.nc_number.specs.declared.value.Var.{Var};
-ghost use Rattle.macro_eval.specs.Meaning.{made, signed, function_value, operator_value, looked_at, looked_up};
+ghost use Rattle.macro_eval.specs.Meaning.{eval_of_number, value_with_sign, function_value, operator_value, looked_at, looked_up};
 ghost use Rattle.macro_eval.specs.Postfix.{takes, step, run};
 
 use crate::code::Instr;
@@ -17,7 +17,7 @@ use nc_number::{
 
 /// A number that was calculated, or the alarm of its fault.
 fn made(number: Result<Value, NumberFault>) -> Eval
-    ensures { result ≡ made number }
+    ensures { result ≡ eval_of_number number }
 {
     match number {
         Ok(value) => Eval::Got(Var::Is(value)),
@@ -27,7 +27,7 @@ fn made(number: Result<Value, NumberFault>) -> Eval
 
 /// The value after a sign; a vacant one counts as 0.
 fn signed(minus: bool, operand: &Var) -> Eval
-    ensures { result ≡ signed minus operand.now }
+    ensures { result ≡ value_with_sign minus operand.now }
 {
     let value = operand.or_zero();
     Eval::Got(Var::Is(if minus { neg(value) } else { value }))

@@ -2,6 +2,7 @@
 //! calls it for a variable whose number is calculated; block_values for the target of a jump and
 //! for the variable of an assignment.
 ghost use Rattle.std.specs.Prelude.{◌≡◌, ◌≤◌, unsigned_abs, IfOk};
+ghost use Rattle.nc_number.specs.declared.limits.TheConstants.{LARGEST_WHOLE};
 ghost use Rattle.macro_eval.specs.Meaning.{whole_number, variable_number};
 
 use nc_number::{Cause, Var};
@@ -11,7 +12,7 @@ use nc_number::{Cause, Var};
 /// Error: alarm 4 if the value has a fraction.
 pub fn whole_number(computed: &Var) -> Result<i64, Cause>
     ensures value { result ≡ whole_number computed.now }
-    ensures range { IfOk result (λ n. unsigned_abs n ≤ 99999999) }
+    ensures range { IfOk result (λ n. unsigned_abs n ≤ LARGEST_WHOLE) }
 {
     match computed.or_zero().whole() {
         Some(number) => Ok(number),

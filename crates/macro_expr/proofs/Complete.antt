@@ -15,7 +15,7 @@ use Rattle.macro_expr.specs.declared.tree.Op.{Op}
 use Rattle.macro_expr.specs.declared.words.Rank.TheVariants.{Product, Sum}
 use Rattle.macro_expr.specs.Tree.{Tree, Number, Named, Fixed, Computed, look, Signed, Applied}
 use Rattle.macro_expr.specs.Words.{operator_words, sign_words, function_words, operator, sign, function_of, function_word, is_letter, is_number_byte, run, behind_run, begins}
-use Rattle.macro_expr.specs.Reading.{Read, literal_of, number_at, digits_at, word_at, bracket_at, variable_behind, variable_at, applied, function_at, prim_at, signed_by, signed_at, product_at, sum_at, inside}
+use Rattle.macro_expr.specs.Reading.{Read, literal_of, number_at, digits_at, word_at, bracket_at, variable_behind, variable_at, function_reading, function_at, prim_at, signed_by, signed_at, product_at, sum_at, expression_inside}
 use Rattle.macro_expr.specs.Grammar.{IsWord, IsWhole, IsBracketed, closed, IsVariable, fixed, computed, IsPrim, number, variable, bracket, function, IsSigned, plain, signed, IsChain, IsProduct, IsSum, IsWithin}
 use Rattle.macro_expr.proofs.Heads.{◌also◌, each, run_whole}
 use Rattle.macro_expr.proofs.ChainLaws.{IsRead, chained, chain_read}
@@ -144,7 +144,7 @@ module _ (inner : List ℕ → Read Tree) (Inner : List ℕ → Tree → Type 0)
   -- how the name of a function begins a text, before a bracket
   abbrev Names : List ℕ → Fun → Type 0
   Names name f = (rest : List ℕ) → (sign (name ++ (codes "[" ++ rest)) ≡ None)
-      × (prim_at inner (name ++ (codes "[" ++ rest)) ≡ applied inner (Some f) (codes "[" ++ rest))
+      × (prim_at inner (name ++ (codes "[" ++ rest)) ≡ function_reading inner (Some f) (codes "[" ++ rest))
 
   -- the name of each function begins a text as `Names` says
   names_it : (name : List ℕ) (f : Fun) → IsWord function_words name f → Names name f
@@ -222,9 +222,9 @@ unfolding operator
 behind_bracket rest = (refl, refl, refl)
 
 -- an expression whose brackets nest less than so deep is read as its tree
-pub within_read : (n : ℕ) → IsRead NoSum (IsWithin n) (inside n)
-unfolding inside
+pub within_read : (n : ℕ) → IsRead NoSum (IsWithin n) (expression_inside n)
+unfolding expression_inside
 within_read zero t e is rest quiet = absurd is
 within_read (suc n) t e is rest quiet =
-    sum_read (inside n) (IsWithin n) (λ t e is rest. within_read n t e is (codes "]" ++ rest) (behind_bracket rest))
+    sum_read (expression_inside n) (IsWithin n) (λ t e is rest. within_read n t e is (codes "]" ++ rest) (behind_bracket rest))
     t e is rest quiet

@@ -12,20 +12,20 @@ use Rattle.std.proofs.Math.Seq.{take-append_seam, drop-append_seam}
 use Rattle.macro_expr.specs.declared.tree.Op.{Op}
 use Rattle.macro_expr.specs.declared.words.Rank.{Rank}
 use Rattle.macro_expr.specs.declared.words.Rank.TheVariants.{Product, Sum}
-use Rattle.macro_expr.specs.Words.{behind, first_word, all_of, operator_words, operator, run, behind_run, begins}
+use Rattle.macro_expr.specs.Words.{text_behind, first_word, all_of, operator_words, operator, run, behind_run, begins}
 use Rattle.macro_expr.specs.Grammar.{IsWord}
 
 -- what is shown of the text after a word, whether or not the text begins with it, holds of the
 -- search
 pub behind_word : (G : Option (List ℕ) → Type 0) (word text : List ℕ)
-    → ((rest : List ℕ) → text ≡ word ++ rest → G (Some rest)) → G None → G (behind word text)
+    → ((rest : List ℕ) → text ≡ word ++ rest → G (Some rest)) → G None → G (text_behind word text)
 behind_word G [] text some none = some text refl
 behind_word G (w ∷ word) [] some none = none
 behind_word G (w ∷ word) (b ∷ text) some none =
     go (b == w) refl (λ same.
     behind_word G word text (λ rest stands. some rest (let e : b ≡ w = eqb-true b w same in cc)) none)
   where
-    go : (t : Bool) → (b == w) ≡ t → ((b == w) ≡ true → G (behind word text)) → G (cond t (behind word text) None)
+    go : (t : Bool) → (b == w) ≡ t → ((b == w) ≡ true → G (text_behind word text)) → G (cond t (text_behind word text) None)
     go true same further = further same
     go false other further = none
 

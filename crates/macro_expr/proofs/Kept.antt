@@ -9,7 +9,7 @@ use Rattle.std.proofs.lemmas.List.Elements.{All-nil, All-cons, All-append}
 use Rattle.std.proofs.lemmas.List.Sums.{sum_by-append}
 use Rattle.macro_expr.specs.declared.words.Rank.{Rank}
 use Rattle.macro_expr.specs.declared.words.Rank.TheVariants.{Product, Sum}
-use Rattle.macro_expr.specs.Tree.{Tree, right_depth, variables, Named, look, Test, Aim, Sentence, evaluated_test, evaluated_name, evaluated_aim, evaluated, variables_in, IsLoop, IsAimInRange, IsInRange}
+use Rattle.macro_expr.specs.Tree.{Tree, right_depth, variables, Named, look, Test, Aim, Sentence, evaluated_test, evaluated_name, evaluated_aim, trees_of_sentence, variables_in, IsLoop, IsAimInRange, IsInRange}
 use Rattle.macro_expr.specs.Words.{loop_words}
 use Rattle.macro_expr.specs.Limits.{variable_signs}
 use Rattle.macro_expr.specs.Grammar.{IsWord, IsBracketed, closed, IsVariable, fixed, computed, IsPrim, number, variable, bracket, function, IsSigned, plain, signed, IsChain, one, more, IsProduct, IsSum, IsWithin, IsExpression, IsTest, compares, IsTarget, line, line_of, line_in, IsAssignment, assigns, IsStatement, assign, goto, if_goto, if_then, while_do, do_only, end_loop}
@@ -165,7 +165,7 @@ loop_in_range =
     ((omega arith, omega arith) also (omega arith, omega arith) also (omega arith, omega arith) also tt)
 
 -- the trees of a statement are kept, and its numbers are in range
-pub statement_kept : (t : List ℕ) (s : Sentence) → IsStatement t s → AllKept t (evaluated s) × IsInRange s
+pub statement_kept : (t : List ℕ) (s : Sentence) → IsStatement t s → AllKept t (trees_of_sentence s) × IsInRange s
 statement_kept _ _ (assign t v e is) = (assignment_kept t v e is, tt)
 statement_kept _ _ (goto t aim is) =
     let kept = aim_kept t aim is in (both (no_tree (codes "GOTO")) kept.0, kept.1)

@@ -10,7 +10,7 @@ use Rattle.macro_expr.specs.declared.stop.Stop.TheVariants as stop
 use Rattle.macro_expr.specs.declared.words.Rank.TheVariants.{Product, Sum}
 use Rattle.macro_expr.specs.Tree.{Tree, Number, Fixed, Computed, look, Signed, Applied}
 use Rattle.macro_expr.specs.Words.{sign_words, function_words, sign, function_of, function_word, is_letter, is_number_byte, run, behind_run, begins}
-use Rattle.macro_expr.specs.Reading.{Read, literal_of, number_at, digits_at, bracket_at, variable_behind, variable_at, applied, function_at, prim_at, signed_by, signed_at, product_at, sum_at, inside}
+use Rattle.macro_expr.specs.Reading.{Read, literal_of, number_at, digits_at, bracket_at, variable_behind, variable_at, function_reading, function_at, prim_at, signed_by, signed_at, product_at, sum_at, expression_inside}
 use Rattle.macro_expr.specs.Grammar.{IsWhole, IsBracketed, closed, IsVariable, fixed, computed, IsPrim, number, variable, bracket, function, IsSigned, plain, signed, IsChain, IsProduct, IsSum, IsWithin}
 use Rattle.macro_expr.proofs.Heads.{leading, meant, run_splits, run_all}
 use Rattle.macro_expr.proofs.Steps.{Sound, found, stops, Reads, step, word_step, joins, turned}
@@ -82,7 +82,7 @@ module _ (inner : List ℕ → Read Tree) (Inner : List ℕ → Tree → Type 0)
   function-sound text =
       let name : List ℕ = run is_letter text in
       let after : List ℕ = behind_run is_letter text in
-      meant (λ o. Sound (IsPrim Inner) text (applied inner o after)) function_words name
+      meant (λ o. Sound (IsPrim Inner) text (function_reading inner o after)) function_words name
       (λ f is_name.
       joins name (Applied f) (λ t e is. function name t f e is_name is) (run_splits is_letter text)
       (bracket-sound after))
@@ -126,7 +126,7 @@ module _ (inner : List ℕ → Read Tree) (Inner : List ℕ → Tree → Type 0)
       (chained_sound Sum _ _ _ _ first-sound product-sound text)
 
 -- an expression that is read within so many brackets has its tree by the grammar
-pub within-sound : (n : ℕ) → Reads (IsWithin n) (inside n)
-unfolding inside
+pub within-sound : (n : ℕ) → Reads (IsWithin n) (expression_inside n)
+unfolding expression_inside
 within-sound zero text = stops stop.Expression
-within-sound (suc n) text = sum-sound (inside n) (IsWithin n) (within-sound n) text
+within-sound (suc n) text = sum-sound (expression_inside n) (IsWithin n) (within-sound n) text

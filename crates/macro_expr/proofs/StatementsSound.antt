@@ -11,8 +11,8 @@ use Rattle.macro_expr.specs.declared.stop.Stop.TheVariants as stop
 use Rattle.macro_expr.specs.declared.words.Keyword.{Keyword}
 use Rattle.macro_expr.specs.Tree.{Tree, Named, look, Test, ToNumber, ToNumberOf, Sentence, Assign, Goto, DoOnly, EndLoop}
 use Rattle.macro_expr.specs.Words.{first_word, relation_words, loop_words, keyword_words, relation, keyword, loop_of, loop_word, run, behind_run, begins}
-use Rattle.macro_expr.specs.Reading.{Read, digits_at, bracket_at, variable_at, inside}
-use Rattle.macro_expr.specs.Statements.{expression_at, relation_found, relation_at, condition_at, or_no_condition, test_at, numbered, target_at, loop_found, loop_at, assignment_at, branch_by, branch_at, if_at, while_at, statement_for, statement_by, statement_at, whole}
+use Rattle.macro_expr.specs.Reading.{Read, digits_at, bracket_at, variable_at, expression_inside}
+use Rattle.macro_expr.specs.Statements.{expression_at, relation_found, relation_at, condition_at, or_no_condition, test_at, aim_at_number, target_at, loop_found, loop_at, assignment_at, branch_by, branch_at, if_at, while_at, statement_for, statement_by, statement_at, whole_reading}
 use Rattle.macro_expr.specs.Grammar.{IsWord, IsWhole, IsWithin, IsExpression, IsTest, compares, IsTarget, line, line_of, line_in, IsAssignment, assigns, IsStatement, assign, goto, if_goto, if_then, while_do, do_only, end_loop}
 use Rattle.macro_expr.proofs.Heads.{behind_word, leading, meant, ◌also◌, each, run_splits}
 use Rattle.macro_expr.proofs.Steps.{Sound, found, stops, Reads, step, word_step, joins}
@@ -52,13 +52,13 @@ target-sound text = go (begins is_ascii_digit text) (begins (λ b. b == 35) text
     in_range t rest n is stands true large = stops stop.Sequence
     in_range t rest n is stands false small = found t rest (ToNumber n) (line t n is (ltb-false 99999 n small)) stands
 
-    go : (a b : Bool) → Sound IsTarget text (cond a (digits_at text >>= λ n. numbered n.0 n.1)
-        (cond b (variable_at (inside 5) text >>= λ v. Ok (ToNumberOf (look v.0), v.1))
-        (bracket_at (inside 5) text >>= λ e. Ok (ToNumberOf e.0, e.1))))
+    go : (a b : Bool) → Sound IsTarget text (cond a (digits_at text >>= λ n. aim_at_number n.0 n.1)
+        (cond b (variable_at (expression_inside 5) text >>= λ v. Ok (ToNumberOf (look v.0), v.1))
+        (bracket_at (expression_inside 5) text >>= λ e. Ok (ToNumberOf e.0, e.1))))
     go true b = step _ (digits-sound text) (λ t rest n is stands. in_range t rest n is stands (nat_lt 99999 n) refl)
     go false true =
-        joins [] (λ v. ToNumberOf (look v)) line_of refl (variable-sound (inside 5) (IsWithin 5) (within-sound 5) text)
-    go false false = joins [] ToNumberOf line_in refl (bracket-sound (inside 5) (IsWithin 5) (within-sound 5) text)
+        joins [] (λ v. ToNumberOf (look v)) line_of refl (variable-sound (expression_inside 5) (IsWithin 5) (within-sound 5) text)
+    go false false = joins [] ToNumberOf line_in refl (bracket-sound (expression_inside 5) (IsWithin 5) (within-sound 5) text)
 
 -- the number of a loop that is read is one of the grammar
 loop-sound : Reads (IsWord loop_words) loop_at
@@ -77,7 +77,7 @@ IsAssign t a = IsAssignment t a.0 a.1
 assignment-sound : Reads IsAssign assignment_at
 unfolding assignment_at
 assignment-sound text =
-    step _ (variable-sound (inside 5) (IsWithin 5) (within-sound 5) text) (λ t after v is_variable here.
+    step _ (variable-sound (expression_inside 5) (IsWithin 5) (within-sound 5) text) (λ t after v is_variable here.
     word_step _ (codes "=") after (λ right equals.
     step _ (within-sound 6 right) (λ u rest e is stands.
     found (t ++ (codes "=" ++ u)) rest (v, e) (assigns t u v e is_variable is)
@@ -128,21 +128,21 @@ statement-sound text = go (begins (λ b. b == 35) text)
         (stops stop.Expression)
 
 -- what is read of all of a text is in the grammar
-whole-sound : {A : Type 0} {Is : List ℕ → A → Type 0} {text : List ℕ} {r : Read A} → Sound Is text r
-    → (x : A) → whole r ≡ Ok x → Is text x
-whole-sound (stops s) y read = absurd (let no : ⊥ = cc in no)
-whole-sound {Is} (found t [] x is stands) y read =
+whole_reading-sound : {A : Type 0} {Is : List ℕ → A → Type 0} {text : List ℕ} {r : Read A} → Sound Is text r
+    → (x : A) → whole_reading r ≡ Ok x → Is text x
+whole_reading-sound (stops s) y read = absurd (let no : ⊥ = cc in no)
+whole_reading-sound {Is} (found t [] x is stands) y read =
     let same : x ≡ y = cc in
     subst (λ t. Is t y) (sym (stands ∙ append-nil t)) (subst (Is t) same is)
-whole-sound (found t (b ∷ rest) x is stands) y read =
+whole_reading-sound (found t (b ∷ rest) x is stands) y read =
     let more : (length (b ∷ rest) == 0) ≡ false = grind (arith, nat_tests) in
     let fails = ap (λ z. cond z (Ok x) (Err stop.Expression)) (sym more) ∙ read in
     absurd (let no : ⊥ = cc in no)
 
 -- an expression that is all of the text has its tree by the grammar
-pub whole-expression-sound : (text : List ℕ) (e : Tree) → whole (expression_at text) ≡ Ok e → IsExpression text e
-whole-expression-sound text e read = whole-sound (within-sound 6 text) e read
+pub whole_reading-expression-sound : (text : List ℕ) (e : Tree) → whole_reading (expression_at text) ≡ Ok e → IsExpression text e
+whole_reading-expression-sound text e read = whole_reading-sound (within-sound 6 text) e read
 
 -- a statement that is all of the text has its tree by the grammar
-pub whole-statement-sound : (text : List ℕ) (s : Sentence) → whole (statement_at text) ≡ Ok s → IsStatement text s
-whole-statement-sound text s read = whole-sound (statement-sound text) s read
+pub whole_reading-statement-sound : (text : List ℕ) (s : Sentence) → whole_reading (statement_at text) ≡ Ok s → IsStatement text s
+whole_reading-statement-sound text s read = whole_reading-sound (statement-sound text) s read

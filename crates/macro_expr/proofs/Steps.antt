@@ -5,7 +5,7 @@ use Rattle.std.proofs.Common.{◌≡◌, ℕ, List, ◌++◌, Ok, Err, append_as
 use Rattle.macro_expr.specs.declared.stop.Stop.{Stop}
 use Rattle.macro_expr.specs.declared.stop.Stop.TheVariants as stop
 use Rattle.nc_number.specs.Results.{◌>>=◌}
-use Rattle.macro_expr.specs.Reading.{Read, expected, word_at}
+use Rattle.macro_expr.specs.Reading.{Read, text_after_word, word_at}
 use Rattle.macro_expr.proofs.Heads.{behind_word}
 
 -- what is read stands at the head of the text, or reading stops
@@ -31,7 +31,7 @@ pub word_step : {B : Type 0} {Is : List ℕ → B → Type 0} {text : List ℕ} 
     → ((rest : List ℕ) → at ≡ word ++ rest → Sound Is text (f rest)) → Sound Is text (word_at word at >>= f)
 unfolding word_at
 word_step {Is} {text} f word at next =
-    behind_word (λ o. Sound Is text (expected o >>= f)) word at next (stops stop.Expression)
+    behind_word (λ o. Sound Is text (text_after_word o >>= f)) word at next (stops stop.Expression)
 
 -- a part after a front, and what both make, are sound together
 pub joins : {A B : Type 0} {Is : List ℕ → A → Type 0} {Is' : List ℕ → B → Type 0} {at text : List ℕ} {r : Read A}

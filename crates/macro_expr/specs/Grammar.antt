@@ -4,7 +4,7 @@
 use Rattle.std.specs.Prelude.{◌≡◌, ℕ, zero, suc, ◌/◌, ◌≤◌, Bool, true, false, List, [], ◌∷◌, ◌++◌, ℤ, unsigned_abs, codes, ◌⊎◌}
 use Rattle.std.specs.Char.{is_ascii_digit}
 use Rattle.std.specs.List.{list_all}
-use Rattle.nc_number.specs.declared.limits.TheConstants.{MOST_BRACKETS}
+use Rattle.nc_number.specs.declared.limits.TheConstants.{LAST_SEQUENCE, MOST_BRACKETS}
 use Rattle.nc_number.specs.Literals.{is_literal, has_too_many_digits, literal_micro}
 use Rattle.macro_expr.specs.declared.tree.Fun.{Fun}
 use Rattle.macro_expr.specs.declared.tree.Op.{Op}
@@ -109,7 +109,7 @@ pub data IsTest : List ℕ → Test → Type 0 where
 -- target = digits | var | "[" expr "]", with digits that are at most 99,999
 pub data IsTarget : List ℕ → Aim → Type 0 where
   -- digits
-  line : (t : List ℕ) (n : ℕ) → IsWhole t n → n ≤ 99999 → IsTarget t (ToNumber n)
+  line : (t : List ℕ) (n : ℕ) → IsWhole t n → n ≤ LAST_SEQUENCE → IsTarget t (ToNumber n)
   -- a variable
   line_of : (t : List ℕ) (v : Named) → IsVariable (IsWithin MOST_BRACKETS) t v → IsTarget t (ToNumberOf (look v))
   -- an expression in brackets

@@ -25,14 +25,14 @@ refusal cause = record { number = cause_number cause }
 -- The text without spaces, tabs and comments, and in upper case. The test says whether it begins
 -- inside a comment. A comment that is open at the end leaves its bracket, which is no part of any
 -- expression.
-abbrev pub cleaned : Bool → List ℕ → List ℕ
-cleaned true [] = codes "("
-cleaned false [] = []
-cleaned true (b ∷ text) = cleaned (not (b == 41)) text
-cleaned false (b ∷ text) =
-    if b == 40 then cleaned true text
-    else if b == 32 || b == 9 then cleaned false text
-    else to_ascii_uppercase b ∷ cleaned false text
+abbrev pub clean_text : Bool → List ℕ → List ℕ
+clean_text true [] = codes "("
+clean_text false [] = []
+clean_text true (b ∷ text) = clean_text (not (b == 41)) text
+clean_text false (b ∷ text) =
+    if b == 40 then clean_text true text
+    else if b == 32 || b == 9 then clean_text false text
+    else to_ascii_uppercase b ∷ clean_text false text
 
 -- whether the text has a last byte, and that byte passes the test
 abbrev pub ends : (ℕ → Bool) → List ℕ → Bool

@@ -13,20 +13,20 @@ use Rattle.macro_expr.specs.declared.words.Rank.TheVariants.{Product, Sum}
 use Rattle.macro_expr.specs.declared.tree.Fun.{Fun}
 use Rattle.macro_expr.specs.declared.tree.Op.{Op}
 use Rattle.macro_expr.specs.Tree.{Tree, Number, Named, Fixed, Computed, look, Signed, Applied, Joined}
-use Rattle.macro_expr.specs.Words.{behind, operator, sign, function_of, is_letter, is_number_byte, run, behind_run, begins}
+use Rattle.macro_expr.specs.Words.{text_behind, operator, sign, function_of, is_letter, is_number_byte, run, behind_run, begins}
 
 -- a value that was read and the text after it, or why reading stops
 abbrev pub Read : Type 0 → Type 0
 Read A = Result (A × List ℕ) Stop
 
 -- the text after a word that must stand here, or that this is no expression
-abbrev pub expected : Option (List ℕ) → Result (List ℕ) Stop
-expected None = Err stop.Expression
-expected (Some rest) = Ok rest
+abbrev pub text_after_word : Option (List ℕ) → Result (List ℕ) Stop
+text_after_word None = Err stop.Expression
+text_after_word (Some rest) = Ok rest
 
 -- the text after this word, which must stand here
 unfoldable pub word_at : List ℕ → List ℕ → Result (List ℕ) Stop
-word_at word text = expected (behind word text)
+word_at word text = text_after_word (text_behind word text)
 
 -- the value of a literal in 0.000001; reading stops if it is none, or has too many digits
 unfoldable pub literal_of : List ℕ → Result ℤ Stop
@@ -50,8 +50,8 @@ digits_at text = do
 -- an expression in brackets, if inner reads the expression
 unfoldable pub bracket_at : (List ℕ → Read Tree) → List ℕ → Read Tree
 bracket_at inner text = do
-  inside ← word_at (codes "[") text
-  e ← inner inside
+  expression_inside ← word_at (codes "[") text
+  e ← inner expression_inside
   rest ← word_at (codes "]") e.1
   Ok (e.0, rest)
 
@@ -69,15 +69,15 @@ variable_at inner text = do
   variable_behind inner rest
 
 -- a function's brackets, once its name was read; letters that name none stop the reading
-abbrev pub applied : (List ℕ → Read Tree) → Option Fun → List ℕ → Read Tree
-applied inner None text = Err stop.Function
-applied inner (Some f) text = do
+abbrev pub function_reading : (List ℕ → Read Tree) → Option Fun → List ℕ → Read Tree
+function_reading inner None text = Err stop.Function
+function_reading inner (Some f) text = do
   e ← bracket_at inner text
   Ok (Applied f e.0, e.1)
 
 -- a function and its brackets
 unfoldable pub function_at : (List ℕ → Read Tree) → List ℕ → Read Tree
-function_at inner text = applied inner (function_of (run is_letter text)) (behind_run is_letter text)
+function_at inner text = function_reading inner (function_of (run is_letter text)) (behind_run is_letter text)
 
 -- what an operator joins: a number, a variable, a function, or an expression in brackets
 unfoldable pub prim_at : (List ℕ → Read Tree) → List ℕ → Read Tree
@@ -135,6 +135,6 @@ sum_at inner text = do
   chain_at Sum inner product.0 product.1
 
 -- an expression whose brackets nest less than this number deep
-unfoldable pub inside : ℕ → List ℕ → Read Tree
-inside zero text = Err stop.Expression
-inside (suc n) text = sum_at (inside n) text
+unfoldable pub expression_inside : ℕ → List ℕ → Read Tree
+expression_inside zero text = Err stop.Expression
+expression_inside (suc n) text = sum_at (expression_inside n) text

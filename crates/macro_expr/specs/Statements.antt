@@ -3,7 +3,7 @@
 -- Byte 35 is `#`.
 use Rattle.std.specs.Prelude.{ℕ, suc, ◌==◌, nat_lt, List, length, Option, Some, None, Result, Ok, Err, codes, if◌then◌else◌}
 use Rattle.std.specs.Char.{is_ascii_digit}
-use Rattle.nc_number.specs.declared.limits.TheConstants.{MOST_BRACKETS}
+use Rattle.nc_number.specs.declared.limits.TheConstants.{LAST_SEQUENCE, MOST_BRACKETS}
 use Rattle.nc_number.specs.Results.{◌>>=◌}
 use Rattle.macro_expr.specs.declared.stop.Stop.{Stop}
 use Rattle.macro_expr.specs.declared.stop.Stop.TheVariants as stop
@@ -11,12 +11,12 @@ use Rattle.macro_expr.specs.declared.tree.Rel.{Rel}
 use Rattle.macro_expr.specs.declared.words.Keyword.{Keyword}
 use Rattle.macro_expr.specs.declared.words.Keyword.TheVariants as word
 use Rattle.macro_expr.specs.Tree.{Tree, Named, look, Test, Aim, ToNumber, ToNumberOf, Sentence, Assign, Goto, IfGoto, IfThen, WhileDo, DoOnly, EndLoop}
-use Rattle.macro_expr.specs.Words.{behind, relation, keyword, loop_of, run, behind_run, begins}
-use Rattle.macro_expr.specs.Reading.{Read, word_at, digits_at, bracket_at, variable_at, inside}
+use Rattle.macro_expr.specs.Words.{text_behind, relation, keyword, loop_of, run, behind_run, begins}
+use Rattle.macro_expr.specs.Reading.{Read, word_at, digits_at, bracket_at, variable_at, expression_inside}
 
 -- an expression whose brackets nest at most five deep; what stands in brackets may open four more
 abbrev pub expression_at : List ℕ → Read Tree
-expression_at = inside (suc MOST_BRACKETS)
+expression_at = expression_inside (suc MOST_BRACKETS)
 
 -- the relation that was found, or that this is no expression
 abbrev pub relation_found : Option (Rel × List ℕ) → Read Rel
@@ -31,9 +31,9 @@ relation_at text = relation_found (relation text)
 unfoldable pub condition_at : List ℕ → Read Test
 condition_at text = do
   opened ← word_at (codes "[") text
-  left ← inside MOST_BRACKETS opened
+  left ← expression_inside MOST_BRACKETS opened
   rel ← relation_at left.1
-  right ← inside MOST_BRACKETS rel.1
+  right ← expression_inside MOST_BRACKETS rel.1
   rest ← word_at (codes "]") right.1
   Ok (record { left = left.0; rel = rel.0; right = right.0 }, rest)
 
@@ -47,15 +47,15 @@ unfoldable pub test_at : List ℕ → Read Test
 test_at text = or_no_condition (condition_at text)
 
 -- a sequence number that is the target of a jump: at most 99,999
-abbrev pub numbered : ℕ → List ℕ → Read Aim
-numbered n rest = if nat_lt 99999 n then Err stop.Sequence else Ok (ToNumber n, rest)
+abbrev pub aim_at_number : ℕ → List ℕ → Read Aim
+aim_at_number n rest = if nat_lt LAST_SEQUENCE n then Err stop.Sequence else Ok (ToNumber n, rest)
 
 -- the target of a jump: digits, a variable or an expression in brackets
 unfoldable pub target_at : List ℕ → Read Aim
 target_at text =
-    if begins is_ascii_digit text then (digits_at text >>= λ n. numbered n.0 n.1)
-    else if begins (λ b. b == 35) text then (variable_at (inside MOST_BRACKETS) text >>= λ v. Ok (ToNumberOf (look v.0), v.1))
-    else (bracket_at (inside MOST_BRACKETS) text >>= λ e. Ok (ToNumberOf e.0, e.1))
+    if begins is_ascii_digit text then (digits_at text >>= λ n. aim_at_number n.0 n.1)
+    else if begins (λ b. b == 35) text then (variable_at (expression_inside MOST_BRACKETS) text >>= λ v. Ok (ToNumberOf (look v.0), v.1))
+    else (bracket_at (expression_inside MOST_BRACKETS) text >>= λ e. Ok (ToNumberOf e.0, e.1))
 
 -- the number of a loop that was found, or that this is none
 abbrev pub loop_found : Option ℕ → List ℕ → Read ℕ
@@ -69,7 +69,7 @@ loop_at text = loop_found (loop_of (run is_ascii_digit text)) (behind_run is_asc
 -- a variable and what it is to hold
 unfoldable pub assignment_at : List ℕ → Read (Named × Tree)
 assignment_at text = do
-  v ← variable_at (inside MOST_BRACKETS) text
+  v ← variable_at (expression_inside MOST_BRACKETS) text
   rest ← word_at (codes "=") v.1
   e ← expression_at rest
   Ok ((v.0, e.0), e.1)
@@ -87,7 +87,7 @@ branch_by test None text = do
 
 -- what stands after the condition of an IF: GOTO and a target, or THEN and an assignment
 unfoldable pub branch_at : Test → List ℕ → Read Sentence
-branch_at test text = branch_by test (behind (codes "GOTO") text) text
+branch_at test text = branch_by test (text_behind (codes "GOTO") text) text
 
 -- what stands after IF
 unfoldable pub if_at : List ℕ → Read Sentence
@@ -123,5 +123,5 @@ statement_at text =
     else statement_by (keyword text)
 
 -- what was read, if nothing stands after it; else the text is no expression or statement
-abbrev pub whole : {A : Type 0} → Read A → Result A Stop
-whole read = read >>= λ x. if length x.1 == 0 then Ok x.0 else Err stop.Expression
+abbrev pub whole_reading : {A : Type 0} → Read A → Result A Stop
+whole_reading read = read >>= λ x. if length x.1 == 0 then Ok x.0 else Err stop.Expression

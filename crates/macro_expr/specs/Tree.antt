@@ -2,6 +2,7 @@
 -- of src/tree.rt. macro_eval says what they mean; macro_eval, block_forms, path_state and 8 more
 -- crates above cite them.
 use Rattle.std.specs.Prelude.{ℕ, suc, ◌+◌, ◌≤◌, max, ℤ, Bool, List, [], ◌∷◌, ◌++◌}
+use Rattle.nc_number.specs.declared.limits.TheConstants.{LAST_SEQUENCE}
 use Rattle.macro_expr.specs.declared.tree.Fun.{Fun}
 use Rattle.macro_expr.specs.declared.tree.Op.{Op}
 use Rattle.macro_expr.specs.declared.tree.Rel.{Rel}
@@ -144,14 +145,14 @@ evaluated_aim (ToNumberOf e) = e ∷ []
 -- The trees that a statement evaluates, in their order: of a condition left and right, then the
 -- number of the assigned variable if it is computed, then the value; of a jump its target if it is
 -- computed.
-abbrev pub evaluated : Sentence → List Tree
-evaluated (Assign v e) = evaluated_name v ++ e ∷ []
-evaluated (Goto aim) = evaluated_aim aim
-evaluated (IfGoto test aim) = evaluated_test test ++ evaluated_aim aim
-evaluated (IfThen test v e) = evaluated_test test ++ (evaluated_name v ++ e ∷ [])
-evaluated (WhileDo test m) = evaluated_test test
-evaluated (DoOnly m) = []
-evaluated (EndLoop m) = []
+abbrev pub trees_of_sentence : Sentence → List Tree
+trees_of_sentence (Assign v e) = evaluated_name v ++ e ∷ []
+trees_of_sentence (Goto aim) = evaluated_aim aim
+trees_of_sentence (IfGoto test aim) = evaluated_test test ++ evaluated_aim aim
+trees_of_sentence (IfThen test v e) = evaluated_test test ++ (evaluated_name v ++ e ∷ [])
+trees_of_sentence (WhileDo test m) = evaluated_test test
+trees_of_sentence (DoOnly m) = []
+trees_of_sentence (EndLoop m) = []
 
 -- how many variables the trees name
 abbrev pub variables_in : List Tree → ℕ
@@ -164,7 +165,7 @@ IsLoop m = (1 ≤ m) × (m ≤ 3)
 
 -- the target of a jump, if it is written out, is at most 99,999
 abbrev pub IsAimInRange : Aim → Type 0
-IsAimInRange (ToNumber n) = n ≤ 99999
+IsAimInRange (ToNumber n) = n ≤ LAST_SEQUENCE
 IsAimInRange (ToNumberOf e) = Unit {0}
 
 -- the numbers that the statement writes out are in range

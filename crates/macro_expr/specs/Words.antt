@@ -18,15 +18,16 @@ use Rattle.macro_expr.specs.declared.tree.Rel.{Rel}
 use Rattle.macro_expr.specs.declared.tree.Rel.TheVariants.{Eq, Ne, Gt, Ge, Lt, Le}
 
 -- what stands after the word, if the text begins with it
-abbrev pub behind : List ℕ → List ℕ → Option (List ℕ)
-behind [] text = Some text
-behind (w ∷ word) [] = None
-behind (w ∷ word) (b ∷ text) = if b == w then behind word text else None
+abbrev pub text_behind : List ℕ → List ℕ → Option (List ℕ)
+text_behind [] text = Some text
+text_behind (w ∷ word) [] = None
+text_behind (w ∷ word) (b ∷ text) = if b == w then text_behind word text else None
 
 -- the meaning of the first word of the table with which the text begins, and what stands after it
 abbrev pub first_word : {A : Type 0} → List (List ℕ × A) → List ℕ → Option (A × List ℕ)
 first_word [] text = None
-first_word (w ∷ words) text = option_or (option_map (λ rest. (w.1, rest)) (behind w.0 text)) (first_word words text)
+first_word (w ∷ words) text =
+    option_or (option_map (λ rest. (w.1, rest)) (text_behind w.0 text)) (first_word words text)
 
 -- the operators of a rank
 abbrev pub operator_words : Rank → List (List ℕ × Op)

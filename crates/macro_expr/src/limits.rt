@@ -3,7 +3,7 @@
 //! shows that each has its refusal.
 ghost use Rattle.std.specs.Prelude.{◌≡◌, ◌==◌, nat_eq, false, IfOk};
 ghost use Rattle.std.specs.Char.{is_ascii_digit};
-ghost use Rattle.macro_expr.specs.Limits.{cleaned, ends, is_loop_head, are_too_many, begins_long, has_long_number, has_deep_brackets, has_many_variables};
+ghost use Rattle.macro_expr.specs.Limits.{clean_text, ends, is_loop_head, are_too_many, begins_long, has_long_number, has_deep_brackets, has_many_variables};
 
 use crate::words::{begins_with_digit, digits, significant};
 use nc_number::{MOST_BRACKETS, MOST_READS, NoMemory};
@@ -12,7 +12,7 @@ use std::alloc::Global;
 /// The text without spaces, tabs and comments, and in upper case. A comment that is open at the end
 /// leaves its bracket, which is no part of any expression.
 pub(crate) fn cleaned(alloc: Global, text: &[u8]) -> Result<Vec<u8>, NoMemory>
-    ensures { IfOk result (λ clean. clean.items ≡ cleaned false text.now) }
+    ensures { IfOk result (λ clean. clean.items ≡ clean_text false text.now) }
 {
     let mut clean = Vec::new(alloc);
     let mut comment = false;

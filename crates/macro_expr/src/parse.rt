@@ -5,11 +5,11 @@ ghost use Rattle.std.specs.Prelude.{◌≡◌, ◌≤◌, ◌==◌, ℕ, List, f
 ghost use Rattle.std.specs.List.{All};
 ghost use Rattle.nc_number.specs.declared.fault.Failing.TheVariants.{Fault};
 ghost use Rattle.macro_expr.specs.declared.stop.Stop.TheVariants.{Expression};
-ghost use Rattle.macro_expr.specs.Tree.{Tree, Sentence, tree_of, sentence_of, right_depth, variables, variables_in, evaluated, IsInRange};
+ghost use Rattle.macro_expr.specs.Tree.{Tree, Sentence, tree_of, sentence_of, right_depth, variables, variables_in, trees_of_sentence, IsInRange};
 ghost use Rattle.macro_expr.specs.Grammar.{IsExpression, IsStatement};
 ghost use Rattle.nc_number.specs.Answers.{Gives};
-ghost use Rattle.macro_expr.specs.Statements.{expression_at, statement_at, whole};
-ghost use Rattle.macro_expr.specs.Limits.{cleaned, variable_signs, refusal_of, answer_to};
+ghost use Rattle.macro_expr.specs.Statements.{expression_at, statement_at, whole_reading};
+ghost use Rattle.macro_expr.specs.Limits.{clean_text, variable_signs, refusal_of, answer_to};
 ghost use Rattle.macro_expr.specs.Answers.{HasTree, HasSentence, expression_of, statement_of};
 
 use crate::limits::{cleaned, has_deep_brackets, has_long_number, has_many_variables};
@@ -61,7 +61,7 @@ fn alone<T: Drop>(tree: T, rest: &[u8]) -> Result<T, Failing<Stop>>
 
 /// The tree of a cleaned text that is one expression, or why reading stops.
 fn read_expression(alloc: Global, text: &[u8]) -> Result<Expr, Failing<Stop>>
-    ensures { Gives (λ tree. tree_of tree) result (whole (expression_at text.now)) }
+    ensures { Gives (λ tree. tree_of tree) result (whole_reading (expression_at text.now)) }
 {
     let (tree, rest) = inside(alloc, MOST_BRACKETS + 1, text)?;
     alone(tree, rest)
@@ -69,7 +69,7 @@ fn read_expression(alloc: Global, text: &[u8]) -> Result<Expr, Failing<Stop>>
 
 /// The tree of a cleaned text that is one statement, or why reading stops.
 fn read_statement(alloc: Global, text: &[u8]) -> Result<Statement, Failing<Stop>>
-    ensures { Gives (λ tree. sentence_of tree) result (whole (statement_at text.now)) }
+    ensures { Gives (λ tree. sentence_of tree) result (whole_reading (statement_at text.now)) }
 {
     let (tree, rest) = statement_at(alloc, text)?;
     alone(tree, rest)
@@ -115,7 +115,7 @@ pub fn parse_expr(alloc: Global, text: &[u8]) -> Result<Expr, Failing<ExprFault>
     ensures shallow { IfOk result (λ tree. right_depth (tree_of tree) ≤ 12) }
 
     // The tree names no more variables than the text.
-    ensures named { IfOk result (λ tree. variables (tree_of tree) ≤ variable_signs (cleaned false text.now)) }
+    ensures named { IfOk result (λ tree. variables (tree_of tree) ≤ variable_signs (clean_text false text.now)) }
 {
     answer_expression(alloc, text)
 }
@@ -136,9 +136,9 @@ pub fn parse_statement(alloc: Global, text: &[u8]) -> Result<Statement, Failing<
 
     // In each expression of it, right operands stand in one another twelve deep at most; and all
     // its expressions together name no more variables than the text.
-    ensures shallow { IfOk result (λ tree. All (λ e. right_depth e ≤ 12) (evaluated (sentence_of tree))) }
+    ensures shallow { IfOk result (λ tree. All (λ e. right_depth e ≤ 12) (trees_of_sentence (sentence_of tree))) }
     ensures named { IfOk result
-        (λ tree. variables_in (evaluated (sentence_of tree)) ≤ variable_signs (cleaned false text.now)) }
+        (λ tree. variables_in (trees_of_sentence (sentence_of tree)) ≤ variable_signs (clean_text false text.now)) }
 
     // A loop number is 1, 2 or 3, and a sequence number that is written out at most 99,999.
     ensures ranges { IfOk result (λ tree. IsInRange (sentence_of tree)) }

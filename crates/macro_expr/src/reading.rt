@@ -4,7 +4,7 @@
 ghost use Rattle.std.specs.Prelude.{◌-◌, ◌<◌, Ok};
 ghost use Rattle.macro_expr.specs.Tree.{tree_of, variable_of, Joined};
 ghost use Rattle.nc_number.specs.Answers.{Gives};
-ghost use Rattle.macro_expr.specs.Reading.{word_at, literal_of, number_at, digits_at, bracket_at, variable_behind, variable_at, function_at, prim_at, signed_at, product_at, operand_at, chain_at, sum_at, inside};
+ghost use Rattle.macro_expr.specs.Reading.{word_at, literal_of, number_at, digits_at, bracket_at, variable_behind, variable_at, function_at, prim_at, signed_at, product_at, operand_at, chain_at, sum_at, expression_inside};
 
 use crate::stop::Stop;
 use crate::tree::{Expr, Op, VarRef};
@@ -75,7 +75,7 @@ pub(crate) fn bracket_at(
     levels: u32,
     text: &[u8],
 ) -> Result<(Expr, &[u8]), Failing<Stop>>
-    ensures { Gives (λ x. (tree_of x.0, x.1.now)) result (bracket_at (inside levels) text.now) }
+    ensures { Gives (λ x. (tree_of x.0, x.1.now)) result (bracket_at (expression_inside levels) text.now) }
 {
     let text = word_at(text, b"[")?;
     let (tree, text) = inside(alloc, levels, text)?;
@@ -91,7 +91,7 @@ pub(crate) fn variable_at(
     levels: u32,
     text: &[u8],
 ) -> Result<(VarRef, &[u8]), Failing<Stop>>
-    ensures { Gives (λ x. (variable_of x.0, x.1.now)) result (variable_at (inside levels) text.now) }
+    ensures { Gives (λ x. (variable_of x.0, x.1.now)) result (variable_at (expression_inside levels) text.now) }
 {
     let text = word_at(text, b"#")?;
     if begins_with_digit(text) {
@@ -106,7 +106,7 @@ pub(crate) fn variable_at(
 #[cycle(reading)]
 #[tactic(auto, unfolding(crate::specs::Reading::function_at))]
 fn function_at(alloc: Global, levels: u32, text: &[u8]) -> Result<(Expr, &[u8]), Failing<Stop>>
-    ensures { Gives (λ x. (tree_of x.0, x.1.now)) result (function_at (inside levels) text.now) }
+    ensures { Gives (λ x. (tree_of x.0, x.1.now)) result (function_at (expression_inside levels) text.now) }
 {
     let (name, text) = letters(text);
     let Some(function) = function_of(name) else {
@@ -120,7 +120,7 @@ fn function_at(alloc: Global, levels: u32, text: &[u8]) -> Result<(Expr, &[u8]),
 #[cycle(reading)]
 #[tactic(auto, unfolding(crate::specs::Reading::prim_at))]
 fn prim_at(alloc: Global, levels: u32, text: &[u8]) -> Result<(Expr, &[u8]), Failing<Stop>>
-    ensures { Gives (λ x. (tree_of x.0, x.1.now)) result (prim_at (inside levels) text.now) }
+    ensures { Gives (λ x. (tree_of x.0, x.1.now)) result (prim_at (expression_inside levels) text.now) }
 {
     match text {
         [b'#', ..] => {
@@ -137,7 +137,7 @@ fn prim_at(alloc: Global, levels: u32, text: &[u8]) -> Result<(Expr, &[u8]), Fai
 #[cycle(reading)]
 #[tactic(auto, unfolding(crate::specs::Reading::signed_at))]
 fn signed_at(alloc: Global, levels: u32, text: &[u8]) -> Result<(Expr, &[u8]), Failing<Stop>>
-    ensures { Gives (λ x. (tree_of x.0, x.1.now)) result (signed_at (inside levels) text.now) }
+    ensures { Gives (λ x. (tree_of x.0, x.1.now)) result (signed_at (expression_inside levels) text.now) }
 {
     let Some((minus, text)) = sign(text) else {
         return prim_at(alloc, levels, text);
@@ -150,7 +150,7 @@ fn signed_at(alloc: Global, levels: u32, text: &[u8]) -> Result<(Expr, &[u8]), F
 #[cycle(reading)]
 #[tactic(auto, unfolding(crate::specs::Reading::product_at))]
 fn product_at(alloc: Global, levels: u32, text: &[u8]) -> Result<(Expr, &[u8]), Failing<Stop>>
-    ensures { Gives (λ x. (tree_of x.0, x.1.now)) result (product_at (inside levels) text.now) }
+    ensures { Gives (λ x. (tree_of x.0, x.1.now)) result (product_at (expression_inside levels) text.now) }
 {
     let (first, text) = prim_at(alloc, levels, text)?;
     chain_at(alloc, Rank::Product, levels, first, text)
@@ -164,7 +164,7 @@ fn operand_at(
     levels: u32,
     text: &[u8],
 ) -> Result<(Expr, &[u8]), Failing<Stop>>
-    ensures { Gives (λ x. (tree_of x.0, x.1.now)) result (operand_at rank (inside levels) text.now) }
+    ensures { Gives (λ x. (tree_of x.0, x.1.now)) result (operand_at rank (expression_inside levels) text.now) }
 {
     match rank {
         Rank::Product => prim_at(alloc, levels, text),
@@ -181,7 +181,8 @@ fn chain_at<'a>(
     first: Expr,
     text: &'a [u8],
 ) -> Result<(Expr, &'a [u8]), Failing<Stop>>
-    ensures { Gives (λ x. (tree_of x.0, x.1.now)) result (chain_at rank (inside levels) (tree_of first) text.now) }
+    ensures { Gives (λ x. (tree_of x.0, x.1.now)) result
+        (chain_at rank (expression_inside levels) (tree_of first) text.now) }
 {
     let mut left = first;
     let mut rest = text;
@@ -200,7 +201,7 @@ fn chain_at<'a>(
 #[cycle(reading)]
 #[tactic(auto, unfolding(crate::specs::Reading::sum_at))]
 fn sum_at(alloc: Global, levels: u32, text: &[u8]) -> Result<(Expr, &[u8]), Failing<Stop>>
-    ensures { Gives (λ x. (tree_of x.0, x.1.now)) result (sum_at (inside levels) text.now) }
+    ensures { Gives (λ x. (tree_of x.0, x.1.now)) result (sum_at (expression_inside levels) text.now) }
 {
     let (first, text) = signed_at(alloc, levels, text)?;
     let (product, text) = chain_at(alloc, Rank::Product, levels, first, text)?;
@@ -209,13 +210,13 @@ fn sum_at(alloc: Global, levels: u32, text: &[u8]) -> Result<(Expr, &[u8]), Fail
 
 /// An expression whose brackets may nest `levels - 1` deep; with `levels` 0 there is none.
 #[cycle(reading)]
-#[tactic(auto, unfolding(crate::specs::Reading::inside))]
+#[tactic(auto, unfolding(crate::specs::Reading::expression_inside))]
 pub(crate) fn inside(
     alloc: Global,
     levels: u32,
     text: &[u8],
 ) -> Result<(Expr, &[u8]), Failing<Stop>>
-    ensures { Gives (λ x. (tree_of x.0, x.1.now)) result (inside levels text.now) }
+    ensures { Gives (λ x. (tree_of x.0, x.1.now)) result (expression_inside levels text.now) }
 {
     if levels == 0 {
         return Err(Failing::Fault(Stop::Expression));

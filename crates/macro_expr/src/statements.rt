@@ -10,13 +10,8 @@ use crate::tree::{Cond, Expr, Rel, Statement, Target, VarRef};
 use crate::words::{
     Keyword, begins_with_digit, behind, digits, leading_keyword, loop_of, relation,
 };
-use nc_number::{Failing, MOST_BRACKETS};
+use nc_number::{Failing, LAST_SEQUENCE, MOST_BRACKETS};
 use std::alloc::Global;
-
-/// The greatest sequence number to which a jump may lead. specs/Statements, Grammar and Tree have
-/// it too, macro_limits (specs/Refusals), open_forms (specs/Statements), and line_text for the
-/// sequence numbers of blocks.
-const MOST_SEQUENCE: u32 = 99_999;
 
 /// The comparison that stands at the head, such as `EQ`.
 #[tactic(auto, unfolding(crate::specs::Statements::relation_at))]
@@ -62,7 +57,7 @@ fn target_at(alloc: Global, text: &[u8]) -> Result<(Target, &[u8]), Failing<Stop
 {
     if begins_with_digit(text) {
         let (number, rest) = digits_at(text)?;
-        if number > MOST_SEQUENCE {
+        if number > LAST_SEQUENCE {
             return Err(Failing::Fault(Stop::Sequence));
         }
         return Ok((Target::Fixed(number), rest));

@@ -6,7 +6,7 @@ ghost use Rattle.std.specs.Prelude.{◌≡◌, ◌≤◌, ◌==◌, not, length,
 ghost use Rattle.std.specs.Option.{option_map};
 ghost use Rattle.std.specs.Char.{is_ascii_digit};
 ghost use Rattle.nc_number.specs.Literals.{significant};
-ghost use Rattle.macro_expr.specs.Words.{behind, operator, relation, sign, function_word, function_of, keyword, loop_word, loop_of, is_letter, is_number_byte, run, behind_run, begins};
+ghost use Rattle.macro_expr.specs.Words.{text_behind, operator, relation, sign, function_word, function_of, keyword, loop_word, loop_of, is_letter, is_number_byte, run, behind_run, begins};
 
 use crate::tree::{Fun, Op, Rel};
 
@@ -36,7 +36,7 @@ pub enum Rank {
 
 /// What stands after the word, if the text begins with it.
 pub(crate) fn behind<'a>(text: &'a [u8], word: &[u8]) -> Option<&'a [u8]>
-    ensures { option_map (λ rest. rest.now) result ≡ behind word.now text.now }
+    ensures { option_map (λ rest. rest.now) result ≡ text_behind word.now text.now }
 {
     text.strip_prefix(word)
 }

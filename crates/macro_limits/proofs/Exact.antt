@@ -10,8 +10,8 @@ use Rattle.macro_expr.specs.declared.tree.ExprFault.{ExprFault}
 use Rattle.macro_expr.specs.declared.stop.Stop.{Stop}
 use Rattle.macro_expr.specs.declared.stop.Stop.TheVariants as stop
 use Rattle.macro_expr.specs.Limits.{has_long_number, has_deep_brackets, has_many_variables, refusal, cause_beside, answer}
-use Rattle.macro_expr.specs.Statements.{expression_at, statement_at, whole}
-use Rattle.macro_expr.proofs.StatementsSound.{whole-expression-sound, whole-statement-sound}
+use Rattle.macro_expr.specs.Statements.{expression_at, statement_at, whole_reading}
+use Rattle.macro_expr.proofs.StatementsSound.{whole_reading-expression-sound, whole_reading-statement-sound}
 use Rattle.macro_limits.specs.Refused.{IsWithinLimits, stops_before_variables, IsRefusedByLimits}
 use Rattle.macro_limits.proofs.Grammar.{expression_limits, statement_limits}
 
@@ -115,12 +115,12 @@ refused text read within =
 
 -- an expression is refused by the limits exactly as they say: what reads has a tree of the grammar
 pub expression_refused : (text : List ℕ)
-    → IsRefusedByLimits text (whole (expression_at text)) (answer text (whole (expression_at text)))
+    → IsRefusedByLimits text (whole_reading (expression_at text)) (answer text (whole_reading (expression_at text)))
 expression_refused text =
-    refused text (whole (expression_at text)) (λ e read. expression_limits text e (whole-expression-sound text e read))
+    refused text (whole_reading (expression_at text)) (λ e read. expression_limits text e (whole_reading-expression-sound text e read))
 
 -- a statement is refused by the limits exactly as they say
 pub statement_refused : (text : List ℕ)
-    → IsRefusedByLimits text (whole (statement_at text)) (answer text (whole (statement_at text)))
+    → IsRefusedByLimits text (whole_reading (statement_at text)) (answer text (whole_reading (statement_at text)))
 statement_refused text =
-    refused text (whole (statement_at text)) (λ s read. statement_limits text s (whole-statement-sound text s read))
+    refused text (whole_reading (statement_at text)) (λ s read. statement_limits text s (whole_reading-statement-sound text s read))

@@ -11,9 +11,9 @@ use Rattle.macro_expr.specs.declared.stop.Stop.{Stop}
 use Rattle.macro_expr.specs.declared.stop.Stop.TheVariants as stop
 use Rattle.macro_expr.specs.declared.words.Keyword.{Keyword}
 use Rattle.macro_expr.specs.Tree.{Number, look, Test, ToNumber, ToNumberOf, Sentence, Assign, Goto, IfGoto, IfThen, DoOnly, EndLoop}
-use Rattle.macro_expr.specs.Words.{first_word, loop_words, keyword_words, behind, keyword, loop_of, loop_word, run, behind_run, begins}
-use Rattle.macro_expr.specs.Reading.{Read, word_at, digits_at, bracket_at, variable_at, inside}
-use Rattle.macro_expr.specs.Statements.{expression_at, condition_at, or_no_condition, test_at, numbered, target_at, loop_found, loop_at, assignment_at, branch_by, branch_at, if_at, while_at, statement_for, statement_by, statement_at, whole}
+use Rattle.macro_expr.specs.Words.{first_word, loop_words, keyword_words, text_behind, keyword, loop_of, loop_word, run, behind_run, begins}
+use Rattle.macro_expr.specs.Reading.{Read, word_at, digits_at, bracket_at, variable_at, expression_inside}
+use Rattle.macro_expr.specs.Statements.{expression_at, condition_at, or_no_condition, test_at, aim_at_number, target_at, loop_found, loop_at, assignment_at, branch_by, branch_at, if_at, while_at, statement_for, statement_by, statement_at, whole_reading}
 use Rattle.macro_expr.specs.Grammar.{IsWord, IsNumber, number, plain, one, IsWhole, IsWithin, IsExpression, IsTest, IsTarget, line_of, line_in, assigns, IsStatement, assign, goto, if_goto, if_then}
 use Rattle.macro_expr.proofs.Heads.{behind_word, leading, meant, ◌also◌, each, run_splits, run_all}
 use Rattle.macro_expr.proofs.Steps.{Sound, found, stops}
@@ -86,18 +86,18 @@ module _ (Other : Stop → Type 0) where
           }))
       in_range n is false small = went _
 
-      go : (a b : Bool) → Caused IsTarget Other text (cond a (digits_at text >>= λ n. numbered n.0 n.1)
-          (cond b (variable_at (inside 5) text >>= λ v. Ok (ToNumberOf (look v.0), v.1))
-          (bracket_at (inside 5) text >>= λ e. Ok (ToNumberOf e.0, e.1))))
+      go : (a b : Bool) → Caused IsTarget Other text (cond a (digits_at text >>= λ n. aim_at_number n.0 n.1)
+          (cond b (variable_at (expression_inside 5) text >>= λ v. Ok (ToNumberOf (look v.0), v.1))
+          (bracket_at (expression_inside 5) text >>= λ e. Ok (ToNumberOf e.0, e.1))))
       go true b =
-          digits_step (Caused IsTarget Other text) text (λ n. numbered n.0 n.1)
+          digits_step (Caused IsTarget Other text) text (λ n. aim_at_number n.0 n.1)
           (λ n is. in_range n is (nat_lt 99999 n) refl) (stopped stop.Expression tt)
       go false true =
           joins_stop [] (λ v. ToNumberOf (look v)) line_of refl
-          (variable-stops Other (inside 5) (IsWithin 5) (within-sound 5) (within-stops Other 5) text)
+          (variable-stops Other (expression_inside 5) (IsWithin 5) (within-sound 5) (within-stops Other 5) text)
       go false false =
           joins_stop [] ToNumberOf line_in refl
-          (bracket-stops Other (inside 5) (IsWithin 5) (within-sound 5) (within-stops Other 5) text)
+          (bracket-stops Other (expression_inside 5) (IsWithin 5) (within-sound 5) (within-stops Other 5) text)
 
   zero_read : IsExpression (codes "0") (Number (pos 0))
   zero_read =
@@ -115,8 +115,8 @@ module _ (Other : Stop → Type 0) where
         refl,
         assigns t (codes "0") v (Number (pos 0)) is zero_read,
       ))
-      (variable-sound (inside 5) (IsWithin 5) (within-sound 5) text)
-      (variable-stops Other (inside 5) (IsWithin 5) (within-sound 5) (within-stops Other 5) text)
+      (variable-sound (expression_inside 5) (IsWithin 5) (within-sound 5) text)
+      (variable-stops Other (expression_inside 5) (IsWithin 5) (within-sound 5) (within-stops Other 5) text)
       (λ t rest v is_v here.
       word_stop _ (codes "=") rest (λ right equals.
       lasts _ (t ++ codes "=") right (simp (here, equals, append_assoc))
@@ -135,8 +135,8 @@ if-stops text at here =
     (λ c rest test is_test stands.
     behind_word (λ o. Due text (branch_by test o rest)) (codes "GOTO") rest
     (λ jump goes.
-    let whole : text ≡ codes "IF" ++ (c ++ (codes "GOTO" ++ jump)) = simp (here, stands, goes) in
-    lasts _ (codes "IF" ++ (c ++ codes "GOTO")) jump (whole ∙ simp append_assoc)
+    let whole_reading : text ≡ codes "IF" ++ (c ++ (codes "GOTO" ++ jump)) = simp (here, stands, goes) in
+    lasts _ (codes "IF" ++ (c ++ codes "GOTO")) jump (whole_reading ∙ simp append_assoc)
     (λ t aim is. (
       [],
       codes "IF" ++ (c ++ (codes "GOTO" ++ t)),
@@ -144,7 +144,7 @@ if-stops text at here =
       simp (append_assoc, append-nil),
       if_goto c t test aim is_test is,
     ))
-    (target-stops (OfStatement text) jump (λ past. subst HasPastTarget (sym whole) (past_if c jump test is_test past))))
+    (target-stops (OfStatement text) jump (λ past. subst HasPastTarget (sym whole_reading) (past_if c jump test is_test past))))
     (word_stop _ (codes "THEN") rest (λ body does.
     lasts _ (codes "IF" ++ (c ++ codes "THEN")) body (simp (here, stands, does, append_assoc))
     (λ t a is. (
@@ -164,9 +164,9 @@ while-stops text at here =
     test_step (Due text) at _
     (λ c rest test is_test stands.
     word_stop _ (codes "DO") rest (λ digits does.
-    let whole : text ≡ codes "WHILE" ++ (c ++ (codes "DO" ++ digits)) = simp (here, stands, does) in
+    let whole_reading : text ≡ codes "WHILE" ++ (c ++ (codes "DO" ++ digits)) = simp (here, stands, does) in
     loop_step (Due text) digits _ (λ m is. went _)
-    (λ none. stopped stop.Loop (subst LacksLoop (sym whole) (no_while_do c digits test is_test none)))))
+    (λ none. stopped stop.Loop (subst LacksLoop (sym whole_reading) (no_while_do c digits test is_test none)))))
     (λ none. stopped stop.Condition (subst LacksCondition (sym here) (no_while at none)))
 
 -- what is read after GOTO stops where a cause stands
@@ -209,25 +209,25 @@ statement-stops text = go (begins (λ b. b == 35) text)
         (stopped stop.Expression tt)
 
 -- the reading of all of a text stops where its part stops, or because something stands after it
-whole-stops : {A : Type 0} {Is : List ℕ → A → Type 0} {Other : Stop → Type 0} {text : List ℕ} {r : Read A}
-    → Caused Is Other text r → (s : Stop) → whole r ≡ Err s → Lacks Is Other text s
-whole-stops {Is} {Other} {text} (stopped s lacks) s' read =
+whole_reading-stops : {A : Type 0} {Is : List ℕ → A → Type 0} {Other : Stop → Type 0} {text : List ℕ} {r : Read A}
+    → Caused Is Other text r → (s : Stop) → whole_reading r ≡ Err s → Lacks Is Other text s
+whole_reading-stops {Is} {Other} {text} (stopped s lacks) s' read =
     let same : s ≡ s' = cc in subst (Lacks Is Other text) same lacks
-whole-stops (went (x, [])) s read = absurd (let no : ⊥ = cc in no)
-whole-stops {Is} {Other} {text} (went (x, b ∷ rest)) s read =
+whole_reading-stops (went (x, [])) s read = absurd (let no : ⊥ = cc in no)
+whole_reading-stops {Is} {Other} {text} (went (x, b ∷ rest)) s read =
     let more : (length (b ∷ rest) == 0) ≡ false = grind (arith, nat_tests) in
     let fails = ap (λ z. cond z (Ok x) (Err stop.Expression)) (sym more) ∙ read in
     let same : stop.Expression ≡ s = cc in
     subst (Lacks Is Other text) same tt
 
 -- what an expression lacks where its reading stops
-pub expression_lacks : (text : List ℕ) (s : Stop) → whole (expression_at text) ≡ Err s → Lacks IsExpression Never text s
-expression_lacks text s read = whole-stops (within-stops Never 6 text) s read
+pub expression_lacks : (text : List ℕ) (s : Stop) → whole_reading (expression_at text) ≡ Err s → Lacks IsExpression Never text s
+expression_lacks text s read = whole_reading-stops (within-stops Never 6 text) s read
 
 -- what a statement lacks where its reading stops
-pub statement_lacks : (text : List ℕ) (s : Stop) → whole (statement_at text) ≡ Err s
+pub statement_lacks : (text : List ℕ) (s : Stop) → whole_reading (statement_at text) ≡ Err s
     → Lacks IsStatement (OfStatement text) text s
-statement_lacks text s read = whole-stops (statement-stops text) s read
+statement_lacks text s read = whole_reading-stops (statement-stops text) s read
 
 -- a target above the range stops the reading
 target_fails : (u : List ℕ) → IsPast u → target_at u ≡ Err stop.Sequence
@@ -260,10 +260,10 @@ statement_fails _ stop.Loop (no_while_do c u test is lacks) =
     ∙ loop_fails u _ lacks
 statement_fails _ stop.Sequence (past_goto u past) = ap (λ r. r >>= λ aim. Ok (Goto aim.0, aim.1)) (target_fails u past)
 statement_fails _ stop.Sequence (past_if c u test is past) =
-    ap (λ r. r >>= λ test. branch_by test.0 (behind (codes "GOTO") test.1) test.1)
+    ap (λ r. r >>= λ test. branch_by test.0 (text_behind (codes "GOTO") test.1) test.1)
     (test_read c test is (codes "GOTO" ++ u))
     ∙ ap (λ r. r >>= λ aim. Ok (IfGoto test aim.0, aim.1)) (target_fails u past)
 
 -- what only a statement lacks stops the reading of a whole text
-pub whole_statement_fails : (text : List ℕ) (s : Stop) → OfStatement text s → whole (statement_at text) ≡ Err s
-whole_statement_fails text s cause = ap whole (statement_fails text s cause)
+pub whole_statement_fails : (text : List ℕ) (s : Stop) → OfStatement text s → whole_reading (statement_at text) ≡ Err s
+whole_statement_fails text s cause = ap whole_reading (statement_fails text s cause)

@@ -12,7 +12,7 @@ use Rattle.macro_expr.specs.declared.words.Rank.{Rank}
 use Rattle.macro_expr.specs.declared.words.Rank.TheVariants.{Product, Sum}
 use Rattle.macro_expr.specs.Tree.{Tree, Fixed, Computed, look, Signed, Applied, Joined}
 use Rattle.macro_expr.specs.Words.{operator_words, sign_words, function_words, operator, sign, function_of, function_word, is_letter, is_number_byte, run, behind_run, begins}
-use Rattle.macro_expr.specs.Reading.{Read, expected, word_at, number_at, digits_at, bracket_at, variable_behind, variable_at, applied, function_at, prim_at, signed_by, signed_at, joined_by, chain, product_at, sum_at, inside}
+use Rattle.macro_expr.specs.Reading.{Read, text_after_word, word_at, number_at, digits_at, bracket_at, variable_behind, variable_at, function_reading, function_at, prim_at, signed_by, signed_at, joined_by, chain, product_at, sum_at, expression_inside}
 use Rattle.macro_expr.specs.Grammar.{IsWord, IsBracketed, closed, IsVariable, fixed, computed, IsPrim, number, variable, bracket, function, IsSigned, plain, signed, IsChain, one, more, IsProduct, IsSum, IsWithin}
 use Rattle.macro_expr.proofs.Heads.{behind_word, leading, meant, ◌also◌, each, run_splits, run_all}
 use Rattle.macro_expr.proofs.Steps.{Sound, found, stops, Reads}
@@ -100,7 +100,7 @@ pub word_stop : {B : Type 0} {Is : List ℕ → B → Type 0} {Other : Stop → 
     → Caused Is Other text (word_at word at >>= f)
 unfolding word_at
 word_stop {Is} {Other} {text} f word at next =
-    behind_word (λ o. Caused Is Other text (expected o >>= f)) word at next (stopped stop.Expression tt)
+    behind_word (λ o. Caused Is Other text (text_after_word o >>= f)) word at next (stopped stop.Expression tt)
 
 -- digits that must stand there, and what follows them, stop where a cause stands
 digits_stop : {B : Type 0} {Is : List ℕ → B → Type 0} {Other : Stop → Type 0} {text : List ℕ}
@@ -208,7 +208,7 @@ module _ (Other : Stop → Type 0) (inner : List ℕ → Read Tree) (Inner : Lis
   function-stops text letter =
       let name : List ℕ = run is_letter text in
       let rest : List ℕ = behind_run is_letter text in
-      meant (λ o. function_of name ≡ o → Caused (IsPrim Inner) Other text (applied inner o rest)) function_words name
+      meant (λ o. function_of name ≡ o → Caused (IsPrim Inner) Other text (function_reading inner o rest)) function_words name
       (λ f is_name known.
       joins_stop name (Applied f) (λ t e is. function name t f e is_name is) (run_splits is_letter text)
       (bracket-stops rest))
@@ -269,7 +269,7 @@ module _ (Other : Stop → Type 0) (inner : List ℕ → Read Tree) (Inner : Lis
       (first-sound inner Inner inner-sound) first-stops text)
 
 -- the reading of an expression stops where a cause stands, whatever its depth
-pub within-stops : (Other : Stop → Type 0) (n : ℕ) → Stops Other (IsWithin n) (inside n)
-unfolding inside
+pub within-stops : (Other : Stop → Type 0) (n : ℕ) → Stops Other (IsWithin n) (expression_inside n)
+unfolding expression_inside
 within-stops Other zero text = stopped stop.Expression tt
-within-stops Other (suc n) text = sum-stops Other (inside n) (IsWithin n) (within-sound n) (within-stops Other n) text
+within-stops Other (suc n) text = sum-stops Other (expression_inside n) (IsWithin n) (within-sound n) (within-stops Other n) text

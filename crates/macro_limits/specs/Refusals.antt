@@ -4,6 +4,7 @@
 use Rattle.std.specs.Prelude.{◌≡◌, ◌<◌, ℕ, true, false, List, ◌++◌, codes}
 use Rattle.std.specs.Char.{is_ascii_digit}
 use Rattle.std.specs.List.{list_all}
+use Rattle.nc_number.specs.declared.limits.TheConstants.{LAST_SEQUENCE}
 use Rattle.macro_expr.specs.declared.stop.Stop.{Stop}
 use Rattle.macro_expr.specs.declared.stop.Stop.TheVariants as stop
 use Rattle.macro_expr.specs.declared.tree.Fun.{Fun}
@@ -90,7 +91,7 @@ pub record IsPast (text : List ℕ) : Type 0 where
   -- no further digit follows
   pub ends : begins is_ascii_digit rest ≡ false
   -- sequence numbers go up to 99,999
-  pub large : 99999 < number
+  pub large : LAST_SEQUENCE < number
 
 -- the text is GOTO, or an IF with its condition and GOTO, and a target of digits above the range
 pub data HasPastTarget : List ℕ → Type 0 where

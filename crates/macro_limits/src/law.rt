@@ -5,8 +5,8 @@
 ghost use Rattle.std.specs.Prelude.{ℕ, false, List};
 ghost use Rattle.macro_expr.specs.Tree.{Tree, Sentence};
 ghost use Rattle.macro_expr.specs.Grammar.{IsExpression, IsStatement};
-ghost use Rattle.macro_expr.specs.Limits.{cleaned};
-ghost use Rattle.macro_expr.specs.Statements.{expression_at, statement_at, whole};
+ghost use Rattle.macro_expr.specs.Limits.{clean_text};
+ghost use Rattle.macro_expr.specs.Statements.{expression_at, statement_at, whole_reading};
 ghost use Rattle.macro_expr.specs.Answers.{expression_of, statement_of};
 ghost use Rattle.macro_limits.specs.Refused.{IsWithinLimits, IsRefusedByLimits};
 
@@ -19,8 +19,8 @@ pub fn a_text_that_reads_is_within_its_limits()
 /// A law: for every text, 5, 21 and 25 are answered exactly if their limits say so, whether it
 /// reads or not. The text is taken without blanks and comments, in upper case.
 pub fn each_limit_has_its_refusal()
-    ensures expressions { (text : List ℕ) → IsRefusedByLimits (cleaned false text)
-        (whole (expression_at (cleaned false text))) (expression_of text) }
-    ensures statements { (text : List ℕ) → IsRefusedByLimits (cleaned false text)
-        (whole (statement_at (cleaned false text))) (statement_of text) }
+    ensures expressions { (text : List ℕ) → IsRefusedByLimits (clean_text false text)
+        (whole_reading (expression_at (clean_text false text))) (expression_of text) }
+    ensures statements { (text : List ℕ) → IsRefusedByLimits (clean_text false text)
+        (whole_reading (statement_at (clean_text false text))) (statement_of text) }
 {}

@@ -19,11 +19,11 @@ use Rattle.nc_number.specs.declared.axis.Axis.TheVariants.{Keep, To, By}
 use Rattle.motion_track.specs.declared.block.BlockMotion.{BlockMotion}
 use Rattle.motion_track.specs.declared.fault.MotionFault.{MotionFault}
 use Rattle.nc_number.specs.Axes.{is_named}
-use Rattle.motion_track.specs.Target.{part_of, reached, in_travel, target_of}
+use Rattle.motion_track.specs.Target.{part_of, point_reached, in_travel, target_of}
 use Rattle.motion_track.specs.Cut.{at_feed, line_of, thread_of}
 use Rattle.motion_track.specs.Centre.{centre_of, IsLengthWithin, IsGivenWithin}
 use Rattle.motion_track.specs.Circle.{misses, arc_of}
-use Rattle.motion_track.specs.Home.{named, home_moves}
+use Rattle.motion_track.specs.Home.{point_with_named, home_moves}
 use Rattle.motion_track.specs.Block.{IsBlockWithin, AllEnd, KeepsUnnamed, target_in, arc_in, moves_due}
 use Rattle.motion_track.specs.Within.{centre_in, AreMovesWithin}
 
@@ -85,7 +85,7 @@ arc_all_lead P C clockwise block given target =
 
 -- what holds of each target, and of the way home, holds of all ends; what holds of the block's
 -- centre, of the centre of each arc
-all_lead : (P : Point → Type 0) (C : Option Centre → Type 0) (kind : CodeKind) (block : BlockMotion) → C None → C (centre_of block.i block.k block.r) → IfOk (target_in block) P → IfOk (target_of block.start origin block.x block.z) P → ((to : Point) → P to → P (named block.start to (is_named block.x) (is_named block.z))) → P (named block.start block.home (is_named block.x) (is_named block.z)) → IfOk (moves_due kind block) (All (Leads P C))
+all_lead : (P : Point → Type 0) (C : Option Centre → Type 0) (kind : CodeKind) (block : BlockMotion) → C None → C (centre_of block.i block.k block.r) → IfOk (target_in block) P → IfOk (target_of block.start origin block.x block.z) P → ((to : Point) → P to → P (point_with_named block.start to (is_named block.x) (is_named block.z))) → P (point_with_named block.start block.home (is_named block.x) (is_named block.z)) → IfOk (moves_due kind block) (All (Leads P C))
 all_lead P C Rapid block none given target machine between home =
     after (target_in block) (λ to. Ok (RapidMove to ∷ [])) P (All (Leads P C)) target (λ to holds. one_leads P C (RapidMove to) (holds, none))
 all_lead P C Feed block none given target machine between home =
@@ -98,7 +98,7 @@ all_lead P C Thread block none given target machine between home =
     (λ to holds. after (thread_of to block.feed) (λ cut. Ok (cut ∷ [])) (Leads P C) (All (Leads P C)) (cut_leads P C block.feed (ThreadMove to block.feed) (holds, none)) (one_leads P C))
 all_lead P C Home block none given target machine between home =
     after (target_in block) (λ to. Ok (home_moves block.start to block.home (is_named block.x) (is_named block.z))) P (All (Leads P C)) target
-    (λ to holds. home_leads P C (named block.start to (is_named block.x) (is_named block.z)) (named block.start block.home (is_named block.x) (is_named block.z)) none (between to holds) home)
+    (λ to holds. home_leads P C (point_with_named block.start to (is_named block.x) (is_named block.z)) (point_with_named block.start block.home (is_named block.x) (is_named block.z)) none (between to holds) home)
 all_lead P C Machine block none given target machine between home =
     after (target_of block.start origin block.x block.z) (λ to. Ok (RapidMove to ∷ [])) P (All (Leads P C)) machine (λ to holds. one_leads P C (RapidMove to) (holds, none))
 all_lead P C _ block none given target machine between home = All-nil (Leads P C)
@@ -115,11 +115,11 @@ part_kept at shift (To programmed) unnamed = absurd (cc)
 part_kept at shift (By way) unnamed = absurd (cc)
 
 -- the point that the axis words reach keeps the axis that is not named
-reached_kept : (block : BlockMotion) (shift : Point) → KeepsUnnamed block (reached block.start shift block.x block.z)
+reached_kept : (block : BlockMotion) (shift : Point) → KeepsUnnamed block (point_reached block.start shift block.x block.z)
 reached_kept block shift = (part_kept block.start.x shift.x block.x, part_kept block.start.z shift.z block.z)
 
 -- the named parts of a point with the others of the start keep the axis that is not named
-named_kept : (block : BlockMotion) (to : Point) → KeepsUnnamed block (named block.start to (is_named block.x) (is_named block.z))
+named_kept : (block : BlockMotion) (to : Point) → KeepsUnnamed block (point_with_named block.start to (is_named block.x) (is_named block.z))
 named_kept block to = (λ x. rw x refl, λ z. rw z refl)
 
 -- each move of a block ends where it starts along an axis that it does not name
@@ -133,7 +133,7 @@ unnamed_stay kind block =
     (named_kept block block.home))
 
 -- the named parts of one position and the others of another are a position
-named_position : (at to : Point) (x z : Bool) → IsPosition at → IsPosition to → IsPosition (named at to x z)
+named_position : (at to : Point) (x z : Bool) → IsPosition at → IsPosition to → IsPosition (point_with_named at to x z)
 named_position at to true true start there = there
 named_position at to true false start there = (there.0, start.1)
 named_position at to false true start there = (start.0, there.1)
@@ -153,7 +153,7 @@ pub moves_within : (far : ℕ) (kind : CodeKind) (block : BlockMotion) → IsBlo
 moves_within far kind block within start home =
     all_lead IsPosition (IsGivenWithin far) kind block tt
     (centre_within far block.i block.k block.r within.i within.k within.r)
-    (targeted (reached block.start block.shift block.x block.z))
-    (targeted (reached block.start origin block.x block.z))
+    (targeted (point_reached block.start block.shift block.x block.z))
+    (targeted (point_reached block.start origin block.x block.z))
     (λ to there. named_position block.start to (is_named block.x) (is_named block.z) start there)
     (named_position block.start block.home (is_named block.x) (is_named block.z) start home)

@@ -16,8 +16,8 @@ part_of at shift (To programmed) = programmed +ℤ shift
 part_of at shift (By way) = at +ℤ way
 
 -- where two axis words lead, also out of the travel
-abbrev pub reached : Point → Point → Axis → Axis → Point
-reached at shift x z = record { x = part_of at.x shift.x x; z = part_of at.z shift.z z }
+abbrev pub point_reached : Point → Point → Axis → Axis → Point
+point_reached at shift x z = record { x = part_of at.x shift.x x; z = part_of at.z shift.z z }
 
 -- a point that the machine can stand at, or alarm 41 where it is past the range
 abbrev pub in_travel : Point → Result Point MotionFault
@@ -25,4 +25,4 @@ in_travel to = if is_position to then Ok to else Err (fault PositionRange)
 
 -- where two axis words lead, if the machine can stand there
 abbrev pub target_of : Point → Point → Axis → Axis → Result Point MotionFault
-target_of at shift x z = in_travel (reached at shift x z)
+target_of at shift x z = in_travel (point_reached at shift x z)

@@ -1,7 +1,7 @@
 //! The way home (G28): to the intermediate point, then to the reference position. For block.rt of
 //! this crate; tests call it too.
 ghost use Rattle.std.specs.Prelude.{◌≡◌};
-ghost use Rattle.motion_track.specs.Home.{named, home_moves};
+ghost use Rattle.motion_track.specs.Home.{point_with_named, home_moves};
 
 use nc_moves::Move;
 use nc_number::Point;
@@ -19,7 +19,7 @@ pub fn home(at: Point, mid: Point, home: Point, x: bool, z: bool) -> [Move; 2]
 
 /// The named parts of `to`, and the others of `at`; `x` and `z` say whether X and Z are named.
 fn named(at: &Point, to: &Point, x: bool, z: bool) -> Point
-    ensures { result ≡ named at.now to.now x z }
+    ensures { result ≡ point_with_named at.now to.now x z }
 {
     Point {
         x: if x { to.x } else { at.x },

@@ -4,7 +4,7 @@
 ghost use Rattle.std.specs.Prelude.{◌≡◌, ◌≤◌, unsigned_abs, IfOk};
 ghost use Rattle.nc_number.specs.Position.{IsWithin, IsPosition};
 ghost use Rattle.nc_number.specs.Axes.{IsAxisWithin};
-ghost use Rattle.motion_track.specs.Target.{part_of, reached, target_of};
+ghost use Rattle.motion_track.specs.Target.{part_of, point_reached, target_of};
 
 use crate::fault::MotionFault;
 use nc_number::{Axis, Cause, Point};
@@ -39,7 +39,7 @@ fn reached(at: &Point, shift: &Point, x: Axis, z: Axis) -> Point
     requires shift { IsWithin LONGEST shift.now }
     requires x { IsAxisWithin LONGEST x }
     requires z { IsAxisWithin LONGEST z }
-    ensures { result ≡ reached at.now shift.now x z }
+    ensures { result ≡ point_reached at.now shift.now x z }
 {
     Point {
         x: part(at.x, shift.x, x),

@@ -12,7 +12,7 @@ use Rattle.run_records.specs.Entries.{Entry}
 use Rattle.two_path.specs.Histories.{behind_entry, fold}
 use Rattle.two_path.specs.Machine.{MachineView}
 use Rattle.two_path.specs.Turns.{Tapes}
-use Rattle.two_path.specs.Made.{made_by, moves_in, moves_of, turns_from}
+use Rattle.two_path.specs.Made.{moves_made_by, moves_in, moves_of, turns_from}
 use Rattle.move_list.specs.Report.{lined_text, lines_text}
 use Rattle.two_path.proofs.Replays.{turn_at}
 
@@ -32,7 +32,7 @@ pub later_moves : (tapes : Tapes) (m : MachineView) (path : Path) (before later 
 unfolding moves_in turns_from
 later_moves tapes m path [] later = refl
 later_moves tapes m path (e ∷ before) later =
-    let first = made_by path (turn_at tapes m e) in
+    let first = moves_made_by path (turn_at tapes m e) in
     let next = behind_entry tapes e m in
     ap (λ rest. first ++ rest) (later_moves tapes next path before later)
     ∙ sym (append_assoc first (moves_of tapes next path before) (moves_of tapes (fold tapes next before) path later))

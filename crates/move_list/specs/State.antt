@@ -3,6 +3,7 @@
 -- lathe_calls, lathe_looks and lathe_top cite it.
 use Rattle.std.specs.Prelude.{◌≡◌, ℕ, ◌+◌, ◌-◌, ◌≤◌, ◌<◌, ◌==◌, Bool, ◌&&◌, if◌then◌else◌, List, [], ◌∷◌, ◌++◌, length, Option, Some, None, unsigned_abs, codes, decimal}
 use Rattle.std.specs.List.{flat_map}
+use Rattle.nc_number.specs.declared.point.TheConstants.{TOOL_OFFSETS}
 use Rattle.nc_number.specs.Path.{is_same}
 use Rattle.nc_number.specs.declared.path.Path.{Path}
 use Rattle.nc_number.specs.declared.path.Path.TheVariants.{One, Two}
@@ -169,13 +170,13 @@ first_of OwnUpper = 500
 first_of SharedHundreds = 100
 first_of SharedUpper = 500
 
--- How many numbers a listing has: the external work offset and G54 to G59, 64 tool offsets
--- (`TOOL_OFFSETS` of nc_number), #1 to #33 (`LOCALS` of local_levels), or the 100 variables from
--- #100 or the 500 from #500 on (common_vars). They change together.
+-- How many numbers a listing has: the external work offset and G54 to G59, the tool offsets, #1 to
+-- #33 (`LOCALS` of local_levels), or the 100 variables from #100 or the 500
+-- from #500 on, as common_vars has them.
 abbrev pub count_of : Listing → ℕ
 count_of Work = 7
-count_of Geometry = 64
-count_of Wear = 64
+count_of Geometry = TOOL_OFFSETS
+count_of Wear = TOOL_OFFSETS
 count_of Locals = 33
 count_of OwnHundreds = 100
 count_of OwnUpper = 500

@@ -1,6 +1,7 @@
 //! How a path of the machine stands, and the word for it in the text of a state.
 //! For this crate alone: standing.rt uses it.
 ghost use Rattle.std.specs.Prelude.{◌≡◌, ◌+◌, ◌≤◌, ◌++◌, length, Option};
+ghost use Rattle.text_pieces.specs.declared.piece.TheConstants.{MOST_BYTES};
 ghost use Rattle.nc_number.specs.Both.{of_path};
 ghost use Rattle.nc_moves.specs.declared.alarm.Alarm.{Alarm};
 ghost use Rattle.move_list.specs.State.{condition_at_wait, condition_of, condition_text};
@@ -57,7 +58,7 @@ pub(crate) fn condition_of(machine: &Machine, path: Path) -> Condition
 /// Adds the word for how a path stands, and for a wait its code.
 #[tactic(auto, unfolding(crate::specs::State::condition_text))]
 pub(crate) fn add_condition(piece: &mut Piece, condition: Condition)
-    requires { length piece.old + 29 ≤ 512 }
+    requires { length piece.old + 29 ≤ MOST_BYTES }
     ensures text { piece.new ≡ piece.old ++ condition_text condition }
     ensures size { length piece.new ≤ length piece.old + 29 }
 {

@@ -3,6 +3,7 @@
 //! report.rt, summary.rt and state.rt use them. trace_list ends a trace with them, and tells an
 //! alarm's cause by `add_cause`.
 ghost use Rattle.std.specs.Prelude.{◌≡◌, ◌+◌, ◌≤◌, ◌++◌, length};
+ghost use Rattle.text_pieces.specs.declared.piece.TheConstants.{MOST_BYTES};
 ghost use Rattle.nc_number.specs.Causes.{cause_of};
 ghost use Rattle.move_list.specs.EndText.{alarm_text, cause_text, end_text, given_text, reason_text, records_text, turret_text};
 
@@ -21,7 +22,7 @@ fn cause_of(number: u8) -> Option<Cause>
 /// Adds what the program gave a macro alarm (#3000=); for other alarms nothing.
 #[tactic(auto, unfolding(crate::specs::EndText::given_text))]
 fn add_given(piece: &mut Piece, alarm: &Alarm)
-    requires { length piece.old + 25 ≤ 512 }
+    requires { length piece.old + 25 ≤ MOST_BYTES }
     ensures text { piece.new ≡ piece.old ++ given_text alarm.now }
     ensures size { length piece.new ≤ length piece.old + 25 }
 {
@@ -34,7 +35,7 @@ fn add_given(piece: &mut Piece, alarm: &Alarm)
 /// Adds the number of an alarm and its name, and of a macro alarm what it was given.
 #[tactic(auto, unfolding(crate::specs::EndText::cause_text))]
 pub fn add_cause(piece: &mut Piece, alarm: &Alarm)
-    requires { length piece.old + 65 ≤ 512 }
+    requires { length piece.old + 65 ≤ MOST_BYTES }
     ensures text { piece.new ≡ piece.old ++ cause_text alarm.now }
     ensures size { length piece.new ≤ length piece.old + 65 }
 {
@@ -46,7 +47,7 @@ pub fn add_cause(piece: &mut Piece, alarm: &Alarm)
 /// Adds an alarm: its path and line, and its cause.
 #[tactic(auto, unfolding(crate::specs::EndText::alarm_text))]
 fn add_alarm(piece: &mut Piece, alarm: &Alarm)
-    requires { length piece.old + 140 ≤ 512 }
+    requires { length piece.old + 140 ≤ MOST_BYTES }
     ensures text { piece.new ≡ piece.old ++ alarm_text alarm.now }
     ensures size { length piece.new ≤ length piece.old + 140 }
 {
@@ -61,7 +62,7 @@ fn add_alarm(piece: &mut Piece, alarm: &Alarm)
 /// Adds that the turret of a path failed.
 #[tactic(auto, unfolding(crate::specs::EndText::turret_text))]
 fn add_turret_fault(piece: &mut Piece, path: Path)
-    requires { length piece.old + 38 ≤ 512 }
+    requires { length piece.old + 38 ≤ MOST_BYTES }
     ensures text { piece.new ≡ piece.old ++ turret_text path }
     ensures size { length piece.new ≤ length piece.old + 38 }
 {
@@ -72,7 +73,7 @@ fn add_turret_fault(piece: &mut Piece, path: Path)
 /// Adds why a run ended.
 #[tactic(auto, unfolding(crate::specs::EndText::reason_text))]
 fn add_reason(piece: &mut Piece, reason: &Reason)
-    requires { length piece.old + 140 ≤ 512 }
+    requires { length piece.old + 140 ≤ MOST_BYTES }
     ensures text { piece.new ≡ piece.old ++ reason_text reason.now }
     ensures size { length piece.new ≤ length piece.old + 140 }
 {

@@ -9,7 +9,7 @@ ghost use Rattle.path_state.specs.Looks.{is_shared};
 ghost use Rattle.move_list.specs.State.{IsListed, SharesAs, count_of, first_of, is_zero, line_of, offset_line, own_line, shared_line, variable_line};
 
 use cell_settings::Settings;
-use nc_number::{Path, Point, Var};
+use nc_number::{Path, Point, TOOL_OFFSETS, Var};
 use path_state::PathState;
 use text_pieces::Piece;
 use two_path::Machine;
@@ -60,8 +60,7 @@ impl Listing {
     {
         match self {
             Listing::Work => 7,
-            Listing::Geometry => 64,
-            Listing::Wear => 64,
+            Listing::Geometry | Listing::Wear => TOOL_OFFSETS as u16,
             Listing::Locals => 33,
             Listing::OwnHundreds => 100,
             Listing::OwnUpper => 500,

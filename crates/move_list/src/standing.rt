@@ -2,6 +2,7 @@
 //! stands, what is in force, and how many calls are open. They are defined in specs/State.antt.
 //! For this crate alone: state.rt uses it.
 ghost use Rattle.std.specs.Prelude.{◌≡◌, ◌+◌, ◌-◌, ◌≤◌, ◌++◌, length};
+ghost use Rattle.text_pieces.specs.declared.piece.TheConstants.{MOST_BYTES};
 ghost use Rattle.two_path.specs.Turns.{blocks_of};
 ghost use Rattle.move_list.specs.State.{depth_text, group_text, groups_text, in_force_text, modal_text, place_text, position_text, standing_of, var_text, words_text};
 
@@ -18,7 +19,7 @@ use two_path::Machine;
 /// Adds a variable: vacant, or its value.
 #[tactic(auto, unfolding(crate::specs::State::var_text))]
 fn add_var(piece: &mut Piece, var: &Var)
-    requires { length piece.old + 24 ≤ 512 }
+    requires { length piece.old + 24 ≤ MOST_BYTES }
     ensures text { piece.new ≡ piece.old ++ var_text var.now }
     ensures size { length piece.new ≤ length piece.old + 24 }
 {
@@ -31,7 +32,7 @@ fn add_var(piece: &mut Piece, var: &Var)
 /// Adds the line of where a path stands, and how.
 #[tactic(auto, unfolding(crate::specs::State::place_text))]
 fn add_place(piece: &mut Piece, path: Path, line: u32, condition: Condition)
-    requires { length piece.old + 90 ≤ 512 }
+    requires { length piece.old + 90 ≤ MOST_BYTES }
     ensures text { piece.new ≡ piece.old ++ place_text path line condition }
     ensures size { length piece.new ≤ length piece.old + 90 }
 {
@@ -46,7 +47,7 @@ fn add_place(piece: &mut Piece, path: Path, line: u32, condition: Condition)
 /// Adds the line of where the turret stands, in machine coordinates.
 #[tactic(auto, unfolding(crate::specs::State::position_text))]
 fn add_position(piece: &mut Piece, at: Point)
-    requires { length piece.old + 55 ≤ 512 }
+    requires { length piece.old + 55 ≤ MOST_BYTES }
     ensures text { piece.new ≡ piece.old ++ position_text at }
     ensures size { length piece.new ≤ length piece.old + 55 }
 {
@@ -58,7 +59,7 @@ fn add_position(piece: &mut Piece, at: Point)
 /// Adds a code in force; nothing for a group that the system lacks.
 #[tactic(auto, unfolding(crate::specs::State::in_force_text))]
 fn add_in_force(piece: &mut Piece, code: Option<u16>)
-    requires { length piece.old + 23 ≤ 512 }
+    requires { length piece.old + 23 ≤ MOST_BYTES }
     ensures text { piece.new ≡ piece.old ++ in_force_text code }
     ensures size { length piece.new ≤ length piece.old + 23 }
 {
@@ -73,7 +74,7 @@ fn add_in_force(piece: &mut Piece, code: Option<u16>)
 
 /// Adds the code in force of a modal group.
 fn add_group(piece: &mut Piece, modal: &Modal, group: u8)
-    requires { length piece.old + 23 ≤ 512 }
+    requires { length piece.old + 23 ≤ MOST_BYTES }
     ensures text { piece.new ≡ piece.old ++ group_text modal.now group }
     ensures size { length piece.new ≤ length piece.old + 23 }
 {
@@ -83,7 +84,7 @@ fn add_group(piece: &mut Piece, modal: &Modal, group: u8)
 /// Adds the codes in force of all modal groups.
 #[tactic(auto, unfolding(crate::specs::State::groups_text))]
 fn add_groups(piece: &mut Piece, modal: &Modal)
-    requires { length piece.old + 161 ≤ 512 }
+    requires { length piece.old + 161 ≤ MOST_BYTES }
     ensures text { piece.new ≡ piece.old ++ groups_text modal.now }
     ensures size { length piece.new ≤ length piece.old + 161 }
 {
@@ -99,7 +100,7 @@ fn add_groups(piece: &mut Piece, modal: &Modal)
 /// Adds the line of the codes in force.
 #[tactic(auto, unfolding(crate::specs::State::modal_text))]
 fn add_modal(piece: &mut Piece, modal: &Modal)
-    requires { length piece.old + 167 ≤ 512 }
+    requires { length piece.old + 167 ≤ MOST_BYTES }
     ensures text { piece.new ≡ piece.old ++ modal_text modal.now }
     ensures size { length piece.new ≤ length piece.old + 167 }
 {
@@ -111,7 +112,7 @@ fn add_modal(piece: &mut Piece, modal: &Modal)
 /// Adds the line of what F, S and T set last.
 #[tactic(auto, unfolding(crate::specs::State::words_text))]
 fn add_words(piece: &mut Piece, modal: &Modal)
-    requires { length piece.old + 72 ≤ 512 }
+    requires { length piece.old + 72 ≤ MOST_BYTES }
     ensures text { piece.new ≡ piece.old ++ words_text modal.now }
     ensures size { length piece.new ≤ length piece.old + 72 }
 {
@@ -127,7 +128,7 @@ fn add_words(piece: &mut Piece, modal: &Modal)
 /// Adds the line of how many calls are open.
 #[tactic(auto, unfolding(crate::specs::State::depth_text))]
 fn add_depth(piece: &mut Piece, depth: u8)
-    requires { length piece.old + 27 ≤ 512 }
+    requires { length piece.old + 27 ≤ MOST_BYTES }
     ensures text { piece.new ≡ piece.old ++ depth_text depth }
     ensures size { length piece.new ≤ length piece.old + 27 }
 {

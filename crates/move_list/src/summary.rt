@@ -2,6 +2,7 @@
 //! text is defined in specs/Summary.antt.
 //! lathe_top writes it.
 ghost use Rattle.std.specs.Prelude.{◌≡◌, ◌+◌, ◌≤◌, ◌++◌, length, codes};
+ghost use Rattle.text_pieces.specs.declared.piece.TheConstants.{MOST_BYTES};
 ghost use Rattle.nc_number.specs.declared.limits.TheConstants.{MOST_RECORDS};
 ghost use Rattle.nc_verify.specs.Printed.{IsPut};
 ghost use Rattle.two_path.specs.Turns.{tapes_of};
@@ -48,7 +49,7 @@ fn meeting_count(entries: &EntryList) -> usize
 /// Adds a line of a name and one number.
 #[tactic(auto, unfolding(crate::specs::Summary::number_line))]
 fn add_number_line(piece: &mut Piece, name: &[u8], number: u64)
-    requires { length piece.old + length name.now + 21 ≤ 512 }
+    requires { length piece.old + length name.now + 21 ≤ MOST_BYTES }
     ensures text { piece.new ≡ piece.old ++ number_line name.now number }
     ensures size { length piece.new ≤ length piece.old + length name.now + 21 }
 {
@@ -60,7 +61,7 @@ fn add_number_line(piece: &mut Piece, name: &[u8], number: u64)
 /// Adds a line of a name and one number for each path.
 #[tactic(auto, unfolding(crate::specs::Summary::numbers_line))]
 fn add_numbers_line(piece: &mut Piece, name: &[u8], one: u128, two: u128)
-    requires { length piece.old + length name.now + 82 ≤ 512 }
+    requires { length piece.old + length name.now + 82 ≤ MOST_BYTES }
     ensures text { piece.new ≡ piece.old ++ numbers_line name.now one two }
     ensures size { length piece.new ≤ length piece.old + length name.now + 82 }
 {
@@ -91,7 +92,7 @@ fn pair_lines(number: u32, left: &Flow, right: &Flow) -> Piece
 /// Adds how often the paths met, and how many records there are.
 #[tactic(auto, unfolding(crate::specs::Summary::history_text))]
 fn add_history(piece: &mut Piece, entries: &EntryList)
-    requires { length piece.old + 59 ≤ 512 }
+    requires { length piece.old + 59 ≤ MOST_BYTES }
     ensures text { piece.new ≡ piece.old ++ history_text entries.now.items }
     ensures size { length piece.new ≤ length piece.old + 59 }
 {
@@ -101,7 +102,7 @@ fn add_history(piece: &mut Piece, entries: &EntryList)
 
 /// Adds how many moves each path's records made.
 fn add_moves(piece: &mut Piece, made: &Both<Vec<LinedMove>>)
-    requires { length piece.old + 88 ≤ 512 }
+    requires { length piece.old + 88 ≤ MOST_BYTES }
     ensures text { piece.new ≡ piece.old
         ++ numbers_line (codes "moves ") (length made.now.one.items) (length made.now.two.items) }
     ensures size { length piece.new ≤ length piece.old + 88 }
@@ -117,7 +118,7 @@ fn add_moves(piece: &mut Piece, made: &Both<Vec<LinedMove>>)
 /// Adds where a path's turret stands, in machine coordinates.
 #[tactic(auto, unfolding(crate::specs::Summary::place_text))]
 fn add_place(piece: &mut Piece, path: Path, at: Point)
-    requires { length piece.old + 77 ≤ 512 }
+    requires { length piece.old + 77 ≤ MOST_BYTES }
     ensures text { piece.new ≡ piece.old ++ place_text path at }
     ensures size { length piece.new ≤ length piece.old + 77 }
 {
@@ -130,7 +131,7 @@ fn add_place(piece: &mut Piece, path: Path, at: Point)
 /// Adds where both turrets stand.
 #[tactic(auto, unfolding(crate::specs::Summary::places_text))]
 fn add_places(piece: &mut Piece, machine: &Machine)
-    requires { length piece.old + 154 ≤ 512 }
+    requires { length piece.old + 154 ≤ MOST_BYTES }
     ensures { piece.new ≡ piece.old ++ places_text machine.now.machine }
 {
     add_place(piece, Path::One, machine.path(Path::One).position());

@@ -3,10 +3,10 @@
 ghost use Rattle.std.specs.Prelude.{◌≡◌, ◌≤◌, [], ◌++◌, length, IfOk, OnOk};
 ghost use Rattle.nc_number.specs.declared.limits.TheConstants.{MOST_RECORDS};
 ghost use Rattle.nc_number.specs.declared.path.Path.TheVariants.{One, Two};
-ghost use Rattle.nc_outside.specs.Lined.{lined};
+ghost use Rattle.nc_outside.specs.Lined.{lined_moves};
 ghost use Rattle.two_path.specs.Turns.{tapes_of};
 ghost use Rattle.two_path.specs.Histories.{IsLegal, fold};
-ghost use Rattle.two_path.specs.Made.{made_by, made_in, moves_of};
+ghost use Rattle.two_path.specs.Made.{moves_made_by, moves_made_in, moves_of};
 ghost use Rattle.two_path.specs.Start.{machine_at_start};
 
 use cell_settings::Settings;
@@ -20,7 +20,7 @@ use two_path::{Machine, Turn, done_again, histories_are_runs};
 
 /// Adds the moves of a block, each with its line.
 fn add_moves(list: &mut Vec<LinedMove>, moves: &Moves) -> Result<(), NoMemory>
-    ensures { OnOk result (list.new.items ≡ list.old.items ++ lined moves.now) }
+    ensures { OnOk result (list.new.items ≡ list.old.items ++ lined_moves moves.now) }
 {
     let line = moves.line;
     let made = moves.list.as_slice();
@@ -33,7 +33,7 @@ fn add_moves(list: &mut Vec<LinedMove>, moves: &Moves) -> Result<(), NoMemory>
 
 /// Adds the moves of a turn.
 fn add_turn(list: &mut Vec<LinedMove>, turn: &Turn) -> Result<(), NoMemory>
-    ensures { OnOk result (list.new.items ≡ list.old.items ++ made_in turn.now) }
+    ensures { OnOk result (list.new.items ≡ list.old.items ++ moves_made_in turn.now) }
 {
     match turn {
         Turn::Did { moves } => add_moves(list, moves),
@@ -56,9 +56,9 @@ fn no_moves(alloc: Global) -> Both<Vec<LinedMove>>
 /// Adds the moves of a path's turn.
 fn add_turn_of(made: &mut Both<Vec<LinedMove>>, path: Path, turn: &Turn) -> Result<(), NoMemory>
     ensures one { OnOk result (made.new.one.items
-        ≡ made.old.one.items ++ made_by One (record { path = path; turn = turn.now })) }
+        ≡ made.old.one.items ++ moves_made_by One (record { path = path; turn = turn.now })) }
     ensures two { OnOk result (made.new.two.items
-        ≡ made.old.two.items ++ made_by Two (record { path = path; turn = turn.now })) }
+        ≡ made.old.two.items ++ moves_made_by Two (record { path = path; turn = turn.now })) }
 {
     match path {
         Path::One => add_turn(&mut made.one, turn),

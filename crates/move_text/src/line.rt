@@ -2,6 +2,7 @@
 //! A piece holds at most 512 bytes; the numbers in the clauses are the room that a text may take.
 //! move_list, trace_list and turret_lines print with these.
 ghost use Rattle.std.specs.Prelude.{◌≡◌, ◌+◌, ◌≤◌, [], ◌++◌, length};
+ghost use Rattle.text_pieces.specs.declared.piece.TheConstants.{MOST_BYTES};
 ghost use Rattle.move_text.specs.MoveText.{centre_text, feed_text, line_text, move_text, placed_text};
 
 use nc_moves::{Centre, Move};
@@ -12,7 +13,7 @@ use text_pieces::Piece;
 /// blanks and two lengths of at most 24 bytes.
 #[tactic(auto, unfolding(crate::specs::MoveText::centre_text))]
 fn add_centre(piece: &mut Piece, centre: Centre)
-    requires { length piece.old + 52 ≤ 512 }
+    requires { length piece.old + 52 ≤ MOST_BYTES }
     ensures text { piece.new ≡ piece.old ++ centre_text centre }
     ensures size { length piece.new ≤ length piece.old + 52 }
 {
@@ -33,7 +34,7 @@ fn add_centre(piece: &mut Piece, centre: Centre)
 /// Adds a feed, and whether it is per revolution or per minute.
 #[tactic(auto, unfolding(crate::specs::MoveText::feed_text))]
 fn add_feed(piece: &mut Piece, feed: Value, per_rev: bool)
-    requires { length piece.old + 30 ≤ 512 }
+    requires { length piece.old + 30 ≤ MOST_BYTES }
     ensures text { piece.new ≡ piece.old ++ feed_text feed per_rev }
     ensures size { length piece.new ≤ length piece.old + 30 }
 {
@@ -45,7 +46,7 @@ fn add_feed(piece: &mut Piece, feed: Value, per_rev: bool)
 /// Adds a move. The longest is an arc.
 #[tactic(auto, unfolding(crate::specs::MoveText::move_text))]
 fn add_move(piece: &mut Piece, what: &Move)
-    requires { length piece.old + 140 ≤ 512 }
+    requires { length piece.old + 140 ≤ MOST_BYTES }
     ensures text { piece.new ≡ piece.old ++ move_text what.now }
     ensures size { length piece.new ≤ length piece.old + 140 }
 {

@@ -29,27 +29,27 @@ use Rattle.block_words.specs.declared.purpose.Purpose.TheVariants.{MacroCall}
 use Rattle.block_words.specs.declared.word.FlowWord.{FlowWord}
 use Rattle.block_words.specs.declared.word.WordValue.{WordValue}
 use Rattle.block_words.specs.declared.word.WordValue.TheVariants.{Fixed as Written, Computed as Evaluated}
-use Rattle.macro_expr.specs.Tree.{Tree, Number, Variable as Numbered, VariableOf, Signed, Applied, Joined, Named, Fixed as Plain, Computed, Test, Aim, ToNumber, ToNumberOf, Sentence, Assign, Goto, IfGoto, IfThen, WhileDo, DoOnly, EndLoop, evaluated_name, evaluated_aim, evaluated_test, evaluated as evaluated_in, sentence_of}
+use Rattle.macro_expr.specs.Tree.{Tree, Number, Variable as Numbered, VariableOf, Signed, Applied, Joined, Named, Fixed as Plain, Computed, Test, Aim, ToNumber, ToNumberOf, Sentence, Assign, Goto, IfGoto, IfThen, WhileDo, DoOnly, EndLoop, evaluated_name, evaluated_aim, evaluated_test, trees_of_sentence, sentence_of}
 use Rattle.macro_eval.specs.declared.scope.Look.{Look}
 use Rattle.macro_eval.specs.declared.scope.Look.TheVariants as look
 use Rattle.macro_eval.specs.declared.scope.VarFault.{VarFault}
 use Rattle.macro_eval.specs.declared.scope.Eval.{Eval}
 use Rattle.macro_eval.specs.declared.scope.Eval.TheVariants.{Got, Need, Fault}
-use Rattle.macro_eval.specs.Meaning.{Answer, made, function_value, operator_value, whole_number, variable_number, seen, looked_by, looked_up, then_with, meaning}
+use Rattle.macro_eval.specs.Meaning.{Answer, eval_of_number, function_value, operator_value, whole_number, variable_number, answer_of_look, looked_by, looked_up, then_with, meaning}
 use Rattle.tape_flow.specs.declared.flow.Flow.{Flow}
 use Rattle.block_order.specs.Moves.{place_of_jump, place_behind_loop, place_of_head}
 use Rattle.path_state.specs.View.{Fixed, PathView}
 use Rattle.block_values.specs.Readings.{variable_in}
 use Rattle.path_state.specs.Looks.{look_of}
-use Rattle.block_values.specs.Outcomes.{Outcome, Gives, Needs, Alarms, ◌>>=◌, reading_none, answered}
-use Rattle.path_state.specs.Said.{evaluated}
-use Rattle.block_values.specs.Values.{Values, Sense, nothing_said, taken, taken_var}
+use Rattle.block_values.specs.Outcomes.{Outcome, Gives, Needs, Alarms, ◌>>=◌, reading_none, outcome_of_answer}
+use Rattle.path_state.specs.Said.{value_of_tree}
+use Rattle.block_values.specs.Values.{Values, Sense, nothing_said, values_with, taken_var}
 use Rattle.path_state.specs.Said.{sense_of, word_taken, words_taken}
 use Rattle.path_state.specs.Said.{argument_taken, arguments_taken}
 use Rattle.path_state.specs.Standing.{Standing, standing_of, standing_behind}
-use Rattle.block_values.specs.Operands.{existing, number_named, length_of, sequence_number}
-use Rattle.path_state.specs.Statements.{After, along, with_offset, written_path, written, named, assigned, tested, aimed, move_effect, jump_effect, next_effect, assigned_next, statement_effect}
-use Rattle.path_state.specs.Effect.{Effect, Moved, acted, done_by, controlled, of_moved, of_values, of_arguments, of_purpose, block_of_words, of_after, effect_of_body, effect_of_block, block_at, effect_of}
+use Rattle.block_values.specs.Operands.{variable_or_fault, number_named, length_of, sequence_number}
+use Rattle.path_state.specs.Statements.{After, point_along, with_offset, written_path, outcome_of_write, variable_named, outcome_of_assignment, outcome_of_test, outcome_of_aim, move_effect, jump_effect, next_effect, assigned_next, statement_effect}
+use Rattle.path_state.specs.Effect.{Effect, Moved, effect_of_words, done_by, effect_of_control, of_moved, of_values, of_arguments, of_purpose, block_of_words, of_after, effect_of_body, effect_of_block, block_at, effect_of}
 use Rattle.path_state.specs.Effect as effect
 use Rattle.named_vars.specs.Names.{names, some_names, sentence_may_write, sentence_names, word_names, words_name, body_names, found_names, block_names}
 
@@ -70,12 +70,12 @@ module _ (table : ℕ → Result Look VarFault) (P : ℕ → Type 0) where
   then_needs (Fault n, left) next first further = tt
 
   -- a calculation needs no variable
-  made_needs : (r : Result ℤ NumberFault) → OnNeed P (made r)
+  made_needs : (r : Result ℤ NumberFault) → OnNeed P (eval_of_number r)
   made_needs (Ok z) = tt
   made_needs (Err fault) = tt
 
   -- a look at a variable of which P holds needs no other
-  seen_needs : (n : ℕ) (found : Result Look VarFault) → P n → (reads : List Var) → OnNeed P (seen found n reads).0
+  seen_needs : (n : ℕ) (found : Result Look VarFault) → P n → (reads : List Var) → OnNeed P (answer_of_look found n reads).0
   seen_needs n (Ok (look.Is v)) said reads = tt
   seen_needs n (Ok look.Shared) said [] = said
   seen_needs n (Ok look.Shared) said (v ∷ left) = tt
@@ -124,7 +124,7 @@ none_asks P (Ok value) left = tt
 none_asks P (Err cause) left = tt
 
 -- an answer of an expression needs what the expression needs
-answer_asks : (P : ℕ → Type 0) (a : Answer) → OnNeed P a.0 → Asks P (answered a)
+answer_asks : (P : ℕ → Type 0) (a : Answer) → OnNeed P a.0 → Asks P (outcome_of_answer a)
 answer_asks P (Got v, left) said = tt
 answer_asks P (Need n, left) said = said
 answer_asks P (Fault n, left) said = tt
@@ -152,15 +152,15 @@ first_names t trees v e = rw e refl
 -- block names: then it holds of the one that the part needs.
 module _ (fixed : Fixed) (path : PathView) (P : ℕ → Type 0) where
   -- the value of an expression
-  value_asks : (t : Tree) → ((v : ℕ) → names t v ≡ true → P v) → (reads : List Var) → Asks P (evaluated fixed path t reads)
+  value_asks : (t : Tree) → ((v : ℕ) → names t v ≡ true → P v) → (reads : List Var) → Asks P (value_of_tree fixed path t reads)
   value_asks t all reads = answer_asks P (meaning (look_of fixed path) t reads) (tree_needs (look_of fixed path) P t all reads)
 
   -- the variable of an assignment's left side
   name_asks : (name : Named) → ((v : ℕ) → some_names (evaluated_name name) v ≡ true → P v)
-      → (reads : List Var) → Asks P (named fixed path name reads)
-  name_asks (Plain n) all reads = none_asks P (existing (variable_in path.modal n)) reads
+      → (reads : List Var) → Asks P (variable_named fixed path name reads)
+  name_asks (Plain n) all reads = none_asks P (variable_or_fault (variable_in path.modal n)) reads
   name_asks (Computed t) all reads =
-      then_asks P (evaluated fixed path t reads) _ (value_asks t (λ v e. all v (first_names t [] v e)) reads)
+      then_asks P (value_of_tree fixed path t reads) _ (value_asks t (λ v e. all v (first_names t [] v e)) reads)
       (λ value left. none_asks P (number_named path.modal (variable_number value)) left)
 
   -- writing an offset
@@ -170,11 +170,11 @@ module _ (fixed : Fixed) (path : PathView) (P : ℕ → Type 0) where
   offset_asks slot (Err fault) left = tt
 
   -- writing a variable
-  written_asks : (v : Variable) (value : Var) (left : List Var) → Asks P (written fixed path v value left)
+  written_asks : (v : Variable) (value : Var) (left : List Var) → Asks P (outcome_of_write fixed path v value left)
   written_asks (variable.Local i) value left = tt
   written_asks (variable.Common v) value left = tt
   written_asks (variable.Work n axis) value left =
-      offset_asks (Work n) (in_range (along axis (length_of value) (point_at path.offsets (Work n)))) left
+      offset_asks (Work n) (in_range (point_along axis (length_of value) (point_at path.offsets (Work n)))) left
   written_asks variable.Raise value left = tt
   written_asks _ value left = tt
 
@@ -182,21 +182,21 @@ module _ (fixed : Fixed) (path : PathView) (P : ℕ → Type 0) where
   assigned_asks : (name : Named) (t : Tree) → ((v : ℕ) → some_names (evaluated_name name ++ t ∷ []) v ≡ true → P v)
       → (reads : List Var) → Asks P (assigned_next fixed path name t reads)
   assigned_asks name t all reads =
-      then_asks P (assigned fixed path name t reads) _
-      (then_asks P (named fixed path name reads) _
+      then_asks P (outcome_of_assignment fixed path name t reads) _
+      (then_asks P (variable_named fixed path name reads) _
       (name_asks name (λ v e. all v (in_front v (evaluated_name name) (t ∷ []) e)) reads)
-      (λ variable behind_name. then_asks P (evaluated fixed path t behind_name) _
+      (λ variable behind_name. then_asks P (value_of_tree fixed path t behind_name) _
       (value_asks t (λ v e. all v (behind v (evaluated_name name) (t ∷ []) (first_names t [] v e))) behind_name)
       (λ value left. written_asks variable value left)))
       (λ after left. tt)
 
   -- a condition
   tested_asks : (test : Test) → ((v : ℕ) → some_names (evaluated_test test) v ≡ true → P v)
-      → (reads : List Var) → Asks P (tested fixed path test reads)
+      → (reads : List Var) → Asks P (outcome_of_test fixed path test reads)
   tested_asks test all reads =
-      then_asks P (evaluated fixed path test.left reads) _
+      then_asks P (value_of_tree fixed path test.left reads) _
       (value_asks test.left (λ v e. all v (first_names test.left (test.right ∷ []) v e)) reads)
-      (λ left behind_left. then_asks P (evaluated fixed path test.right behind_left) _
+      (λ left behind_left. then_asks P (value_of_tree fixed path test.right behind_left) _
       (value_asks test.right
       (λ v e. all v (or_right (names test.left v) (some_names (test.right ∷ []) v) (first_names test.right [] v e))) behind_left)
       (λ right rest. tt))
@@ -208,26 +208,26 @@ module _ (fixed : Fixed) (path : PathView) (P : ℕ → Type 0) where
 
   -- the sequence number of a jump
   aim_asks : (aim : Aim) → ((v : ℕ) → some_names (evaluated_aim aim) v ≡ true → P v)
-      → (reads : List Var) → Asks P (aimed fixed path aim reads)
+      → (reads : List Var) → Asks P (outcome_of_aim fixed path aim reads)
   aim_asks (ToNumber n) all reads = tt
   aim_asks (ToNumberOf t) all reads =
-      then_asks P (evaluated fixed path t reads) _ (value_asks t (λ v e. all v (first_names t [] v e)) reads)
+      then_asks P (value_of_tree fixed path t reads) _ (value_asks t (λ v e. all v (first_names t [] v e)) reads)
       (λ value left. none_asks P (sequence_number (whole_number value)) left)
 
   -- a jump
   jump_asks : (tape : List ControlProgram) (aim : Aim) → ((v : ℕ) → some_names (evaluated_aim aim) v ≡ true → P v)
       → (reads : List Var) → Asks P (jump_effect tape fixed path aim reads)
   jump_asks tape aim all reads =
-      then_asks P (aimed fixed path aim reads) _ (aim_asks aim all reads)
+      then_asks P (outcome_of_aim fixed path aim reads) _ (aim_asks aim all reads)
       (λ n left. move_asks (place_of_jump tape n path.place) left)
 
   -- a condition, and what follows it either way
   test_asks : (test : Test) → ((v : ℕ) → some_names (evaluated_test test) v ≡ true → P v)
       → (reads : List Var) (one other : List Var → Outcome After)
       → ((left : List Var) → Asks P (one left)) → ((left : List Var) → Asks P (other left))
-      → Asks P (tested fixed path test reads >>= λ holds left. if holds then one left else other left)
+      → Asks P (outcome_of_test fixed path test reads >>= λ holds left. if holds then one left else other left)
   test_asks test all reads one other first second =
-      then_asks P (tested fixed path test reads) _ (tested_asks test all reads) either
+      then_asks P (outcome_of_test fixed path test reads) _ (tested_asks test all reads) either
     where
       either : (holds : Bool) (left : List Var) → Asks P (if holds then one left else other left)
       either true left = first left
@@ -235,7 +235,7 @@ module _ (fixed : Fixed) (path : PathView) (P : ℕ → Type 0) where
 
   -- a statement, if it holds of all that it evaluates
   trees_ask : (tape : List ControlProgram) (sentence : Sentence)
-      → ((v : ℕ) → some_names (evaluated_in sentence) v ≡ true → P v)
+      → ((v : ℕ) → some_names (trees_of_sentence sentence) v ≡ true → P v)
       → (reads : List Var) → Asks P (statement_effect tape fixed path sentence reads)
   trees_ask tape (Assign name t) all reads = assigned_asks name t all reads
   trees_ask tape (Goto aim) all reads = jump_asks tape aim all reads
@@ -258,14 +258,14 @@ module _ (fixed : Fixed) (path : PathView) (P : ℕ → Type 0) where
       → (reads : List Var) → Asks P (statement_effect tape fixed path sentence reads)
   statement_asks tape sentence all reads =
       trees_ask tape sentence
-      (λ v e. all v (or_right (sentence_may_write sentence v) (some_names (evaluated_in sentence) v) e)) reads
+      (λ v e. all v (or_right (sentence_may_write sentence v) (some_names (trees_of_sentence sentence) v) e)) reads
 
   -- the value of a word
   word_asks : (sense : Sense) (letter : ℕ) (value : WordValue) → ((v : ℕ) → word_names value v ≡ true → P v)
       → (values : Values) (reads : List Var) → Asks P (word_taken fixed path sense letter value values reads)
-  word_asks sense letter (Written literal) all values reads = none_asks P (taken sense letter literal values) reads
+  word_asks sense letter (Written literal) all values reads = none_asks P (values_with sense letter literal values) reads
   word_asks sense letter (Evaluated minus t) all values reads =
-      then_asks P (evaluated fixed path t reads) _ (value_asks t all reads)
+      then_asks P (value_of_tree fixed path t reads) _ (value_asks t all reads)
       (λ value left. none_asks P (taken_var sense letter minus value values) left)
 
   -- the values of words
@@ -282,7 +282,7 @@ module _ (fixed : Fixed) (path : PathView) (P : ℕ → Type 0) where
       → (arguments reads : List Var) → Asks P (argument_taken fixed path letter value arguments reads)
   argument_asks letter (Written literal) all arguments reads = tt
   argument_asks letter (Evaluated minus t) all arguments reads =
-      then_asks P (evaluated fixed path t reads) _ (value_asks t all reads) (λ value left. tt)
+      then_asks P (value_of_tree fixed path t reads) _ (value_asks t all reads) (λ value left. tt)
 
   -- the arguments of a macro call
   arguments_ask : (words : List FlowWord) → ((v : ℕ) → words_name words v ≡ true → P v)
@@ -308,7 +308,7 @@ module _ (tape : List ControlProgram) (fixed : Fixed) (path : PathView) (P : ℕ
 
   -- the block goes where its control says
   controlled-asks : (moved : Moved) (arguments : Option (List Var)) (c : Control)
-      → EffectAsks P (controlled tape moved arguments c)
+      → EffectAsks P (effect_of_control tape moved arguments c)
   controlled-asks moved arguments control.End = tt
   controlled-asks moved arguments c = done-asks moved (standing_behind tape (standing_of moved.path) arguments c)
 
@@ -320,7 +320,7 @@ module _ (tape : List ControlProgram) (fixed : Fixed) (path : PathView) (P : ℕ
   -- the block by the values of its words
   values-ask : (system : System) (words : List FlowWord) (c : Control) (values : Outcome Values) → Asks P values
       → EffectAsks P (of_values tape fixed path system words c values)
-  values-ask system words c (Gives values left) asks = moves-ask c (acted fixed path system words values)
+  values-ask system words c (Gives values left) asks = moves-ask c (effect_of_words fixed path system words values)
   values-ask system words c (Needs variable) asks = asks
   values-ask system words c (Alarms number value) asks = tt
 

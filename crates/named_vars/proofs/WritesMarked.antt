@@ -36,14 +36,14 @@ use Rattle.path_state.specs.View.{Fixed, PathView}
 use Rattle.block_values.specs.Readings.{variable_in}
 use Rattle.path_state.specs.Looks.{is_shared}
 use Rattle.block_values.specs.Outcomes.{Outcome, Gives, Needs, Alarms, reading_none}
-use Rattle.path_state.specs.Said.{evaluated}
+use Rattle.path_state.specs.Said.{value_of_tree}
 use Rattle.block_values.specs.Values.{Values, nothing_said}
 use Rattle.path_state.specs.Said.{sense_of, words_taken}
 use Rattle.path_state.specs.Said.{arguments_taken}
 use Rattle.path_state.specs.Standing.{Standing, standing_of, standing_behind}
-use Rattle.block_values.specs.Operands.{existing, number_named, length_of}
-use Rattle.path_state.specs.Statements.{Write, After, along, with_offset, written_path, with_common, written, named, assigned, tested, aimed, move_effect, jump_effect, next_effect, assigned_next, statement_effect}
-use Rattle.path_state.specs.Effect.{Effect, Done, Moved, acted, done_by, controlled, of_moved, of_values, of_arguments, of_purpose, block_of_words, of_after, effect_of_body, effect_of_block, block_at, effect_of}
+use Rattle.block_values.specs.Operands.{variable_or_fault, number_named, length_of}
+use Rattle.path_state.specs.Statements.{Write, After, point_along, with_offset, written_path, with_common, outcome_of_write, variable_named, outcome_of_assignment, outcome_of_test, outcome_of_aim, move_effect, jump_effect, next_effect, assigned_next, statement_effect}
+use Rattle.path_state.specs.Effect.{Effect, Done, Moved, effect_of_words, done_by, effect_of_control, of_moved, of_values, of_arguments, of_purpose, block_of_words, of_after, effect_of_body, effect_of_block, block_at, effect_of}
 use Rattle.path_state.proofs.NeedsShared.{named_in_table}
 use Rattle.path_state.proofs.ControlledStatements.{OnGives, behind_gives, after_any, either}
 use Rattle.named_vars.specs.Names.{may_be, sentence_may_write, body_may_write, found_may_write, block_may_write}
@@ -77,7 +77,7 @@ plain_meant modal n _ is = tt
 module _ (fixed : Fixed) (path : PathView) where
   -- a left side with a number gives that variable
   plain_gives : (n : ℕ) (found : Option Variable) → variable_in path.modal n ≡ found → (reads : List Var)
-      → OnGives (IsMeant (Plain n)) (reading_none (existing found) reads)
+      → OnGives (IsMeant (Plain n)) (reading_none (variable_or_fault found) reads)
   plain_gives n None is reads = tt
   plain_gives n (Some v) is reads = plain_meant path.modal n v is
 
@@ -87,10 +87,10 @@ module _ (fixed : Fixed) (path : PathView) where
   number_gives t (Err cause) left = tt
 
   -- every left side gives a variable that it may be
-  named_gives : (name : Named) (reads : List Var) → OnGives (IsMeant name) (named fixed path name reads)
+  named_gives : (name : Named) (reads : List Var) → OnGives (IsMeant name) (variable_named fixed path name reads)
   named_gives (Plain n) reads = plain_gives n (variable_in path.modal n) refl reads
   named_gives (Computed t) reads =
-      after_any (IsMeant (Computed t)) (evaluated fixed path t reads) _
+      after_any (IsMeant (Computed t)) (value_of_tree fixed path t reads) _
       (λ value left. number_gives t (number_named path.modal (variable_number value)) left)
 
   -- A statement P on variables, which holds of those that a part of the block may write: then it
@@ -109,11 +109,11 @@ module _ (fixed : Fixed) (path : PathView) where
 
     -- a write to a variable that the left side may be
     written-writes : (name : Named) → ((v : ℕ) → may_be name v ≡ true → P v) → (v : Variable) → IsMeant name v
-        → (value : Var) (left : List Var) → OnGives (Writes P) (written fixed path v value left)
+        → (value : Var) (left : List Var) → OnGives (Writes P) (outcome_of_write fixed path v value left)
     written-writes name all (variable.Local i) meant value left = tt
     written-writes name all (variable.Common v) meant value left = common-writes (is_shared fixed v) v value (all v meant)
     written-writes name all (variable.Work n axis) meant value left =
-        offset-writes (Work n) (in_range (along axis (length_of value) (point_at path.offsets (Work n)))) left
+        offset-writes (Work n) (in_range (point_along axis (length_of value) (point_at path.offsets (Work n)))) left
     written-writes name all variable.Raise meant value left = tt
     written-writes name all _ meant value left = tt
 
@@ -121,9 +121,9 @@ module _ (fixed : Fixed) (path : PathView) where
     assigned-writes : (name : Named) (t : Tree) → ((v : ℕ) → may_be name v ≡ true → P v) → (reads : List Var)
         → OnGives (Writes P) (assigned_next fixed path name t reads)
     assigned-writes name t all reads =
-        behind_gives (Writes P) (Writes P) (assigned fixed path name t reads) _
-        (behind_gives (IsMeant name) (Writes P) (named fixed path name reads) _ (named_gives name reads)
-        (λ v behind_name meant. after_any (Writes P) (evaluated fixed path t behind_name) _
+        behind_gives (Writes P) (Writes P) (outcome_of_assignment fixed path name t reads) _
+        (behind_gives (IsMeant name) (Writes P) (variable_named fixed path name reads) _ (named_gives name reads)
+        (λ v behind_name meant. after_any (Writes P) (value_of_tree fixed path t behind_name) _
         (λ value left. written-writes name all v meant value left)))
         (λ after left writes. writes)
 
@@ -136,7 +136,7 @@ module _ (fixed : Fixed) (path : PathView) where
     jump-writes : (tape : List ControlProgram) (aim : Aim) (reads : List Var)
         → OnGives (Writes P) (jump_effect tape fixed path aim reads)
     jump-writes tape aim reads =
-        after_any (Writes P) (aimed fixed path aim reads) _
+        after_any (Writes P) (outcome_of_aim fixed path aim reads) _
         (λ n left. move-writes (place_of_jump tape n path.place) left)
 
     -- a statement writes only what it may write
@@ -146,13 +146,13 @@ module _ (fixed : Fixed) (path : PathView) where
     statement-writes tape (Assign name t) all reads = assigned-writes name t all reads
     statement-writes tape (Goto aim) all reads = jump-writes tape aim reads
     statement-writes tape (IfGoto test aim) all reads =
-        after_any (Writes P) (tested fixed path test reads) _ (λ holds left.
+        after_any (Writes P) (outcome_of_test fixed path test reads) _ (λ holds left.
         either (Writes P) holds (jump_effect tape fixed path aim left) (next_effect path left) (jump-writes tape aim left) tt)
     statement-writes tape (IfThen test name t) all reads =
-        after_any (Writes P) (tested fixed path test reads) _ (λ holds left.
+        after_any (Writes P) (outcome_of_test fixed path test reads) _ (λ holds left.
         either (Writes P) holds (assigned_next fixed path name t left) (next_effect path left) (assigned-writes name t all left) tt)
     statement-writes tape (WhileDo test m) all reads =
-        after_any (Writes P) (tested fixed path test reads) _ (λ holds left.
+        after_any (Writes P) (outcome_of_test fixed path test reads) _ (λ holds left.
         either (Writes P) holds (next_effect path left) (move_effect path (place_behind_loop tape path.place) left) tt
         (move-writes (place_behind_loop tape path.place) left))
     statement-writes tape (DoOnly m) all reads = tt
@@ -173,7 +173,7 @@ module _ (tape : List ControlProgram) (fixed : Fixed) (path : PathView) (P : ℕ
 
   -- a block of words that goes where its control says writes no variable
   controlled-writes : (moved : Moved) (arguments : Option (List Var)) (c : Control)
-      → EffectWrites P (controlled tape moved arguments c)
+      → EffectWrites P (effect_of_control tape moved arguments c)
   controlled-writes moved arguments control.End = tt
   controlled-writes moved arguments c = done-writes moved (standing_behind tape (standing_of moved.path) arguments c)
 
@@ -185,7 +185,7 @@ module _ (tape : List ControlProgram) (fixed : Fixed) (path : PathView) (P : ℕ
   -- a block of words, by their values, writes no variable
   values-write : (system : System) (words : List FlowWord) (c : Control) (values : Outcome Values)
       → EffectWrites P (of_values tape fixed path system words c values)
-  values-write system words c (Gives values left) = moves-write c (acted fixed path system words values)
+  values-write system words c (Gives values left) = moves-write c (effect_of_words fixed path system words values)
   values-write system words c (Needs variable) = tt
   values-write system words c (Alarms number value) = tt
 

@@ -4,7 +4,7 @@
 -- race_order defines races by these words; race_report looks for the blocks that name a variable or
 -- may write it.
 use Rattle.std.specs.Prelude.{ℕ, ◌==◌, ◌||◌, Bool, true, false, List, [], ◌∷◌, Option, Some, None}
-use Rattle.macro_expr.specs.Tree.{Tree, Number, Variable, VariableOf, Signed, Applied, Joined, Named, Fixed, Computed, Sentence, Assign, IfThen, evaluated, sentence_of}
+use Rattle.macro_expr.specs.Tree.{Tree, Number, Variable, VariableOf, Signed, Applied, Joined, Named, Fixed, Computed, Sentence, Assign, IfThen, trees_of_sentence, sentence_of}
 use Rattle.block_words.specs.declared.word.FlowWord.{FlowWord}
 use Rattle.block_words.specs.declared.word.WordValue.{WordValue}
 use Rattle.block_words.specs.declared.word.WordValue.TheVariants as word
@@ -41,7 +41,7 @@ sentence_may_write other v = false
 
 -- a statement names a variable if it may write it, or if an expression that it evaluates names it
 abbrev pub sentence_names : Sentence → ℕ → Bool
-sentence_names sentence v = sentence_may_write sentence v || some_names (evaluated sentence) v
+sentence_names sentence v = sentence_may_write sentence v || some_names (trees_of_sentence sentence) v
 
 -- the value of a word names the variable; a literal names none
 abbrev pub word_names : WordValue → ℕ → Bool

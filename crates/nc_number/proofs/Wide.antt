@@ -5,7 +5,7 @@ use Rattle.std.specs.Prelude.{unsigned_abs, FitsSigned, int_rem, int_div}
 use Rattle.std.specs.Int.{w128, cast_signed, cast_unsigned, is_negative}
 use Rattle.std.proofs.lemmas.Int.{to_z-of_z, fits_signed_from_abs, fits_signed_mul, rem_below, quot-rem, ints}
 use Rattle.std.proofs.lemmas.Bool.{ne_eqb, eqb-false, le-leb}
-use Rattle.nc_number.specs.Arithmetic.{is_zero, nearest_quotient, checked, product_of, quotient_of, remainder_of, root_of}
+use Rattle.nc_number.specs.Arithmetic.{is_zero, nearest_quotient, checked_value, product_of, quotient_of, remainder_of, root_of}
 use Rattle.nc_number.proofs.Roots.{square_root_is, root_below}
 use Rattle.nc_number.specs.Range.{InRange, is_in_range}
 
@@ -39,11 +39,11 @@ pub rest_is : (a b : ℤ) → int_rem a b ≡ a -ℤ int_div a b *ℤ b
 rest_is a b = let parts = quot-rem a b in omega (arith, ints)
 
 -- a number in the range passes the check of the range
-checked_in_range : (z : ℤ) → InRange z → checked z ≡ Ok z
+checked_in_range : (z : ℤ) → InRange z → checked_value z ≡ Ok z
 checked_in_range z range = let test : is_in_range z ≡ true = le-leb _ _ range in rw test refl
 
 -- the remainder that the code checks is the control's
-pub remainder_is : (a b : ℤ) → is_zero b ≡ false → InRange b → checked (int_rem a b) ≡ remainder_of a b
+pub remainder_is : (a b : ℤ) → is_zero b ≡ false → InRange b → checked_value (int_rem a b) ≡ remainder_of a b
 remainder_is a b nonzero range =
     checked_in_range (int_rem a b) (rest_in_range a b nonzero range) ∙ rw (nonzero, rest_is a b) refl
 
@@ -52,17 +52,17 @@ pub wide_rest_is : (a b : ℤ) → is_zero b ≡ false → InRange b → cast_si
 wide_rest_is a b nonzero range = wide_is (int_rem a b) (rest_in_range a b nonzero range)
 
 -- the rounded product that the code checks is the control's
-pub product_is : (a b : ℤ) → checked (nearest_quotient (a *ℤ b) (pos 1000000)) ≡ product_of a b
+pub product_is : (a b : ℤ) → checked_value (nearest_quotient (a *ℤ b) (pos 1000000)) ≡ product_of a b
 product_is a b = refl
 
 -- the rounded quotient that the code checks is the control's
-pub quotient_is : (a b : ℤ) → is_zero b ≡ false → checked (nearest_quotient (a *ℤ pos 1000000) b) ≡ quotient_of a b
+pub quotient_is : (a b : ℤ) → is_zero b ≡ false → checked_value (nearest_quotient (a *ℤ pos 1000000) b) ≡ quotient_of a b
 quotient_is a b nonzero = rw nonzero refl
 
 -- the number whose square is at most a million times the count of a, while the next one's is more,
 -- is the control's root of a
 pub root_is : (a : ℤ) (s : ℕ) → InRange a → is_negative a ≡ false → s * s ≤ unsigned_abs a * 1000000 → unsigned_abs a * 1000000 < (s + 1) * (s + 1)
-    → checked (pos s) ≡ root_of a
+    → checked_value (pos s) ≡ root_of a
 root_is a s range sign low high =
     let greatest = square_root_is (unsigned_abs a * 1000000) s low high in
     let small : InRange (pos s) = omega (arith, root_below s (unsigned_abs a * 1000000) low (omega arith)) in

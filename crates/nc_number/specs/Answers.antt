@@ -5,17 +5,17 @@ use Rattle.std.specs.Prelude.{◌≡◌, Result, Ok, Err}
 use Rattle.nc_number.specs.declared.fault.Failing.{Failing}
 use Rattle.nc_number.specs.declared.fault.Failing.TheVariants.{Fault, NoMemory}
 
--- the definition fails with the call's fault, of which it sees the cause alone; if memory ran out,
--- nothing is said
+-- the definition fails with what it sees of the call's fault, such as its line or its number; if
+-- memory ran out, nothing is said
 abbrev pub FailsBy : {Y F E : Type 0} → (F → E) → Failing F → Result Y E → Type 0
-FailsBy cause (Fault fault) due = due ≡ Err (cause fault)
-FailsBy cause NoMemory due = Unit {0}
+FailsBy seen (Fault fault) due = due ≡ Err (seen fault)
+FailsBy seen NoMemory due = Unit {0}
 
--- the definition answers what the call answers: it sees a view of an Ok, and of a fault the cause
--- alone; if memory ran out, nothing is said
+-- the definition answers what the call answers: it sees a view of an Ok, and of a fault what `seen`
+-- gives; if memory ran out, nothing is said
 abbrev pub GivesBy : {X Y F E : Type 0} → (X → Y) → (F → E) → Result X (Failing F) → Result Y E → Type 0
-GivesBy view cause (Ok x) due = due ≡ Ok (view x)
-GivesBy view cause (Err error) due = FailsBy cause error due
+GivesBy view seen (Ok x) due = due ≡ Ok (view x)
+GivesBy view seen (Err error) due = FailsBy seen error due
 
 -- the definition fails with the call's fault, and sees all of it; if memory ran out, nothing is
 -- said

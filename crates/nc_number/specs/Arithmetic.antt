@@ -9,8 +9,8 @@ use Rattle.nc_number.specs.Signs.{with_sign, differ}
 use Rattle.nc_number.specs.Range.{is_in_range}
 
 -- z where it is a value, and Overflow where it is past the range
-abbrev pub checked : ℤ → Result ℤ NumberFault
-checked z = if is_in_range z then Ok z else Err Overflow
+abbrev pub checked_value : ℤ → Result ℤ NumberFault
+checked_value z = if is_in_range z then Ok z else Err Overflow
 
 -- the number is 0
 abbrev pub is_zero : ℤ → Bool
@@ -27,19 +27,19 @@ nearest_quotient a b = with_sign (differ (is_negative a) (is_negative b)) (neare
 
 -- the sum, or Overflow
 abbrev pub sum_of : ℤ → ℤ → Result ℤ NumberFault
-sum_of a b = checked (a +ℤ b)
+sum_of a b = checked_value (a +ℤ b)
 
 -- the difference, or Overflow
 abbrev pub difference_of : ℤ → ℤ → Result ℤ NumberFault
-difference_of a b = checked (a -ℤ b)
+difference_of a b = checked_value (a -ℤ b)
 
 -- the product, rounded to the nearest millionth, or Overflow
 abbrev pub product_of : ℤ → ℤ → Result ℤ NumberFault
-product_of a b = checked (nearest_quotient (a *ℤ b) (pos 1000000))
+product_of a b = checked_value (nearest_quotient (a *ℤ b) (pos 1000000))
 
 -- the quotient, rounded to the nearest millionth; ZeroDivide if b is 0, or Overflow
 abbrev pub quotient_of : ℤ → ℤ → Result ℤ NumberFault
-quotient_of a b = if is_zero b then Err ZeroDivide else checked (nearest_quotient (a *ℤ pos 1000000) b)
+quotient_of a b = if is_zero b then Err ZeroDivide else checked_value (nearest_quotient (a *ℤ pos 1000000) b)
 
 -- what is left of a when b is taken away as often as the quotient, its fraction dropped, says;
 -- ZeroDivide if b is 0
@@ -57,7 +57,7 @@ has_bits a = (not (is_negative a) && (unsigned_abs a % 1000000 == 0)) && nat_le 
 -- an operation on the bits of two whole numbers; NotWhole if one of the values is none, or Overflow
 abbrev pub on_bits : (ℕ → ℕ → ℕ) → ℤ → ℤ → Result ℤ NumberFault
 on_bits operation a b =
-    if has_bits a && has_bits b then checked (pos (operation (units a) (units b) * 1000000)) else Err NotWhole
+    if has_bits a && has_bits b then checked_value (pos (operation (units a) (units b) * 1000000)) else Err NotWhole
 
 -- the bits that both numbers have; NotWhole as for `on_bits`
 abbrev pub and_of : ℤ → ℤ → Result ℤ NumberFault
@@ -85,16 +85,16 @@ abbrev pub root_of : ℤ → Result ℤ NumberFault
 root_of a = if is_negative a then Err NegativeRoot else Ok (pos (square_root (unsigned_abs a * 1000000)))
 
 -- the nearest whole number of units, halves away from zero, or Overflow
-abbrev pub rounded : ℤ → Result ℤ NumberFault
-rounded a = checked (nearest_quotient a (pos 1000000) *ℤ pos 1000000)
+abbrev pub rounded_value : ℤ → Result ℤ NumberFault
+rounded_value a = checked_value (nearest_quotient a (pos 1000000) *ℤ pos 1000000)
 
 -- a value with its fraction dropped, so that it goes towards 0
-abbrev pub dropped : ℤ → ℤ
-dropped a = with_sign (is_negative a) (units a * 1000000)
+abbrev pub value_toward_zero : ℤ → ℤ
+value_toward_zero a = with_sign (is_negative a) (units a * 1000000)
 
 -- a value with its magnitude raised to a whole number, so that it goes away from 0, or Overflow
-abbrev pub raised : ℤ → Result ℤ NumberFault
-raised a = checked (with_sign (is_negative a) (div_ceil (unsigned_abs a) 1000000 * 1000000))
+abbrev pub value_from_zero : ℤ → Result ℤ NumberFault
+value_from_zero a = checked_value (with_sign (is_negative a) (div_ceil (unsigned_abs a) 1000000 * 1000000))
 
 -- the increments of 0.001 nearest to a value, halves away from zero
 abbrev pub increments_of : ℤ → ℤ

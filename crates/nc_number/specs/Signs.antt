@@ -3,8 +3,8 @@
 use Rattle.std.specs.Prelude.{ℕ, Bool, true, false, not, if◌then◌else◌, ℤ, pos, neg_ℤ}
 
 -- z, or -z where the sign is a minus
-abbrev pub signed : Bool → ℤ → ℤ
-signed minus z = if minus then neg_ℤ z else z
+abbrev pub signed_number : Bool → ℤ → ℤ
+signed_number minus z = if minus then neg_ℤ z else z
 
 -- n, or -n where the sign is a minus
 abbrev pub with_sign : Bool → ℕ → ℤ

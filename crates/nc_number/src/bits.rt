@@ -1,7 +1,7 @@
 //! Bit operations (AND, OR, XOR) on whole numbers from 0 to 2,147,483,647. macro_eval computes with
 //! them.
 ghost use Rattle.std.specs.Prelude.{◌≡◌, ◌*◌, ◌&&◌, pos, Some, None, Ok, Err, if◌then◌else◌};
-ghost use Rattle.nc_number.specs.Arithmetic.{checked, has_bits, units, and_of, or_of, xor_of};
+ghost use Rattle.nc_number.specs.Arithmetic.{checked_value, has_bits, units, and_of, or_of, xor_of};
 
 use crate::fault::NumberFault;
 use crate::rounding::MICRO_IN_UNIT;
@@ -31,7 +31,7 @@ fn both(a: Value, b: Value) -> Result<(u32, u32), NumberFault>
 
 /// The value of so many units; Overflow past the range.
 fn of_units(units: u32) -> Result<Value, NumberFault>
-    ensures { result ≡ checked (pos (units * 1000000)) }
+    ensures { result ≡ checked_value (pos (units * 1000000)) }
 {
     Value::checked(i128::from(units) * MICRO_IN_UNIT)
 }

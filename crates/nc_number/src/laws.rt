@@ -3,7 +3,7 @@
 
 ghost use Rattle.std.specs.Prelude.{◌≡◌, ◌≢◌, ◌↔◌, ℕ, ℤ, pos, ◌+◌, ◌*◌, ◌%◌, ◌<◌, ◌≤◌, ◌^◌, ◌+ℤ◌, ◌-ℤ◌, ◌*ℤ◌, List, Option, Some, Ok, true, false, Contains, is_some, unsigned_abs};
 ghost use Rattle.std.specs.Int.{is_negative};
-ghost use Rattle.nc_number.specs.Arithmetic.{nearest_quotient, square_root, remainder_of, dropped, raised, whole_of};
+ghost use Rattle.nc_number.specs.Arithmetic.{nearest_quotient, square_root, remainder_of, value_toward_zero, value_from_zero, whole_of};
 ghost use Rattle.nc_number.specs.Causes.{cause_number, every_cause};
 ghost use Rattle.nc_number.specs.Conversions.{thousandths_of};
 ghost use Rattle.nc_number.specs.declared.cause.Cause.{Cause};
@@ -44,18 +44,18 @@ pub fn a_remainder_keeps_the_sign()
 /// A fraction is dropped: what is left is the greatest whole number not above the magnitude, with
 /// the sign kept.
 pub fn a_fraction_is_dropped()
-    ensures whole { (a : ℤ) → unsigned_abs (dropped a) % 1000000 ≡ 0 }
-    ensures next { (a : ℤ) → (unsigned_abs (dropped a) ≤ unsigned_abs a)
-        × (unsigned_abs a < unsigned_abs (dropped a) + 1000000) }
-    ensures sign { (a : ℤ) → dropped a ≢ pos 0 → is_negative (dropped a) ≡ is_negative a }
+    ensures whole { (a : ℤ) → unsigned_abs (value_toward_zero a) % 1000000 ≡ 0 }
+    ensures next { (a : ℤ) → (unsigned_abs (value_toward_zero a) ≤ unsigned_abs a)
+        × (unsigned_abs a < unsigned_abs (value_toward_zero a) + 1000000) }
+    ensures sign { (a : ℤ) → value_toward_zero a ≢ pos 0 → is_negative (value_toward_zero a) ≡ is_negative a }
 {}
 
 /// A magnitude is raised: the answer is the least whole number not below it, with the sign kept.
 pub fn a_magnitude_is_raised()
-    ensures whole { (a w : ℤ) → raised a ≡ Ok w → unsigned_abs w % 1000000 ≡ 0 }
-    ensures next { (a w : ℤ) → raised a ≡ Ok w
+    ensures whole { (a w : ℤ) → value_from_zero a ≡ Ok w → unsigned_abs w % 1000000 ≡ 0 }
+    ensures next { (a w : ℤ) → value_from_zero a ≡ Ok w
         → (unsigned_abs a ≤ unsigned_abs w) × (unsigned_abs w < unsigned_abs a + 1000000) }
-    ensures sign { (a w : ℤ) → raised a ≡ Ok w → w ≢ pos 0 → is_negative w ≡ is_negative a }
+    ensures sign { (a w : ℤ) → value_from_zero a ≡ Ok w → w ≢ pos 0 → is_negative w ≡ is_negative a }
 {}
 
 /// The literals are the texts that the grammar spells, and the parts of a text are those of its

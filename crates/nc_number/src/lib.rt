@@ -34,8 +34,8 @@ pub use byte_list::ByteList;
 pub use cause::Cause;
 pub use fault::{Failed, Failing, NoMemory, NumberFault};
 pub use limits::{
-    LONGEST_LINE, LONGEST_TAPE, MOST_BLOCKS, MOST_BRACKETS, MOST_LABELS, MOST_PENDING, MOST_READS,
-    MOST_RECORDS,
+    LARGEST_MICRO, LARGEST_WHOLE, LAST_SEQUENCE, LONGEST_LINE, LONGEST_SAID, LONGEST_TAPE,
+    MOST_BLOCKS, MOST_BRACKETS, MOST_LABELS, MOST_PENDING, MOST_READS, MOST_RECORDS,
 };
 pub use list_of::ListOf;
 pub use literal::{Literal, is_literal, parse_word, unsigned};

@@ -24,3 +24,15 @@ pub const MOST_BRACKETS: u32 = 5;
 
 /// Labels of a path.
 pub const MOST_LABELS: usize = 65_536;
+
+/// The greatest whole number of a value, of a word or of a code.
+pub const LARGEST_WHOLE: u32 = 99_999_999;
+
+/// The last sequence number (N) of a block.
+pub const LAST_SEQUENCE: u32 = 99_999;
+
+/// The greatest magnitude of a value, in millionths: 99,999,999.999999.
+pub const LARGEST_MICRO: u64 = 99_999_999_999_999;
+
+/// The longest length that a number of a tape or a value can make, in 0.001 mm: 100 km.
+pub const LONGEST_SAID: u64 = 100_000_000_000;

@@ -3,6 +3,7 @@
 ghost use Rattle.std.specs.Prelude.{◌≡◌, ◌==◌, ◌^◌, ◌<◌, ◌≤◌, not, length, position, IsTrue, IfSome, unsigned_abs};
 ghost use Rattle.std.specs.List.{before_first, after_first};
 ghost use Rattle.std.specs.Str.Parse.{digits_value};
+ghost use Rattle.nc_number.specs.declared.limits.TheConstants.{LARGEST_MICRO, LARGEST_WHOLE, LONGEST_SAID};
 ghost use Rattle.nc_number.specs.Literals.{IsLiteral, is_literal, is_point, all_digits, behind_sign, has_minus, has_point, significant, size_of_parts, word_literal};
 
 use crate::fault::NumberFault;
@@ -34,7 +35,7 @@ impl Literal {
     /// The whole number that it is, where its fraction is 0; it may have a point.
     pub fn whole(&self) -> Option<i64>
         ensures value { result ≡ whole_of self.now.value }
-        ensures range { IfSome result (λ n. unsigned_abs n ≤ 99999999) }
+        ensures range { IfSome result (λ n. unsigned_abs n ≤ LARGEST_WHOLE) }
     {
         self.value.whole()
     }
@@ -43,7 +44,7 @@ impl Literal {
     /// rounded to the nearest, halves away from zero.
     pub fn increments(&self) -> i64
         ensures count { result ≡ thousandths_of self.now }
-        ensures range { unsigned_abs result ≤ 100000000000 }
+        ensures range { unsigned_abs result ≤ LONGEST_SAID }
     {
         self.thousandths()
     }
@@ -52,7 +53,7 @@ impl Literal {
     /// rounded to the nearest, halves away from zero.
     pub fn thousandths(&self) -> i64
         ensures count { result ≡ thousandths_of self.now }
-        ensures range { unsigned_abs result ≤ 100000000000 }
+        ensures range { unsigned_abs result ≤ LONGEST_SAID }
     {
         let micro = self.value.wide();
         let thousandth = if self.point {
@@ -171,7 +172,7 @@ fn millionths(whole: &[u8], fraction: &[u8]) -> u64
     requires fraction_digits { IsTrue (all_digits fraction.now) }
     requires fraction_short { length fraction.now ≤ 6 }
     ensures value { result ≡ size_of_parts whole.now fraction.now }
-    ensures bound { result ≤ 99999999999999 }
+    ensures bound { result ≤ LARGEST_MICRO }
 {
     let scale = 10u64.pow((FRACTION_DIGITS - fraction.len()) as u32);
     number(whole) * MILLION + number(fraction) * scale

@@ -1,7 +1,8 @@
 //! Rounding of values to whole numbers (ROUND, FIX, FUP, which macro_eval computes) and to
 //! increments of 0.001 (which block_values computes).
 ghost use Rattle.std.specs.Prelude.{◌≡◌, ◌≢◌, ◌^◌, ◌<◌, ◌≤◌, unsigned_abs};
-ghost use Rattle.nc_number.specs.Arithmetic.{nearest, nearest_quotient, rounded, dropped, raised, increments_of};
+ghost use Rattle.nc_number.specs.declared.limits.TheConstants.{LONGEST_SAID};
+ghost use Rattle.nc_number.specs.Arithmetic.{nearest, nearest_quotient, rounded_value, value_toward_zero, value_from_zero, increments_of};
 
 use crate::fault::NumberFault;
 use crate::value::Value;
@@ -40,14 +41,14 @@ pub(crate) fn nearest_quotient(a: i128, b: i128) -> i128
 /// The whole number of units nearest to the value, halves away from zero; Overflow exactly past the
 /// range.
 pub fn round(a: Value) -> Result<Value, NumberFault>
-    ensures { result ≡ rounded a }
+    ensures { result ≡ rounded_value a }
 {
     Value::checked(nearest_quotient(a.wide(), MICRO_IN_UNIT) * MICRO_IN_UNIT)
 }
 
 /// The number with its fraction dropped, so that it goes towards zero.
 pub fn fix(a: Value) -> Value
-    ensures { result ≡ dropped a }
+    ensures { result ≡ value_toward_zero a }
 {
     let micro = a.micro();
     Value::signed(
@@ -58,7 +59,7 @@ pub fn fix(a: Value) -> Value
 
 /// The number with its magnitude raised to a whole number; Overflow exactly past the range.
 pub fn fup(a: Value) -> Result<Value, NumberFault>
-    ensures { result ≡ raised a }
+    ensures { result ≡ value_from_zero a }
 {
     let micro = a.wide();
     let size = micro.unsigned_abs().div_ceil(MICRO_IN_UNIT as u128) as i128 * MICRO_IN_UNIT;
@@ -68,7 +69,7 @@ pub fn fup(a: Value) -> Result<Value, NumberFault>
 /// The increments of 0.001 nearest to a value, halves away from zero.
 pub fn to_increment(a: Value) -> i64
     ensures count { result ≡ increments_of a }
-    ensures range { unsigned_abs result ≤ 100000000000 }
+    ensures range { unsigned_abs result ≤ LONGEST_SAID }
 {
     nearest_quotient(a.wide(), MICRO_IN_INCREMENT) as i64
 }

@@ -2,11 +2,13 @@
 //! expressions and variables are such values; arithmetic.rt, rounding.rt and bits.rt compute with
 //! them.
 ghost use Rattle.std.specs.Prelude.{◌≡◌, ◌↔◌, ◌≤◌, ◌*ℤ◌, pos, neg_ℤ, unsigned_abs, IsSome, IfSome, Some};
-ghost use Rattle.nc_number.specs.Arithmetic.{checked, value_of_units, value_of_increments, whole_of};
+ghost use Rattle.nc_number.specs.declared.limits.TheConstants.{LARGEST_MICRO, LARGEST_WHOLE};
+ghost use Rattle.nc_number.specs.Arithmetic.{checked_value, value_of_units, value_of_increments, whole_of};
 ghost use Rattle.nc_number.specs.Range.{InRange};
 ghost use Rattle.nc_number.specs.Signs.{with_sign};
 
 use crate::fault::NumberFault;
+use crate::limits::LARGEST_MICRO;
 use crate::rounding::{MICRO_IN_INCREMENT, MICRO_IN_UNIT};
 use std::marker::Model;
 
@@ -40,7 +42,7 @@ pub enum Var {
 }
 
 /// The greatest count of millionths that is a value.
-const LARGEST: i64 = 99_999_999_999_999;
+const LARGEST: i64 = LARGEST_MICRO as i64;
 
 impl Value {
     /// The value of that many millionths, if they are in the range.
@@ -79,7 +81,7 @@ impl Value {
     /// The whole number that it is, where its fraction is 0.
     pub fn whole(&self) -> Option<i64>
         ensures value { result ≡ whole_of self.now }
-        ensures range { IfSome result (λ n. unsigned_abs n ≤ 99999999) }
+        ensures range { IfSome result (λ n. unsigned_abs n ≤ LARGEST_WHOLE) }
     {
         let unit = MICRO_IN_UNIT as i64;
         if self.micro % unit == 0 {
@@ -99,7 +101,7 @@ impl Value {
 
     /// The value of that many millionths, or Overflow where they are past the range.
     pub(crate) fn checked(micro: i128) -> Result<Self, NumberFault>
-        ensures { result ≡ checked micro }
+        ensures { result ≡ checked_value micro }
     {
         if micro.unsigned_abs() <= LARGEST as u128 {
             Ok(Value {
@@ -120,7 +122,7 @@ impl Value {
 
     /// The value of that magnitude and sign.
     pub(crate) fn signed(size: u64, minus: bool) -> Self
-        requires { size ≤ 99999999999999 }
+        requires { size ≤ LARGEST_MICRO }
         ensures { result ≡ with_sign minus size }
     {
         let micro = size as i64;

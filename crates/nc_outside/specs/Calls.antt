@@ -3,7 +3,7 @@
 -- seat_table, run_table, drive_line and turret_run cite these.
 use Rattle.std.specs.Prelude.{◌≡◌, List, [], ◌∷◌, ◌++◌, Option, Some, None}
 use Rattle.nc_outside.specs.declared.lined_move.LinedMove.{LinedMove}
-use Rattle.nc_outside.specs.Lined.{lined}
+use Rattle.nc_outside.specs.Lined.{lined_moves}
 use Rattle.nc_outside.specs.declared.halt.Halt.{Halt}
 use Rattle.nc_outside.specs.declared.halt.Halt.TheVariants.{Turret}
 use Rattle.nc_outside.specs.declared.halt.Next.{Next}
@@ -17,7 +17,7 @@ IsCalled (Some was) after calls = after ≡ Some (was ++ calls)
 
 -- the moves that a step answers, each with the line of its block
 abbrev pub moves_of : Next → List LinedMove
-moves_of (Moves moves) = lined moves
+moves_of (Moves moves) = lined_moves moves
 moves_of _ = []
 
 -- the moves that the steps among these calls answered

@@ -11,14 +11,14 @@ use Rattle.nc_number.specs.Faults.{next}
 use Rattle.nc_outside.specs.Files.{Files, ShelfState}
 use Rattle.nc_outside.specs.Written.{SinkState}
 use Rattle.nc_outside.specs.Received.{TurretState}
-use Rattle.nc_outside.specs.Plan.{PlanView, after_call, fails_next, fault_count}
+use Rattle.nc_outside.specs.Plan.{PlanView, plan_after_call, fails_next, fault_count}
 
 -- the names and bytes of files that are kept as texts and vectors
 abbrev pub files_of : {A B : Type 0} → List (String A × Vec ℕ B) → Files
 files_of held = map (λ file. (string_bytes file.0, file.1.items)) held
 
 -- a shelf in memory: its files, the names that it was asked for, and which of its calls are to fail
-pub record KeptFiles : Type 0 where
+pub record KeptShelf : Type 0 where
   -- its files, each with its name
   pub files : Files
   -- the names that it was asked for, in order
@@ -27,7 +27,7 @@ pub record KeptFiles : Type 0 where
   pub plan : PlanView
 
 -- what contracts see of a shelf in memory: it tells all
-abbrev pub shelf_of : KeptFiles → ShelfState
+abbrev pub shelf_of : KeptShelf → ShelfState
 shelf_of kept = record { files = Some kept.files; asked = Some kept.asked; faults = fault_count kept.plan }
 
 -- a sink in memory: what was written, and which of its calls are to fail
@@ -76,7 +76,7 @@ abbrev pub when_counted : KeptMoves → KeptMoves
 when_counted kept = record {
   got = kept.got;
   room = kept.room;
-  plan = after_call kept.plan;
+  plan = plan_after_call kept.plan;
   past = if fails_next kept.plan then kept.past else if is_full kept then next kept.past else kept.past;
   settling = kept.settling;
 }
@@ -88,7 +88,7 @@ after_handing what kept =
 
 -- a turret in memory when it was to settle once more
 abbrev pub when_settled : KeptMoves → KeptMoves
-when_settled kept = record kept { settling = after_call kept.settling }
+when_settled kept = record kept { settling = plan_after_call kept.settling }
 
 -- a stepper over a stated list: the answers that are still to come, and the calls that it had
 pub record KeptCalls : Type 0 where

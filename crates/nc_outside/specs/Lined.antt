@@ -10,5 +10,5 @@ abbrev pub lined_move : ℕ → Move → LinedMove
 lined_move line what = record { line = line; what = what }
 
 -- each move of a block with its line
-abbrev pub lined : Moves → List LinedMove
-lined moves = map (lined_move moves.line) moves.list
+abbrev pub lined_moves : Moves → List LinedMove
+lined_moves moves = map (lined_move moves.line) moves.list

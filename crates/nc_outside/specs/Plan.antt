@@ -18,8 +18,8 @@ abbrev pub fresh_plan : List ℕ → PlanView
 fresh_plan failing = record { failing = failing; calls = 0 }
 
 -- the plan when one call more has been made
-abbrev pub after_call : PlanView → PlanView
-after_call plan = record { failing = plan.failing; calls = next plan.calls }
+abbrev pub plan_after_call : PlanView → PlanView
+plan_after_call plan = record { failing = plan.failing; calls = next plan.calls }
 
 -- the next call is planned to fail; calls past the last number of a u64 have no number, and are not
 abbrev pub fails_next : PlanView → Bool

@@ -1,8 +1,9 @@
-//! A shelf in memory, for tests. The shelf of real files is in real_outside.
+//! A shelf in memory, for tests (motion_vectors). The shelf of real files is in real_outside. What
+//! clauses see of it: specs/Kept and Plan, which no other crate cites.
 ghost use Rattle.std.specs.Prelude.{◌≡◌, ◌≢◌, ℕ, ◌<◌, ◌≤◌, List, [], ◌∷◌, ◌++◌, length, Some, None, Err, OnOk, OnErr, IfOk, IsSomeAnd, IsErrOf, MatchOption};
 ghost use Rattle.nc_outside.specs.Files.{file_named};
 ghost use Rattle.nc_outside.specs.Kept.{files_of, shelf_of};
-ghost use Rattle.nc_outside.specs.Plan.{FailsAsPlanned, after_call, fresh_plan};
+ghost use Rattle.nc_outside.specs.Plan.{FailsAsPlanned, plan_after_call, fresh_plan};
 
 use crate::asked::Asked;
 use crate::plan::Plan;
@@ -24,9 +25,9 @@ pub struct MemoryShelf {
 }
 
 impl Model for MemoryShelf {
-    ghost use Rattle.nc_outside.specs.Kept.{KeptFiles, files_of};
+    ghost use Rattle.nc_outside.specs.Kept.{KeptShelf, files_of};
 
-    ghost Value = { KeptFiles };
+    ghost Value = { KeptShelf };
 
     ghost view = { λ s. record { files = files_of s.files.items; asked = s.asked.names; plan = s.plan } };
 }
@@ -104,7 +105,7 @@ impl Shelf for MemoryShelf {
         ensures plan { FailsAsPlanned self.old.plan self.new.plan (IsErrOf result FetchFault.Failed) }
         ensures new { self.new ≡ record self.old {
           asked = self.old.asked ++ name.now ∷ [];
-          plan = after_call self.old.plan;
+          plan = plan_after_call self.old.plan;
         } }
         ensures ok { OnOk result ((bytes : List ℕ) × (file_named name.now self.old.files ≡ Some bytes)
             × (length bytes ≤ max) × (into.new.items ≡ into.old.items ++ bytes)) }

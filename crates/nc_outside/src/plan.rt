@@ -2,7 +2,7 @@
 //! meet each fault. For memory_shelf.rt, memory_turret.rt and vec_sink.rt of this crate.
 ghost use Rattle.std.specs.Prelude.{◌≡◌, ◌==◌, ◌<◌, ◌≤◌, ◌↔◌, false, IfOk, IsTrue, Contains};
 ghost use Rattle.std.specs.List.{list_any};
-ghost use Rattle.nc_outside.specs.Plan.{after_call, fails_next, fault_count, fresh_plan};
+ghost use Rattle.nc_outside.specs.Plan.{plan_after_call, fails_next, fault_count, fresh_plan};
 
 use nc_number::NoMemory;
 use std::alloc::Global;
@@ -49,7 +49,7 @@ impl Plan {
     /// Counts a call, and says whether it is to fail.
     pub fn call(&mut self) -> bool
         ensures fails { result ≡ fails_next self.old }
-        ensures new { self.new ≡ after_call self.old }
+        ensures new { self.new ≡ plan_after_call self.old }
         ensures rose { IsTrue result → fault_count self.old < fault_count self.new }
         ensures kept { result ≡ false → fault_count self.new ≡ fault_count self.old }
         ensures later { fault_count self.old ≤ fault_count self.new }

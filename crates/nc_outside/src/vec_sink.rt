@@ -1,7 +1,7 @@
 //! A sink in memory, for tests. Standard output is in real_outside.
 ghost use Rattle.std.specs.Prelude.{◌≡◌, [], ◌++◌, is_ok, if◌then◌else◌, IfOk, IsErrOf};
 ghost use Rattle.nc_outside.specs.Kept.{sink_of};
-ghost use Rattle.nc_outside.specs.Plan.{FailsAsPlanned, after_call, fresh_plan};
+ghost use Rattle.nc_outside.specs.Plan.{FailsAsPlanned, plan_after_call, fresh_plan};
 
 use crate::plan::Plan;
 use crate::{PutFault, Sink};
@@ -60,7 +60,7 @@ impl Sink for VecSink {
         ensures plan { FailsAsPlanned self.old.plan self.new.plan (IsErrOf result PutFault.Failed) }
         ensures new { self.new ≡ record {
           bytes = if is_ok result then self.old.bytes ++ piece.now else self.old.bytes;
-          plan = after_call self.old.plan;
+          plan = plan_after_call self.old.plan;
         } }
     {
         if self.plan.call() {

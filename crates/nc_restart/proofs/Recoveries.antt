@@ -21,7 +21,8 @@ use Rattle.nc_restart.specs.Meaning.{IsBadReading, unread, misread}
 use Rattle.nc_restart.specs.Reading.{RefusesReading}
 use Rattle.nc_restart.specs.Recovered.{fault_of, RefusesRecovery, Recovers}
 
--- in a journal of version 2, in which no raising mark stands, each piece has a record
+-- behind a raising mark, or behind a header of version 2, no mark may stand, so there are at most as
+-- many pieces as records
 few_marked : (pieces : List Piece) → ArePieces Two pieces → length pieces ≤ length (records_of pieces)
 few_marked [] are = omega arith
 few_marked (a_batch batch ∷ pieces) are =
@@ -35,7 +36,7 @@ few_pieces version (a_batch batch ∷ pieces) are =
     omega (arith, few_pieces version pieces are.1, are.0.some, length-append batch (records_of pieces))
 few_pieces version (the_mark ∷ pieces) are = omega (arith, few_marked pieces are.1)
 
--- what used few calls of a disk used at most more
+-- a bound on calls of the disk may be raised
 uses_more : (count more : ℕ) (old new : DiskState) → count ≤ more → Uses count 0 old new → Uses more 0 old new
 uses_more count more old new less uses = record {
   calls = λ bytes reads. omega (arith, less, uses.calls bytes reads);

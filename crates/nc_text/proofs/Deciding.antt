@@ -18,7 +18,7 @@ use Rattle.line_text.specs.Said.{read_words, read_block, read_head, line_says}
 use Rattle.line_text.specs.Refusals.{refusal_number}
 use Rattle.nc_text.specs.Lines.{Line, IsOneLine, lines_of}
 use Rattle.nc_text.specs.Tape.{Before, Answer, is_past_end, fault_behind, no_program, programs_of, in_leader, in_body, in_rest, tape_of}
-use Rattle.nc_text.specs.Reading.{refusal_of, continued, IsAt, HasRead, IsRefused}
+use Rattle.nc_text.specs.Reading.{refusal_of, answer_from, IsAt, HasRead, IsRefused}
 use Rattle.nc_text.specs.Decided.{IsDecided}
 use Rattle.nc_text.proofs.LineEnds.{text_ends}
 use Rattle.nc_text.proofs.Standing.{state}
@@ -80,7 +80,7 @@ body_number false before e = omega arith
 
 -- at a stage that has not refused the text, no refusal is the answer whatever follows
 undecided : (skips : ℕ) (stage : Stage) (before : Before) (fault : TextFault) (n : ℕ) → LONGEST_TAPE ≤ n → refusal_of stage ≡ None
-    → ((more : List ℕ) → continued skips stage (lines_of more) before ≡ Err fault) → ⊥
+    → ((more : List ℕ) → answer_from skips stage (lines_of more) before ≡ Err fault) → ⊥
 undecided skips stages.Leader before fault n above open-is decided =
     let ended : 13 ≡ fault.number = ap number_of (decided []) in
     let long-on : 17 ≡ fault.number = ap number_of (sym (leader_long skips before n above) ∙ decided (long n)) in

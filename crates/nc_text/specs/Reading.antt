@@ -11,7 +11,7 @@ use Rattle.nc_text.specs.declared.stage.Stage.{Stage}
 use Rattle.nc_text.specs.declared.stage.Stage.TheVariants as stages
 use Rattle.nc_text.specs.Lines.{Line, IsOneLine, lines_of, is_percent}
 use Rattle.line_text.specs.Said.{line_says}
-use Rattle.nc_text.specs.Tape.{Before, Answer, after_outer, after_percent, after_said, begun, goes_on, in_leader, in_body, in_rest, tape_of}
+use Rattle.nc_text.specs.Tape.{Before, Answer, after_outer, after_percent, after_said, tape_begun, goes_on, in_leader, in_body, in_rest, tape_of}
 
 -- what a reader keeps: where it stands, the present line (begun and not ended) and what was read
 -- before it
@@ -51,8 +51,8 @@ more_kept stage [] bytes = kept_of stage bytes
 more_kept stage (b ∷ kept) bytes = if is_body stage && not (b == 37) then bytes else []
 
 -- a length as it is counted: at most one more than the bytes that a tape may have
-abbrev pub counted : ℕ → ℕ
-counted len = min len (LONGEST_TAPE + 1)
+abbrev pub counted_length : ℕ → ℕ
+counted_length len = min len (LONGEST_TAPE + 1)
 
 -- the line that is being read has these bytes, of which this is kept, and is counted so long
 pub record IsOpenLine (stage : Stage) (kept : List ℕ) (len : ℕ) (bytes : List ℕ) : Type 0 where
@@ -61,21 +61,22 @@ pub record IsOpenLine (stage : Stage) (kept : List ℕ) (len : ℕ) (bytes : Lis
   -- of the bytes just what is needed is kept
   pub kept_is : kept ≡ kept_of stage bytes
   -- the bytes are counted up to one more than a tape may have
-  pub len_is : len ≡ counted (length bytes)
+  pub len_is : len ≡ counted_length (length bytes)
 
 -- the answer of a text of which this was read up to this stage, and of which these lines are left
-abbrev pub continued : ℕ → Stage → List Line → Before → Answer
-continued skips stages.Leader lines before = in_leader skips lines before
-continued skips stages.Body lines before = in_body skips lines before
-continued skips stages.Rest lines before = in_rest lines before
-continued skips (stages.Refused fault) lines before = Err fault
+abbrev pub answer_from : ℕ → Stage → List Line → Before → Answer
+answer_from skips stages.Leader lines before = in_leader skips lines before
+answer_from skips stages.Body lines before = in_body skips lines before
+answer_from skips stages.Rest lines before = in_rest lines before
+answer_from skips (stages.Refused fault) lines before = Err fault
 
 -- the answer of a text of which this was read up to this stage, and of which a line of this length,
 -- of which this is kept, and then these lines are left; the flag says whether a line feed ends that
 -- line
 abbrev pub line_continued : ℕ → Stage → List ℕ → ℕ → Bool → List Line → Before → Answer
 line_continued skips stages.Leader kept len ended lines before =
-    if is_percent kept then goes_on before (after_percent before len ended) (λ after. in_body skips lines (begun after))
+    if is_percent kept then goes_on before (after_percent before len ended)
+    (λ after. in_body skips lines (tape_begun after))
     else goes_on before (after_outer before len ended) (in_leader skips lines)
 line_continued skips stages.Body kept len ended lines before =
     if is_percent kept then goes_on before (after_percent before len ended) (in_rest lines)
@@ -89,7 +90,7 @@ line_continued skips (stages.Refused fault) kept len ended lines before = Err fa
 abbrev pub LeadsTo : ℕ → Stage → Before → List ℕ → Stage → Before → List ℕ → Type 0
 LeadsTo skips stage before text later-stage later rest =
     (front : List ℕ) × (text ≡ front ++ rest)
-    × ((more : List ℕ) → continued skips stage (lines_of (front ++ more)) before ≡ continued skips later-stage (lines_of more) later)
+    × ((more : List ℕ) → answer_from skips stage (lines_of (front ++ more)) before ≡ answer_from skips later-stage (lines_of more) later)
 
 -- The bytes end with the present line so far. Whatever follows the bytes before that line, the
 -- answer of the whole text is the state's answer for what follows.
@@ -101,7 +102,7 @@ pub record IsAt (state : State) (bytes : List ℕ) (line : List ℕ) : Type 0 wh
   -- these and the present line are all bytes
   pub bytes_are : bytes ≡ front ++ line
   -- the state has all that the bytes before the present line say
-  pub whole : (more : List ℕ) → tape_of state.skips (front ++ more) ≡ continued state.skips state.stage (lines_of more) state.before
+  pub whole : (more : List ℕ) → tape_of state.skips (front ++ more) ≡ answer_from state.skips state.stage (lines_of more) state.before
 
 -- a reader with these switches was given these bytes: bit n is switch n
 abbrev pub HasRead : State → ℕ → List ℕ → Type 0

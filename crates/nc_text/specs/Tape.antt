@@ -143,13 +143,13 @@ abbrev pub no_program : Before → TextFault
 no_program before = record { number = refusal_number NoProgramNumber; line = before.percent }
 
 -- the answer at the end of a tape with both `%` lines: its programs, if it has any
-abbrev pub finished : Before → Answer
-finished before = if is_none before.current then Err (no_program before) else Ok (programs_of before)
+abbrev pub answer_at_end : Before → Answer
+answer_at_end before = if is_none before.current then Err (no_program before) else Ok (programs_of before)
 
 -- the answer at the end of a tape without a second `%` line: it has no O number, or no end, which
 -- is told of its last line
-abbrev pub unfinished : Before → Answer
-unfinished before =
+abbrev pub answer_without_end : Before → Answer
+answer_without_end before =
     if is_none before.current then Err (no_program before)
     else Err (record { number = refusal_number NoEnd; line = before.lines })
 
@@ -165,26 +165,26 @@ goes_on before (Err refusal) rest = Err (fault_behind before refusal)
 -- the answer of a text whose second `%` line has been read, and of which these lines are left,
 -- after what was read
 abbrev pub in_rest : List Line → Before → Answer
-in_rest [] before = finished before
+in_rest [] before = answer_at_end before
 in_rest (line ∷ lines) before = goes_on before (after_outer before (length line.bytes) line.ended) (in_rest lines)
 
 -- the answer of a text whose first `%` line has been read but not the second, and of which these
 -- lines are left
 abbrev pub in_body : ℕ → List Line → Before → Answer
-in_body skips [] before = unfinished before
+in_body skips [] before = answer_without_end before
 in_body skips (line ∷ lines) before =
     if is_percent line.bytes then goes_on before (after_percent before (length line.bytes) line.ended) (in_rest lines)
     else goes_on before (after_line skips before line.bytes line.ended) (in_body skips lines)
 
 -- what was read, if its last line is the first `%` line
-abbrev pub begun : Before → Before
-begun before = record before { percent = before.lines }
+abbrev pub tape_begun : Before → Before
+tape_begun before = record before { percent = before.lines }
 
 -- the answer of a text whose first `%` line has not been read, and of which these lines are left
 abbrev pub in_leader : ℕ → List Line → Before → Answer
 in_leader skips [] before = not_begun
 in_leader skips (line ∷ lines) before =
-    if is_percent line.bytes then goes_on before (after_percent before (length line.bytes) line.ended) (λ after. in_body skips lines (begun after))
+    if is_percent line.bytes then goes_on before (after_percent before (length line.bytes) line.ended) (λ after. in_body skips lines (tape_begun after))
     else goes_on before (after_outer before (length line.bytes) line.ended) (in_leader skips lines)
 
 -- the tape of a text, or its one fault; bit n of skips is switch n

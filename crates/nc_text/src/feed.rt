@@ -7,7 +7,7 @@ ghost use Rattle.nc_text.specs.declared.fault.TextFault.{TextFault};
 ghost use Rattle.nc_text.specs.Tape.{Before, tape_of};
 ghost use Rattle.nc_text.specs.View.{before_of};
 ghost use Rattle.nc_text.specs.Mark.{Grows};
-ghost use Rattle.nc_text.specs.Reading.{continued, refusal_of, LeadsTo, IsOpenLine, HasRead, HasRefused};
+ghost use Rattle.nc_text.specs.Reading.{answer_from, refusal_of, LeadsTo, IsOpenLine, HasRead, HasRefused};
 
 use crate::fault::TextFault;
 use crate::line_feed::cut_at_line_feed;
@@ -160,7 +160,7 @@ fn line_behind(
 
 /// The tape, or its refusal, when no line is left to read.
 fn conclude(stage: Stage, progress: Progress) -> Result<Tape, Failing<TextFault>>
-    ensures exact { (skips : ℕ) → Gives (λ tape. tape) result (continued skips stage [] (before_of progress)) }
+    ensures exact { (skips : ℕ) → Gives (λ tape. tape) result (answer_from skips stage [] (before_of progress)) }
     ensures same { (fault : TextFault) → stage ≡ Stage.Refused fault → result ≡ Err (Failing.Fault fault) }
 {
     match stage {

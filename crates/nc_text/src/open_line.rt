@@ -3,7 +3,7 @@
 ghost use Rattle.std.specs.Prelude.{◌≡◌, ◌≤◌, ◌<◌, ◌+◌, ◌++◌, [], List, ℕ, length, take, IfOk, OnOk, OnErr};
 ghost use Rattle.nc_number.specs.declared.limits.TheConstants.{LONGEST_TAPE};
 ghost use Rattle.nc_text.specs.Lines.{IsOneLine};
-ghost use Rattle.nc_text.specs.Reading.{counted, kept_of, more_kept, IsOpenLine};
+ghost use Rattle.nc_text.specs.Reading.{counted_length, kept_of, more_kept, IsOpenLine};
 
 use crate::stage::{Stage, is_body};
 use nc_number::{LONGEST_TAPE, NoMemory};
@@ -27,7 +27,7 @@ pub(crate) struct OpenLine {
     pub kept: Vec<u8>,
     /// How many bytes it has, counted up to one more than a tape may have.
     pub len: u32,
-    ghost kept_counted: { counted (length kept.items) ≤ len },
+    ghost kept_counted: { counted_length (length kept.items) ≤ len },
     ghost kept_short: { length kept.items ≤ 4294967294 },
     ghost len_short: { len ≤ LONGEST_TAPE + 1 },
 }
@@ -62,7 +62,7 @@ impl OpenLine {
         ensures stage { self.new.stage ≡ self.old.stage }
         ensures kept { OnOk result (self.new.kept.items
             ≡ self.old.kept.items ++ more_kept self.old.stage self.old.kept.items bytes.now) }
-        ensures len { OnOk result (self.new.len ≡ counted (self.old.len + length bytes.now)) }
+        ensures len { OnOk result (self.new.len ≡ counted_length (self.old.len + length bytes.now)) }
         ensures as_before { OnErr result ((self.new.kept.items ≡ self.old.kept.items) × (self.new.len ≡ self.old.len)) }
     {
         let more = more_kept(self.stage, self.kept.as_slice(), bytes);
@@ -76,7 +76,7 @@ impl OpenLine {
 
     /// Goes back to a moment when `kept` bytes were kept and the line was counted as `len` long.
     pub(crate) fn cut_back(&mut self, kept: usize, len: u32)
-        requires short { counted kept ≤ len }
+        requires short { counted_length kept ≤ len }
         requires fits { len ≤ LONGEST_TAPE + 1 }
         ensures stage { self.new.stage ≡ self.old.stage }
         ensures kept { self.new.kept.items ≡ take kept self.old.kept.items }
@@ -90,7 +90,7 @@ impl OpenLine {
 /// The length of a line of this length with these bytes more, as it is counted.
 pub(crate) fn longer(len: u32, bytes: &[u8]) -> u32
     requires { len ≤ LONGEST_TAPE + 1 }
-    ensures { result ≡ counted (len + length bytes.now) }
+    ensures { result ≡ counted_length (len + length bytes.now) }
 {
     match u32::try_from(bytes.len()) {
         Ok(more) if more <= COUNTED - len => len + more,

@@ -3,7 +3,7 @@
 ghost use Rattle.std.specs.Prelude.{◌≡◌, ◌<◌, ◌≤◌, ◌++◌, false, Ok, Err, OnOk, OnErr};
 ghost use Rattle.std.specs.Option.{option_to_list};
 ghost use Rattle.nc_text.specs.Lines.{size_of};
-ghost use Rattle.nc_text.specs.Tape.{nothing_read, is_past_end, next, percent_refusal, outer_refusal, said_refusal, is_block, is_said_in_range, with_said, with_program, begun, after_outer, after_percent, after_said, unfinished, finished};
+ghost use Rattle.nc_text.specs.Tape.{nothing_read, is_past_end, next, percent_refusal, outer_refusal, said_refusal, is_block, is_said_in_range, with_said, with_program, tape_begun, after_outer, after_percent, after_said, answer_without_end, answer_at_end};
 ghost use Rattle.nc_number.specs.Answers.{Gives};
 ghost use Rattle.nc_number.specs.declared.limits.TheConstants.{LONGEST_LINE, LONGEST_TAPE, MOST_BLOCKS};
 ghost use Rattle.nc_text.specs.Mark.{Grows};
@@ -121,7 +121,7 @@ impl Progress {
 
     /// The line that was passed last is the first `%` line.
     pub(crate) fn begin(&mut self)
-        ensures { before_of self.new ≡ begun (before_of self.old) }
+        ensures { before_of self.new ≡ tape_begun (before_of self.old) }
     {
         self.percent = self.lines;
     }
@@ -221,7 +221,7 @@ impl Progress {
     /// The refusal of a tape without a second `%` line: 13 at its first `%` line if it has no O
     /// number, else 14 at its last line.
     pub(crate) fn unfinished(&self) -> TextFault
-        ensures { unfinished (before_of self.now) ≡ Err result }
+        ensures { answer_without_end (before_of self.now) ≡ Err result }
     {
         if self.current.is_none() {
             no_program(self.percent)
@@ -235,7 +235,7 @@ impl Progress {
 
     /// The tape after its second `%` line. Errors: it has no O number, or memory.
     pub(crate) fn finish(self) -> Result<Tape, Failing<TextFault>>
-        ensures { Gives (λ tape. tape) result (finished (before_of self)) }
+        ensures { Gives (λ tape. tape) result (answer_at_end (before_of self)) }
     {
         let Progress {
             lines: _,

@@ -10,7 +10,7 @@ ghost use Rattle.line_text.specs.Said.{line_says};
 ghost use Rattle.nc_text.specs.Tape.{Before, goes_on, in_rest, after_outer, after_percent, after_said};
 ghost use Rattle.nc_text.specs.View.{before_of};
 ghost use Rattle.nc_text.specs.Mark.{Grows};
-ghost use Rattle.nc_text.specs.Reading.{continued, counted, line_continued, LeadsTo};
+ghost use Rattle.nc_text.specs.Reading.{answer_from, counted_length, line_continued, LeadsTo};
 
 use crate::fault::TextFault;
 use crate::line_feed::cut_at_line_feed;
@@ -43,7 +43,7 @@ fn leader_line(progress: &mut Progress, kept: &[u8], len: u32, ended: bool) -> S
     requires { 0 < size_of len ended }
     ensures step { (skips : ℕ) (lines : List Line) →
         line_continued skips Stage.Leader kept.now len ended lines (before_of progress.old)
-        ≡ continued skips result lines (before_of progress.new) }
+        ≡ answer_from skips result lines (before_of progress.new) }
     ensures grows { Grows (before_of progress.old) (before_of progress.new) }
 {
     let line = progress.lines + 1;
@@ -68,7 +68,7 @@ fn rest_line(progress: &mut Progress, len: u32, ended: bool) -> Stage
     requires { 0 < size_of len ended }
     ensures step { (lines : List Line) (skips : ℕ) →
         goes_on (before_of progress.old) (after_outer (before_of progress.old) len ended) (in_rest lines)
-        ≡ continued skips result lines (before_of progress.new) }
+        ≡ answer_from skips result lines (before_of progress.new) }
     ensures grows { Grows (before_of progress.old) (before_of progress.new) }
 {
     let line = progress.lines + 1;
@@ -83,7 +83,7 @@ fn last_percent(progress: &mut Progress, len: u32, ended: bool) -> Stage
     requires { 0 < size_of len ended }
     ensures step { (lines : List Line) (skips : ℕ) →
         goes_on (before_of progress.old) (after_percent (before_of progress.old) len ended) (in_rest lines)
-        ≡ continued skips result lines (before_of progress.new) }
+        ≡ answer_from skips result lines (before_of progress.new) }
     ensures grows { Grows (before_of progress.old) (before_of progress.new) }
 {
     let line = progress.lines + 1;
@@ -104,7 +104,7 @@ fn program_line(
 ) -> Result<(), Failing<Refusal>>
     requires some { 0 < size_of len ended }
     requires short { length bytes.now < 2 ^ 32 - 1 }
-    requires within { counted (length bytes.now) ≤ len }
+    requires within { counted_length (length bytes.now) ≤ len }
     ensures step { Gives (λ _. before_of progress.new) result
         (after_said (before_of progress.old) len ended (line_says skips bytes.now ended)) }
     ensures grows { Grows (before_of progress.old) (before_of progress.new) }
@@ -127,10 +127,10 @@ fn body_line(
 ) -> Result<Stage, NoMemory>
     requires some { 0 < size_of len ended }
     requires short { length kept.now < 2 ^ 32 - 1 }
-    requires within { counted (length kept.now) ≤ len }
+    requires within { counted_length (length kept.now) ≤ len }
     ensures step { IfOk result (λ behind. (lines : List Line) →
         line_continued skips Stage.Body kept.now len ended lines (before_of progress.old)
-        ≡ continued skips behind lines (before_of progress.new)) }
+        ≡ answer_from skips behind lines (before_of progress.new)) }
     ensures grows { Grows (before_of progress.old) (before_of progress.new) }
 {
     if is_percent(kept) {
@@ -157,10 +157,10 @@ pub(crate) fn behind_line(
 ) -> Result<Stage, NoMemory>
     requires some { 0 < size_of len ended }
     requires short { length kept.now < 2 ^ 32 - 1 }
-    requires within { counted (length kept.now) ≤ len }
+    requires within { counted_length (length kept.now) ≤ len }
     ensures step { IfOk result (λ behind. (lines : List Line) →
         line_continued skips stage kept.now len ended lines (before_of progress.old)
-        ≡ continued skips behind lines (before_of progress.new)) }
+        ≡ answer_from skips behind lines (before_of progress.new)) }
     ensures grows { Grows (before_of progress.old) (before_of progress.new) }
     ensures same { (fault : TextFault) → stage ≡ Stage.Refused fault → result ≡ Ok (Stage.Refused fault) }
 {
@@ -182,8 +182,8 @@ fn behind_whole_line(
     bytes: &[u8],
 ) -> Result<Stage, NoMemory>
     ensures step { IfOk result (λ behind. (lines : List Line) →
-        continued skips stage (record { bytes = bytes.now; ended = true } ∷ lines) (before_of progress.old)
-        ≡ continued skips behind lines (before_of progress.new)) }
+        answer_from skips stage (record { bytes = bytes.now; ended = true } ∷ lines) (before_of progress.old)
+        ≡ answer_from skips behind lines (before_of progress.new)) }
     ensures grows { Grows (before_of progress.old) (before_of progress.new) }
 {
     let kept = kept_whole(stage, bytes)?;

@@ -16,7 +16,7 @@ use Rattle.tape_flow.specs.Exact.{IsAccepted, IsRefused}
 use Rattle.tape_flow.specs.Forms.{ProgramForm, programs_read}
 use Rattle.label_list.specs.declared.labelled.Labelled.{Labelled}
 use Rattle.label_list.specs.Accepted.{AgreeOnLabels, IsAcceptedPair}
-use Rattle.label_list.specs.Lists.{bare, path_labels}
+use Rattle.label_list.specs.Lists.{bare_labels, path_labels}
 use Rattle.nc_verify.specs.declared.refusal.Refusal.{Refusal}
 use Rattle.nc_verify.specs.Verdict.{Texts, skips_of, dialect_in, IsFlowOf, IsTapeRefusal, AreAccepted, IsPairRefusal, IsRefusalOf}
 use Rattle.nc_verify.specs.Verdict.IsTapeRefusal.{reading, flow}
@@ -57,7 +57,7 @@ not_both_tape law cell path text programs refusal x (flow tape line number reads
     law (dialect_in cell) tape programs line number (subst (λ t. IsAccepted (dialect_in cell) t programs) same x.accepted) refused
 
 -- lists of labels that agree but for their lines have the same label at each place
-pub same_label : (xs ys : List Labelled) (n : ℕ) (a b : Labelled) → bare xs ≡ bare ys → slice_get xs n ≡ Some a → slice_get ys n ≡ Some b
+pub same_label : (xs ys : List Labelled) (n : ℕ) (a b : Labelled) → bare_labels xs ≡ bare_labels ys → slice_get xs n ≡ Some a → slice_get ys n ≡ Some b
     → a.label ≡ b.label
 same_label [] ys n a b e p q = absurd cc
 same_label (x ∷ xs) [] n a b e p q = absurd cc
@@ -66,7 +66,7 @@ same_label (x ∷ xs) (y ∷ ys) zero a b e p q =
     let one' : x ≡ a = cc in
     let two' : y ≡ b = cc in
     sym (ap (λ (z : Labelled). z.label) one') ∙ (heads ∙ ap (λ (z : Labelled). z.label) two')
-same_label (x ∷ xs) (y ∷ ys) (suc n) a b e p q = same_label xs ys n a b (let t : bare xs ≡ bare ys = cc in t) p q
+same_label (x ∷ xs) (y ∷ ys) (suc n) a b e p q = same_label xs ys n a b (let t : bare_labels xs ≡ bare_labels ys = cc in t) p q
 
 -- two flows are not both an accepted pair and refused as a pair
 pub not_both_pair : (l r : List ControlProgram) (refusal : Refusal) → AgreeOnLabels l r → IsPairRefusal l r refusal → ⊥

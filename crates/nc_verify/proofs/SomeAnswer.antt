@@ -23,7 +23,7 @@ use Rattle.label_list.specs.declared.labelled.Labelled.{Labelled}
 use Rattle.label_list.specs.Accepted.{AgreeOnLabels, IsAcceptedPair}
 use Rattle.label_list.specs.Faults as labels
 use Rattle.label_list.specs.Faults.{IsMismatch}
-use Rattle.label_list.specs.Lists.{path_labels, bare, ended_by, IsEnded}
+use Rattle.label_list.specs.Lists.{path_labels, bare_labels, ended_by, IsEnded}
 use Rattle.label_list.proofs.Ended.{path_ended}
 use Rattle.nc_verify.specs.declared.refusal.Refusal.{Refusal}
 use Rattle.nc_verify.specs.Refusals.{at_setting, at_line, too_long, mismatch}
@@ -54,7 +54,7 @@ record DifferAt (l r : List Labelled) (after : ℕ) : Type 0 where
   one' : Labelled
   -- the label of path 2 there
   two' : Labelled
-  equal : bare (take after l) ≡ bare (take after r)
+  equal : bare_labels (take after l) ≡ bare_labels (take after r)
   is_one : slice_get l after ≡ Some one'
   is_two : slice_get r after ≡ Some two'
   differs : one'.label ≢ two'.label
@@ -72,14 +72,14 @@ one_behind x y xs ys after same d = record {
 
 -- behind a label of this kind that both lists have, both end, or both go on
 both_behind : (kind : Label) (xs ys : List Labelled) → ended_by kind xs (IsEnded xs) → ended_by kind ys (IsEnded ys)
-    → (bare xs ≡ bare ys) ⊎ (IsEnded xs × IsEnded ys)
+    → (bare_labels xs ≡ bare_labels ys) ⊎ (IsEnded xs × IsEnded ys)
 both_behind (label.Wait code) xs ys ex ey = inr (ex, ey)
-both_behind label.End xs ys ex ey = inl (ap bare ex ∙ sym (ap bare ey))
-both_behind label.Again xs ys ex ey = inl (ap bare ex ∙ sym (ap bare ey))
-both_behind label.Off xs ys ex ey = inl (ap bare ex ∙ sym (ap bare ey))
+both_behind label.End xs ys ex ey = inl (ap bare_labels ex ∙ sym (ap bare_labels ey))
+both_behind label.Again xs ys ex ey = inl (ap bare_labels ex ∙ sym (ap bare_labels ey))
+both_behind label.Off xs ys ex ey = inl (ap bare_labels ex ∙ sym (ap bare_labels ey))
 
 -- two lists of labels that end are the same, or differ somewhere
-same_or_differ : (l r : List Labelled) → IsEnded l → IsEnded r → CantBothFail (bare l ≡ bare r) ((after : ℕ) × DifferAt l r after)
+same_or_differ : (l r : List Labelled) → IsEnded l → IsEnded r → CantBothFail (bare_labels l ≡ bare_labels r) ((after : ℕ) × DifferAt l r after)
 same_or_differ [] r el er unequal none = el
 same_or_differ (x ∷ xs) [] el er unequal none = er
 same_or_differ (x ∷ xs) (y ∷ ys) el er unequal none =
@@ -98,8 +98,8 @@ same_or_differ (x ∷ xs) (y ∷ ys) el er unequal none =
     subst_label : x.label ≡ y.label → ended_by y.label xs (IsEnded xs)
     subst_label same = rw (← same) el
 
-    go : x.label ≡ y.label → (bare xs ≡ bare ys) ⊎ (IsEnded xs × IsEnded ys)
-        → (IsEnded xs → IsEnded ys → CantBothFail (bare xs ≡ bare ys) ((after : ℕ) × DifferAt xs ys after)) → ⊥
+    go : x.label ≡ y.label → (bare_labels xs ≡ bare_labels ys) ⊎ (IsEnded xs × IsEnded ys)
+        → (IsEnded xs → IsEnded ys → CantBothFail (bare_labels xs ≡ bare_labels ys) ((after : ℕ) × DifferAt xs ys after)) → ⊥
     go same (inl tails) rest = unequal (λ i. same i ∷ tails i)
     go same (inr ends) rest =
         rest ends.0 ends.1 (λ tails. unequal (λ i. same i ∷ tails i))

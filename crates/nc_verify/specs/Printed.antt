@@ -6,7 +6,7 @@ use Rattle.std.specs.Prelude.{◌≡◌, ◌≢◌, ℕ, List, ◌++◌, take, O
 use Rattle.nc_number.specs.declared.cause.Cause.{Cause}
 use Rattle.nc_number.specs.declared.cause.Cause.TheVariants.{BadSetting, TooManyLabels, WaitMismatch}
 use Rattle.nc_number.specs.Causes.{cause_number}
-use Rattle.text_pieces.specs.Pieces.{name_text, numbered, place_text}
+use Rattle.text_pieces.specs.Pieces.{name_text, text_with_number, place_text}
 use Rattle.nc_outside.specs.declared.sink.PutFault.{PutFault}
 use Rattle.nc_outside.specs.declared.sink.PutFault.TheVariants.{Failed}
 use Rattle.nc_outside.specs.Faults.{CountsFault}
@@ -20,7 +20,7 @@ IsCauseOf number (Some cause) = cause_number cause ≡ number
 
 -- of labels that differ, the line of path 2's label, and how many labels before are equal
 unfoldable pub other_text : Refusal → List ℕ
-other_text refusal = place_text 2 refusal.other ++ numbered (codes " after ") refusal.after
+other_text refusal = place_text 2 refusal.other ++ text_with_number (codes " after ") refusal.after
 
 -- where the labels of the paths differ: the line of each, and how many labels before are equal
 unfoldable pub mismatch_text : Refusal → List ℕ
@@ -28,15 +28,15 @@ mismatch_text refusal = place_text 1 refusal.line ++ other_text refusal
 
 -- where a refusal of this cause is: a line of the settings, a path, two lines, or a path and a line
 abbrev pub about_text : Option Cause → Refusal → List ℕ
-about_text (Some BadSetting) refusal = numbered (codes " line ") refusal.line
-about_text (Some TooManyLabels) refusal = numbered (codes " path ") refusal.path
+about_text (Some BadSetting) refusal = text_with_number (codes " line ") refusal.line
+about_text (Some TooManyLabels) refusal = text_with_number (codes " path ") refusal.path
 about_text (Some WaitMismatch) refusal = mismatch_text refusal
 about_text other refusal = place_text refusal.path refusal.line
 
 -- a refusal of this cause as a line: `refused 65 BranchAtWait path 1 line 3`
 unfoldable pub refused_text : Option Cause → Refusal → List ℕ
 refused_text cause refusal =
-    numbered (codes "refused ") refusal.number ++ name_text cause ++ about_text cause refusal ++ codes "\n"
+    text_with_number (codes "refused ") refusal.number ++ name_text cause ++ about_text cause refusal ++ codes "\n"
 
 -- the line of a verdict, which is none or one refusal, is this text
 abbrev pub IsVerdictText : Option Refusal → List ℕ → Type 0

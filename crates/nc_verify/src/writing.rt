@@ -3,6 +3,7 @@
 //! lathe_calls calls `write_verdict`.
 ghost use Rattle.std.specs.Prelude.{◌≡◌, ◌+◌, ◌≤◌, ℕ, List, ◌++◌, length, codes};
 ghost use Rattle.std.specs.Option.{option_copied};
+ghost use Rattle.text_pieces.specs.declared.piece.TheConstants.{MOST_BYTES};
 ghost use Rattle.nc_verify.specs.Printed.{IsPut, IsVerdictText, about_text, mismatch_text, other_text, refused_text};
 
 use crate::putting::put_piece;
@@ -14,7 +15,7 @@ use text_pieces::Piece;
 /// Adds the place of path 2's label, and how many labels before are equal.
 #[tactic(auto, unfolding(crate::specs::Printed::other_text))]
 fn add_other(piece: &mut Piece, refusal: &Refusal)
-    requires { length piece.old + 79 ≤ 512 }
+    requires { length piece.old + 79 ≤ MOST_BYTES }
     ensures text { piece.new ≡ piece.old ++ other_text refusal.now }
     ensures size { length piece.new ≤ length piece.old + 79 }
 {
@@ -25,7 +26,7 @@ fn add_other(piece: &mut Piece, refusal: &Refusal)
 /// Adds where the labels of the paths differ.
 #[tactic(auto, unfolding(crate::specs::Printed::mismatch_text))]
 fn add_mismatch(piece: &mut Piece, refusal: &Refusal)
-    requires { length piece.old + 131 ≤ 512 }
+    requires { length piece.old + 131 ≤ MOST_BYTES }
     ensures text { piece.new ≡ piece.old ++ mismatch_text refusal.now }
     ensures size { length piece.new ≤ length piece.old + 131 }
 {
@@ -36,7 +37,7 @@ fn add_mismatch(piece: &mut Piece, refusal: &Refusal)
 /// Adds where a refusal of this cause is: a line of the settings, a path, two lines, or a path and
 /// a line.
 fn add_about(piece: &mut Piece, cause: Option<Cause>, refusal: &Refusal)
-    requires { length piece.old + 131 ≤ 512 }
+    requires { length piece.old + 131 ≤ MOST_BYTES }
     ensures text { piece.new ≡ piece.old ++ about_text cause refusal.now }
     ensures size { length piece.new ≤ length piece.old + 131 }
 {

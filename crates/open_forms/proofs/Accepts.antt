@@ -414,7 +414,7 @@ module _ (dialect : Dialect) (texts : List Word) (words : List FlowWord) (are : 
       let none_there : read.words_of (codes "L") words ≡ [] = none_of (codes "L") words (l_free p is no_macro idle) in
       same_any (same_numbers (codes "L") texts words are) none_there
     where
-      same_any : numbers_of (codes "L") texts ≡ filter_map (λ (w : FlowWord). read_codes.natural (read.whole_value w.value)) (read.words_of (codes "L") words)
+      same_any : numbers_of (codes "L") texts ≡ filter_map (λ (w : FlowWord). read_codes.natural_number (read.whole_value w.value)) (read.words_of (codes "L") words)
           → read.words_of (codes "L") words ≡ [] → list_any is_parameter (numbers_of (codes "L") texts) ≡ false
       same_any e empty = rw (e, empty) refl
 

@@ -14,9 +14,9 @@ use Rattle.block_words.specs.declared.word.FlowWord.{FlowWord}
 use Rattle.block_words.specs.declared.word.WordValue.{WordValue}
 use Rattle.block_words.specs.declared.word.WordValue.TheVariants.{Fixed, Computed}
 use Rattle.block_words.specs.Words.{is_one_of, words_of, has, is_computed, has_computed, whole_value}
-use Rattle.block_words.specs.Codes.{natural}
+use Rattle.block_words.specs.Codes.{natural_number}
 use Rattle.block_words.specs.Ranges.{range_of, is_between, fits_value, is_in_range}
-use Rattle.open_forms.specs.Words.{number}
+use Rattle.open_forms.specs.Words.{whole_of_word}
 use Rattle.open_forms.specs.Refusals.{is_parameter, is_within, is_in}
 use Rattle.open_forms.proofs.ReadWords.{AreSaid, none, one_more, same_number}
 
@@ -110,10 +110,10 @@ all_fit purpose least greatest letters range (w ∷ words) all =
 
 -- The number of a value that fits a range, and is written out, lies within it.
 value_within : (least greatest : ℕ) (value : WordValue) → fits_value (Between least greatest) value ≡ true → is_computed value ≡ false
-    → is_within least greatest (natural (whole_value value)) ≡ true
+    → is_within least greatest (natural_number (whole_value value)) ≡ true
 value_within least greatest (Fixed literal) fits plain = go (whole_of literal.value) fits
   where
-    go : (z : Option ℤ) → is_between least greatest z ≡ true → is_within least greatest (natural z) ≡ true
+    go : (z : Option ℤ) → is_between least greatest z ≡ true → is_within least greatest (natural_number z) ≡ true
     go None e = absurd (cc)
     go (Some (pos n)) e = e
     go (Some (negsuc n)) e = absurd (cc)
@@ -137,19 +137,19 @@ pub within_more : (least greatest more : ℕ) → nat_le greatest more ≡ true 
 within_more least greatest more larger [] all = refl
 within_more least greatest more larger (t ∷ texts) all =
     let both = and_parts _ _ all in
-    rw (go (number t) both.0) (within_more least greatest more larger texts both.1)
+    rw (go (whole_of_word t) both.0) (within_more least greatest more larger texts both.1)
   where
     go : (n : Option ℕ) → is_within least greatest n ≡ true → is_within least more n ≡ true
     go None e = absurd (cc)
     go (Some n) e = grind (arith, nat_tests)
 
 -- An L of 2 does not say 50 to 52.
-no_parameter : (value : WordValue) → fits_value (Between 2 2) value ≡ true → (n : Option ℕ) → natural (whole_value value) ≡ n → list_any is_parameter (cons_option n []) ≡ false
+no_parameter : (value : WordValue) → fits_value (Between 2 2) value ≡ true → (n : Option ℕ) → natural_number (whole_value value) ≡ n → list_any is_parameter (cons_option n []) ≡ false
 no_parameter value fits None e = refl
 no_parameter (Computed minus tree) fits (Some n) e = absurd (cc)
 no_parameter (Fixed literal) fits (Some n) e = go (whole_of literal.value) fits e
   where
-    go : (z : Option ℤ) → is_between 2 2 z ≡ true → natural z ≡ Some n → list_any is_parameter (n ∷ []) ≡ false
+    go : (z : Option ℤ) → is_between 2 2 z ≡ true → natural_number z ≡ Some n → list_any is_parameter (n ∷ []) ≡ false
     go None fits e = absurd (cc)
     go (Some (negsuc m)) fits e = absurd (cc)
     go (Some (pos m)) fits e =
@@ -159,13 +159,13 @@ no_parameter (Fixed literal) fits (Some n) e = go (whole_of literal.value) fits 
 
 -- If all L words are 2, none says 50 to 52.
 pub no_parameters : (texts : List Word) (words : List FlowWord) → AreSaid texts words
-    → list_all (λ (w : FlowWord). fits_value (Between 2 2) w.value) words ≡ true → list_any is_parameter (filter_map number texts) ≡ false
+    → list_all (λ (w : FlowWord). fits_value (Between 2 2) w.value) words ≡ true → list_any is_parameter (filter_map whole_of_word texts) ≡ false
 no_parameters _ _ none fit = refl
 no_parameters _ _ (one_more text word texts words is others) fit =
     let fits = and_parts _ _ fit in
-    go (number text) (no_parameter word.value fits.0 (number text) (sym (same_number text word is))) (no_parameters texts words others fits.1)
+    go (whole_of_word text) (no_parameter word.value fits.0 (whole_of_word text) (sym (same_number text word is))) (no_parameters texts words others fits.1)
   where
-    go : (n : Option ℕ) → list_any is_parameter (cons_option n []) ≡ false → list_any is_parameter (filter_map number texts) ≡ false
-        → list_any is_parameter (cons_option n (filter_map number texts)) ≡ false
+    go : (n : Option ℕ) → list_any is_parameter (cons_option n []) ≡ false → list_any is_parameter (filter_map whole_of_word texts) ≡ false
+        → list_any is_parameter (cons_option n (filter_map whole_of_word texts)) ≡ false
     go None own rest = rest
     go (Some n) own rest = let no : is_parameter n ≡ false = (neither (is_parameter n) false own).0 in rw no rest

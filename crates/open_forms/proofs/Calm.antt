@@ -15,7 +15,7 @@ use Rattle.macro_expr.specs.Tree.{Tree, Named}
 use Rattle.macro_expr.specs.Words.{operator_words, sign_words, function_words, relation_words, is_number_byte}
 use Rattle.macro_expr.specs.Grammar.{IsWord, IsBracketed, closed, IsVariable, fixed, computed, IsPrim, number, variable, bracket, function, IsSigned, plain, signed, IsChain, one, more, IsSum, IsWithin}
 use Rattle.macro_expr.proofs.Heads.{◌also◌, each}
-use Rattle.open_forms.specs.Statements.{behind_close, closed as closes, hides_word, is_own_m}
+use Rattle.open_forms.specs.Statements.{behind_close, text_behind_close, hides_word, is_own_m}
 
 -- A bracket that is open before the text closes where it would without the text: what stands behind
 -- it decides.
@@ -66,7 +66,7 @@ balanced_byte : (b : ℕ) → is_flat b ≡ true → IsBalanced (b ∷ [])
 unfolding behind_close
 balanced_byte b flat n rest = go (b == 91) (b == 93) flat
   where
-    go : (x y : Bool) → (not x && not y) ≡ true → cond x (behind_close (suc n) rest) (cond y (closes n rest (behind_close (n - 1) rest)) (behind_close n rest)) ≡ behind_close n rest
+    go : (x y : Bool) → (not x && not y) ≡ true → cond x (behind_close (suc n) rest) (cond y (text_behind_close n rest (behind_close (n - 1) rest)) (behind_close n rest)) ≡ behind_close n rest
     go true y e = absurd (cc)
     go false true e = absurd (cc)
     go false false e = refl

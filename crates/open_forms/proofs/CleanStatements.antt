@@ -7,7 +7,7 @@ use Rattle.std.specs.Option.{option_to_list, is_none}
 use Rattle.std.specs.List.{list_all, prefix_len}
 use Rattle.std.proofs.lemmas.Bool.{and_parts, eqb-true}
 use Rattle.std.proofs.lemmas.Bool.Decides.{nat_tests}
-use Rattle.macro_expr.specs.Limits.{cleaned}
+use Rattle.macro_expr.specs.Limits.{clean_text}
 use Rattle.line_text.specs.declared.sign.Sign.{Sign}
 use Rattle.line_text.specs.declared.piece.Piece.{Piece}
 use Rattle.nc_text.specs.declared.tape.Block.{Block}
@@ -22,8 +22,8 @@ use Rattle.line_text.specs.Signs.{Scan, is_blank, add_sign, inside_behind, scan_
 use Rattle.line_text.specs.Pieces.{is_comment, bytes_of, pieces_of, value_len}
 use Rattle.line_text.specs.Front.{behind_comments, switch_of, behind_digit, behind_switch, sentence_of, is_statement, is_switch, is_number_sign, behind_number, is_numbered}
 use Rattle.line_text.specs.Refusals.{refusal_number}
-use Rattle.line_text.specs.Said.{sequence_from, is_in_range, words_of, said_by, is_program, program_number, read_pieces, read_words, unreadable, read_numbered, read_statement, read_block, read_head, is_skipped, line_says, numbered_sentence}
-use Rattle.nc_text.specs.Tape.{Before, nothing_read, programs_of, unless_refused, said_refusal, with_block, with_said, block_at, next, after_said, after_line, percent_refusal, after_percent, outer_refusal, after_outer, Answer, no_program, finished, unfinished, goes_on, in_rest, in_body, in_leader, begun, tape_of}
+use Rattle.line_text.specs.Said.{sequence_from, is_in_range, words_of, said_by, is_program, program_number, read_pieces, read_words, broken_reading, read_numbered, read_statement, read_block, read_head, is_skipped, line_says, numbered_sentence}
+use Rattle.nc_text.specs.Tape.{Before, nothing_read, programs_of, unless_refused, said_refusal, with_block, with_said, block_at, next, after_said, after_line, percent_refusal, after_percent, outer_refusal, after_outer, Answer, no_program, answer_at_end, answer_without_end, goes_on, in_rest, in_body, in_leader, tape_begun, tape_of}
 use Rattle.line_text.proofs.Judged.{judged_ok}
 use Rattle.open_forms.specs.Widening.{IsClean, AreClean, IsCleanTape}
 
@@ -91,7 +91,7 @@ switch_plain (sign ∷ signs) all = go (sign.byte == 47)
 
 -- The text of plain signs is clean: to leave out blanks and comments and to make it upper case
 -- changes nothing.
-sentence_clean : (signs : List Sign) → ArePlain signs → cleaned false (sentence_of signs) ≡ sentence_of signs
+sentence_clean : (signs : List Sign) → ArePlain signs → clean_text false (sentence_of signs) ≡ sentence_of signs
 sentence_clean [] all = refl
 sentence_clean (sign ∷ signs) all =
     let both = and_parts (is_plain sign) (list_all is_plain signs) all in
@@ -103,8 +103,8 @@ sentence_clean (sign ∷ signs) all =
     not_true false e = refl
 
     go : (b : Bool) → (sign.byte == 40) ≡ b → not (is_blank sign.byte) ≡ true → to_ascii_uppercase sign.byte ≡ sign.byte
-        → cleaned false (sentence_of signs) ≡ sentence_of signs
-        → cleaned false (bytes_of (cond (not b) (sign ∷ filter (λ sign. not (is_comment sign)) signs) (filter (λ sign. not (is_comment sign)) signs)))
+        → clean_text false (sentence_of signs) ≡ sentence_of signs
+        → clean_text false (bytes_of (cond (not b) (sign ∷ filter (λ sign. not (is_comment sign)) signs) (filter (λ sign. not (is_comment sign)) signs)))
         ≡ bytes_of (cond (not b) (sign ∷ filter (λ sign. not (is_comment sign)) signs) (filter (λ sign. not (is_comment sign)) signs))
     go true is other upper rest = rest
     go false is other upper rest =
@@ -131,12 +131,12 @@ block_clean : (slash : Bool) (signs : List Sign) → ArePlain signs → IsCleanS
 unfolding read_block read_numbered read_statement read_words
 block_clean slash signs all = go (is_numbered signs) (is_statement (sentence_of signs)) (value_len signs 0 == 0)
   where
-    numbered : (signs : List Sign) → ArePlain signs → cleaned false (numbered_sentence signs) ≡ numbered_sentence signs
+    numbered : (signs : List Sign) → ArePlain signs → clean_text false (numbered_sentence signs) ≡ numbered_sentence signs
     numbered [] all = refl
     numbered (sign ∷ signs) all =
         sentence_clean (behind_number signs) (drop_plain (prefix_len is_number_sign signs) signs (and_parts (is_plain sign) (list_all is_plain signs) all).1)
 
-    go : (a b c : Bool) → IsCleanSaid (cond a (read_numbered signs) (cond b (read_statement signs) (cond c (read_pieces slash (pieces_of signs)) unreadable))).said
+    go : (a b c : Bool) → IsCleanSaid (cond a (read_numbered signs) (cond b (read_statement signs) (cond c (read_pieces slash (pieces_of signs)) broken_reading))).said
     go true b c = numbered signs all
     go false true c = sentence_clean signs all
     go false false true = words_clean slash (pieces_of signs)
@@ -231,7 +231,7 @@ goes_clean before (Ok now) rest clean further = further now (clean now refl)
 goes_clean before (Err refusal) rest clean further = tt
 
 -- The tape that is answered at the end of the text is clean.
-finished_clean : (before : Before) → IsCleanBefore before → IsCleanAnswer (finished before)
+finished_clean : (before : Before) → IsCleanBefore before → IsCleanAnswer (answer_at_end before)
 finished_clean before clean = go (is_none before.current)
   where
     go : (b : Bool) → IsCleanAnswer (cond b (Err (no_program before)) (Ok (programs_of before)))
@@ -239,7 +239,7 @@ finished_clean before clean = go (is_none before.current)
     go false = programs_clean before clean
 
 -- What is answered for a text without the second `%` is clean.
-unfinished_clean : (before : Before) → IsCleanAnswer (unfinished before)
+unfinished_clean : (before : Before) → IsCleanAnswer (answer_without_end before)
 unfinished_clean before = go (is_none before.current)
   where
     go : (b : Bool) → IsCleanAnswer (cond b (Err (no_program before)) (Err (record { number = refusal_number NoEnd; line = before.lines })))
@@ -276,12 +276,12 @@ leader_clean skips [] before clean = tt
 leader_clean skips (line ∷ lines) before clean = go (is_percent line.bytes) (λ now more. leader_clean skips lines now more)
   where
     go : (b : Bool) → ((now : Before) → IsCleanBefore now → IsCleanAnswer (in_leader skips lines now))
-        → IsCleanAnswer (cond b (goes_on before (after_percent before (length line.bytes) line.ended) (λ after. in_body skips lines (begun after)))
+        → IsCleanAnswer (cond b (goes_on before (after_percent before (length line.bytes) line.ended) (λ after. in_body skips lines (tape_begun after)))
         (goes_on before (after_outer before (length line.bytes) line.ended) (in_leader skips lines)))
     go true further =
-        goes_clean before (after_percent before (length line.bytes) line.ended) (λ after. in_body skips lines (begun after))
+        goes_clean before (after_percent before (length line.bytes) line.ended) (λ after. in_body skips lines (tape_begun after))
         (λ now e. same_after (percent_refusal before (length line.bytes) line.ended) before now (length line.bytes) line.ended clean e)
-        (λ now more. body_clean skips lines (begun now) (record { done = more.done; current = more.current }))
+        (λ now more. body_clean skips lines (tape_begun now) (record { done = more.done; current = more.current }))
     go false further =
         goes_clean before (after_outer before (length line.bytes) line.ended) (in_leader skips lines)
         (λ now e. same_after (outer_refusal before (length line.bytes) line.ended) before now (length line.bytes) line.ended clean e) further

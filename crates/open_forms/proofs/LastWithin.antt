@@ -13,7 +13,7 @@ use Rattle.block_words.specs.declared.dialect.Dialect.{Dialect}
 use Rattle.block_words.specs.Words.{is_one_of}
 use Rattle.open_forms.specs.declared.role.Role.{Role}
 use Rattle.open_forms.specs.declared.role.Role.TheVariants.{MacroCall, Subprogram}
-use Rattle.open_forms.specs.Words.{words_of, number, number_of_last, last_number}
+use Rattle.open_forms.specs.Words.{words_of, whole_of_word, number_of_last, last_number}
 use Rattle.open_forms.specs.Codes.{role_of}
 use Rattle.open_forms.specs.Refusals.{is_long, is_not_fixed, is_unknown, is_wait_not_alone, is_wait_of_others, has_two_m, is_bad_call, is_within, is_in, are_in, is_in_range_by, is_out_of_range, refusal_of}
 use Rattle.nc_number.proofs.Bools.{neither, not_false}
@@ -36,7 +36,7 @@ last_in least greatest few letters among [] all = tt
 last_in least greatest few letters among (w ∷ words) all =
     go (is_one_of few w.letter) (is_one_of letters w.letter) refl refl (λ rest. last_in least greatest few letters among words rest) all
   where
-    choose : (later : Option Word) → IsAtMost greatest (number w) → IsAtMost greatest (number_of_last later)
+    choose : (later : Option Word) → IsAtMost greatest (whole_of_word w) → IsAtMost greatest (number_of_last later)
         → IsAtMost greatest (number_of_last (Some (unwrap_or later w)))
     choose None own rest = own
     choose (Some v) own rest = rest
@@ -47,7 +47,7 @@ last_in least greatest few letters among (w ∷ words) all =
         → IsAtMost greatest (number_of_last (last_of (cond a (w ∷ words_of few words) (words_of few words))))
     go true true first second further all =
         let both = and_parts (is_in least greatest w) (are_in least greatest letters words) all in
-        choose (last_of (words_of few words)) (at_most least greatest (number w) both.0) (further both.1)
+        choose (last_of (words_of few words)) (at_most least greatest (whole_of_word w) both.0) (further both.1)
     go true false first second further all = let there : is_one_of letters w.letter ≡ true = among w.letter first in absurd (cc)
     go false true first second further all = further (and_parts (is_in least greatest w) (are_in least greatest letters words) all).1
     go false false first second further all = further all

@@ -14,9 +14,9 @@ use Rattle.block_words.specs.declared.word.FlowWord.{FlowWord}
 use Rattle.block_words.specs.declared.word.WordValue.{WordValue}
 use Rattle.block_words.specs.declared.word.WordValue.TheVariants.{Fixed, Computed}
 use Rattle.block_words.specs.Words as read
-use Rattle.block_words.specs.Codes.{natural, row_of_number, row_of_word as row_of_read}
-use Rattle.block_forms.specs.Forms.{word_of, word_at, fixed_value, computed_value, all_words, joined}
-use Rattle.open_forms.specs.Words.{words_of, has, written, whole_of_written, number, numbers_of, number_of_last, last_number, has_computed, has_long}
+use Rattle.block_words.specs.Codes.{natural_number, row_of_number, row_of_word as row_of_read}
+use Rattle.block_forms.specs.Forms.{word_of, word_at, fixed_value, computed_value, all_words, word_and_rest}
+use Rattle.open_forms.specs.Words.{words_of, has, written_micro, whole_of_written, whole_of_word, numbers_of, number_of_last, last_number, has_computed, has_long}
 use Rattle.open_forms.specs.Refusals.{row_of_word}
 
 -- The millionths that the value of a word writes out, if it is a literal.
@@ -29,7 +29,7 @@ pub record IsSaid (text : Word) (word : FlowWord) : Type 0 where
   -- Both have one letter.
   pub letter : word.letter ≡ text.letter
   -- Both write out the same number, or none.
-  pub written : written text ≡ micro_of word.value
+  pub written : written_micro text ≡ micro_of word.value
   -- Both are computed, or neither is.
   pub computed : not (is_literal text.text) ≡ read.is_computed word.value
   -- The text has not too many digits.
@@ -69,7 +69,7 @@ are_said (text ∷ texts) words e = go (word_of text) (all_words texts) refl ref
   where
     go : (first : Result FlowWord ℕ) (others : Result (List FlowWord) ℕ) → word_of text ≡ first → all_words texts ≡ others
         → ((more : List FlowWord) → all_words texts ≡ Ok more → AreSaid texts more)
-        → joined first others ≡ Ok words → AreSaid (text ∷ texts) words
+        → word_and_rest first others ≡ Ok words → AreSaid (text ∷ texts) words
     go (Ok word) (Ok more) at rest further e =
         let same : word ∷ more ≡ words = cc in
         subst (AreSaid (text ∷ texts)) same (one_more text word texts more (said text word at) (further more rest))
@@ -78,10 +78,10 @@ are_said (text ∷ texts) words e = go (word_of text) (all_words texts) refl ref
     go (Err n) (Err m) at rest further e = absurd (cc)
 
 -- A word and its text have the same whole number.
-pub same_number : (text : Word) (word : FlowWord) → IsSaid text word → number text ≡ natural (read.whole_value word.value)
+pub same_number : (text : Word) (word : FlowWord) → IsSaid text word → whole_of_word text ≡ natural_number (read.whole_value word.value)
 same_number text word is = ap whole_of_written is.written ∙ go word.value
   where
-    go : (value : WordValue) → whole_of_written (micro_of value) ≡ natural (read.whole_value value)
+    go : (value : WordValue) → whole_of_written (micro_of value) ≡ natural_number (read.whole_value value)
     go (Fixed literal) = refl
     go (Computed minus tree) = refl
 
@@ -141,29 +141,29 @@ none_long letters texts words are = any_long _ _ (same_words_of letters texts wo
 
 -- The words write out the same numbers as their texts.
 all_numbers : (texts : List Word) (words : List FlowWord) → AreSaid texts words
-    → filter_map number texts ≡ filter_map (λ (w : FlowWord). natural (read.whole_value w.value)) words
+    → filter_map whole_of_word texts ≡ filter_map (λ (w : FlowWord). natural_number (read.whole_value w.value)) words
 all_numbers _ _ none = refl
 all_numbers _ _ (one_more text word texts words is others) =
     rw (same_number text word is, all_numbers texts words others) refl
 
 -- The words of some letters write out the same numbers as their texts.
 pub same_numbers : (letters : List ℕ) (texts : List Word) (words : List FlowWord) → AreSaid texts words
-    → numbers_of letters texts ≡ filter_map (λ (w : FlowWord). natural (read.whole_value w.value)) (read.words_of letters words)
+    → numbers_of letters texts ≡ filter_map (λ (w : FlowWord). natural_number (read.whole_value w.value)) (read.words_of letters words)
 same_numbers letters texts words are = all_numbers _ _ (same_words_of letters texts words are)
 
 -- The last of these words and of their texts say the same number, with one more in front.
 last_behind : (text : Word) (word : FlowWord) → IsSaid text word → (texts : List Word) (words : List FlowWord) → AreSaid texts words
-    → number_of_last (last_of (text ∷ texts)) ≡ natural (read.whole_of_last (read.value_of_last (last_of (word ∷ words))))
+    → number_of_last (last_of (text ∷ texts)) ≡ natural_number (read.whole_of_last (read.value_of_last (last_of (word ∷ words))))
 last_behind text word is _ _ none = same_number text word is
 last_behind text word is _ _ (one_more t w texts words at others) = last_behind t w at texts words others
 
 -- The last word and the last text say the same number.
 last_number_of : (texts : List Word) (words : List FlowWord) → AreSaid texts words
-    → number_of_last (last_of texts) ≡ natural (read.whole_of_last (read.value_of_last (last_of words)))
+    → number_of_last (last_of texts) ≡ natural_number (read.whole_of_last (read.value_of_last (last_of words)))
 last_number_of _ _ none = refl
 last_number_of _ _ (one_more text word texts words is others) = last_behind text word is texts words others
 
 -- The last word of some letters and the last such text say the same number.
 pub same_last : (letters : List ℕ) (texts : List Word) (words : List FlowWord) → AreSaid texts words
-    → last_number letters texts ≡ natural (read.last_whole letters words)
+    → last_number letters texts ≡ natural_number (read.last_whole letters words)
 same_last letters texts words are = last_number_of _ _ (same_words_of letters texts words are)

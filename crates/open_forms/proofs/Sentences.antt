@@ -10,7 +10,7 @@ use Rattle.nc_number.specs.Arithmetic.{whole_of}
 use Rattle.nc_number.specs.Literals.{literal_micro, word_literal, is_point, behind_sign, has_minus, whole_part, fraction_part}
 use Rattle.block_order.specs.declared.control.Control.{Control}
 use Rattle.block_order.specs.declared.control.Control.TheVariants as control
-use Rattle.block_words.specs.Codes.{natural}
+use Rattle.block_words.specs.Codes.{natural_number}
 use Rattle.block_forms.specs.Controls.{number_of_aim, control_of_sentence}
 use Rattle.macro_expr.specs.Tree.{Tree, Named, Test, Aim, Sentence}
 use Rattle.macro_expr.specs.Words.{loop_words}
@@ -56,7 +56,7 @@ assigned _ _ _ (assigns t u v e is_variable is) =
     (head.0 ++ (61 ∷ u), (ap (λ x. x ++ (codes "=" ++ u)) head.1.0, rw (quiet 0 0) refl))
 
 -- A number of millionths that is a multiple of 1,000,000 is whole.
-whole_is : (a : ℕ) → a % 1000000 ≡ 0 → natural (whole_of (pos a)) ≡ Some (a / 1000000)
+whole_is : (a : ℕ) → a % 1000000 ≡ 0 → natural_number (whole_of (pos a)) ≡ Some (a / 1000000)
 whole_is a multiple = rw multiple refl
 
 -- A text of digits alone has no fraction.
@@ -97,8 +97,8 @@ written_target : (t : List ℕ) (n : ℕ) → IsWhole t n → n ≤ 99999 → fi
 written_target t n is small =
     let number = digits_number t is.bytes in
     let value : n ≡ number.0 / 1000000 = is.value ∙ ap (λ z. unsigned_abs z / 1000000) number.1.0 in
-    let whole : natural (whole_of (literal_micro t)) ≡ Some n =
-    ap (λ z. natural (whole_of z)) number.1.0 ∙ whole_is number.0 number.1.1 ∙ ap Some (sym value) in
+    let whole : natural_number (whole_of (literal_micro t)) ≡ Some n =
+    ap (λ z. natural_number (whole_of z)) number.1.0 ∙ whole_is number.0 number.1.1 ∙ ap Some (sym value) in
     let within : nat_le n 99999 ≡ true = grind (arith, nat_tests) in
     rw (is.short, whole, within) refl
 

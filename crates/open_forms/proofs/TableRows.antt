@@ -15,9 +15,9 @@ use Rattle.code_tables.specs.declared.system.System.TheVariants.{A, B}
 use Rattle.code_tables.specs.Systems.{rows_of_system}
 use Rattle.block_words.specs.declared.word.FlowWord.{FlowWord}
 use Rattle.block_words.specs.Words.{is_computed}
-use Rattle.block_words.specs.Codes.{natural, row_of_number, row_of_word as row_of_read, is_dwell, is_setting, is_macro_call}
+use Rattle.block_words.specs.Codes.{natural_number, row_of_number, row_of_word as row_of_read, is_dwell, is_setting, is_macro_call}
 use Rattle.block_forms.specs.Refusals.{is_refused_row, is_unknown_code}
-use Rattle.open_forms.specs.Words.{written, whole_of_written, number}
+use Rattle.open_forms.specs.Words.{written_micro, whole_of_written, whole_of_word}
 use Rattle.open_forms.specs.Codes.{is_g}
 use Rattle.open_forms.specs.Refusals.{row_of_word, is_no_row, takes_p}
 use Rattle.open_forms.proofs.ReadWords.{IsSaid, AreSaid, none, one_more, same_row}
@@ -49,24 +49,24 @@ in_each q in_a in_b A = in_a
 in_each q in_a in_b B = in_b
 
 -- A number of millionths with the whole number k is k times 1,000,000.
-whole_pos : (a k : ℕ) → natural (whole_of (pos a)) ≡ Some k → a ≡ k * 1000000
+whole_pos : (a k : ℕ) → natural_number (whole_of (pos a)) ≡ Some k → a ≡ k * 1000000
 whole_pos a k is = go (a % 1000000 == 0) refl is
   where
-    go : (b : Bool) → (a % 1000000 == 0) ≡ b → natural (cond b (Some (pos (a / 1000000))) None) ≡ Some k → a ≡ k * 1000000
+    go : (b : Bool) → (a % 1000000 == 0) ≡ b → natural_number (cond b (Some (pos (a / 1000000))) None) ≡ Some k → a ≡ k * 1000000
     go true e is = let same : a / 1000000 ≡ k = cc in let none : a % 1000000 ≡ 0 = eqb-true _ _ e in omega (arith, same, none)
     go false e is = absurd (cc)
 
 -- A number below 0 has no whole number that is a code.
-whole_neg : (a k : ℕ) → natural (whole_of (negsuc a)) ≡ Some k → ⊥
+whole_neg : (a k : ℕ) → natural_number (whole_of (negsuc a)) ≡ Some k → ⊥
 whole_neg a k is = go (suc a % 1000000) (suc a / 1000000) refl refl is
   where
     go : (m q : ℕ) → suc a % 1000000 ≡ m → suc a / 1000000 ≡ q
-        → natural (cond (unsigned_abs (neg_ℤ (pos m)) == 0) (Some (neg_ℤ (pos q))) None) ≡ Some k → ⊥
+        → natural_number (cond (unsigned_abs (neg_ℤ (pos m)) == 0) (Some (neg_ℤ (pos q))) None) ≡ Some k → ⊥
     go zero zero rest quotient is = absurd (omega (arith, rest, quotient))
     go zero (suc q) rest quotient is = absurd (cc)
     go (suc m) q rest quotient is =
         let some : (suc m == 0) ≡ false = grind (arith, nat_tests) in
-        let no : natural None ≡ Some k = rw some at is in absurd (cc)
+        let no : natural_number None ≡ Some k = rw some at is in absurd (cc)
 
 -- If a word writes out the whole number k, it writes k times 1,000,000 millionths.
 written_whole : (w : Option ℤ) (k : ℕ) → whole_of_written w ≡ Some k → w ≡ Some (pos (k * 1000000))
@@ -138,16 +138,16 @@ kind_of_word system is_kind code of (Some z) = go (is_g (code * 1000000) z) refl
 -- A text of the words is a G code of so many millionths exactly if a word has a row of the kind.
 pub same_kind : (system : System) (is_kind : CodeKind → Bool) (code : ℕ) → IsKindOf system is_kind code → (texts : List Word) (words : List FlowWord)
     → AreSaid texts words
-    → list_any (is_g (code * 1000000)) (filter_map written texts) ≡ list_any (λ (row : Row). is_kind row.kind) (filter_map (row_of_read system) words)
+    → list_any (is_g (code * 1000000)) (filter_map written_micro texts) ≡ list_any (λ (row : Row). is_kind row.kind) (filter_map (row_of_read system) words)
 same_kind system is_kind code of _ _ none = refl
 same_kind system is_kind code of _ _ (one_more text word texts words is others) =
-    go (written text) (row_of_read system word)
-    (kind_of_word system is_kind code of (written text) ∙ ap (of_kind is_kind) (same_row system text word is))
+    go (written_micro text) (row_of_read system word)
+    (kind_of_word system is_kind code of (written_micro text) ∙ ap (of_kind is_kind) (same_row system text word is))
     (same_kind system is_kind code of texts words others)
   where
     go : (w : Option ℤ) (r : Option Row) → of_number (is_g (code * 1000000)) w ≡ of_kind is_kind r
-        → list_any (is_g (code * 1000000)) (filter_map written texts) ≡ list_any (λ (row : Row). is_kind row.kind) (filter_map (row_of_read system) words)
-        → list_any (is_g (code * 1000000)) (cons_option w (filter_map written texts))
+        → list_any (is_g (code * 1000000)) (filter_map written_micro texts) ≡ list_any (λ (row : Row). is_kind row.kind) (filter_map (row_of_read system) words)
+        → list_any (is_g (code * 1000000)) (cons_option w (filter_map written_micro texts))
         ≡ list_any (λ (row : Row). is_kind row.kind) (cons_option r (filter_map (row_of_read system) words))
     go None None e rest = rest
     go None (Some row) e rest = rw (sym e) rest
@@ -198,7 +198,7 @@ record HasRow (system : System) (text : Word) : Type 0 where
   -- It is the row of the word.
   found : row_of_word system text ≡ Some row
   -- The text writes out the row's code.
-  written : written text ≡ Some (pos (row.code * 1000000))
+  written : written_micro text ≡ Some (pos (row.code * 1000000))
   -- The row passes what all rows pass.
   passes : (q : Row → Bool) → list_all q (rows_of_system system) ≡ true → q row ≡ true
 
@@ -223,18 +223,18 @@ has_row system text word is plain known = go (row_of_read system word) refl
     go None e =
         let no : (not (is_computed word.value) && is_refused_row (row_of_read system word)) ≡ true = rw (plain, e) refl in absurd (cc)
     go (Some row) e =
-        let here : row_of_number system (number text) ≡ Some row = same_row system text word is ∙ e in
+        let here : row_of_number system (whole_of_word text) ≡ Some row = same_row system text word is ∙ e in
         record {
           row = row;
           found = here;
-          written = written_whole (written text) row.code (number_row system (number text) row here);
-          passes = row_passes_all system (number text) row here;
+          written = written_whole (written_micro text) row.code (number_row system (whole_of_word text) row here);
+          passes = row_passes_all system (whole_of_word text) row here;
         }
 
 -- A test that no code of the table passes, no G text of words that are known passes.
 pub no_such_g : (system : System) (p : ℤ → Bool) → list_all (λ (row : Row). not (p (pos (row.code * 1000000)))) (rows_of_system system) ≡ true
     → (texts : List Word) (words : List FlowWord) → AreSaid texts words → list_any (is_unknown_code system) words ≡ false
-    → list_any (λ (w : FlowWord). is_computed w.value) words ≡ false → list_any p (filter_map written texts) ≡ false
+    → list_any (λ (w : FlowWord). is_computed w.value) words ≡ false → list_any p (filter_map written_micro texts) ≡ false
 no_such_g system p all _ _ none known plain = refl
 no_such_g system p all _ _ (one_more text word texts words is others) known plain =
     let knows = neither _ _ known in

@@ -11,15 +11,15 @@ use Rattle.line_text.specs.declared.body.Body.TheVariants.{Words, Statement}
 use Rattle.macro_expr.specs.declared.stop.Stop.{Stop}
 use Rattle.macro_expr.specs.declared.tree.ExprFault.{ExprFault}
 use Rattle.macro_expr.specs.Tree.{Sentence}
-use Rattle.macro_expr.specs.Limits.{cleaned, has_many_variables, refusal, answer}
-use Rattle.macro_expr.specs.Statements.{statement_at, whole}
+use Rattle.macro_expr.specs.Limits.{clean_text, has_many_variables, refusal, answer}
+use Rattle.macro_expr.specs.Statements.{statement_at, whole_reading}
 use Rattle.macro_expr.specs.Grammar.{IsStatement}
 use Rattle.macro_expr.specs.Answers.{statement_of}
-use Rattle.macro_expr.proofs.StatementsSound.{whole-statement-sound}
+use Rattle.macro_expr.proofs.StatementsSound.{whole_reading-statement-sound}
 use Rattle.block_words.specs.declared.dialect.Dialect.{Dialect}
 use Rattle.block_words.specs.declared.word.FlowWord.{FlowWord}
 use Rattle.block_forms.specs.Controls.{control_of_words, control_of_sentence}
-use Rattle.block_forms.specs.Forms.{Form, OfWords, OfSentence, BlockForm, block_at, form_at, form_or_refusal, form_of_words, form_of_sentence, sentence_or_refusal, words_or_refusal, control_of_form, judged, all_words, has_many_variables as closed_many, with_refusal as form_refusal}
+use Rattle.block_forms.specs.Forms.{Form, OfWords, OfSentence, BlockForm, block_at, form_at, form_or_refusal, form_of_words, form_of_sentence, sentence_or_refusal, words_or_refusal, control_of_form, words_or_number, all_words, has_many_variables as closed_many, with_refusal as form_refusal}
 use Rattle.block_forms.specs.Refusals as closed
 use Rattle.open_forms.specs.Statements.{control_of_statement}
 use Rattle.open_forms.specs.Codes.{role_of}
@@ -39,11 +39,11 @@ answered text (Ok tree) sentence e = go (has_many_variables text) e
     go false e = let same : tree ≡ sentence = cc in ap Ok same
 
 -- A clean statement that reads leads where its tree says.
-sentence_widened : (text : List ℕ) (sentence : Sentence) → cleaned false text ≡ text → statement_of text ≡ Ok sentence
+sentence_widened : (text : List ℕ) (sentence : Sentence) → clean_text false text ≡ text → statement_of text ≡ Ok sentence
     → control_of_statement text ≡ Ok (control_of_sentence sentence)
 sentence_widened text sentence clean reads =
-    let whole_reads : whole (statement_at (cleaned false text)) ≡ Ok sentence = answered (cleaned false text) (whole (statement_at (cleaned false text))) sentence reads in
-    statement_leads text sentence (subst (λ t. IsStatement t sentence) clean (whole-statement-sound (cleaned false text) sentence whole_reads))
+    let whole_reads : whole_reading (statement_at (clean_text false text)) ≡ Ok sentence = answered (clean_text false text) (whole_reading (statement_at (clean_text false text))) sentence reads in
+    statement_leads text sentence (subst (λ t. IsStatement t sentence) clean (whole_reading-statement-sound (clean_text false text) sentence whole_reads))
 
 -- Words that are not refused all read, and no refusal holds of them.
 pub judged_words : (dialect : Dialect) (texts : List Word) (words : List FlowWord) → words_or_refusal dialect texts ≡ Ok words
@@ -54,7 +54,7 @@ judged_words dialect texts words reads = go (all_words texts) (closed_many texts
     refused own (Some cause) e = absurd (cc)
     refused own None e = (cc, refl)
 
-    go : (read : Result (List FlowWord) ℕ) (many : Bool) → judged dialect many read ≡ Ok words → (read ≡ Ok words) × (closed.refusal_of dialect words ≡ None)
+    go : (read : Result (List FlowWord) ℕ) (many : Bool) → words_or_number dialect many read ≡ Ok words → (read ≡ Ok words) × (closed.refusal_of dialect words ≡ None)
     go (Err number) many e = absurd (cc)
     go (Ok own) true e = absurd (cc)
     go (Ok own) false e =

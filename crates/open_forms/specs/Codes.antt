@@ -7,11 +7,11 @@ use Rattle.block_words.specs.declared.dialect.Dialect.{Dialect}
 use Rattle.block_words.specs.Codes.{is_waiting}
 use Rattle.open_forms.specs.declared.role.Role.{Role}
 use Rattle.open_forms.specs.declared.role.Role.TheVariants.{MacroCall, Subprogram, Return, Wait, End, Roughing, Finishing, Other}
-use Rattle.open_forms.specs.Words.{words_of, has, written, numbers_of}
+use Rattle.open_forms.specs.Words.{words_of, has, written_micro, numbers_of}
 
 -- The G codes that are written out with not too many digits, in millionths.
 abbrev pub g_values : List Word → List ℤ
-g_values words = filter_map written (words_of (codes "G") words)
+g_values words = filter_map written_micro (words_of (codes "G") words)
 
 -- The number is this one, in millionths.
 abbrev pub is_g : ℕ → ℤ → Bool

@@ -51,6 +51,6 @@ open_control dialect (Words words) = control_of_words dialect words
 open_control dialect (Statement text) = control_of_statement text
 
 -- The control, or the refusal by its number.
-abbrev pub numbered : Result Control Cause → Result Control FormFault
-numbered (Ok control) = Ok control
-numbered (Err cause) = Err (record { number = cause_number cause })
+abbrev pub control_or_number : Result Control Cause → Result Control FormFault
+control_or_number (Ok control) = Ok control
+control_or_number (Err cause) = Err (record { number = cause_number cause })

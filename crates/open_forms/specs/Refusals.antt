@@ -5,6 +5,7 @@
 -- on them (Controls).
 use Rattle.std.specs.Prelude.{ℕ, Bool, true, false, not, ◌==◌, ◌&&◌, ◌||◌, nat_lt, nat_le, List, [], ◌∷◌, length, Option, Some, None, codes, if◌then◌else◌}
 use Rattle.std.specs.List.{list_any, list_all}
+use Rattle.nc_number.specs.declared.limits.TheConstants.{LARGEST_WHOLE, LAST_SEQUENCE}
 use Rattle.nc_number.specs.declared.cause.Cause.{Cause}
 use Rattle.nc_number.specs.declared.cause.Cause.TheVariants.{TooManyDigits, NotFixed, UnknownCode, WaitNotAlone, WaitPaths, TwoM, BadCall, WordRange}
 use Rattle.line_text.specs.declared.body.Word.{Word}
@@ -16,7 +17,7 @@ use Rattle.block_words.specs.Codes.{row_of_number, is_dwell, is_setting}
 use Rattle.block_forms.specs.Refusals.{is_macro_row, is_both, is_many}
 use Rattle.open_forms.specs.declared.role.Role.{Role}
 use Rattle.open_forms.specs.declared.role.Role.TheVariants.{MacroCall, Subprogram, Return, Wait, End, Roughing, Finishing, Other}
-use Rattle.open_forms.specs.Words.{words_of, has, has_computed, has_long, number, last_number, numbers_of}
+use Rattle.open_forms.specs.Words.{words_of, has, has_computed, has_long, whole_of_word, last_number, numbers_of}
 use Rattle.open_forms.specs.Codes.{g_values, has_g, is_refused_g, is_refused_m, is_lone_m, m_codes, has_wait, is_macro, cycle_of, role_of}
 
 -- The letters whose words must be written out, by the block's role. A computed G or M may be any
@@ -52,7 +53,7 @@ writes_parameters words = has_g 10000000 words && list_any is_parameter (numbers
 
 -- The row of the system's table for a G word that is written out, if it has one.
 abbrev pub row_of_word : System → Word → Option Row
-row_of_word system word = row_of_number system (number word)
+row_of_word system word = row_of_number system (whole_of_word word)
 
 -- There is no row.
 abbrev pub is_no_row : Option Row → Bool
@@ -157,7 +158,7 @@ is_within least greatest (Some n) = nat_le least n && nat_le n greatest
 
 -- The word writes a whole number from the least to the greatest.
 abbrev pub is_in : ℕ → ℕ → Word → Bool
-is_in least greatest word = is_within least greatest (number word)
+is_in least greatest word = is_within least greatest (whole_of_word word)
 
 -- Each word of these letters writes a whole number from the least to the greatest.
 abbrev pub are_in : ℕ → ℕ → List ℕ → List Word → Bool
@@ -167,10 +168,10 @@ are_in least greatest letters words = list_all (is_in least greatest) (words_of 
 -- contour.
 abbrev pub is_in_range_by : Role → List Word → Bool
 is_in_range_by MacroCall words = are_in 1 9999 (codes "PL") words
-is_in_range_by Subprogram words = are_in 1 99999999 (codes "P") words && are_in 1 9999 (codes "L") words
-is_in_range_by Return words = are_in 1 99999 (codes "P") words
-is_in_range_by Roughing words = are_in 1 99999 (codes "PQ") words
-is_in_range_by Finishing words = are_in 1 99999 (codes "PQ") words
+is_in_range_by Subprogram words = are_in 1 LARGEST_WHOLE (codes "P") words && are_in 1 9999 (codes "L") words
+is_in_range_by Return words = are_in 1 LAST_SEQUENCE (codes "P") words
+is_in_range_by Roughing words = are_in 1 LAST_SEQUENCE (codes "PQ") words
+is_in_range_by Finishing words = are_in 1 LAST_SEQUENCE (codes "PQ") words
 is_in_range_by role words = true
 
 -- 64: the P, L or Q of the block is out of its range, or outside a macro call an M word writes no
@@ -178,7 +179,7 @@ is_in_range_by role words = true
 abbrev pub is_out_of_range : Dialect → List Word → Bool
 is_out_of_range dialect words =
     not (is_in_range_by (role_of dialect words) words)
-    || (not (is_macro words) && not (are_in 0 99999999 (codes "M") words))
+    || (not (is_macro words) && not (are_in 0 LARGEST_WHOLE (codes "M") words))
 
 -- The refusal that is answered, if one holds: of several the one of the least number, so the tests
 -- stand in that order.

@@ -2,23 +2,23 @@
 -- looked into. src/statement.rt answers `control_of_statement`. No other crate cites these words,
 -- but what `open_control` answers rests on them (Controls).
 use Rattle.std.specs.Prelude.{ℕ, zero, suc, ◌-◌, Bool, false, not, ◌==◌, ◌&&◌, ◌||◌, nat_le, List, [], ◌∷◌, Option, Some, None, is_some, Result, Ok, Err, codes, if◌then◌else◌}
+use Rattle.nc_number.specs.declared.limits.TheConstants.{LAST_SEQUENCE}
 use Rattle.nc_number.specs.declared.cause.Cause.{Cause}
 use Rattle.nc_number.specs.declared.cause.Cause.TheVariants.{TooManyDigits, BadExpression, BadCondition, BadLoopNumber, WordRange}
 use Rattle.nc_number.specs.declared.fault.NumberFault.{NumberFault}
 use Rattle.nc_number.specs.declared.literal.Literal.{Literal}
 use Rattle.nc_number.specs.Arithmetic.{whole_of}
 use Rattle.nc_number.specs.Literals.{is_literal, all_digits, word_literal}
-use Rattle.macro_expr.specs.Words.{behind}
-use Rattle.block_words.specs.Codes.{natural}
+use Rattle.macro_expr.specs.Words.{text_behind}
+use Rattle.block_words.specs.Codes.{natural_number}
 use Rattle.block_order.specs.declared.control.Control.{Control}
 use Rattle.block_order.specs.declared.control.Control.TheVariants as control
 
 -- What stands behind the closing bracket that is met while so many inner ones are open: the rest,
--- if it closes the first one; else what is found deeper. The name stands for the text behind the
--- bracket that is closed.
-abbrev pub closed : ℕ → List ℕ → Option (List ℕ) → Option (List ℕ)
-closed zero rest deeper = Some rest
-closed (suc n) rest deeper = deeper
+-- if it closes the first one; else what is found deeper.
+abbrev pub text_behind_close : ℕ → List ℕ → Option (List ℕ) → Option (List ℕ)
+text_behind_close zero rest deeper = Some rest
+text_behind_close (suc n) rest deeper = deeper
 
 -- The text behind the bracket that closes the one before the text, while so many inner ones are
 -- open; none if no bracket does (91 is [, 93 is ]).
@@ -26,7 +26,7 @@ unfoldable pub behind_close : ℕ → List ℕ → Option (List ℕ)
 behind_close n [] = None
 behind_close n (b ∷ bs) =
     if b == 91 then behind_close (suc n) bs
-    else if b == 93 then closed n bs (behind_close (n - 1) bs)
+    else if b == 93 then text_behind_close n bs (behind_close (n - 1) bs)
     else behind_close n bs
 
 -- The text behind a condition, which begins with [ (91) and is not looked into; none if the text
@@ -37,7 +37,7 @@ behind_condition (b ∷ bs) = if b == 91 then behind_close 0 bs else None
 
 -- The text begins with this word.
 abbrev pub begins : List ℕ → List ℕ → Bool
-begins word text = is_some (behind word text)
+begins word text = is_some (text_behind word text)
 
 -- The M that stands behind these two bytes and before this text is that of PRM (80 and 82 are P and
 -- R) or of MOD.
@@ -59,12 +59,12 @@ assignment text = if hides_word 0 0 text then Err BadExpression else Ok control.
 -- another number, or of none.
 abbrev pub in_range : Option ℕ → Result Control Cause
 in_range None = Err BadExpression
-in_range (Some n) = if nat_le n 99999 then Ok (control.Goto (Some n)) else Err WordRange
+in_range (Some n) = if nat_le n LAST_SEQUENCE then Ok (control.Goto (Some n)) else Err WordRange
 
 -- The jump to a target that is written out, or its refusal.
 abbrev pub fixed_target : Result Literal NumberFault → Result Control Cause
 fixed_target (Err fault) = Err TooManyDigits
-fixed_target (Ok literal) = in_range (natural (whole_of literal.value))
+fixed_target (Ok literal) = in_range (natural_number (whole_of literal.value))
 
 -- The target of a jump is a variable or an expression: the text begins with # (35) or [ (91).
 abbrev pub is_computed : List ℕ → Bool
@@ -103,7 +103,7 @@ jump_or_assignment None None = Err BadExpression
 -- condition.
 abbrev pub behind_if : Option (List ℕ) → Result Control Cause
 behind_if None = Err BadCondition
-behind_if (Some rest) = jump_or_assignment (behind (codes "GOTO") rest) (behind (codes "THEN#") rest)
+behind_if (Some rest) = jump_or_assignment (text_behind (codes "GOTO") rest) (text_behind (codes "THEN#") rest)
 
 -- The control of a WHILE by what stands behind its condition and a DO; refused without a DO.
 abbrev pub loop_or_none : Option (List ℕ) → Result Control Cause
@@ -113,7 +113,7 @@ loop_or_none (Some rest) = loop_number control.While rest
 -- The control of a WHILE: of a DO and a number behind its condition; refused without a condition.
 abbrev pub behind_while : Option (List ℕ) → Result Control Cause
 behind_while None = Err BadCondition
-behind_while (Some rest) = loop_or_none (behind (codes "DO") rest)
+behind_while (Some rest) = loop_or_none (text_behind (codes "DO") rest)
 
 -- What stands behind each keyword, if the text begins with it. A text that begins with none of them
 -- is no statement.
@@ -134,12 +134,12 @@ pub record Heads : Type 0 where
 -- What stands behind each keyword that the text begins with.
 abbrev pub heads : List ℕ → Heads
 heads text = record {
-  assignment = behind (codes "#") text;
-  jump = behind (codes "GOTO") text;
-  test = behind (codes "IF") text;
-  loop = behind (codes "WHILE") text;
-  plain_loop = behind (codes "DO") text;
-  close = behind (codes "END") text;
+  assignment = text_behind (codes "#") text;
+  jump = text_behind (codes "GOTO") text;
+  test = text_behind (codes "IF") text;
+  loop = text_behind (codes "WHILE") text;
+  plain_loop = text_behind (codes "DO") text;
+  close = text_behind (codes "END") text;
 }
 
 -- The control of a statement that begins with END; refused if it begins with no keyword at all.

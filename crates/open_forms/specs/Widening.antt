@@ -7,7 +7,7 @@ use Rattle.nc_text.specs.declared.tape.Block.{Block}
 use Rattle.nc_text.specs.declared.tape.Program.{Program}
 use Rattle.line_text.specs.declared.body.Body.{Body}
 use Rattle.line_text.specs.declared.body.Body.TheVariants.{Words, Statement}
-use Rattle.macro_expr.specs.Limits.{cleaned}
+use Rattle.macro_expr.specs.Limits.{clean_text}
 use Rattle.block_words.specs.declared.dialect.Dialect.{Dialect}
 use Rattle.block_forms.specs.Forms.{BlockForm, block_or_refusal}
 use Rattle.open_forms.specs.Codes.{m_codes, is_refused_m, is_macro}
@@ -26,7 +26,7 @@ has_interrupt dialect (Statement text) = false
 -- words are always clean.
 abbrev pub IsClean : Body → Type 0
 IsClean (Words words) = Unit {0}
-IsClean (Statement text) = cleaned false text ≡ text
+IsClean (Statement text) = clean_text false text ≡ text
 
 -- Each of these blocks is clean.
 abbrev pub AreClean : List Block → Type 0

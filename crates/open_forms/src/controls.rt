@@ -1,6 +1,7 @@
 //! What a block of words does to the order of blocks. A statement's control is in statement.rt. For
 //! this crate alone: reading.rt calls `control_of_words`; the definition is specs/Controls.antt.
 ghost use Rattle.std.specs.Prelude.{◌≡◌, ◌≤◌, IfSome, None};
+ghost use Rattle.nc_number.specs.declared.limits.TheConstants.{LARGEST_WHOLE};
 ghost use Rattle.block_forms.specs.Controls.{or_number, call_of_p, back_to, wait_at};
 ghost use Rattle.open_forms.specs.Words.{last_number};
 ghost use Rattle.open_forms.specs.Codes.{role_of};
@@ -30,7 +31,7 @@ fn number_or(words: &[Word], letters: &[u8], other: u16) -> u16
 /// The call that a P says: of more than four digits it has the repeats before the program's four
 /// digits, else they stand apart.
 fn call_of_p(p: u32, repeats: u16) -> Control
-    requires { p ≤ 99999999 }
+    requires { p ≤ LARGEST_WHOLE }
     ensures { result ≡ call_of_p p repeats }
 {
     if 10_000 <= p {

@@ -1,9 +1,10 @@
 //! The words of a block by their letters, as they stand on the tape. What their codes mean is in
 //! codes.rt. open_order too asks for the numbers of words.
 ghost use Rattle.std.specs.Prelude.{◌≡◌, ◌≤◌, ◌&&◌, not, IfSome, length, if◌then◌else◌};
+ghost use Rattle.nc_number.specs.declared.limits.TheConstants.{LARGEST_WHOLE};
 ghost use Rattle.nc_number.specs.Literals.{is_literal, has_too_many_digits};
 ghost use Rattle.block_words.specs.Words.{is_one_of};
-ghost use Rattle.open_forms.specs.Words.{words_of, has, has_computed, has_long, written, number, last_number};
+ghost use Rattle.open_forms.specs.Words.{words_of, has, has_computed, has_long, written_micro, whole_of_word, last_number};
 
 use block_forms::is_one_of;
 use nc_number::{is_literal, parse_word};
@@ -11,7 +12,7 @@ use nc_text::Word;
 
 /// The millionths of the number that a word writes out, with not too many digits.
 pub fn written(word: &Word) -> Option<i64>
-    ensures { result ≡ written word.now }
+    ensures { result ≡ written_micro word.now }
 {
     let text = word.text.as_slice();
     if !is_literal(text) {
@@ -25,8 +26,8 @@ pub fn written(word: &Word) -> Option<i64>
 
 /// The whole number that a word writes out, if it is not below 0.
 pub fn number(word: &Word) -> Option<u32>
-    ensures value { result ≡ number word.now }
-    ensures range { IfSome result (λ n. n ≤ 99999999) }
+    ensures value { result ≡ whole_of_word word.now }
+    ensures range { IfSome result (λ n. n ≤ LARGEST_WHOLE) }
 {
     let text = word.text.as_slice();
     if !is_literal(text) {
@@ -95,9 +96,9 @@ pub(crate) fn count_of(words: &[Word], letters: &[u8]) -> usize
 
 /// The number that this word says, if it is of these letters; else the number that was said before.
 fn later_number(before: Option<u32>, word: &Word, letters: &[u8]) -> Option<u32>
-    requires { IfSome before (λ n. n ≤ 99999999) }
-    ensures value { result ≡ (if is_one_of letters.now word.now.letter then number word.now else before) }
-    ensures range { IfSome result (λ n. n ≤ 99999999) }
+    requires { IfSome before (λ n. n ≤ LARGEST_WHOLE) }
+    ensures value { result ≡ (if is_one_of letters.now word.now.letter then whole_of_word word.now else before) }
+    ensures range { IfSome result (λ n. n ≤ LARGEST_WHOLE) }
 {
     if is_one_of(letters, word.letter) {
         number(word)
@@ -110,7 +111,7 @@ fn later_number(before: Option<u32>, word: &Word, letters: &[u8]) -> Option<u32>
 #[tactic(auto, using(crate::proofs::LastWord::last_number_more))]
 pub fn last_number(words: &[Word], letters: &[u8]) -> Option<u32>
     ensures value { result ≡ last_number letters.now words.now }
-    ensures range { IfSome result (λ n. n ≤ 99999999) }
+    ensures range { IfSome result (λ n. n ≤ LARGEST_WHOLE) }
 {
     let mut last = None;
     for word in words {

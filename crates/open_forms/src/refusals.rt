@@ -15,7 +15,7 @@ use crate::letters::{count_of, has, has_computed, has_long, last_number, number,
 use crate::role::Role;
 use block_forms::{Dialect, is_one_of, row_of};
 use code_tables::{CodeKind, Row, System};
-use nc_number::Cause;
+use nc_number::{Cause, LARGEST_WHOLE, LAST_SEQUENCE};
 use nc_text::Word;
 
 /// G10, in millionths.
@@ -342,9 +342,11 @@ fn is_in_range(role: Role, words: &[Word]) -> bool
 {
     match role {
         Role::MacroCall => are_in(words, b"PL", 1, 9_999),
-        Role::Subprogram => { are_in(words, b"P", 1, 99_999_999) && are_in(words, b"L", 1, 9_999) }
-        Role::Return => are_in(words, b"P", 1, 99_999),
-        Role::Roughing | Role::Finishing => are_in(words, b"PQ", 1, 99_999),
+        Role::Subprogram => {
+            are_in(words, b"P", 1, LARGEST_WHOLE) && are_in(words, b"L", 1, 9_999)
+        }
+        Role::Return => are_in(words, b"P", 1, LAST_SEQUENCE),
+        Role::Roughing | Role::Finishing => are_in(words, b"PQ", 1, LAST_SEQUENCE),
         Role::Wait | Role::End | Role::Other => true,
     }
 }
@@ -355,7 +357,8 @@ fn is_out_of_range(role: Role, dialect: Dialect, words: &[Word]) -> bool
     requires { role ≡ role_of dialect words.now }
     ensures { result ≡ is_out_of_range dialect words.now }
 {
-    !is_in_range(role, words) || (!are_in(words, b"M", 0, 99_999_999) && !has_g(words, MACRO_CALL))
+    !is_in_range(role, words)
+        || (!are_in(words, b"M", 0, LARGEST_WHOLE) && !has_g(words, MACRO_CALL))
 }
 
 /// 5: whether a word that must be written out has too many digits, or the L of G10 has, which may

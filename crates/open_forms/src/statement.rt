@@ -4,15 +4,15 @@
 ghost use Rattle.std.specs.Prelude.{◌≡◌};
 ghost use Rattle.std.specs.Option.{option_map};
 ghost use Rattle.nc_number.specs.Literals.{all_digits};
-ghost use Rattle.macro_expr.specs.Words.{behind};
+ghost use Rattle.macro_expr.specs.Words.{text_behind};
 ghost use Rattle.open_forms.specs.Statements.{assignment, begins, is_own_m, hides_word, behind_close, behind_condition, behind_if, behind_while, is_computed, number_of_loop, target, control_of_statement};
 
 use block_order::Control;
-use nc_number::{Cause, is_literal, parse_word};
+use nc_number::{Cause, LAST_SEQUENCE, is_literal, parse_word};
 
 /// What stands behind the word, if the text begins with it.
 fn behind<'a>(text: &'a [u8], word: &[u8]) -> Option<&'a [u8]>
-    ensures { option_map (λ rest. rest.now) result ≡ behind word.now text.now }
+    ensures { option_map (λ rest. rest.now) result ≡ text_behind word.now text.now }
 {
     text.strip_prefix(word)
 }
@@ -118,7 +118,7 @@ fn jump_to(text: &[u8]) -> Result<Control, Cause>
     match parse_word(text) {
         Ok(literal) => match literal.whole() {
             Some(n) if n >= 0 => {
-                if n <= 99_999 {
+                if n <= LAST_SEQUENCE as i64 {
                     Ok(Control::Goto(Some(n as u32)))
                 } else {
                     Err(Cause::WordRange)

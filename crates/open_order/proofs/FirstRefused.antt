@@ -12,7 +12,7 @@ use Rattle.block_order.specs.declared.control.Control.{Control}
 use Rattle.block_order.specs.declared.program.ControlBlock.{ControlBlock}
 use Rattle.block_order.specs.declared.program.ControlProgram.{ControlProgram}
 use Rattle.block_forms.specs.declared.fault.FormFault.{FormFault}
-use Rattle.open_forms.specs.Controls.{open_control, numbered}
+use Rattle.open_forms.specs.Controls.{open_control, control_or_number}
 use Rattle.tape_flow.specs.declared.fault.FlowFault.{FlowFault}
 use Rattle.tape_flow.proofs.FirstRefused.{refusal_or, Tells, block_tells, program_tells, block_lines_rise, all_behind, comes_to}
 use Rattle.open_order.specs.declared.premises.Premises.{Premises}
@@ -57,7 +57,7 @@ line_at gone block (Err own) fault is =
 line_of_refusal : (basis : Basis) (block : Block) (fault : FlowFault) → block_read basis block ≡ Err fault
     → block.line ≡ fault.line
 line_of_refusal basis block fault is =
-    line_at (gone_from basis) block (numbered (open_control basis.premises.dialect block.body)) fault is
+    line_at (gone_from basis) block (control_or_number (open_control basis.premises.dialect block.body)) fault is
 
 -- if this block is refused, its line is not before that of the fault
 abbrev pub IsNoEarlier : Basis → FlowFault → Block → Type 0

@@ -13,9 +13,9 @@ use Rattle.block_order.specs.declared.control.Control.{Control}
 use Rattle.block_order.specs.declared.program.ControlBlock.{ControlBlock}
 use Rattle.block_order.specs.declared.program.ControlProgram.{ControlProgram}
 use Rattle.block_order.specs.Shape as order
-use Rattle.block_order.specs.Shape.{IsListed}
+use Rattle.block_order.specs.Shape.{IsReadTape}
 use Rattle.block_forms.specs.declared.fault.FormFault.{FormFault}
-use Rattle.open_forms.specs.Controls.{open_control, numbered}
+use Rattle.open_forms.specs.Controls.{open_control, control_or_number}
 use Rattle.tape_flow.proofs.Listed.{bound, text_lines}
 use Rattle.open_order.specs.declared.premises.Premises.{Premises}
 use Rattle.open_order.specs.Reading.{Basis, gone_from, at_line, block_read, blocks_from, program_read, programs_from, programs_read}
@@ -29,7 +29,7 @@ line_kept_at gone block (Err fault) = tt
 -- a block that is read keeps its line
 line_kept : (basis : Basis) (block : Block) → IfOk (block_read basis block) (λ c. c.line ≡ block.line)
 line_kept basis block =
-    line_kept_at (gone_from basis) block (numbered (open_control basis.premises.dialect block.body))
+    line_kept_at (gone_from basis) block (control_or_number (open_control basis.premises.dialect block.body))
 
 -- the lines of blocks that are read
 abbrev control_lines : List ControlBlock → List ℕ
@@ -133,7 +133,7 @@ programs_kept basis (program ∷ rest) done lines blocks programs split =
 
 -- the controls of a tape that was read are as the check of their order wants them
 pub read_listed : (premises : Premises) (programs : List Program) (read : List ControlProgram) → IsTapeShape programs
-    → programs_read premises programs ≡ Ok read → IsListed read
+    → programs_read premises programs ≡ Ok read → IsReadTape read
 read_listed premises programs read shape is =
     let blocks = length (tape.blocks_in programs) in
     let kept = programs_kept (record { premises = premises; tape = programs }) programs [] (tape.lines_in programs) blocks

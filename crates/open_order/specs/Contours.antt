@@ -22,7 +22,7 @@ use Rattle.block_order.specs.Order.{blocks, seek}
 use Rattle.tape_flow.specs.declared.fault.FlowFault.{FlowFault}
 use Rattle.block_words.specs.Words.{is_one_of}
 use Rattle.open_forms.specs.Codes.{is_g}
-use Rattle.open_forms.specs.Words.{written, last_number}
+use Rattle.open_forms.specs.Words.{written_micro, last_number}
 use Rattle.open_order.specs.declared.contour.Contour.{Contour}
 
 -- whether a code, in millionths, is G70, G71, G72 or G73
@@ -37,7 +37,7 @@ is_macro_code (Some z) = is_g 65000000 z
 
 -- one of the G words is a code of which `is_it` holds
 abbrev pub has_code : (Option ℤ → Bool) → List Word → Bool
-has_code is_it words = list_any (λ word. is_one_of (codes "G") word.letter && is_it (written word)) words
+has_code is_it words = list_any (λ word. is_one_of (codes "G") word.letter && is_it (written_micro word)) words
 
 -- the contour from the block numbered P to the one numbered Q, if both numbers are there
 abbrev pub contour_by : Option ℕ → Option ℕ → Option Contour
@@ -64,14 +64,14 @@ disturbs loud (Call program repeats) = loud program
 disturbs loud other = false
 
 -- the blocks from first to last, both among them
-abbrev pub between : List ControlBlock → ℕ → ℕ → List ControlBlock
-between bs first last = take (suc (last - first)) (drop first bs)
+abbrev pub blocks_between : List ControlBlock → ℕ → ℕ → List ControlBlock
+blocks_between bs first last = take (suc (last - first)) (drop first bs)
 
 -- The contour runs from a block to the same or a later one, and no block of it is one that may not
 -- stand in a contour.
 abbrev pub is_calm : (ℕ → Bool) → List ControlBlock → ℕ → ℕ → Bool
 is_calm loud bs first last =
-    nat_le first last && not (list_any (λ b. disturbs loud b.control) (between bs first last))
+    nat_le first last && not (list_any (λ b. disturbs loud b.control) (blocks_between bs first last))
 
 -- the place of the last block of the contour whose first block is at this place, if the program has
 -- it

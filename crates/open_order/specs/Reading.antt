@@ -10,21 +10,21 @@ use Rattle.block_order.specs.declared.control.Control.TheVariants.{Next, Call}
 use Rattle.block_order.specs.declared.program.ControlBlock.{ControlBlock}
 use Rattle.block_order.specs.declared.program.ControlProgram.{ControlProgram}
 use Rattle.block_forms.specs.declared.fault.FormFault.{FormFault}
-use Rattle.open_forms.specs.Controls.{open_control, numbered}
+use Rattle.open_forms.specs.Controls.{open_control, control_or_number}
 use Rattle.tape_flow.specs.declared.fault.FlowFault.{FlowFault}
 use Rattle.open_order.specs.declared.premises.Premises.{Premises}
 use Rattle.open_order.specs.Gone.{is_gone}
 
 -- the control of a block on its tape: a call of a program that the tape lacks (`gone`) goes on to
 -- the next block, however often it is repeated
-abbrev pub settled : (ℕ → Bool) → Control → Control
-settled gone (Call program repeats) = if gone program then Next else Call program repeats
-settled gone other = other
+abbrev pub settled_control : (ℕ → Bool) → Control → Control
+settled_control gone (Call program repeats) = if gone program then Next else Call program repeats
+settled_control gone other = other
 
 -- a block with its line, its sequence number and its control; or its refusal, told at its line
 abbrev pub at_line : (ℕ → Bool) → Block → Result Control FormFault → Result ControlBlock FlowFault
 at_line gone block (Ok control) =
-    Ok (record { line = block.line; sequence = block.sequence; control = settled gone control })
+    Ok (record { line = block.line; sequence = block.sequence; control = settled_control gone control })
 at_line gone block (Err fault) = Err (record { number = fault.number; line = block.line })
 
 -- what a block is read over
@@ -41,7 +41,7 @@ gone_from basis number = is_gone basis.premises.outside basis.tape number
 -- a block as far as the order of blocks goes, or its refusal
 abbrev pub block_read : Basis → Block → Result ControlBlock FlowFault
 block_read basis block =
-    at_line (gone_from basis) block (numbered (open_control basis.premises.dialect block.body))
+    at_line (gone_from basis) block (control_or_number (open_control basis.premises.dialect block.body))
 
 -- the blocks that are read, and then these ones, or the first refusal among these
 abbrev pub blocks_from : Basis → List ControlBlock → List Block → Result (List ControlBlock) FlowFault

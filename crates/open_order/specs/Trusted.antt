@@ -18,8 +18,8 @@ use Rattle.block_order.specs.declared.control.Control.TheVariants.{Call}
 use Rattle.block_forms.specs.declared.fault.FormFault.{FormFault}
 use Rattle.block_words.specs.declared.dialect.Dialect.{Dialect}
 use Rattle.block_words.specs.Codes.{row_of_number, is_waiting}
-use Rattle.open_forms.specs.Words.{written, number}
-use Rattle.open_forms.specs.Controls.{open_control, numbered}
+use Rattle.open_forms.specs.Words.{written_micro, whole_of_word}
+use Rattle.open_forms.specs.Controls.{open_control, control_or_number}
 use Rattle.open_order.specs.declared.premises.Premises.{Premises}
 use Rattle.open_order.specs.Contours.{has_code, is_macro_code}
 use Rattle.open_order.specs.Reading.{Basis, gone_from}
@@ -53,7 +53,7 @@ abbrev pub with_code : TrustView → Option Code → TrustView
 with_code trust None = trust
 with_code trust (Some (Geometry micro)) = record trust { geometry = insert_key nat_cmp trust.geometry micro }
 with_code trust (Some (Auxiliary code)) = record trust { auxiliary = insert_key nat_cmp trust.auxiliary code }
-with_code trust (Some (Subprogram number)) = record trust { programs = insert_key nat_cmp trust.programs number }
+with_code trust (Some (Subprogram whole_of_word)) = record trust { programs = insert_key nat_cmp trust.programs whole_of_word }
 
 -- whether an M code is one of M00 to M05, M08, M09, M30, M98 and M99: stops, ends, the spindle,
 -- coolant, and calls. They mean the same on every machine, so they need no trust.
@@ -81,8 +81,8 @@ auxiliary_code dialect (Some code) =
 -- the system of the tape, or an M code (letter 77) that is no wait and no standard one
 abbrev pub word_code : Dialect → Word → Option Code
 word_code dialect word =
-    if word.letter == 71 then (if is_own_row (row_of_number dialect.system (number word)) then None else geometry_code (written word))
-    else if word.letter == 77 then auxiliary_code dialect (number word)
+    if word.letter == 71 then (if is_own_row (row_of_number dialect.system (whole_of_word word)) then None else geometry_code (written_micro word))
+    else if word.letter == 77 then auxiliary_code dialect (whole_of_word word)
     else None
 
 -- what is taken on trust, with the codes of these words besides
@@ -111,7 +111,7 @@ called_outside gone (Err fault) = None
 abbrev pub with_block : Basis → TrustView → Block → TrustView
 with_block basis trust block =
     with_code (with_body basis.premises.dialect trust block.body)
-    (called_outside (gone_from basis) (numbered (open_control basis.premises.dialect block.body)))
+    (called_outside (gone_from basis) (control_or_number (open_control basis.premises.dialect block.body)))
 
 -- what is taken on trust, with what these blocks take besides
 abbrev pub with_blocks : Basis → TrustView → List Block → TrustView

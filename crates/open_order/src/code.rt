@@ -1,10 +1,10 @@
-//! The codes of a block that are taken on trust: G codes that this control does not run, M codes
-//! that only the machine knows, and calls of programs that the tape lacks.
-//! trusting.rt gathers them over the tapes of a pair.
+//! What a block takes on trust: G codes that this control does not run, M codes that only the
+//! machine knows, and calls of programs that the tape lacks, as it may (outside.rt).
+//! trusting.rt gathers them over the blocks of a tape; wait_verify does so for both tapes.
 ghost use Rattle.std.specs.Prelude.{◌≡◌};
 ghost use Rattle.block_words.specs.Codes.{row_of_number};
-ghost use Rattle.open_forms.specs.Words.{number};
-ghost use Rattle.open_forms.specs.Controls.{numbered, open_control};
+ghost use Rattle.open_forms.specs.Words.{whole_of_word};
+ghost use Rattle.open_forms.specs.Controls.{control_or_number, open_control};
 ghost use Rattle.open_order.specs.Basis.{basis};
 ghost use Rattle.open_order.specs.Reading.{gone_from};
 ghost use Rattle.open_order.specs.Trusted.{is_own_row, is_standard_m, geometry_code, auxiliary_code, word_code, gone_call, called_outside};
@@ -41,7 +41,7 @@ fn is_own_row(row: Option<Row>) -> bool
 
 /// Whether this control runs the code of a G word in that system.
 fn is_own(system: System, word: &Word) -> bool
-    ensures { result ≡ is_own_row (row_of_number system (number word.now)) }
+    ensures { result ≡ is_own_row (row_of_number system (whole_of_word word.now)) }
 {
     match number(word) {
         Some(code) => is_own_row(row_of(system, code)),
@@ -101,7 +101,7 @@ pub(crate) fn word_code(dialect: &Dialect, word: &Word) -> Option<Code>
     }
 }
 
-/// The program of a call, if the tape lacks it.
+/// The program of a call, if the tape lacks it, as it may.
 fn gone_call(reading: &Reading<'_>, control: Control) -> Option<Code>
     ensures { result ≡ gone_call (gone_from (basis reading.now)) control }
 {
@@ -120,10 +120,11 @@ fn gone_call(reading: &Reading<'_>, control: Control) -> Option<Code>
     }
 }
 
-/// The program that a block calls, if the block is not refused and the tape lacks the program.
+/// The program that a block calls, if the block is not refused and the tape lacks the program, as
+/// it may.
 pub(crate) fn called_outside(reading: &Reading<'_>, block: &Block) -> Option<Code>
     ensures { result ≡ called_outside (gone_from (basis reading.now))
-        (numbered (open_control reading.now.premises.dialect block.now.body)) }
+        (control_or_number (open_control reading.now.premises.dialect block.now.body)) }
 {
     match open_control(block, &reading.premises.dialect) {
         Ok(control) => gone_call(reading, control),

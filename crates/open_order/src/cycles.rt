@@ -8,7 +8,7 @@ ghost use Rattle.block_order.specs.Loud.{loud};
 ghost use Rattle.block_order.specs.Order.{blocks};
 ghost use Rattle.nc_number.specs.declared.limits.TheConstants.{MOST_BLOCKS};
 ghost use Rattle.nc_text.specs.Shape.{IsTapeShape};
-ghost use Rattle.open_order.specs.Contours.{disturbs, between, is_calm, last_block, fault_between, fault_from, contour_cause, fault_at, block_fault, blocks_fault, contour_fault};
+ghost use Rattle.open_order.specs.Contours.{disturbs, blocks_between, is_calm, last_block, fault_between, fault_from, contour_cause, fault_at, block_fault, blocks_fault, contour_fault};
 
 use crate::contour::{Contour, contour_in};
 use block_order::{BlockOrder, Control, ControlBlock};
@@ -42,7 +42,7 @@ fn has_disturbing(order: &BlockOrder, inside: &[ControlBlock]) -> bool
 fn between(blocks: &[ControlBlock], first: u32, last: u32) -> &[ControlBlock]
     requires rises { first ≤ last }
     requires within { last < length blocks.now }
-    ensures { result.now ≡ between blocks.now first last }
+    ensures { result.now ≡ blocks_between blocks.now first last }
 {
     let (_, rest) = blocks.split_at(first as usize);
     let (inside, _) = rest.split_at((last - first) as usize + 1);

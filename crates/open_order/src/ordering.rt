@@ -4,7 +4,7 @@
 ghost use Rattle.std.specs.Prelude.{◌≡◌, IfOk, IfErr};
 ghost use Rattle.block_order.specs.Answers.{IfFault};
 ghost use Rattle.block_order.specs.Faults.{IsSound};
-ghost use Rattle.block_order.specs.Shape.{IsListed};
+ghost use Rattle.block_order.specs.Shape.{IsReadTape};
 ghost use Rattle.tape_flow.specs.Exact.{IsOrderFault};
 ghost use Rattle.nc_text.specs.Shape.{IsTapeShape};
 ghost use Rattle.open_order.specs.Exact.{IsOrdered, IsRefused};
@@ -21,7 +21,7 @@ use wait_order::check_order;
 
 /// The order of the blocks of programs, or its first fault, or that memory ran out.
 fn order_of(alloc: Global, programs: Vec<ControlProgram>) -> Result<BlockOrder, Failing<FlowFault>>
-    requires { IsListed programs.items }
+    requires { IsReadTape programs.items }
     ensures same { IfOk result (λ order. order ≡ programs.items) }
     ensures sound { IfOk result (λ _. IsSound programs.items) }
     ensures first { IfErr result (λ error. IfFault error

@@ -6,7 +6,7 @@ ghost use Rattle.nc_number.specs.Answers.{Gives};
 ghost use Rattle.nc_text.specs.Shape.{IsTapeShape};
 ghost use Rattle.open_order.specs.Gone.{is_gone};
 ghost use Rattle.open_order.specs.Basis.{basis};
-ghost use Rattle.open_order.specs.Reading.{settled, block_read, blocks_from, program_read, programs_from, programs_read};
+ghost use Rattle.open_order.specs.Reading.{settled_control, block_read, blocks_from, program_read, programs_from, programs_read};
 
 use crate::outside::is_gone;
 use crate::premises::Premises;
@@ -29,7 +29,7 @@ pub(crate) struct Reading<'a> {
 /// The control of a block on its tape: a call of a program that the tape lacks goes on to the next
 /// block.
 fn settled(reading: &Reading<'_>, control: Control) -> Control
-    ensures { result ≡ settled (is_gone reading.now.premises.outside reading.now.tape.now) control }
+    ensures { result ≡ settled_control (is_gone reading.now.premises.outside reading.now.tape.now) control }
 {
     match control {
         Control::Call { program, repeats } => {

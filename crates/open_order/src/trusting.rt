@@ -3,7 +3,7 @@
 //! wait_verify calls `add_tape` for each tape of a pair and prints the `Trust`.
 ghost use Rattle.std.specs.Prelude.{◌≡◌, OnOk, Some};
 ghost use Rattle.open_order.specs.declared.code.Code.TheVariants as Code;
-ghost use Rattle.open_order.specs.Basis.{basis, seen};
+ghost use Rattle.open_order.specs.Basis.{basis, trust_view};
 ghost use Rattle.open_order.specs.Trusted.{no_trust, with_code, with_words, with_body, with_block, with_blocks, with_programs, with_tape};
 
 use crate::code::{Code, called_outside, word_code};
@@ -29,12 +29,12 @@ pub struct Trust {
 
 impl Trust {
     ghost use Rattle.std.specs.Prelude.{◌≡◌};
-    ghost use Rattle.open_order.specs.Basis.{seen};
+    ghost use Rattle.open_order.specs.Basis.{trust_view};
     ghost use Rattle.open_order.specs.Trusted.{is_nothing};
 
     /// Whether nothing is taken on trust.
     pub fn is_empty(&self) -> bool
-        ensures { result ≡ is_nothing (seen self.now) }
+        ensures { result ≡ is_nothing (trust_view self.now) }
     {
         self.geometry.is_empty() && self.auxiliary.is_empty() && self.programs.is_empty()
     }
@@ -42,7 +42,7 @@ impl Trust {
 
 /// Nothing is taken on trust yet.
 pub fn no_trust(alloc: Global) -> Trust
-    ensures { seen result ≡ no_trust }
+    ensures { trust_view result ≡ no_trust }
 {
     Trust {
         geometry: BTreeSet::new(alloc),
@@ -53,7 +53,7 @@ pub fn no_trust(alloc: Global) -> Trust
 
 /// Keeps a G code, in millionths, once, however often it is there.
 fn add_geometry(trust: &mut Trust, micro: u64) -> Result<(), NoMemory>
-    ensures { OnOk result (seen trust.new ≡ with_code (seen trust.old) (Some (Code.Geometry micro))) }
+    ensures { OnOk result (trust_view trust.new ≡ with_code (trust_view trust.old) (Some (Code.Geometry micro))) }
 {
     trust.geometry.insert(micro)?;
     Ok(())
@@ -61,7 +61,7 @@ fn add_geometry(trust: &mut Trust, micro: u64) -> Result<(), NoMemory>
 
 /// Keeps an M code once, however often it is there.
 fn add_auxiliary(trust: &mut Trust, code: u32) -> Result<(), NoMemory>
-    ensures { OnOk result (seen trust.new ≡ with_code (seen trust.old) (Some (Code.Auxiliary code))) }
+    ensures { OnOk result (trust_view trust.new ≡ with_code (trust_view trust.old) (Some (Code.Auxiliary code))) }
 {
     trust.auxiliary.insert(code)?;
     Ok(())
@@ -69,7 +69,7 @@ fn add_auxiliary(trust: &mut Trust, code: u32) -> Result<(), NoMemory>
 
 /// Keeps an O number once, however often it is called.
 fn add_program(trust: &mut Trust, number: u16) -> Result<(), NoMemory>
-    ensures { OnOk result (seen trust.new ≡ with_code (seen trust.old) (Some (Code.Subprogram number))) }
+    ensures { OnOk result (trust_view trust.new ≡ with_code (trust_view trust.old) (Some (Code.Subprogram number))) }
 {
     trust.programs.insert(number)?;
     Ok(())
@@ -77,7 +77,7 @@ fn add_program(trust: &mut Trust, number: u16) -> Result<(), NoMemory>
 
 /// Keeps one code more, if there is one.
 fn add_code(trust: &mut Trust, code: Option<Code>) -> Result<(), NoMemory>
-    ensures { OnOk result (seen trust.new ≡ with_code (seen trust.old) code) }
+    ensures { OnOk result (trust_view trust.new ≡ with_code (trust_view trust.old) code) }
 {
     match code {
         Some(Code::Geometry(micro)) => add_geometry(trust, micro),
@@ -89,7 +89,7 @@ fn add_code(trust: &mut Trust, code: Option<Code>) -> Result<(), NoMemory>
 
 /// Keeps the codes that the words of a block name.
 fn add_words(trust: &mut Trust, dialect: &Dialect, words: &[Word]) -> Result<(), NoMemory>
-    ensures { OnOk result (seen trust.new ≡ with_words dialect.now (seen trust.old) words.now) }
+    ensures { OnOk result (trust_view trust.new ≡ with_words dialect.now (trust_view trust.old) words.now) }
 {
     for word in words {
         add_code(trust, word_code(dialect, word))?;
@@ -100,7 +100,7 @@ fn add_words(trust: &mut Trust, dialect: &Dialect, words: &[Word]) -> Result<(),
 /// Keeps the codes of a block. A macro call has none, since its words but G, N, O, P and L are
 /// arguments, and a statement has none.
 fn add_body(trust: &mut Trust, dialect: &Dialect, body: &Body) -> Result<(), NoMemory>
-    ensures { OnOk result (seen trust.new ≡ with_body dialect.now (seen trust.old) body.now) }
+    ensures { OnOk result (trust_view trust.new ≡ with_body dialect.now (trust_view trust.old) body.now) }
 {
     match body {
         Body::Words(words) => {
@@ -117,7 +117,7 @@ fn add_body(trust: &mut Trust, dialect: &Dialect, body: &Body) -> Result<(), NoM
 
 /// Keeps the codes of a block, and the program that it calls if the tape lacks it.
 fn add_block(trust: &mut Trust, reading: &Reading<'_>, block: &Block) -> Result<(), NoMemory>
-    ensures { OnOk result (seen trust.new ≡ with_block (basis reading.now) (seen trust.old) block.now) }
+    ensures { OnOk result (trust_view trust.new ≡ with_block (basis reading.now) (trust_view trust.old) block.now) }
 {
     add_body(trust, &reading.premises.dialect, &block.body)?;
     add_code(trust, called_outside(reading, block))
@@ -125,7 +125,7 @@ fn add_block(trust: &mut Trust, reading: &Reading<'_>, block: &Block) -> Result<
 
 /// Keeps the codes and calls of the blocks of a program, in turn.
 fn add_blocks(trust: &mut Trust, reading: &Reading<'_>, blocks: &[Block]) -> Result<(), NoMemory>
-    ensures { OnOk result (seen trust.new ≡ with_blocks (basis reading.now) (seen trust.old) blocks.now) }
+    ensures { OnOk result (trust_view trust.new ≡ with_blocks (basis reading.now) (trust_view trust.old) blocks.now) }
 {
     for block in blocks {
         add_block(trust, reading, block)?;
@@ -135,8 +135,8 @@ fn add_blocks(trust: &mut Trust, reading: &Reading<'_>, blocks: &[Block]) -> Res
 
 /// Keeps the codes and calls of the programs of a tape, in turn.
 fn add_programs(trust: &mut Trust, reading: &Reading<'_>) -> Result<(), NoMemory>
-    ensures { OnOk result (seen trust.new
-        ≡ with_programs (basis reading.now) (seen trust.old) reading.now.tape.now) }
+    ensures { OnOk result (trust_view trust.new
+        ≡ with_programs (basis reading.now) (trust_view trust.old) reading.now.tape.now) }
 {
     for program in reading.tape {
         add_blocks(trust, reading, program.blocks.as_slice())?;
@@ -146,7 +146,7 @@ fn add_programs(trust: &mut Trust, reading: &Reading<'_>) -> Result<(), NoMemory
 
 /// Adds what a tape takes on trust. The only error is that memory ran out.
 pub fn add_tape(trust: &mut Trust, premises: Premises, tape: &[Program]) -> Result<(), NoMemory>
-    ensures { OnOk result (seen trust.new ≡ with_tape premises (seen trust.old) tape.now) }
+    ensures { OnOk result (trust_view trust.new ≡ with_tape premises (trust_view trust.old) tape.now) }
 {
     add_programs(trust, &Reading { premises, tape })
 }

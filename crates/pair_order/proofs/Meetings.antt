@@ -8,7 +8,7 @@ use Rattle.block_order.specs.declared.frame.Frame.{Frame}
 use Rattle.block_order.specs.declared.label.Label.{Label}
 use Rattle.block_order.specs.declared.label.Label.TheVariants as label
 use Rattle.block_order.specs.declared.program.ControlProgram.{ControlProgram}
-use Rattle.block_order.specs.Labels.{ahead, list}
+use Rattle.block_order.specs.Labels.{labels_ahead, list}
 use Rattle.block_order.specs.Steps.{Step, IsPlace, place_behind, Kept, KeepsLabels}
 use Rattle.pair_order.specs.Pairs.{Paths, IsAtWait, Goes, one, two, meet, IsBeginning, AreMet, none, one_more, anew, IsFree, IsReached, begun, gone, IsNeverStuck}
 
@@ -47,22 +47,22 @@ agree_end all xs code (inr (inr p)) = cc (p.0)
 
 -- A step that does to the labels ahead what `Kept` says keeps the agreement.
 kept_agree : (tape : List ControlProgram) (ys : List Label) (f : Frame) (stack : List Frame) (c : Control) (to : List Frame)
-    → Kept tape f stack c to → Agree (list tape) (ahead tape (f ∷ stack)) ys → Agree (list tape) (ahead tape to) ys
-kept_agree tape ys f stack control.Next to k a = agree_same (list tape) (ahead tape (f ∷ stack)) ys (ahead tape to) k a
-kept_agree tape ys f stack (control.Goto n) to k a = agree_same (list tape) (ahead tape (f ∷ stack)) ys (ahead tape to) k a
-kept_agree tape ys f stack (control.While m) to k a = agree_same (list tape) (ahead tape (f ∷ stack)) ys (ahead tape to) k a
-kept_agree tape ys f stack (control.Do m) to k a = agree_same (list tape) (ahead tape (f ∷ stack)) ys (ahead tape to) k a
-kept_agree tape ys f stack (control.EndLoop m) to k a = agree_same (list tape) (ahead tape (f ∷ stack)) ys (ahead tape to) k a
-kept_agree tape ys f stack (control.Wait code) to k a = agree_same (list tape) (ahead tape (f ∷ stack)) ys (ahead tape to) k a
-kept_agree tape ys f stack control.End to k a = agree_same (list tape) (ahead tape (f ∷ stack)) ys (ahead tape to) k a
-kept_agree tape ys f stack (control.Call q r) to k a = agree_same (list tape) (ahead tape (f ∷ stack)) ys (ahead tape to) k a
-kept_agree tape ys f stack (control.BackTo n) to k a = agree_same (list tape) (ahead tape (f ∷ stack)) ys (ahead tape to) k a
-kept_agree tape ys f (g ∷ stack) control.Back to k a = agree_same (list tape) (ahead tape (f ∷ g ∷ stack)) ys (ahead tape to) k a
-kept_agree tape ys f [] control.Back to k a = agree_again (list tape) (ahead tape (f ∷ [])) ys (ahead tape to) k.0 k.1 a
+    → Kept tape f stack c to → Agree (list tape) (labels_ahead tape (f ∷ stack)) ys → Agree (list tape) (labels_ahead tape to) ys
+kept_agree tape ys f stack control.Next to k a = agree_same (list tape) (labels_ahead tape (f ∷ stack)) ys (labels_ahead tape to) k a
+kept_agree tape ys f stack (control.Goto n) to k a = agree_same (list tape) (labels_ahead tape (f ∷ stack)) ys (labels_ahead tape to) k a
+kept_agree tape ys f stack (control.While m) to k a = agree_same (list tape) (labels_ahead tape (f ∷ stack)) ys (labels_ahead tape to) k a
+kept_agree tape ys f stack (control.Do m) to k a = agree_same (list tape) (labels_ahead tape (f ∷ stack)) ys (labels_ahead tape to) k a
+kept_agree tape ys f stack (control.EndLoop m) to k a = agree_same (list tape) (labels_ahead tape (f ∷ stack)) ys (labels_ahead tape to) k a
+kept_agree tape ys f stack (control.Wait code) to k a = agree_same (list tape) (labels_ahead tape (f ∷ stack)) ys (labels_ahead tape to) k a
+kept_agree tape ys f stack control.End to k a = agree_same (list tape) (labels_ahead tape (f ∷ stack)) ys (labels_ahead tape to) k a
+kept_agree tape ys f stack (control.Call q r) to k a = agree_same (list tape) (labels_ahead tape (f ∷ stack)) ys (labels_ahead tape to) k a
+kept_agree tape ys f stack (control.BackTo n) to k a = agree_same (list tape) (labels_ahead tape (f ∷ stack)) ys (labels_ahead tape to) k a
+kept_agree tape ys f (g ∷ stack) control.Back to k a = agree_same (list tape) (labels_ahead tape (f ∷ g ∷ stack)) ys (labels_ahead tape to) k a
+kept_agree tape ys f [] control.Back to k a = agree_again (list tape) (labels_ahead tape (f ∷ [])) ys (labels_ahead tape to) k.0 k.1 a
 
 -- A step of a path leads to a place and keeps the agreement.
 pub step_keeps : (tape : List ControlProgram) → KeepsLabels tape → (ys : List Label) (from to : List Frame) → IsPlace tape from → Step tape from to
-    → Agree (list tape) (ahead tape from) ys → IsPlace tape to × Agree (list tape) (ahead tape to) ys
+    → Agree (list tape) (labels_ahead tape from) ys → IsPlace tape to × Agree (list tape) (labels_ahead tape to) ys
 step_keeps tape law ys [] to place step a = absurd place
 step_keeps tape law ys (f ∷ stack) to place (c, is, goes) a =
     let k = law.step f stack place c is to goes in (k.0, kept_agree tape ys f stack c to k.1 a)
@@ -70,7 +70,7 @@ step_keeps tape law ys (f ∷ stack) to place (c, is, goes) a =
 -- A step that does to the labels ahead what `Kept` says leaves what was met as it was, also if it
 -- leads back to the start.
 kept_met : (tape : List ControlProgram) (met : List ℕ) (f : Frame) (stack : List Frame) (c : Control) (to : List Frame)
-    → Kept tape f stack c to → AreMet (list tape) met (ahead tape (f ∷ stack)) → AreMet (list tape) met (ahead tape to)
+    → Kept tape f stack c to → AreMet (list tape) met (labels_ahead tape (f ∷ stack)) → AreMet (list tape) met (labels_ahead tape to)
 kept_met tape met f stack control.Next to k a = rw k a
 kept_met tape met f stack (control.Goto n) to k a = rw k a
 kept_met tape met f stack (control.While m) to k a = rw k a
@@ -86,7 +86,7 @@ kept_met tape met f [] control.Back to k a =
 
 -- A step of a path leaves what was met as it was.
 step_met : (tape : List ControlProgram) → KeepsLabels tape → (met : List ℕ) (from to : List Frame) → IsPlace tape from → Step tape from to
-    → AreMet (list tape) met (ahead tape from) → AreMet (list tape) met (ahead tape to)
+    → AreMet (list tape) met (labels_ahead tape from) → AreMet (list tape) met (labels_ahead tape to)
 step_met tape law met [] to place step a = absurd place
 step_met tape law met (f ∷ stack) to place (c, is, goes) a = kept_met tape met f stack c to (law.step f stack place c is to goes).1 a
 
@@ -97,9 +97,9 @@ record IsSound (left right : List ControlProgram) (p : Paths) : Type 0 where
   -- Path 2 stands at a place of its tape.
   second : IsPlace right p.second
   -- The labels ahead of both agree.
-  agree : Agree (list left) (ahead left p.first) (ahead right p.second)
+  agree : Agree (list left) (labels_ahead left p.first) (labels_ahead right p.second)
   -- The waits of the list before the labels ahead of path 1 were met.
-  met : AreMet (list left) p.met (ahead left p.first)
+  met : AreMet (list left) p.met (labels_ahead left p.first)
 
 -- The law of one path holds of both tapes, and their lists of labels are equal.
 pub record IsLawfulPair (left right : List ControlProgram) : Type 0 where
@@ -113,16 +113,16 @@ pub record IsLawfulPair (left right : List ControlProgram) : Type 0 where
 -- Two waits at which both paths stand are of one code, and behind them the labels ahead are the
 -- same.
 meeting : (left right : List ControlProgram) → IsLawfulPair left right → (p : Paths) → IsSound left right p → (code there : ℕ)
-    → IsAtWait left p.first code → IsAtWait right p.second there → (code ≡ there) × (ahead left (place_behind p.first) ≡ ahead right (place_behind p.second))
+    → IsAtWait left p.first code → IsAtWait right p.second there → (code ≡ there) × (labels_ahead left (place_behind p.first) ≡ labels_ahead right (place_behind p.second))
 meeting left right pair p s code there is other =
-    agree_waits (list left) (ahead left (place_behind p.first)) (ahead right (place_behind p.second)) code there
+    agree_waits (list left) (labels_ahead left (place_behind p.first)) (labels_ahead right (place_behind p.second)) code there
     (rw (← (pair.first.wait p.first code s.first is).1, ← (pair.second.wait p.second there s.second other).1) (s.agree))
 
 -- Each step of the pair keeps `IsSound`.
 goes_sound : (left right : List ControlProgram) → IsLawfulPair left right → (from to : Paths) → IsSound left right from
     → Goes left right from to → IsSound left right to
 goes_sound left right pair from to s (one step stays same) =
-    let k = step_keeps left pair.first (ahead right from.second) from.first to.first s.first step s.agree in
+    let k = step_keeps left pair.first (labels_ahead right from.second) from.first to.first s.first step s.agree in
     record {
       first = k.0;
       second = rw stays (s.second);
@@ -130,13 +130,13 @@ goes_sound left right pair from to s (one step stays same) =
       met = rw same (step_met left pair.first from.met from.first to.first s.first step s.met);
     }
 goes_sound left right pair from to s (two stays step same) =
-    let turned : Agree (list right) (ahead right from.second) (ahead left from.first) =
-    subst (λ all. Agree all (ahead right from.second) (ahead left from.first)) pair.equal
-    (agree_swap (list left) (ahead left from.first) (ahead right from.second) s.agree) in
-    let k = step_keeps right pair.second (ahead left from.first) from.second to.second s.second step turned in
-    let back : Agree (list left) (ahead left from.first) (ahead right to.second) =
-    agree_swap (list left) (ahead right to.second) (ahead left from.first)
-    (subst (λ all. Agree all (ahead right to.second) (ahead left from.first)) (sym pair.equal) k.1) in
+    let turned : Agree (list right) (labels_ahead right from.second) (labels_ahead left from.first) =
+    subst (λ all. Agree all (labels_ahead right from.second) (labels_ahead left from.first)) pair.equal
+    (agree_swap (list left) (labels_ahead left from.first) (labels_ahead right from.second) s.agree) in
+    let k = step_keeps right pair.second (labels_ahead left from.first) from.second to.second s.second step turned in
+    let back : Agree (list left) (labels_ahead left from.first) (labels_ahead right to.second) =
+    agree_swap (list left) (labels_ahead right to.second) (labels_ahead left from.first)
+    (subst (λ all. Agree all (labels_ahead right to.second) (labels_ahead left from.first)) (sym pair.equal) k.1) in
     record { first = rw stays (s.first); second = k.0; agree = rw stays back; met = rw (stays, same) (s.met) }
 goes_sound left right pair from to s (meet code there is other here beyond more) =
     let k = pair.first.wait from.first code s.first is in
@@ -144,7 +144,7 @@ goes_sound left right pair from to s (meet code there is other here beyond more)
       first = rw here (k.0);
       second = rw beyond ((pair.second.wait from.second there s.second other).0);
       agree = inl (rw (here, beyond) ((meeting left right pair from s code there is other).1));
-      met = rw (here, more) (one_more from.met code (ahead left (place_behind from.first))
+      met = rw (here, more) (one_more from.met code (labels_ahead left (place_behind from.first))
           (subst (λ xs. AreMet (list left) from.met xs) k.1 s.met));
     }
 
@@ -162,11 +162,11 @@ beginning_sound left right pair p at = record {
 free : (left right : List ControlProgram) → IsLawfulPair left right → (p : Paths) → IsSound left right p → IsFree left right p
 free left right pair p s = record {
   same = λ code there is other. (meeting left right pair p s code there is other).0;
-  first_alone = λ code is ends. agree_end (list left) (ahead left (place_behind p.first)) code
+  first_alone = λ code is ends. agree_end (list left) (labels_ahead left (place_behind p.first)) code
       (rw (← (pair.first.wait p.first code s.first is).1, ← pair.second.ends p.second s.second ends) (s.agree));
-  second_alone = λ code ends is. agree_end (list left) (ahead right (place_behind p.second)) code
+  second_alone = λ code ends is. agree_end (list left) (labels_ahead right (place_behind p.second)) code
       (rw (← (pair.second.wait p.second code s.second is).1, ← pair.first.ends p.first s.first ends)
-      (agree_swap (list left) (ahead left p.first) (ahead right p.second) s.agree));
+      (agree_swap (list left) (labels_ahead left p.first) (labels_ahead right p.second) s.agree));
   met = s.met;
 }
 

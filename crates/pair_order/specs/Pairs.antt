@@ -9,8 +9,8 @@ use Rattle.block_order.specs.declared.frame.Frame.{Frame}
 use Rattle.block_order.specs.declared.label.Label.{Label}
 use Rattle.block_order.specs.declared.label.Label.TheVariants as label
 use Rattle.block_order.specs.declared.program.ControlProgram.{ControlProgram}
-use Rattle.block_order.specs.Labels.{ahead, list, start, IsUnforked}
-use Rattle.block_order.specs.Steps.{Step, standing, place_behind}
+use Rattle.block_order.specs.Labels.{labels_ahead, list, start, IsUnforked}
+use Rattle.block_order.specs.Steps.{Step, control_of_place, place_behind}
 
 -- Where both paths stand, and the codes of the waits at which they met.
 pub record Paths : Type 0 where
@@ -23,11 +23,11 @@ pub record Paths : Type 0 where
 
 -- A path stands at a wait of this code.
 abbrev pub IsAtWait : List ControlProgram → List Frame → ℕ → Type 0
-IsAtWait tape place code = standing tape place ≡ Some (Wait code)
+IsAtWait tape place code = control_of_place tape place ≡ Some (Wait code)
 
 -- A path stands at an end, from which no step leads.
 abbrev pub IsAtEnd : List ControlProgram → List Frame → Type 0
-IsAtEnd tape place = standing tape place ≡ Some End
+IsAtEnd tape place = control_of_place tape place ≡ Some End
 
 -- One step of a pair: a block of a path, which is no wait and no end, leads where the order of its
 -- blocks allows; or both paths stand at waits, of whatever codes, and pass them.
@@ -85,7 +85,7 @@ pub record IsFree (left right : List ControlProgram) (paths : Paths) : Type 0 wh
   -- Path 2 does not stand at a wait while path 1 stands at an end.
   pub second_alone : (code : ℕ) → IsAtEnd left paths.first → IsAtWait right paths.second code → ⊥
   -- The meetings so far are those of the list of labels up to the labels ahead of path 1.
-  pub met : AreMet (list left) paths.met (ahead left paths.first)
+  pub met : AreMet (list left) paths.met (labels_ahead left paths.first)
 
 -- Wherever steps lead from a beginning, neither path waits in vain.
 abbrev pub IsNeverStuck : List ControlProgram → List ControlProgram → Type 0

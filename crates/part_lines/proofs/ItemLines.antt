@@ -15,7 +15,7 @@ use Rattle.block_order.specs.Loud.{loud, mark_of, marks}
 use Rattle.part_order.specs.Parts.{Item, Stretch, Meets, Anew, items, path_items, waits_in}
 use Rattle.part_order.specs.Parts as parts
 use Rattle.nc_number.specs.Options.{lesser}
-use Rattle.part_lines.specs.Lines.{Lines, with_first, times, seen_line, block_lines, blocks_lines, whole}
+use Rattle.part_lines.specs.Lines.{Lines, with_first, times, seen_line, block_lines, blocks_lines, lines_of_run}
 use Rattle.part_lines.proofs.Lesser.{lesser_none, with_both}
 use Rattle.part_lines.proofs.StretchLines.{next_number, stretch_line, none_behind}
 use Rattle.part_lines.proofs.Segments.{ends_anew}
@@ -187,25 +187,25 @@ own_line tape line quiet p s =
 -- The lines of a program with all its calls are those of its items.
 whole_same : (tape : List ControlProgram) (line : ℕ → ℕ → Option ℕ) (quiet : ℕ → Option ℕ) (end : Lines) (n p : ℕ)
     (rest : List Item) (back : Lines) → item_lines (own_line tape line quiet) end rest ≡ back
-    → item_lines (own_line tape line quiet) end (parts.whole tape n p rest) ≡ whole tape line quiet n p back
-unfolding whole parts.whole
+    → item_lines (own_line tape line quiet) end (parts.items_of_call tape n p rest) ≡ lines_of_run tape line quiet n p back
+unfolding lines_of_run parts.items_of_call
 whole_same tape line quiet end zero p rest back returns = returns
 whole_same tape line quiet end (suc n) p rest back returns =
-    let called = λ (q : ℕ) (k : List Item). parts.whole tape n q k in
-    let given = λ (q : ℕ) (k : Lines). whole tape line quiet n q k in
+    let called = λ (q : ℕ) (k : List Item). parts.items_of_call tape n q k in
+    let given = λ (q : ℕ) (k : Lines). lines_of_run tape line quiet n q k in
     let own = own_line tape line quiet in
     ap (item_lines own end) (items_are called p 0 (marks (loud tape) (blocks tape p)) rest)
     ∙ sym (blocks_same (loud tape) quiet (line p) own end called given
     (λ q xs. whole_same tape line quiet end n q xs (item_lines own end xs) refl) p rest back returns (blocks tape p) 0 0 (λ s less. refl))
 
 -- The items of a path are those of its main program, and that it begins anew.
-list_whole : (tape : List ControlProgram) → path_items tape ≡ parts.whole tape 9 (main_number tape) (Anew ∷ [])
-unfolding parts.whole
+list_whole : (tape : List ControlProgram) → path_items tape ≡ parts.items_of_call tape 9 (main_number tape) (Anew ∷ [])
+unfolding parts.items_of_call
 list_whole tape = refl
 
 -- The lines of a path are those of its list.
 pub path_same : (tape : List ControlProgram) (line : ℕ → ℕ → Option ℕ) (quiet : ℕ → Option ℕ) (end : Lines)
-    → item_lines (own_line tape line quiet) end (path_items tape) ≡ whole tape line quiet 9 (main_number tape) end
+    → item_lines (own_line tape line quiet) end (path_items tape) ≡ lines_of_run tape line quiet 9 (main_number tape) end
 path_same tape line quiet end =
     ap (item_lines (own_line tape line quiet) end) (list_whole tape)
     ∙ whole_same tape line quiet end 9 (main_number tape) (Anew ∷ []) end refl

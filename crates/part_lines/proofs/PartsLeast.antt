@@ -16,7 +16,7 @@ use Rattle.part_lines.specs.Least.{IsLeast}
 use Rattle.part_lines.specs.PartLines.{LineInPart, AreLeastLines}
 use Rattle.part_lines.specs.Lines.{Lines, with_first}
 use Rattle.loud_calls.specs.Calls.{IsShort}
-use Rattle.part_lines.specs.Pieces.{coming, first_of, closed, IsPiece, AreQuietLines}
+use Rattle.part_lines.specs.Pieces.{lines_to_come, first_of, lines_of_path, IsPiece, AreQuietLines}
 use Rattle.part_lines.proofs.Lesser.{lesser_none, least_either, least_same}
 use Rattle.part_lines.proofs.Segments.{Seg, ends_anew, stands, seg_listed, anew_listed}
 use Rattle.part_lines.proofs.InParts.{StretchLine, ListedLine, part_listed, listed_part}
@@ -132,7 +132,7 @@ module _ (tape : List ControlProgram) (line : ℕ → ℕ → Option ℕ) (quiet
   module _ (lines : PieceLines) (ending : Ending) (short : IsShort tape 9 (main_number tape))
       (piece : IsPiece tape line quiet (main_number tape) lines ending) where
     -- The lines of the path's items are those of the piece of the main program.
-    path_is : (end : Lines) → item_lines own end (path_items tape) ≡ coming lines (Some ending) end []
+    path_is : (end : Lines) → item_lines own end (path_items tape) ≡ lines_to_come lines (Some ending) end []
     path_is end = path_same tape line quiet end ∙ piece 9 end short
 
     -- The lines of the path's items, without what comes once they begin anew, are those of the
@@ -140,7 +140,7 @@ module _ (tape : List ControlProgram) (line : ℕ → ℕ → Option ℕ) (quiet
     path_closed : item_lines own (None ∷ []) (path_items tape) ≡ lines.done.items ++ lines.last ∷ []
     path_closed = path_is (None ∷ []) ∙ go ending
       where
-        go : (e : Ending) → coming lines (Some e) (None ∷ []) [] ≡ lines.done.items ++ lines.last ∷ []
+        go : (e : Ending) → lines_to_come lines (Some e) (None ∷ []) [] ≡ lines.done.items ++ lines.last ∷ []
         go Stops = ap (λ o. lines.done.items ++ o ∷ []) (lesser_none lines.last)
         go Returns = ap (λ o. lines.done.items ++ o ∷ []) (lesser_none lines.last)
 
@@ -178,14 +178,14 @@ module _ (tape : List ControlProgram) (line : ℕ → ℕ → Option ℕ) (quiet
         go Stops is true anew =
             let all = lines_length own two (path_items tape) in
             let size : path_waits tape + (if ends_anew (path_items tape) then 2 else 1) ≡ path_waits tape + 2 = rw anew refl in
-            let here = ap length (path_is two ∙ ap (λ x. coming lines (Some x) two []) is) in
+            let here = ap length (path_is two ∙ ap (λ x. lines_to_come lines (Some x) two []) is) in
             let long = length-append lines.done.items (with_first lines.last (None ∷ [])) in
             let waits = waits_are in
             absurd (omega arith)
         go Returns is false anew =
             let all = lines_length own two (path_items tape) in
             let size : path_waits tape + (if ends_anew (path_items tape) then 2 else 1) ≡ path_waits tape + 1 = rw anew refl in
-            let here = ap length (path_is two ∙ ap (λ x. coming lines (Some x) two []) is) in
+            let here = ap length (path_is two ∙ ap (λ x. lines_to_come lines (Some x) two []) is) in
             let long = length-append lines.done.items (with_first lines.last two) in
             let waits = waits_are in
             absurd (omega arith)
@@ -215,7 +215,7 @@ get_first (y ∷ xs) x some = refl
 -- The lines of the main program's piece, closed, are the least line of each part.
 pub closed_least : (tape : List ControlProgram) (line : ℕ → ℕ → Option ℕ) (quiet : ℕ → Option ℕ) → AreQuietLines tape line quiet
     → (lines : PieceLines) (ending : Ending) → IsShort tape 9 (main_number tape)
-    → IsPiece tape line quiet (main_number tape) lines ending → AreLeastLines tape line (closed lines ending)
+    → IsPiece tape line quiet (main_number tape) lines ending → AreLeastLines tape line (lines_of_path lines ending)
 closed_least tape line quiet are lines ending short piece = record {
   many = many ending;
   least = λ n o is. go ending refl n o is (less_or_same n (length lines.done.items));
@@ -227,7 +227,7 @@ closed_least tape line quiet are lines ending short piece = record {
     waits : length lines.done.items ≡ path_waits tape
     waits = waits_are tape line quiet are lines ending short piece
 
-    many : (e : Ending) → length (closed lines e) ≡ suc (path_waits tape)
+    many : (e : Ending) → length (lines_of_path lines e) ≡ suc (path_waits tape)
     many Stops = let long = length-append lines.done.items (lines.last ∷ []) in let w = waits in omega arith
     many Returns =
         let long = length-append lines.done.items (lesser lines.last (first_of lines.done.items) ∷ []) in let w = waits in omega arith
@@ -235,7 +235,7 @@ closed_least tape line quiet are lines ending short piece = record {
     less_or_same : (n m : ℕ) → (n < m) ⊎ ((n ≡ m) ⊎ (m < n))
     less_or_same n m = grind arith
 
-    front : (e : Ending) (n : ℕ) (o : Option ℕ) → n < length lines.done.items → slice_get (closed lines e) n ≡ Some o
+    front : (e : Ending) (n : ℕ) (o : Option ℕ) → n < length lines.done.items → slice_get (lines_of_path lines e) n ≡ Some o
         → IsLeast (LineInPart tape line n) o
     front Stops n o less is =
         middle_least tape line quiet are n o (let w = waits in omega arith) (λ e _. let w = waits in omega arith) (ap (λ xs. slice_get xs n) same ∙ is)
@@ -251,7 +251,7 @@ closed_least tape line quiet are lines ending short piece = record {
         ∙ subst (λ i. slice_get (lines.done.items ++ lines.last ∷ []) i ≡ Some lines.last) waits (get_end lines.done.items lines.last)
 
     -- The last of them is the least line of the part behind the last wait.
-    end : (e : Ending) → ending ≡ e → (o : Option ℕ) → slice_get (closed lines e) (length lines.done.items) ≡ Some o
+    end : (e : Ending) → ending ≡ e → (o : Option ℕ) → slice_get (lines_of_path lines e) (length lines.done.items) ≡ Some o
         → IsLeast (LineInPart tape line (path_waits tape)) o
     end Stops is o at =
         let back = anew_is tape line quiet are lines ending short piece Stops is in
@@ -280,14 +280,14 @@ closed_least tape line quiet are lines ending short piece = record {
             last_least tape line quiet are (first_of lines.done.items) lines.last anew
             (ap (λ ys. slice_get ys 0) same ∙ get_first lines.done.items lines.last some) last_is
 
-    go : (e : Ending) → ending ≡ e → (n : ℕ) (o : Option ℕ) → slice_get (closed lines ending) n ≡ Some o
+    go : (e : Ending) → ending ≡ e → (n : ℕ) (o : Option ℕ) → slice_get (lines_of_path lines ending) n ≡ Some o
         → (n < length lines.done.items) ⊎ ((n ≡ length lines.done.items) ⊎ (length lines.done.items < n)) → IsLeast (LineInPart tape line n) o
     go e same_end n o is (inl less) = front ending n o less is
     go e same_end n o is (inr (inl at)) =
-        let there : slice_get (closed lines ending) (length lines.done.items) ≡ Some o = subst (λ i. slice_get (closed lines ending) i ≡ Some o) at is in
+        let there : slice_get (lines_of_path lines ending) (length lines.done.items) ≡ Some o = subst (λ i. slice_get (lines_of_path lines ending) i ≡ Some o) at is in
         let w : n ≡ path_waits tape = at ∙ waits in
         subst (λ i. IsLeast (LineInPart tape line i) o) (sym w) (end ending refl o there)
     go e same_end n o is (inr (inr more)) =
-        let within = get_past (closed lines ending) n o is in
+        let within = get_past (lines_of_path lines ending) n o is in
         let long = many ending in
         let w = waits in absurd (omega arith)

@@ -3,7 +3,7 @@
 -- quiet. A chain of calls is one of calls of loud programs. `line` gives, by O number and place,
 -- the line of a block that is looked for, `quiet` the least line of a quiet program. For the proofs
 -- of src/piece.rt and src/listing.rt. The file's name stands for the lines that a piece shows
--- (`shown`).
+-- (`shown_lines`).
 use Rattle.std.proofs.Common.{◌≡◌, ℕ, zero, suc, ◌+◌, ◌-◌, ◌<◌, true, false, Bool, List, [], ◌∷◌, ◌++◌, length, drop, get_or, Option, Some, None, refl, ap, sym, ◌∙◌, arith}
 use Rattle.std.proofs.Math.Seq.{drop-cons}
 use Rattle.block_order.specs.declared.control.Control.{Control}
@@ -15,9 +15,9 @@ use Rattle.block_order.specs.Loud.{loud}
 use Rattle.part_lines.specs.declared.piece.Ending.{Ending}
 use Rattle.part_lines.specs.declared.piece.Ending.TheVariants.{Stops, Returns}
 use Rattle.part_lines.specs.declared.piece.PieceLines.{PieceLines}
-use Rattle.part_lines.specs.Lines.{Lines, with_first, times, seen_line, block_lines, blocks_lines, whole}
+use Rattle.part_lines.specs.Lines.{Lines, with_first, times, seen_line, block_lines, blocks_lines, lines_of_run}
 use Rattle.loud_calls.specs.Calls.{IsShort, IsShortCall}
-use Rattle.part_lines.specs.Pieces.{shown, coming, stop_of, IsSeen, AreJoined, AreAdded, IsPiece, IsTaken, IsSoFar, from_block}
+use Rattle.part_lines.specs.Pieces.{shown_lines, lines_to_come, stop_of, IsSeen, AreJoined, AreAdded, IsPiece, IsTaken, IsSoFar, from_block}
 use Rattle.part_lines.proofs.Lesser.{lesser_none, with_again}
 
 -- To join a line n times, at least once, is to join it once.
@@ -42,11 +42,11 @@ times_more (suc n) f behind =
 -- The lines so far, with the parts of a piece that are left to join, are those before with the
 -- whole piece.
 abbrev pub IsJoinedSoFar : PieceLines → PieceLines → Lines → PieceLines → Type 0
-IsJoinedSoFar old now rest more = (behind : Lines) → shown now (rest ++ with_first more.last behind) ≡ shown old (shown more behind)
+IsJoinedSoFar old now rest more = (behind : Lines) → shown_lines now (rest ++ with_first more.last behind) ≡ shown_lines old (shown_lines more behind)
 
 -- One part more of a called program is joined.
 pub joined_next : (old now seen next more : PieceLines) (bs : Lines) (i : ℕ) (line : Option ℕ) → i < length bs
-    → IsSeen now seen (get_or bs i line) → ((behind : Lines) → shown next behind ≡ shown seen (None ∷ behind))
+    → IsSeen now seen (get_or bs i line) → ((behind : Lines) → shown_lines next behind ≡ shown_lines seen (None ∷ behind))
     → IsJoinedSoFar old now (drop i bs) more → IsJoinedSoFar old next (drop (i + 1) bs) more
 joined_next old now seen next more bs i line within one two so behind =
     let rest = drop (i + 1) bs ++ with_first more.last behind in
@@ -54,8 +54,8 @@ joined_next old now seen next more bs i line within one two so behind =
     let own : drop i bs ≡ get_or bs i line ∷ drop (i + 1) bs = drop-cons bs i line within ∙ ap (λ k. get_or bs i line ∷ drop k bs) e in
     two rest
     ∙ (one (None ∷ rest)
-    ∙ (ap (λ o. shown now (o ∷ rest)) (lesser_none (get_or bs i line))
-    ∙ (ap (λ xs. shown now (xs ++ with_first more.last behind)) (sym own) ∙ so behind)))
+    ∙ (ap (λ o. shown_lines now (o ∷ rest)) (lesser_none (get_or bs i line))
+    ∙ (ap (λ xs. shown_lines now (xs ++ with_first more.last behind)) (sym own) ∙ so behind)))
 
 -- A list of no length is empty.
 pub empty_is : (xs : Lines) → length xs ≡ 0 → xs ≡ []
@@ -65,7 +65,7 @@ empty_is (x ∷ xs) e = absurd (omega arith)
 -- A program without a wait that is run n times, at least once, gives its line once.
 pub waitless_joined : (old new more : PieceLines) (n : ℕ) → 0 < n → more.done.items ≡ [] → IsSeen old new more.last → AreJoined old new n more
 waitless_joined old new more n some none is behind =
-    is behind ∙ ap (shown old) (sym (times_same n (shown more) (with_first more.last) behind (λ xs. rw none refl) ∙ times_again n more.last behind some))
+    is behind ∙ ap (shown_lines old) (sym (times_same n (shown_lines more) (with_first more.last) behind (λ xs. rw none refl) ∙ times_again n more.last behind some))
 
 module _ (tape : List ControlProgram) (line : ℕ → ℕ → Option ℕ) (quiet : ℕ → Option ℕ) where
   -- A call of a quiet program puts nothing behind its block.
@@ -76,7 +76,7 @@ module _ (tape : List ControlProgram) (line : ℕ → ℕ → Option ℕ) (quiet
   pub unrepeated_taken : (q : ℕ) (old : PieceLines) → IsTaken tape line quiet (Call q 0) old old None
   unrepeated_taken q old n back behind short = go (loud tape q) refl
     where
-      go : (b : Bool) → loud tape q ≡ b → shown old (from_block tape line quiet n back (Call q 0) behind) ≡ shown old behind
+      go : (b : Bool) → loud tape q ≡ b → shown_lines old (from_block tape line quiet n back (Call q 0) behind) ≡ shown_lines old behind
       go true e = rw e refl
       go false e = rw e refl
 
@@ -86,23 +86,23 @@ module _ (tape : List ControlProgram) (line : ℕ → ℕ → Option ℕ) (quiet
       → IsTaken tape line quiet (Call q r) old new (stop_of ending)
   loud_taken q zero old new piece ending noisy some is added n back behind short = absurd (omega arith)
   loud_taken q (suc r) old new piece Stops noisy some is added n back behind short =
-      rw noisy (ap (shown old) (is n (times r (λ k. whole tape line quiet n q k) behind) (short noisy)) ∙ sym (added (None ∷ [])))
+      rw noisy (ap (shown_lines old) (is n (times r (λ k. lines_of_run tape line quiet n q k) behind) (short noisy)) ∙ sym (added (None ∷ [])))
   loud_taken q (suc r) old new piece Returns noisy some is added n back behind short =
-      rw noisy (ap (shown old) (times_same (suc r) (λ k. whole tape line quiet n q k) (shown piece) behind (λ k. is n k (short noisy)))
+      rw noisy (ap (shown_lines old) (times_same (suc r) (λ k. lines_of_run tape line quiet n q k) (shown_lines piece) behind (λ k. is n k (short noisy)))
       ∙ sym (added behind))
 
   -- A wait ends the part.
-  pub wait_taken : (code : ℕ) (old new : PieceLines) → ((behind : Lines) → shown new behind ≡ shown old (None ∷ behind))
+  pub wait_taken : (code : ℕ) (old new : PieceLines) → ((behind : Lines) → shown_lines new behind ≡ shown_lines old (None ∷ behind))
       → IsTaken tape line quiet (Wait code) old new None
   wait_taken code old new is n back behind short = sym (is behind)
 
   -- Before the first block the lines so far are none, and all blocks are left.
-  pub so_far_start : (p : ℕ) (own : PieceLines) → ((behind : Lines) → shown own behind ≡ behind)
+  pub so_far_start : (p : ℕ) (own : PieceLines) → ((behind : Lines) → shown_lines own behind ≡ behind)
       → IsSoFar tape line quiet p own 0 (blocks tape p)
-  unfolding whole
+  unfolding lines_of_run
   so_far_start p own none = record {
     calls = λ i c is. (i, is);
-    are = λ n back short. sym (none (blocks_lines (loud tape) quiet (λ q behind. whole tape line quiet n q behind) (line p) back 0 (blocks tape p)));
+    are = λ n back short. sym (none (blocks_lines (loud tape) quiet (λ q behind. lines_of_run tape line quiet n q behind) (line p) back 0 (blocks tape p)));
   }
 
   -- If no chain of n + 1 calls begins in a program, none of n calls begins in a program that a
@@ -127,17 +127,17 @@ module _ (tape : List ControlProgram) (line : ℕ → ℕ → Option ℕ) (quiet
 
   -- The lines of the blocks that are left.
   abbrev pub left_lines : ℕ → ℕ → Lines → ℕ → List ControlBlock → Lines
-  left_lines p n back i rest = blocks_lines (loud tape) quiet (λ q behind. whole tape line quiet n q behind) (line p) back i rest
+  left_lines p n back i rest = blocks_lines (loud tape) quiet (λ q behind. lines_of_run tape line quiet n q behind) (line p) back i rest
 
   -- If a block's line is seen and what comes behind it is taken, the lines of the program are the
   -- new ones with those of the blocks that are left.
   taken_on : (n p : ℕ) (back : Lines) (old mid new : PieceLines) (i : ℕ) (b : ControlBlock) (rest : List ControlBlock) (ending : Option Ending)
       → IsSoFar tape line quiet p old i (b ∷ rest) → IsSeen old mid (seen_line (loud tape) quiet (line p i) b.control)
       → IsTaken tape line quiet b.control mid new ending → IsShort tape (suc n) p
-      → whole tape line quiet (suc n) p back ≡ coming new ending back (left_lines p n back (suc i) rest)
+      → lines_of_run tape line quiet (suc n) p back ≡ lines_to_come new ending back (left_lines p n back (suc i) rest)
   taken_on n p back old mid new i b rest ending so seen taken short =
       so.are n back short
-      ∙ (sym (seen (block_lines (loud tape) (λ q behind. whole tape line quiet n q behind) back b.control (left_lines p n back (suc i) rest)))
+      ∙ (sym (seen (block_lines (loud tape) (λ q behind. lines_of_run tape line quiet n q behind) back b.control (left_lines p n back (suc i) rest)))
       ∙ taken n back (left_lines p n back (suc i) rest) (short_call n p old i b rest so short))
 
   -- If the program goes on at a block that was taken, the lines so far are the new ones, with one
@@ -152,7 +152,7 @@ module _ (tape : List ControlProgram) (line : ℕ → ℕ → Option ℕ) (quiet
 
   -- If a program ends, its lines do not hang on what would come if it went on.
   ending_alone : (new : PieceLines) (ending : Ending) (back behind : Lines)
-      → coming new (Some ending) back behind ≡ coming new (Some ending) back []
+      → lines_to_come new (Some ending) back behind ≡ lines_to_come new (Some ending) back []
   ending_alone new Stops back behind = refl
   ending_alone new Returns back behind = refl
 

@@ -29,7 +29,7 @@ times zero f behind = behind
 times (suc n) f behind = f (times n f behind)
 
 -- The line of the quiet program that a block of this control calls, if it calls a quiet program
--- with a line. The name stands for the line of what is called.
+-- with a line.
 abbrev pub called_line : (ℕ → Bool) → (ℕ → Option ℕ) → Control → Option ℕ
 called_line loud quiet (Call program repeats) = if loud program then None else quiet program
 called_line loud quiet other = None
@@ -59,15 +59,15 @@ blocks_lines loud quiet called line back place (b ∷ bs) =
 
 -- The lines of a program that is run with fewer than n calls of loud programs to follow in it, one
 -- in another; `back` is what follows its M99.
-unfoldable pub whole : List ControlProgram → (ℕ → ℕ → Option ℕ) → (ℕ → Option ℕ) → ℕ → ℕ → Lines → Lines
-whole tape line quiet zero program back = back
-whole tape line quiet (suc n) program back =
-    blocks_lines (loud tape) quiet (λ q behind. whole tape line quiet n q behind) (line program) back 0 (blocks tape program)
+unfoldable pub lines_of_run : List ControlProgram → (ℕ → ℕ → Option ℕ) → (ℕ → Option ℕ) → ℕ → ℕ → Lines → Lines
+lines_of_run tape line quiet zero program back = back
+lines_of_run tape line quiet (suc n) program back =
+    blocks_lines (loud tape) quiet (λ q behind. lines_of_run tape line quiet n q behind) (line program) back 0 (blocks tape program)
 
 -- The lines of the path, without what comes once it begins anew. At most eight calls may be open
 -- (MOST_CALLS of block_order), so fewer than 9 follow one in another.
 abbrev pub path_lines : List ControlProgram → (ℕ → ℕ → Option ℕ) → (ℕ → Option ℕ) → Lines
-path_lines tape line quiet = whole tape line quiet 9 (main_number tape) (None ∷ [])
+path_lines tape line quiet = lines_of_run tape line quiet 9 (main_number tape) (None ∷ [])
 
 -- Calls of quiet programs, one in another, lead from the first program to the other, which is
 -- opened from there.

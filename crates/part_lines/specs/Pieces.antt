@@ -19,19 +19,18 @@ use Rattle.part_lines.specs.declared.piece.PieceLines.{PieceLines}
 use Rattle.part_lines.specs.declared.quiet.QuietLines.{QuietLines}
 use Rattle.nc_number.specs.Options.{lesser}
 use Rattle.part_lines.specs.Least.{IsLeast}
-use Rattle.part_lines.specs.Lines.{Lines, with_first, times, seen_line, block_lines, blocks_lines, whole, LineFrom}
+use Rattle.part_lines.specs.Lines.{Lines, with_first, times, seen_line, block_lines, blocks_lines, lines_of_run, LineFrom}
 
--- The lines of a piece with what comes behind them, as the list of lines that the piece shows. The
--- name stands for the piece as contracts see it.
-abbrev pub shown : PieceLines → Lines → Lines
-shown lines behind = lines.done.items ++ with_first lines.last behind
+-- The lines of a piece with what comes behind them, as the list of lines that the piece shows.
+abbrev pub shown_lines : PieceLines → Lines → Lines
+shown_lines lines behind = lines.done.items ++ with_first lines.last behind
 
 -- The lines of a piece with what comes behind them by how the program ends there: `behind` if it
 -- goes on, nothing if it stops, `back` if it returns.
-abbrev pub coming : PieceLines → Option Ending → Lines → Lines → Lines
-coming lines None back behind = shown lines behind
-coming lines (Some Stops) back behind = shown lines (None ∷ [])
-coming lines (Some Returns) back behind = shown lines back
+abbrev pub lines_to_come : PieceLines → Option Ending → Lines → Lines → Lines
+lines_to_come lines None back behind = shown_lines lines behind
+lines_to_come lines (Some Stops) back behind = shown_lines lines (None ∷ [])
+lines_to_come lines (Some Returns) back behind = shown_lines lines back
 
 -- How the calling program ends at the call of a program that ends so, if it ends there.
 abbrev pub stop_of : Ending → Option Ending
@@ -40,23 +39,24 @@ stop_of Returns = None
 
 -- The new lines are the old ones with one line more in their last part.
 abbrev pub IsSeen : PieceLines → PieceLines → Option ℕ → Type 0
-IsSeen old new line = (behind : Lines) → shown new behind ≡ shown old (with_first line behind)
+IsSeen old new line = (behind : Lines) → shown_lines new behind ≡ shown_lines old (with_first line behind)
 
 -- The new lines are the old ones with those of a piece behind them n times.
 abbrev pub AreJoined : PieceLines → PieceLines → ℕ → PieceLines → Type 0
-AreJoined old new n more = (behind : Lines) → shown new behind ≡ shown old (times n (shown more) behind)
+AreJoined old new n more =
+    (behind : Lines) → shown_lines new behind ≡ shown_lines old (times n (shown_lines more) behind)
 
 -- The new lines are the old ones with those of a piece that is run n times and ends so. If it
 -- stops, its first run is its last.
 abbrev pub AreAdded : Ending → PieceLines → PieceLines → ℕ → PieceLines → Type 0
-AreAdded Stops old new n more = (behind : Lines) → shown new behind ≡ shown old (shown more behind)
+AreAdded Stops old new n more = (behind : Lines) → shown_lines new behind ≡ shown_lines old (shown_lines more behind)
 AreAdded Returns old new n more = AreJoined old new n more
 
 -- These are the lines of the program, and it ends so: for each number n of calls that may follow,
 -- if no chain of n calls of loud programs begins in it.
 abbrev pub IsPiece : List ControlProgram → (ℕ → ℕ → Option ℕ) → (ℕ → Option ℕ) → ℕ → PieceLines → Ending → Type 0
 IsPiece tape line quiet program lines ending =
-    (n : ℕ) (back : Lines) → IsShort tape n program → whole tape line quiet n program back ≡ coming lines (Some ending) back []
+    (n : ℕ) (back : Lines) → IsShort tape n program → lines_of_run tape line quiet n program back ≡ lines_to_come lines (Some ending) back []
 
 -- What is kept of each program is its lines and how it ends.
 abbrev pub AreKnown : List ControlProgram → (ℕ → ℕ → Option ℕ) → (ℕ → Option ℕ) → KnownPrograms Piece → Type 0
@@ -67,14 +67,14 @@ AreKnown tape line quiet known =
 -- another.
 abbrev pub from_block : List ControlProgram → (ℕ → ℕ → Option ℕ) → (ℕ → Option ℕ) → ℕ → Lines → Control → Lines → Lines
 from_block tape line quiet n back control behind =
-    block_lines (loud tape) (λ q rest. whole tape line quiet n q rest) back control behind
+    block_lines (loud tape) (λ q rest. lines_of_run tape line quiet n q rest) back control behind
 
 -- The new lines are the old ones with what comes behind a block of this control; the program ends
 -- there as told, or goes on.
 abbrev pub IsTaken : List ControlProgram → (ℕ → ℕ → Option ℕ) → (ℕ → Option ℕ) → Control → PieceLines → PieceLines → Option Ending → Type 0
 IsTaken tape line quiet control old new ending =
     (n : ℕ) (back behind : Lines) → IsShortCall tape n control
-    → shown old (from_block tape line quiet n back control behind) ≡ coming new ending back behind
+    → shown_lines old (from_block tape line quiet n back control behind) ≡ lines_to_come new ending back behind
 
 -- The lines of a program up to a place and those of the blocks that are left are the lines of the
 -- program.
@@ -83,8 +83,8 @@ pub record IsSoFar (tape : List ControlProgram) (line : ℕ → ℕ → Option �
   pub calls : (i : ℕ) (c : Control) → control_at rest i ≡ Some c → (own : ℕ) × (control_at (blocks tape program) own ≡ Some c)
   -- Both together are its lines, for each number of calls that is enough for what follows in it.
   pub are : (n : ℕ) (back : Lines) → IsShort tape (suc n) program
-      → whole tape line quiet (suc n) program back
-      ≡ shown lines (blocks_lines (loud tape) quiet (λ q behind. whole tape line quiet n q behind) (line program) back place rest)
+      → lines_of_run tape line quiet (suc n) program back
+      ≡ shown_lines lines (blocks_lines (loud tape) quiet (λ q behind. lines_of_run tape line quiet n q behind) (line program) back place rest)
 
 -- The least line that was found so far of a program and what is opened from it: of the quiet
 -- programs that it calls, directly or through others.
@@ -123,7 +123,7 @@ first_of [] = None
 first_of (line ∷ lines) = line
 
 -- The lines of a whole path, made of those of its main program. If that returns, its round is
--- closed: the last part has the blocks of the first one too. The name stands for the list of lines.
-abbrev pub closed : PieceLines → Ending → Lines
-closed lines Stops = lines.done.items ++ lines.last ∷ []
-closed lines Returns = lines.done.items ++ lesser lines.last (first_of lines.done.items) ∷ []
+-- closed: the last part has the blocks of the first one too.
+abbrev pub lines_of_path : PieceLines → Ending → Lines
+lines_of_path lines Stops = lines.done.items ++ lines.last ∷ []
+lines_of_path lines Returns = lines.done.items ++ lesser lines.last (first_of lines.done.items) ∷ []

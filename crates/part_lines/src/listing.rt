@@ -6,7 +6,7 @@ ghost use Rattle.block_order.specs.declared.control.Control.TheVariants as Contr
 ghost use Rattle.loud_calls.specs.Calls.{IsReady, IsShort, IsShortCall};
 ghost use Rattle.loud_calls.specs.Known.{piece_known};
 ghost use Rattle.part_lines.specs.PartLines.{AreLeastLines};
-ghost use Rattle.part_lines.specs.Pieces.{closed, quiet_known, AreKnown, IsPiece, IsTaken};
+ghost use Rattle.part_lines.specs.Pieces.{lines_of_path, quiet_known, AreKnown, IsPiece, IsTaken};
 
 use crate::lines::BlockLines;
 use crate::piece::{Ending, Piece, PieceLines};
@@ -134,7 +134,7 @@ fn piece_of<L: BlockLines>(
 /// The lines of a whole path, made of those of its main program: its round is closed. Behind its
 /// M99 the last part goes on with the blocks of the first.
 fn closed(piece: Piece) -> Result<Vec<Option<u32>>, NoMemory>
-    ensures { IfOk result (λ found. found.items ≡ closed piece.lines piece.ending) }
+    ensures { IfOk result (λ found. found.items ≡ lines_of_path piece.lines piece.ending) }
 {
     let Piece { lines, ending } = piece;
     let PieceLines { mut done, last } = lines;

@@ -2,7 +2,7 @@
 //! the lines of what it calls. For this crate alone: listing.rt makes and joins pieces.
 ghost use Rattle.std.specs.Prelude.{◌≡◌, ◌<◌, ◌∷◌, None, OnOk, IfOk};
 ghost use Rattle.part_lines.specs.Lines.{Lines};
-ghost use Rattle.part_lines.specs.Pieces.{shown, stop_of, IsSeen, AreJoined, AreAdded};
+ghost use Rattle.part_lines.specs.Pieces.{shown_lines, stop_of, IsSeen, AreJoined, AreAdded};
 
 use nc_number::{NoMemory, lesser};
 use std::alloc::Global;
@@ -37,7 +37,7 @@ pub(crate) struct Piece {
 impl PieceLines {
     /// No line, and no wait.
     pub(crate) fn new(alloc: Global) -> Self
-        ensures { (behind : Lines) → shown result behind ≡ behind }
+        ensures { (behind : Lines) → shown_lines result behind ≡ behind }
     {
         PieceLines {
             done: Vec::new(alloc),
@@ -54,7 +54,7 @@ impl PieceLines {
 
     /// Takes a wait: the part that went on is done, and the next one has no line.
     pub(crate) fn pass(&mut self) -> Result<(), NoMemory>
-        ensures { OnOk result ((behind : Lines) → shown self.new behind ≡ shown self.old (None ∷ behind)) }
+        ensures { OnOk result ((behind : Lines) → shown_lines self.new behind ≡ shown_lines self.old (None ∷ behind)) }
     {
         self.done.push(self.last)?;
         self.last = None;
@@ -63,7 +63,8 @@ impl PieceLines {
 
     /// Takes the lines of a program that was called once.
     fn join(&mut self, more: &PieceLines) -> Result<(), NoMemory>
-        ensures { OnOk result ((behind : Lines) → shown self.new behind ≡ shown self.old (shown more.now behind)) }
+        ensures { OnOk result ((behind : Lines) → shown_lines self.new behind
+            ≡ shown_lines self.old (shown_lines more.now behind)) }
     {
         for line in &more.done {
             self.see(*line);

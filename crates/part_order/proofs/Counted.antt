@@ -11,7 +11,7 @@ use Rattle.block_order.specs.declared.program.ControlProgram.{ControlProgram}
 use Rattle.block_order.specs.Order.{blocks, main_number}
 use Rattle.block_order.specs.Loud.{loud, marks}
 use Rattle.block_order.specs.Labels as labels
-use Rattle.part_order.specs.Parts.{Item, Anew, times, items, whole, waits_in, path_items, path_waits}
+use Rattle.part_order.specs.Parts.{Item, Anew, times, items, items_of_call, waits_in, path_items, path_waits}
 
 -- How many waits the labels have.
 abbrev pub waits_of : List Label → ℕ
@@ -42,17 +42,17 @@ items_alike f g alike p s (mark.Back ∷ ms) xs ls e = e
 items_alike f g alike p s (mark.Past ∷ ms) xs ls e = refl
 
 -- The items of a whole program add as many waits as its labels.
-whole_alike : (tape : List ControlProgram) (n program : ℕ) → AddAlike (whole tape n program) (labels.whole tape n program)
-unfolding whole labels.whole
+whole_alike : (tape : List ControlProgram) (n program : ℕ) → AddAlike (items_of_call tape n program) (labels.labels_of_call tape n program)
+unfolding items_of_call labels.labels_of_call
 whole_alike tape zero program xs ls e = e
 whole_alike tape (suc n) program xs ls e =
-    items_alike (λ q k. whole tape n q k) (λ q k. labels.whole tape n q k) (λ q. whole_alike tape n q) program 0
+    items_alike (λ q k. items_of_call tape n q k) (λ q k. labels.labels_of_call tape n q k) (λ q. whole_alike tape n q) program 0
     (marks (loud tape) (blocks tape program)) xs ls e
 
 -- The list of a path has as many waits as its list of labels.
 pub list_waits : (tape : List ControlProgram) → waits_in (path_items tape) ≡ waits_of (labels.list tape)
 list_waits tape =
-    items_alike (λ q k. whole tape 8 q k) (λ q k. labels.whole tape 8 q k) (λ q. whole_alike tape 8 q) (main_number tape) 0
+    items_alike (λ q k. items_of_call tape 8 q k) (λ q k. labels.labels_of_call tape 8 q k) (λ q. whole_alike tape 8 q) (main_number tape) 0
     (marks (loud tape) (blocks tape (main_number tape))) (Anew ∷ []) (label.Again ∷ []) refl
 
 -- Two tapes with one list of labels have equally many waits.

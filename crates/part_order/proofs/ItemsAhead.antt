@@ -15,21 +15,21 @@ use Rattle.block_order.specs.declared.program.ControlProgram.{ControlProgram}
 use Rattle.block_order.specs.Order.{blocks, control_at}
 use Rattle.block_order.specs.Loud.{loud, mark_of, marks, stretch}
 use Rattle.block_order.specs.Labels.{room, counts}
-use Rattle.block_order.specs.Moves.{at}
+use Rattle.block_order.specs.Moves.{frame_at_block}
 use Rattle.block_order.proofs.MarksFrom.{marks-at, marks-drop}
-use Rattle.part_order.specs.Parts.{Item, Stretch, Meets, times, items, whole, items_from, stretch_at, behind, ahead}
+use Rattle.part_order.specs.Parts.{Item, Stretch, Meets, times, items, items_of_call, items_from, stretch_at, items_after, items_ahead}
 
 -- The items ahead of a frame that counts are its own, and then what comes once it has returned.
-pub ahead-counts : (tape : List ControlProgram) (f : Frame) (stack : List Frame) → counts tape f.program stack ≡ true
-    → ahead tape (f ∷ stack)
-    ≡ items_from tape (room stack) f.program (stretch_at tape f.program f.block) f.left (behind tape stack)
-ahead-counts tape f stack e = rw e
+pub items_ahead-counts : (tape : List ControlProgram) (f : Frame) (stack : List Frame) → counts tape f.program stack ≡ true
+    → items_ahead tape (f ∷ stack)
+    ≡ items_from tape (room stack) f.program (stretch_at tape f.program f.block) f.left (items_after tape stack)
+items_ahead-counts tape f stack e = rw e
 
 -- The items ahead of a frame that does not count, of a quiet program that was called, are those of
 -- its callers' frames.
-pub ahead-quiet : (tape : List ControlProgram) (f : Frame) (stack : List Frame) → counts tape f.program stack ≡ false
-    → ahead tape (f ∷ stack) ≡ ahead tape stack
-ahead-quiet tape f stack e = rw e
+pub items_ahead-quiet : (tape : List ControlProgram) (f : Frame) (stack : List Frame) → counts tape f.program stack ≡ false
+    → items_ahead tape (f ∷ stack) ≡ items_ahead tape stack
+items_ahead-quiet tape f stack e = rw e
 
 -- Before the next block stand the marks before a block and its own.
 stretch_next : (ld : ℕ → Bool) (bs : List ControlBlock) (i : ℕ) (c : Control) → control_at bs i ≡ Some c
@@ -48,12 +48,12 @@ stretch_next ld (b ∷ bs) (suc i) c e =
 -- move anywhere.
 pub moves_kept : (tape : List ControlProgram) (f : Frame) (stack : List Frame) (block : ℕ)
     → (counts tape f.program stack ≡ true → stretch_at tape f.program block ≡ stretch_at tape f.program f.block)
-    → ahead tape (at f block ∷ stack) ≡ ahead tape (f ∷ stack)
+    → items_ahead tape (frame_at_block f block ∷ stack) ≡ items_ahead tape (f ∷ stack)
 moves_kept tape f stack block same = go (counts tape f.program stack) refl
   where
-    go : (b : Bool) → counts tape f.program stack ≡ b → ahead tape (at f block ∷ stack) ≡ ahead tape (f ∷ stack)
+    go : (b : Bool) → counts tape f.program stack ≡ b → items_ahead tape (frame_at_block f block ∷ stack) ≡ items_ahead tape (f ∷ stack)
     go true e =
-        rw e (ap (λ k. items_from tape (room stack) f.program k f.left (behind tape stack)) (same e))
+        rw e (ap (λ k. items_from tape (room stack) f.program k f.left (items_after tape stack)) (same e))
     go false e = rw e refl
 
 -- The block after one that is no mark is in the same stretch.
@@ -98,7 +98,7 @@ pub call_opens : (tape : List ControlProgram) (n m p block left q more : ℕ) (r
     → items_from tape n p (stretch_at tape p block) left rest
     ≡ Stretch p (stretch_at tape p block)
     ∷ items_from tape m q 0 more (items_from tape n p (stretch_at tape p (suc block)) left rest)
-unfolding whole
+unfolding items_of_call
 call_opens tape n m p block left q more rest e is noisy =
     let one : mark_of (loud tape) (Call q (suc more)) ≡ mark.Call q (suc more) ∷ [] = rw noisy refl in
     rw (
@@ -113,7 +113,7 @@ pub repeat_begins : (tape : List ControlProgram) (n p block left : ℕ) (rest : 
     → control_at (blocks tape p) block ≡ Some Back
     → items_from tape n p (stretch_at tape p block) (suc left) rest
     ≡ Stretch p (stretch_at tape p block) ∷ items_from tape n p 0 left rest
-unfolding whole
+unfolding items_of_call
 repeat_begins tape n p block left rest is = rw (marks_here tape p block Back is) refl
 
 -- At an M99 with no repeat left the items are its stretch and what comes after the return.

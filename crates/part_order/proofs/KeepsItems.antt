@@ -10,49 +10,49 @@ use Rattle.block_order.specs.declared.program.ControlProgram.{ControlProgram}
 use Rattle.block_order.specs.Order.{blocks, control_at, IsLoop, Leads}
 use Rattle.block_order.specs.Loud.{loud, mark_of}
 use Rattle.block_order.specs.Labels.{room, counts, IsTarget, IsUnforked}
-use Rattle.block_order.specs.Moves.{at, place_behind, return_by, place_of_jump_back}
-use Rattle.block_order.specs.Steps.{Goes, IsPlace, standing}
+use Rattle.block_order.specs.Moves.{frame_at_block, place_behind, return_by, place_of_jump_back}
+use Rattle.block_order.specs.Steps.{Goes, IsPlace, control_of_place}
 use Rattle.block_order.proofs.LoudReaches.{AreLoud}
 use Rattle.block_order.proofs.CallChains.{counts_below, main_below}
 use Rattle.block_order.proofs.KeepsLabels.{Counts-from}
 use Rattle.block_order.proofs.Searches.{loop_facts}
 use Rattle.block_order.proofs.StepsStay.{wait_counts}
 use Rattle.block_order.proofs.Moved.{jump_leads, exit_leads, head_leads, call_leads}
-use Rattle.part_order.specs.Parts.{Stretch, Meets, Anew, Follows, behind_stretch, behind_wait, anew, stretch_at, behind, ahead, path_items}
-use Rattle.part_order.proofs.ItemsAhead.{ahead-counts, ahead-quiet, moves_kept, unmarked_next, call_opens, repeat_begins, last_returns, wait_begins}
+use Rattle.part_order.specs.Parts.{Stretch, Meets, Anew, Follows, behind_stretch, behind_wait, anew, stretch_at, items_after, items_ahead, path_items}
+use Rattle.part_order.proofs.ItemsAhead.{items_ahead-counts, items_ahead-quiet, moves_kept, unmarked_next, call_opens, repeat_begins, last_returns, wait_begins}
 
 -- The items ahead of the place follow n waits of the list.
 abbrev pub Stands : List ControlProgram → ℕ → List Frame → Type 0
-Stands tape n place = Follows (path_items tape) n (ahead tape place)
+Stands tape n place = Follows (path_items tape) n (items_ahead tape place)
 
 -- A place with the same items ahead stands in the same part.
-same : (tape : List ControlProgram) (n : ℕ) (from to : List Frame) → ahead tape to ≡ ahead tape from → Stands tape n from → Stands tape n to
+same : (tape : List ControlProgram) (n : ℕ) (from to : List Frame) → items_ahead tape to ≡ items_ahead tape from → Stands tape n from → Stands tape n to
 same tape n from to e s = subst (Follows (path_items tape) n) (sym e) s
 
 -- A step that leaves a stretch behind stands in the same part.
-leaves : (tape : List ControlProgram) (n p s : ℕ) (from to : List Frame) → ahead tape from ≡ Stretch p s ∷ ahead tape to
+leaves : (tape : List ControlProgram) (n p s : ℕ) (from to : List Frame) → items_ahead tape from ≡ Stretch p s ∷ items_ahead tape to
     → Stands tape n from → Stands tape n to
 leaves tape n p s from to e st =
-    behind_stretch n p s (ahead tape to) (subst (Follows (path_items tape) n) e st)
+    behind_stretch n p s (items_ahead tape to) (subst (Follows (path_items tape) n) e st)
 
 -- A step to the next block of the stretch keeps the items ahead.
 next_kept : (tape : List ControlProgram) (f : Frame) (stack : List Frame) (c : Control)
     → control_at (blocks tape f.program) f.block ≡ Some c → mark_of (loud tape) c ≡ []
-    → ahead tape (at f (suc f.block) ∷ stack) ≡ ahead tape (f ∷ stack)
+    → items_ahead tape (frame_at_block f (suc f.block) ∷ stack) ≡ items_ahead tape (f ∷ stack)
 next_kept tape f stack c is none = moves_kept tape f stack (suc f.block) (λ _. unmarked_next tape f.program f.block c is none)
 
 -- A jump keeps the items ahead: its target lies in the same stretch, or its program does not count.
 jump_kept : (tape : List ControlProgram) → IsUnforked tape → (f : Frame) (stack : List Frame)
     → IsPlace tape (f ∷ stack) → (c : Control) → control_at (blocks tape f.program) f.block ≡ Some c
     → (target : ℕ) → IsTarget tape f.program f.block c target
-    → ahead tape (at f target ∷ stack) ≡ ahead tape (f ∷ stack)
+    → items_ahead tape (frame_at_block f target ∷ stack) ≡ items_ahead tape (f ∷ stack)
 jump_kept tape un f stack place c is target to =
     moves_kept tape f stack target (λ e. sym (un.jumps f.program f.block target c (Counts-from tape f stack place e) is to))
 
 -- A step out of a loop keeps the items ahead.
 exit_kept : (tape : List ControlProgram) → IsUnforked tape → (f : Frame) (stack : List Frame)
     → IsPlace tape (f ∷ stack) → (close : ℕ) → IsLoop (blocks tape f.program) f.block close
-    → ahead tape (at f (suc close) ∷ stack) ≡ ahead tape (f ∷ stack)
+    → items_ahead tape (frame_at_block f (suc close) ∷ stack) ≡ items_ahead tape (f ∷ stack)
 exit_kept tape un f stack place close loop =
     let facts = loop_facts (blocks tape f.program) f.block close loop in
     moves_kept tape f stack (suc close)
@@ -62,7 +62,7 @@ exit_kept tape un f stack place close loop =
 -- A step back to a loop's head keeps the items ahead.
 loop_kept : (tape : List ControlProgram) → IsUnforked tape → (f : Frame) (stack : List Frame)
     → IsPlace tape (f ∷ stack) → (head : ℕ) → IsLoop (blocks tape f.program) head f.block
-    → ahead tape (at f head ∷ stack) ≡ ahead tape (f ∷ stack)
+    → items_ahead tape (frame_at_block f head ∷ stack) ≡ items_ahead tape (f ∷ stack)
 loop_kept tape un f stack place head loop =
     moves_kept tape f stack head (λ e. un.loops f.program head f.block (Counts-from tape f stack place e) loop)
 
@@ -76,13 +76,13 @@ call_stands tape are n f stack q more is few s = go (loud tape q) refl
     inner = record { program = q; block = 0; left = more }
 
     go : (b : Bool) → loud tape q ≡ b → Stands tape n (inner ∷ f ∷ stack)
-    go false e = same tape n (f ∷ stack) (inner ∷ f ∷ stack) (ahead-quiet tape inner (f ∷ stack) e) s
+    go false e = same tape n (f ∷ stack) (inner ∷ f ∷ stack) (items_ahead-quiet tape inner (f ∷ stack) e) s
     go true e =
         let deep : room stack ≡ suc (room (f ∷ stack)) = omega arith in
         leaves tape n f.program (stretch_at tape f.program f.block) (f ∷ stack) (inner ∷ f ∷ stack)
-        (ahead-counts tape f stack (counts_below tape are f stack q (suc more) is e)
-        ∙ (call_opens tape (room stack) (room (f ∷ stack)) f.program f.block f.left q more (behind tape stack) deep is e
-        ∙ ap (λ xs. Stretch f.program (stretch_at tape f.program f.block) ∷ xs) (sym (ahead-counts tape inner (f ∷ stack) e)))) s
+        (items_ahead-counts tape f stack (counts_below tape are f stack q (suc more) is e)
+        ∙ (call_opens tape (room stack) (room (f ∷ stack)) f.program f.block f.left q more (items_after tape stack) deep is e
+        ∙ ap (λ xs. Stretch f.program (stretch_at tape f.program f.block) ∷ xs) (sym (items_ahead-counts tape inner (f ∷ stack) e)))) s
 
 -- A return leads on in the items.
 back_stands : (tape : List ControlProgram) → AreLoud tape → (n : ℕ) (f g : Frame) (stack : List Frame)
@@ -92,18 +92,18 @@ back_stands : (tape : List ControlProgram) → AreLoud tape → (n : ℕ) (f g :
 back_stands tape are n f g stack place is zero l s = go (loud tape f.program) refl
   where
     after : Frame
-    after = at g (suc g.block)
+    after = frame_at_block g (suc g.block)
 
     go : (b : Bool) → loud tape f.program ≡ b → Stands tape n (after ∷ stack)
     go false e =
         same tape n (f ∷ g ∷ stack) (after ∷ stack)
-        (next_kept tape g stack (Call f.program place.0) place.1 (rw e refl) ∙ sym (ahead-quiet tape f (g ∷ stack) e)) s
+        (next_kept tape g stack (Call f.program place.0) place.1 (rw e refl) ∙ sym (items_ahead-quiet tape f (g ∷ stack) e)) s
     go true e =
         leaves tape n f.program (stretch_at tape f.program f.block) (f ∷ g ∷ stack) (after ∷ stack)
-        (ahead-counts tape f (g ∷ stack) e
-        ∙ (rw l (last_returns tape (room (g ∷ stack)) f.program f.block (behind tape (g ∷ stack)) is)
+        (items_ahead-counts tape f (g ∷ stack) e
+        ∙ (rw l (last_returns tape (room (g ∷ stack)) f.program f.block (items_after tape (g ∷ stack)) is)
         ∙ ap (λ xs. Stretch f.program (stretch_at tape f.program f.block) ∷ xs)
-        (sym (ahead-counts tape after stack (counts_below tape are g stack f.program place.0 place.1 e))))) s
+        (sym (items_ahead-counts tape after stack (counts_below tape are g stack f.program place.0 place.1 e))))) s
 back_stands tape are n f g stack place is (suc left) l s = go (loud tape f.program) refl
   where
     again : Frame
@@ -112,17 +112,17 @@ back_stands tape are n f g stack place is (suc left) l s = go (loud tape f.progr
     go : (b : Bool) → loud tape f.program ≡ b → Stands tape n (again ∷ g ∷ stack)
     go false e =
         same tape n (f ∷ g ∷ stack) (again ∷ g ∷ stack)
-        (ahead-quiet tape again (g ∷ stack) e ∙ sym (ahead-quiet tape f (g ∷ stack) e)) s
+        (items_ahead-quiet tape again (g ∷ stack) e ∙ sym (items_ahead-quiet tape f (g ∷ stack) e)) s
     go true e =
         leaves tape n f.program (stretch_at tape f.program f.block) (f ∷ g ∷ stack) (again ∷ g ∷ stack)
-        (ahead-counts tape f (g ∷ stack) e
-        ∙ (rw l (repeat_begins tape (room (g ∷ stack)) f.program f.block left (behind tape (g ∷ stack)) is)
-        ∙ ap (λ xs. Stretch f.program (stretch_at tape f.program f.block) ∷ xs) (sym (ahead-counts tape again (g ∷ stack) e)))) s
+        (items_ahead-counts tape f (g ∷ stack) e
+        ∙ (rw l (repeat_begins tape (room (g ∷ stack)) f.program f.block left (items_after tape (g ∷ stack)) is)
+        ∙ ap (λ xs. Stretch f.program (stretch_at tape f.program f.block) ∷ xs) (sym (items_ahead-counts tape again (g ∷ stack) e)))) s
 
 -- A return to a sequence number (M99 P) keeps the items ahead.
 back_to_kept : (tape : List ControlProgram) → AreLoud tape → IsUnforked tape → (f : Frame) (stack : List Frame)
     → IsPlace tape (f ∷ stack) → (k : ℕ) → control_at (blocks tape f.program) f.block ≡ Some (BackTo k)
-    → (to : List Frame) → place_of_jump_back tape k (f ∷ stack) ≡ Ok to → ahead tape to ≡ ahead tape (f ∷ stack)
+    → (to : List Frame) → place_of_jump_back tape k (f ∷ stack) ≡ Ok to → items_ahead tape to ≡ items_ahead tape (f ∷ stack)
 back_to_kept tape are un f [] place k is to e =
     let j = jump_leads tape k f [] to e in
     rw j.2 (jump_kept tape un f [] place (BackTo k) is j.0 (place.0, j.1))
@@ -130,21 +130,21 @@ back_to_kept tape are un f (g ∷ stack) place k is to e =
     let j = jump_leads tape k g stack to e in rw j.2 (go j.0 j.1 (loud tape f.program) refl)
   where
     go : (target : ℕ) → Leads (blocks tape g.program) g.block k target → (b : Bool) → loud tape f.program ≡ b
-        → ahead tape (at g target ∷ stack) ≡ ahead tape (f ∷ g ∷ stack)
+        → items_ahead tape (frame_at_block g target ∷ stack) ≡ items_ahead tape (f ∷ g ∷ stack)
     go target leads true noisy =
         absurd (main_below tape are un f g stack place noisy (un.backs f.program f.block k noisy is))
     go target leads false quiet =
         jump_kept tape un g stack place.3 (Call f.program place.0) place.1 target (quiet, f.block, k, is, leads)
-        ∙ sym (ahead-quiet tape f (g ∷ stack) quiet)
+        ∙ sym (items_ahead-quiet tape f (g ∷ stack) quiet)
 
 -- A return of the main program begins the list anew.
 restart_stands : (tape : List ControlProgram) (n : ℕ) (f : Frame) → IsPlace tape (f ∷ [])
     → control_at (blocks tape f.program) f.block ≡ Some Back
     → (to : List Frame) → Goes tape (f ∷ []) Back to → Stands tape n (f ∷ []) → Stands tape n to
 restart_stands tape n f place is to e s =
-    let here : ahead tape (f ∷ []) ≡ Stretch f.program (stretch_at tape f.program f.block) ∷ Anew ∷ [] =
+    let here : items_ahead tape (f ∷ []) ≡ Stretch f.program (stretch_at tape f.program f.block) ∷ Anew ∷ [] =
     rw place.1 (last_returns tape 8 f.program f.block (Anew ∷ []) is) in
-    let there : path_items tape ≡ ahead tape to = rw (e, place.0, place.1) refl in
+    let there : path_items tape ≡ items_ahead tape to = rw (e, place.0, place.1) refl in
     subst (Follows (path_items tape) n) there
     (anew n [] (behind_stretch n f.program (stretch_at tape f.program f.block) (Anew ∷ [])
     (subst (Follows (path_items tape) n) here s)))
@@ -184,15 +184,15 @@ goes_stands tape are un n f stack place (BackTo k) is to e s =
 
 -- Past a wait the path stands one part further.
 pub passed_stands : (tape : List ControlProgram) → AreLoud tape → (n code : ℕ) (place : List Frame)
-    → standing tape place ≡ Some (Wait code) → Stands tape n place → Stands tape (suc n) (place_behind place)
+    → control_of_place tape place ≡ Some (Wait code) → Stands tape n place → Stands tape (suc n) (place_behind place)
 passed_stands tape are n code [] is s = absurd cc
 passed_stands tape are n code (f ∷ stack) is s =
-    let after = at f (suc f.block) in
+    let after = frame_at_block f (suc f.block) in
     let own = stretch_at tape f.program f.block in
     let e : counts tape f.program stack ≡ true = wait_counts tape are f stack code is in
-    let here : ahead tape (f ∷ stack) ≡ Stretch f.program own ∷ Meets ∷ ahead tape (after ∷ stack) =
-    ahead-counts tape f stack e
-    ∙ (wait_begins tape (room stack) f.program f.block f.left code (behind tape stack) is
-    ∙ ap (λ xs. Stretch f.program own ∷ Meets ∷ xs) (sym (ahead-counts tape after stack e))) in
-    behind_wait n (ahead tape (after ∷ stack))
-    (behind_stretch n f.program own (Meets ∷ ahead tape (after ∷ stack)) (subst (Follows (path_items tape) n) here s))
+    let here : items_ahead tape (f ∷ stack) ≡ Stretch f.program own ∷ Meets ∷ items_ahead tape (after ∷ stack) =
+    items_ahead-counts tape f stack e
+    ∙ (wait_begins tape (room stack) f.program f.block f.left code (items_after tape stack) is
+    ∙ ap (λ xs. Stretch f.program own ∷ Meets ∷ xs) (sym (items_ahead-counts tape after stack e))) in
+    behind_wait n (items_ahead tape (after ∷ stack))
+    (behind_stretch n f.program own (Meets ∷ items_ahead tape (after ∷ stack)) (subst (Follows (path_items tape) n) here s))

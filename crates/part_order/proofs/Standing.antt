@@ -11,29 +11,29 @@ use Rattle.block_order.specs.Labels.{room, IsUnforked}
 use Rattle.block_order.specs.Steps.{IsPlace, Step}
 use Rattle.block_order.proofs.LoudReaches.{are_loud}
 use Rattle.block_order.proofs.StepsStay.{step_stays, next_stays}
-use Rattle.part_order.specs.Parts.{Follows, first, times, whole, stretch_at, behind, path_items, IsInPart, listed, called, IsReached, starts, steps, passes, StandsInParts}
-use Rattle.part_order.proofs.ItemsAhead.{ahead-counts, ahead-quiet, stretch_first}
+use Rattle.part_order.specs.Parts.{Follows, first, times, items_of_call, stretch_at, items_after, path_items, IsInPart, listed, called, IsReached, starts, steps, passes, StandsInParts}
+use Rattle.part_order.proofs.ItemsAhead.{items_ahead-counts, items_ahead-quiet, stretch_first}
 use Rattle.part_order.proofs.KeepsItems.{Stands, goes_stands, passed_stands}
 
 -- If the items ahead of a place follow n waits, its running block is in part n.
 in_part : (tape : List ControlProgram) (n : ℕ) (f : Frame) (stack : List Frame) → IsPlace tape (f ∷ stack)
     → Stands tape n (f ∷ stack) → IsInPart tape n f.program f.block
 in_part tape n f [] place s =
-    let own = stretch_first tape (λ q k. whole tape (room []) q k) f.program (stretch_at tape f.program f.block)
+    let own = stretch_first tape (λ q k. items_of_call tape (room []) q k) f.program (stretch_at tape f.program f.block)
     (drop (stretch_at tape f.program f.block) (marks (loud tape) (blocks tape f.program)))
-    (times f.left (λ k. whole tape (suc (room [])) f.program k) (behind tape [])) in
-    listed f.program f.block own.0 (subst (Follows (path_items tape) n) (ahead-counts tape f [] refl ∙ own.1) s)
+    (times f.left (λ k. items_of_call tape (suc (room [])) f.program k) (items_after tape [])) in
+    listed f.program f.block own.0 (subst (Follows (path_items tape) n) (items_ahead-counts tape f [] refl ∙ own.1) s)
 in_part tape n f (g ∷ stack) place s =
     go (loud tape f.program) refl
-    (λ e. in_part tape n g stack place.3 (subst (Follows (path_items tape) n) (ahead-quiet tape f (g ∷ stack) e) s))
+    (λ e. in_part tape n g stack place.3 (subst (Follows (path_items tape) n) (items_ahead-quiet tape f (g ∷ stack) e) s))
   where
     go : (b : Bool) → loud tape f.program ≡ b → (loud tape f.program ≡ false → IsInPart tape n g.program g.block)
         → IsInPart tape n f.program f.block
     go true e below =
-        let own = stretch_first tape (λ q k. whole tape (room (g ∷ stack)) q k) f.program (stretch_at tape f.program f.block)
+        let own = stretch_first tape (λ q k. items_of_call tape (room (g ∷ stack)) q k) f.program (stretch_at tape f.program f.block)
         (drop (stretch_at tape f.program f.block) (marks (loud tape) (blocks tape f.program)))
-        (times f.left (λ k. whole tape (suc (room (g ∷ stack))) f.program k) (behind tape (g ∷ stack))) in
-        listed f.program f.block own.0 (subst (Follows (path_items tape) n) (ahead-counts tape f (g ∷ stack) e ∙ own.1) s)
+        (times f.left (λ k. items_of_call tape (suc (room (g ∷ stack))) f.program k) (items_after tape (g ∷ stack))) in
+        listed f.program f.block own.0 (subst (Follows (path_items tape) n) (items_ahead-counts tape f (g ∷ stack) e ∙ own.1) s)
     go false e below = called g.program g.block f.program f.block place.0 (below e) place.1 e
 
 -- A step leads on in the items, past no wait.

@@ -14,7 +14,7 @@ use Rattle.block_order.specs.declared.program.ControlProgram.{ControlProgram}
 use Rattle.block_order.specs.Order.{blocks, control_at}
 use Rattle.block_order.specs.Loud.{loud, marks, stretch}
 use Rattle.block_order.specs.Labels.{room, counts, start}
-use Rattle.block_order.specs.Steps.{Step, standing, place_behind}
+use Rattle.block_order.specs.Steps.{Step, control_of_place, place_behind}
 
 -- What stands in the list: a stretch of a program, a wait, or that the list begins anew.
 pub data Item : Type 0 where
@@ -45,16 +45,16 @@ items called program number (mark.Past ∷ ms) rest = Stretch program number ∷
 
 -- The items of a program that is called while n calls may still be opened, its own one of them, and
 -- then `rest` if it returns; `rest` alone if none may be opened.
-unfoldable pub whole : List ControlProgram → ℕ → ℕ → List Item → List Item
-whole tape zero program rest = rest
-whole tape (suc n) program rest = items (λ q k. whole tape n q k) program 0 (marks (loud tape) (blocks tape program)) rest
+unfoldable pub items_of_call : List ControlProgram → ℕ → ℕ → List Item → List Item
+items_of_call tape zero program rest = rest
+items_of_call tape (suc n) program rest = items (λ q k. items_of_call tape n q k) program 0 (marks (loud tape) (blocks tape program)) rest
 
 -- The items of a frame, if its program returns each time: of its program from this stretch on, then
 -- of the `left` repeats still to come, then `rest`. Its program may open n further calls.
 abbrev pub items_from : List ControlProgram → ℕ → ℕ → ℕ → ℕ → List Item → List Item
 items_from tape n program number left rest =
-    items (λ q k. whole tape n q k) program number (drop number (marks (loud tape) (blocks tape program)))
-    (times left (λ k. whole tape (suc n) program k) rest)
+    items (λ q k. items_of_call tape n q k) program number (drop number (marks (loud tape) (blocks tape program)))
+    (times left (λ k. items_of_call tape (suc n) program k) rest)
 
 -- The number of the stretch in which a block of the program lies.
 abbrev pub stretch_at : List ControlProgram → ℕ → ℕ → ℕ
@@ -62,23 +62,23 @@ stretch_at tape program block = stretch (loud tape) (blocks tape program) block
 
 -- The items that come once the running program has returned to these frames, its caller first;
 -- behind the main program the list begins anew.
-abbrev pub behind : List ControlProgram → List Frame → List Item
-behind tape [] = Anew ∷ []
-behind tape (f ∷ stack) =
-    items_from tape (room stack) f.program (stretch_at tape f.program (suc f.block)) f.left (behind tape stack)
+abbrev pub items_after : List ControlProgram → List Frame → List Item
+items_after tape [] = Anew ∷ []
+items_after tape (f ∷ stack) =
+    items_from tape (room stack) f.program (stretch_at tape f.program (suc f.block)) f.left (items_after tape stack)
 
 -- The items from a place on, which is a list of frames, the running one first. A quiet program that
 -- was called has none of its own; the main program has, even if it is quiet.
-abbrev pub ahead : List ControlProgram → List Frame → List Item
-ahead tape [] = []
-ahead tape (f ∷ stack) =
+abbrev pub items_ahead : List ControlProgram → List Frame → List Item
+items_ahead tape [] = []
+items_ahead tape (f ∷ stack) =
     if counts tape f.program stack
-    then items_from tape (room stack) f.program (stretch_at tape f.program f.block) f.left (behind tape stack)
-    else ahead tape stack
+    then items_from tape (room stack) f.program (stretch_at tape f.program f.block) f.left (items_after tape stack)
+    else items_ahead tape stack
 
 -- The list of a path: the items from its start on.
 abbrev pub path_items : List ControlProgram → List Item
-path_items tape = ahead tape (start tape)
+path_items tape = items_ahead tape (start tape)
 
 -- How many waits the items have, before they begin anew.
 abbrev pub waits_in : List Item → ℕ
@@ -119,7 +119,7 @@ pub data IsReached (tape : List ControlProgram) : ℕ → List Frame → Type 0 
   -- A step passes no wait.
   steps : (n : ℕ) (from to : List Frame) → IsReached tape n from → Step tape from to → IsReached tape n to
   -- At a wait the path goes on, and one wait more is passed.
-  passes : (n code : ℕ) (from : List Frame) → IsReached tape n from → standing tape from ≡ Some (Wait code)
+  passes : (n code : ℕ) (from : List Frame) → IsReached tape n from → control_of_place tape from ≡ Some (Wait code)
       → IsReached tape (suc n) (place_behind from)
 
 -- After n waits each block that a path may come to is in part n.

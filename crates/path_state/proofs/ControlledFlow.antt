@@ -11,7 +11,7 @@ use Rattle.block_order.specs.declared.control.Control.TheVariants as control
 use Rattle.block_order.specs.declared.frame.Frame.{Frame}
 use Rattle.block_order.specs.declared.program.ControlProgram.{ControlProgram}
 use Rattle.block_order.specs.Order.{blocks_of, blocks, control_of, control_at}
-use Rattle.block_order.specs.Steps.{Goes as Goes_to, Step, standing}
+use Rattle.block_order.specs.Steps.{Goes as Goes_to, Step, control_of_place}
 use Rattle.block_forms.specs.declared.block.FlowBlock.{FlowBlock}
 use Rattle.block_forms.specs.declared.body.FlowBody.{FlowBody}
 use Rattle.block_forms.specs.declared.body.FlowBody.TheVariants.{Words, Statement}
@@ -43,7 +43,7 @@ after-steady tape path (Alarms number value) goes = record { goes = tt; keeps = 
 -- the block that stands at the path's place, words or statement, is steady
 body-steady : (tape : List ControlProgram) (fixed : Fixed) (path : PathView) (body : FlowBody)
     (reads : List Var)
-    → standing tape path.place ≡ Some (control_of_body body)
+    → control_of_place tape path.place ≡ Some (control_of_body body)
     → IsSteady tape path (effect_of_body tape fixed path body (control_of_body body) reads)
 body-steady tape fixed path (Words words) reads stands =
     words-steady tape fixed path words.purpose words.dialect.system words.words (control_of_body (Words words)) reads
@@ -55,7 +55,7 @@ body-steady tape fixed path (Statement statement) reads stands =
 -- the effect of the block that was found at the path's place, if there is one, is steady
 block-steady : (tape : List ControlProgram) (path : PathView) (found : Option FlowBlock)
     (reads : List Var)
-    → ((block : FlowBlock) → found ≡ Some block → standing tape path.place ≡ Some block.control)
+    → ((block : FlowBlock) → found ≡ Some block → control_of_place tape path.place ≡ Some block.control)
     → IsSteady tape path (effect_of_block tape path found reads)
 block-steady tape path None reads stands = record { goes = tt; keeps = tt }
 block-steady tape path (Some block) reads stands =
@@ -71,7 +71,7 @@ steady flow path reads =
     block-steady flow.order path (block_at flow.programs path.place) reads (go path.place)
   where
     go : (place : List Frame) (block : FlowBlock) → block_at flow.programs place ≡ Some block
-        → standing flow.order place ≡ Some block.control
+        → control_of_place flow.order place ≡ Some block.control
     go [] block is = absurd cc
     go (f ∷ stack) block is = rw (flow.agrees) (stands_in flow.programs f.program f.block block is)
 
@@ -83,7 +83,7 @@ Stands (Some block) o = o ≡ Some block.control
 
 -- at each place of a flow its block and the control of its order agree
 standing_of_block : (flow : Flow) (place : List Frame)
-    → Stands (block_at flow.programs place) (standing flow.order place)
+    → Stands (block_at flow.programs place) (control_of_place flow.order place)
 standing_of_block flow [] = refl
 standing_of_block flow (f ∷ stack) =
     rw (flow.agrees) (go (flow_block flow.programs f.program f.block) refl)
@@ -122,12 +122,12 @@ body-waits tape fixed path (Statement statement) c code reads is waits =
 
 -- a path that stands on a wait is at it, whatever was read
 pub waits : (flow : Flow) (path : PathView) (code : ℕ) (reads : List Var)
-    → standing flow.order path.place ≡ Some (control.Wait code)
+    → control_of_place flow.order path.place ≡ Some (control.Wait code)
     → effect_of flow path reads ≡ AtWait code
 waits flow path code reads stands =
     go (block_at flow.programs path.place) (standing_of_block flow path.place)
   where
-    go : (found : Option FlowBlock) → Stands found (standing flow.order path.place)
+    go : (found : Option FlowBlock) → Stands found (control_of_place flow.order path.place)
         → effect_of_block flow.order path found reads ≡ AtWait code
     go None there =
         absurd (let e : ◌≡◌ {A = Option Control} None (Some (control.Wait code)) = sym there ∙ stands in cc)
@@ -138,11 +138,11 @@ waits flow path code reads stands =
 
 -- a path past the last block of a program comes to the alarm of it, whatever was read
 pub runs_off : (flow : Flow) (path : PathView) (reads : List Var)
-    → standing flow.order path.place ≡ None → effect_of flow path reads ≡ past_the_last
+    → control_of_place flow.order path.place ≡ None → effect_of flow path reads ≡ past_the_last
 runs_off flow path reads stands =
     go (block_at flow.programs path.place) (standing_of_block flow path.place)
   where
-    go : (found : Option FlowBlock) → Stands found (standing flow.order path.place)
+    go : (found : Option FlowBlock) → Stands found (control_of_place flow.order path.place)
         → effect_of_block flow.order path found reads ≡ past_the_last
     go None there = refl
     go (Some block) there =
@@ -150,7 +150,7 @@ runs_off flow path reads stands =
 
 -- a path that stands on an end is never done with the block, whatever was read
 pub at_end : (flow : Flow) (path : PathView) (reads : List Var)
-    → standing flow.order path.place ≡ Some control.End
+    → control_of_place flow.order path.place ≡ Some control.End
     → (after : PathView) (write : Option Write) (moves : List Move)
     → effect_of flow path reads ≢ Done after write moves
 at_end flow path reads stands after write moves is =

@@ -1,7 +1,8 @@
 -- A block that is done keeps the labels ahead of its path, but for an M99 of the main program with
 -- no call open, by the law of block_order on one step: for the laws `each_block_keeps_the_labels`
 -- and `the_flow_of_an_accepted_tape_is_unforked` (src/control_law.rt). An order of blocks is
--- *unforked* if all its runs come to one list of labels.
+-- *unforked* (`IsUnforked`) if nothing leads from one stretch to another and no chain of nine calls
+-- of loud programs begins in the main program; then all its runs come to one list of labels.
 use Rattle.std.proofs.Common.{List, map, [], ◌∷◌, Some, sym, subst}
 use Rattle.nc_number.specs.declared.value.Var.{Var}
 use Rattle.block_order.specs.declared.control.Control.{Control}
@@ -10,7 +11,7 @@ use Rattle.block_order.specs.declared.frame.Frame.{Frame}
 use Rattle.block_order.specs.declared.program.ControlProgram.{ControlProgram}
 use Rattle.block_order.specs.Faults.{IsSound}
 use Rattle.block_order.specs.Labels.{IsUnforked}
-use Rattle.block_order.specs.Steps.{Step, standing, IsPlace, Kept, KeepsLabels}
+use Rattle.block_order.specs.Steps.{Step, control_of_place, IsPlace, Kept, KeepsLabels}
 use Rattle.block_order.proofs.Faultless.{faultless_unforked}
 use Rattle.block_order.proofs.OnePath.{keeps_labels}
 use Rattle.block_words.specs.declared.dialect.Dialect.{Dialect}
@@ -36,7 +37,7 @@ kept-ahead tape f (g ∷ stack) _ to kept = kept
 -- one step leads to a place again, and does to the labels ahead what `AheadOf` says
 step-ahead : (tape : List ControlProgram) → KeepsLabels tape → (place to : List Frame)
     → IsPlace tape place → Step tape place to
-    → IsPlace tape to × AheadOf tape place (standing tape place) to
+    → IsPlace tape to × AheadOf tape place (control_of_place tape place) to
 step-ahead tape law [] to here step = absurd here
 step-ahead tape law (f ∷ stack) to here (c, stands, goes) =
     let kept = law.step f stack here c stands to goes in
@@ -67,7 +68,7 @@ pub accepted_sound : (flow : Flow) (dialect : Dialect) (tape : List Program)
     → IsAccepted dialect tape (map program_form flow.programs) → IsSound flow.order
 accepted_sound flow dialect tape accepted = rw (flow.agrees) (accepted.sound)
 
--- all runs of an accepted tape's flow come to one list of labels
+-- an accepted tape's flow is unforked
 pub accepted_unforked : (flow : Flow) (dialect : Dialect) (tape : List Program)
     → IsAccepted dialect tape (map program_form flow.programs) → IsUnforked flow.order
 accepted_unforked flow dialect tape accepted =

@@ -8,7 +8,7 @@ use Rattle.block_order.specs.declared.control.Control.TheVariants.{Next, Goto, W
 use Rattle.block_order.specs.declared.frame.Frame.{Frame}
 use Rattle.block_order.specs.declared.program.ControlProgram.{ControlProgram}
 use Rattle.block_order.specs.Moves.{place_of_call, place_of_jump_back}
-use Rattle.block_order.specs.Steps.{Step, standing}
+use Rattle.block_order.specs.Steps.{Step, control_of_place}
 use Rattle.path_state.specs.Standing.{Standing, standing_at, with_call, without_call, standing_behind}
 
 -- a standing that a path goes to, if it goes anywhere, is a step of the order from the place
@@ -33,7 +33,7 @@ steps_at tape place s (Err cause) step = tt
 
 -- where control leads behind a block of words of such a control is a step of the order
 pub behind_steps : (tape : List ControlProgram) (s : Standing) (arguments : Option (List Var)) (c : Control)
-    → standing tape s.place ≡ Some c → Passes c → Steps tape s.place (standing_behind tape s arguments c)
+    → control_of_place tape s.place ≡ Some c → Passes c → Steps tape s.place (standing_behind tape s arguments c)
 behind_steps tape s arguments (Call program repeats) is passes =
     steps_at tape s.place (with_call arguments s) (place_of_call program repeats s.place)
     (λ there e. (Call program repeats, is, e))

@@ -17,15 +17,15 @@ use Rattle.block_order.specs.declared.frame.Frame.{Frame}
 use Rattle.block_order.specs.declared.program.ControlProgram.{ControlProgram}
 use Rattle.block_order.specs.Order.{MayBe}
 use Rattle.block_order.specs.Moves.{place_behind, place_of_jump, place_behind_loop, place_of_head}
-use Rattle.block_order.specs.Steps.{Step, standing}
+use Rattle.block_order.specs.Steps.{Step, control_of_place}
 use Rattle.block_forms.specs.Controls.{number_of_aim, control_of_sentence}
 use Rattle.macro_expr.specs.Tree.{Tree, Named, Aim, ToNumber, ToNumberOf, Sentence, Assign, Goto, IfGoto, IfThen, WhileDo, DoOnly, EndLoop}
 use Rattle.path_state.specs.View.{Fixed, PathView}
 use Rattle.path_state.specs.Looks.{is_shared}
 use Rattle.block_values.specs.Outcomes.{Outcome, Gives, Needs, Alarms, ◌>>=◌}
-use Rattle.path_state.specs.Said.{evaluated}
+use Rattle.path_state.specs.Said.{value_of_tree}
 use Rattle.block_values.specs.Operands.{length_of}
-use Rattle.path_state.specs.Statements.{After, along, with_offset, written_path, with_common, written, named, assigned, tested, aimed, move_effect, jump_effect, next_effect, assigned_next, statement_effect}
+use Rattle.path_state.specs.Statements.{After, point_along, with_offset, written_path, with_common, outcome_of_write, variable_named, outcome_of_assignment, outcome_of_test, outcome_of_aim, move_effect, jump_effect, next_effect, assigned_next, statement_effect}
 
 -- if the step gives a value, P holds of it
 abbrev pub OnGives : {A : Type 0} → (A → Type 0) → Outcome A → Type 0
@@ -87,32 +87,32 @@ offset-keeps path slot (Ok to) left = record { place = refl; fixed = refl }
 offset-keeps path slot (Err fault) left = tt
 
 -- a variable of any kind that takes a value leaves the path where it is
-written-keeps : (fixed : Fixed) (path : PathView) (v : Variable) (value : Var) (left : List Var)
-    → OnGives (Keeps path) (written fixed path v value left)
-written-keeps fixed path (variable.Local i) value left = record { place = refl; fixed = refl }
-written-keeps fixed path (variable.Common v) value left =
+outcome_of_write-keeps : (fixed : Fixed) (path : PathView) (v : Variable) (value : Var) (left : List Var)
+    → OnGives (Keeps path) (outcome_of_write fixed path v value left)
+outcome_of_write-keeps fixed path (variable.Local i) value left = record { place = refl; fixed = refl }
+outcome_of_write-keeps fixed path (variable.Common v) value left =
     with_common-keeps (is_shared fixed v) path v value
-written-keeps fixed path (variable.Work n axis) value left =
+outcome_of_write-keeps fixed path (variable.Work n axis) value left =
     offset-keeps path (Work n)
-    (in_range (along axis (length_of value) (point_at path.offsets (Work n)))) left
-written-keeps fixed path variable.Raise value left = tt
-written-keeps fixed path _ value left = tt
+    (in_range (point_along axis (length_of value) (point_at path.offsets (Work n)))) left
+outcome_of_write-keeps fixed path variable.Raise value left = tt
+outcome_of_write-keeps fixed path _ value left = tt
 
 -- an assignment, before the next block follows, leaves the path where it is
-assigned-keeps : (fixed : Fixed) (path : PathView) (name : Named) (tree : Tree) (reads : List Var)
-    → OnGives (Keeps path) (assigned fixed path name tree reads)
-assigned-keeps fixed path name tree reads =
-    after_any (Keeps path) (named fixed path name reads) _ (λ v behind_name.
-    after_any (Keeps path) (evaluated fixed path tree behind_name) _
-    (λ value left. written-keeps fixed path v value left))
+outcome_of_assignment-keeps : (fixed : Fixed) (path : PathView) (name : Named) (tree : Tree) (reads : List Var)
+    → OnGives (Keeps path) (outcome_of_assignment fixed path name tree reads)
+outcome_of_assignment-keeps fixed path name tree reads =
+    after_any (Keeps path) (variable_named fixed path name reads) _ (λ v behind_name.
+    after_any (Keeps path) (value_of_tree fixed path tree behind_name) _
+    (λ value left. outcome_of_write-keeps fixed path v value left))
 
 -- an assignment behind which the next block follows goes a step, if that leads to the next block
 assigned_next-goes : (tape : List ControlProgram) (fixed : Fixed) (path : PathView) (name : Named) (tree : Tree)
     (reads : List Var)
     → Step tape path.place (place_behind path.place) → OnGives (Goes tape path) (assigned_next fixed path name tree reads)
 assigned_next-goes tape fixed path name tree reads step =
-    behind_gives (Keeps path) (Goes tape path) (assigned fixed path name tree reads) _
-    (assigned-keeps fixed path name tree reads)
+    behind_gives (Keeps path) (Goes tape path) (outcome_of_assignment fixed path name tree reads) _
+    (outcome_of_assignment-keeps fixed path name tree reads)
     (λ after left keeps. record {
       step = subst (λ place. Step tape path.place (place_behind place)) (sym keeps.place) step;
       fixed = keeps.fixed;
@@ -126,18 +126,18 @@ move-goes tape path (Ok there) left step = record { step = step there refl; fixe
 move-goes tape path (Err cause) left step = tt
 
 -- the number that a target comes to is one that the order of blocks allows
-aimed-allowed : (fixed : Fixed) (path : PathView) (aim : Aim) (reads : List Var)
-    → OnGives (MayBe (number_of_aim aim)) (aimed fixed path aim reads)
-aimed-allowed fixed path (ToNumber n) reads = refl
-aimed-allowed fixed path (ToNumberOf tree) reads = anything (aimed fixed path (ToNumberOf tree) reads)
+outcome_of_aim-allowed : (fixed : Fixed) (path : PathView) (aim : Aim) (reads : List Var)
+    → OnGives (MayBe (number_of_aim aim)) (outcome_of_aim fixed path aim reads)
+outcome_of_aim-allowed fixed path (ToNumber n) reads = refl
+outcome_of_aim-allowed fixed path (ToNumberOf tree) reads = anything (outcome_of_aim fixed path (ToNumberOf tree) reads)
 
 -- a jump goes where its number leads
 jump-goes : (tape : List ControlProgram) (fixed : Fixed) (path : PathView) (aim : Aim) (reads : List Var)
-    → standing tape path.place ≡ Some (control.Goto (number_of_aim aim))
+    → control_of_place tape path.place ≡ Some (control.Goto (number_of_aim aim))
     → OnGives (Goes tape path) (jump_effect tape fixed path aim reads)
 jump-goes tape fixed path aim reads stands =
-    behind_gives (MayBe (number_of_aim aim)) (Goes tape path) (aimed fixed path aim reads) _
-    (aimed-allowed fixed path aim reads)
+    behind_gives (MayBe (number_of_aim aim)) (Goes tape path) (outcome_of_aim fixed path aim reads) _
+    (outcome_of_aim-allowed fixed path aim reads)
     (λ n left may. move-goes tape path (place_of_jump tape n path.place) left
     (λ there e. (control.Goto (number_of_aim aim), stands, inr (n, may, e))))
 
@@ -151,23 +151,23 @@ either P false first second one other = other
 -- every statement goes a step of the order of blocks, if it is done
 pub statement-goes : (tape : List ControlProgram) (fixed : Fixed) (path : PathView)
     (sentence : Sentence) (reads : List Var)
-    → standing tape path.place ≡ Some (control_of_sentence sentence)
+    → control_of_place tape path.place ≡ Some (control_of_sentence sentence)
     → OnGives (Goes tape path) (statement_effect tape fixed path sentence reads)
 statement-goes tape fixed path (Assign name tree) reads stands =
     assigned_next-goes tape fixed path name tree reads (control.Next, stands, refl)
 statement-goes tape fixed path (Goto aim) reads stands = jump-goes tape fixed path aim reads stands
 statement-goes tape fixed path (IfGoto test aim) reads stands =
-    after_any (Goes tape path) (tested fixed path test reads) _ (λ holds left.
+    after_any (Goes tape path) (outcome_of_test fixed path test reads) _ (λ holds left.
     either (Goes tape path) holds (jump_effect tape fixed path aim left) (next_effect path left)
     (jump-goes tape fixed path aim left stands)
     (record { step = (control.Goto (number_of_aim aim), stands, inl refl); fixed = refl }))
 statement-goes tape fixed path (IfThen test name tree) reads stands =
-    after_any (Goes tape path) (tested fixed path test reads) _ (λ holds left.
+    after_any (Goes tape path) (outcome_of_test fixed path test reads) _ (λ holds left.
     either (Goes tape path) holds (assigned_next fixed path name tree left) (next_effect path left)
     (assigned_next-goes tape fixed path name tree left (control.Next, stands, refl))
     (record { step = (control.Next, stands, refl); fixed = refl }))
 statement-goes tape fixed path (WhileDo test name) reads stands =
-    after_any (Goes tape path) (tested fixed path test reads) _ (λ holds left.
+    after_any (Goes tape path) (outcome_of_test fixed path test reads) _ (λ holds left.
     either (Goes tape path) holds (next_effect path left) (move_effect path (place_behind_loop tape path.place) left)
     (record { step = (control.While name, stands, inl refl); fixed = refl })
     (move-goes tape path (place_behind_loop tape path.place) left (λ there e. (control.While name, stands, inr e))))

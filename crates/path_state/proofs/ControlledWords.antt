@@ -9,7 +9,7 @@ use Rattle.local_levels.specs.Stack.{all_vacant}
 use Rattle.block_order.specs.declared.control.Control.{Control}
 use Rattle.block_order.specs.declared.control.Control.TheVariants as control
 use Rattle.block_order.specs.declared.program.ControlProgram.{ControlProgram}
-use Rattle.block_order.specs.Steps.{standing}
+use Rattle.block_order.specs.Steps.{control_of_place}
 use Rattle.block_words.specs.declared.word.FlowWord.{FlowWord}
 use Rattle.block_words.specs.declared.dialect.Dialect.{Dialect}
 use Rattle.block_words.specs.declared.purpose.Purpose.{Purpose}
@@ -24,7 +24,7 @@ use Rattle.path_state.specs.Said.{sense_of, words_taken, arguments_taken}
 use Rattle.block_values.specs.Motion.{Motion, motion_kind, motion_of}
 use Rattle.path_state.specs.Standing.{Standing, standing_of, standing_behind}
 use Rattle.block_values.specs.InForce.{modal_after}
-use Rattle.path_state.specs.Effect.{Effect, Moved, after_motion, motion_with, acted, done_by, controlled, of_moved, of_values, of_arguments, of_purpose, block_of_words}
+use Rattle.path_state.specs.Effect.{Effect, Moved, after_motion, motion_with, effect_of_words, done_by, effect_of_control, of_moved, of_values, of_arguments, of_purpose, block_of_words}
 use Rattle.path_state.specs.Controlled.{GoesAsOrdered, KeepsFixed}
 use Rattle.path_state.proofs.ControlledPlaces.{Steps, Passes, behind_steps}
 use Rattle.path_state.proofs.ControlledStatements.{Stays}
@@ -97,9 +97,9 @@ modal-stays fixed path system words values (Ok modal) =
 modal-stays fixed path system words values (Err number) = tt
 
 -- all that the words of a block do, control aside, leaves the path on its block
-acted-stays : (fixed : Fixed) (path : PathView) (system : System) (words : List FlowWord) (values : Values)
-    → MovesThere path (acted fixed path system words values)
-acted-stays fixed path system words values =
+effect_of_words-stays : (fixed : Fixed) (path : PathView) (system : System) (words : List FlowWord) (values : Values)
+    → MovesThere path (effect_of_words fixed path system words values)
+effect_of_words-stays fixed path system words values =
     modal-stays fixed path system words values (modal_after path.modal system words values)
 
 -- a block whose moves are known and that goes a step is steady
@@ -112,13 +112,13 @@ done-steady tape path moved (Err cause) stays steps = record { goes = tt; keeps 
 -- a block whose moves are known, and whose control lets it be done, is steady
 moved-steady : (tape : List ControlProgram) (path : PathView) (moved : Moved)
     (arguments : Option (List Var)) (c : Control)
-    → Stays path moved.path → standing tape path.place ≡ Some c → Passes c
+    → Stays path moved.path → control_of_place tape path.place ≡ Some c → Passes c
     → IsSteady tape path (done_by moved (standing_behind tape (standing_of moved.path) arguments c))
 moved-steady tape path moved arguments c stays stands passes =
     done-steady tape path moved (standing_behind tape (standing_of moved.path) arguments c) stays
     (subst (λ place. Steps tape place (standing_behind tape (standing_of moved.path) arguments c)) stays.place
     (behind_steps tape (standing_of moved.path) arguments c
-    (ap (λ place. standing tape place) stays.place ∙ stands) passes))
+    (ap (λ place. control_of_place tape place) stays.place ∙ stands) passes))
 
 -- the control is no wait and no end of a loop
 abbrev pub Runs : Control → Type 0
@@ -127,32 +127,32 @@ Runs (control.Wait code) = ⊥
 Runs _ = Unit {0}
 
 -- a block whose moves are known, and which is no wait, is steady, at an end too
-controlled-steady : (tape : List ControlProgram) (path : PathView) (moved : Moved)
+effect_of_control-steady : (tape : List ControlProgram) (path : PathView) (moved : Moved)
     (arguments : Option (List Var)) (c : Control)
-    → Stays path moved.path → standing tape path.place ≡ Some c → Runs c
-    → IsSteady tape path (controlled tape moved arguments c)
-controlled-steady tape path moved arguments control.End stays stands runs =
+    → Stays path moved.path → control_of_place tape path.place ≡ Some c → Runs c
+    → IsSteady tape path (effect_of_control tape moved arguments c)
+effect_of_control-steady tape path moved arguments control.End stays stands runs =
     record { goes = (stands, stays.place); keeps = stays.fixed }
-controlled-steady tape path moved arguments (control.EndLoop name) stays stands runs = absurd runs
-controlled-steady tape path moved arguments (control.Wait code) stays stands runs = absurd runs
-controlled-steady tape path moved arguments c stays stands runs =
+effect_of_control-steady tape path moved arguments (control.EndLoop name) stays stands runs = absurd runs
+effect_of_control-steady tape path moved arguments (control.Wait code) stays stands runs = absurd runs
+effect_of_control-steady tape path moved arguments c stays stands runs =
     moved-steady tape path moved arguments c stays stands tt
 
 -- a block that is no wait is steady, whether its words moved the path or raised an alarm
 moves-steady : (tape : List ControlProgram) (path : PathView) (c : Control) (moved : Result Moved ℕ)
     → MovesThere path moved
-    → standing tape path.place ≡ Some c → Runs c → IsSteady tape path (of_moved tape c moved)
+    → control_of_place tape path.place ≡ Some c → Runs c → IsSteady tape path (of_moved tape c moved)
 moves-steady tape path c (Ok moved) stays stands runs =
-    controlled-steady tape path moved None c stays stands runs
+    effect_of_control-steady tape path moved None c stays stands runs
 moves-steady tape path c (Err number) stays stands runs = record { goes = tt; keeps = tt }
 
 -- a block that is no wait is steady, whether its words gave values, a need or an alarm
 values-steady : (tape : List ControlProgram) (fixed : Fixed) (path : PathView) (system : System)
     (words : List FlowWord) (c : Control) (values : Outcome Values)
-    → standing tape path.place ≡ Some c → Runs c
+    → control_of_place tape path.place ≡ Some c → Runs c
     → IsSteady tape path (of_values tape fixed path system words c values)
 values-steady tape fixed path system words c (Gives values left) stands runs =
-    moves-steady tape path c (acted fixed path system words values) (acted-stays fixed path system words values)
+    moves-steady tape path c (effect_of_words fixed path system words values) (effect_of_words-stays fixed path system words values)
     stands runs
 values-steady tape fixed path system words c (Needs variable) stands runs = record { goes = tt; keeps = tt }
 values-steady tape fixed path system words c (Alarms number value) stands runs =
@@ -161,10 +161,10 @@ values-steady tape fixed path system words c (Alarms number value) stands runs =
 -- a macro call is steady, whether its words gave arguments, a need or an alarm
 arguments-steady : (tape : List ControlProgram) (path : PathView) (c : Control)
     (arguments : Outcome (List Var))
-    → standing tape path.place ≡ Some c → Runs c
+    → control_of_place tape path.place ≡ Some c → Runs c
     → IsSteady tape path (of_arguments tape path c arguments)
 arguments-steady tape path c (Gives arguments left) stands runs =
-    controlled-steady tape path (record { path = path; moves = [] }) (Some arguments) c
+    effect_of_control-steady tape path (record { path = path; moves = [] }) (Some arguments) c
     (record { place = refl; fixed = refl }) stands runs
 arguments-steady tape path c (Needs variable) stands runs = record { goes = tt; keeps = tt }
 arguments-steady tape path c (Alarms number value) stands runs = record { goes = tt; keeps = tt }
@@ -172,7 +172,7 @@ arguments-steady tape path c (Alarms number value) stands runs = record { goes =
 -- a block of words that is no wait is steady, whatever its purpose
 purpose-steady : (tape : List ControlProgram) (fixed : Fixed) (path : PathView) (purpose : Purpose)
     (system : System) (words : List FlowWord) (c : Control) (reads : List Var)
-    → standing tape path.place ≡ Some c → Runs c
+    → control_of_place tape path.place ≡ Some c → Runs c
     → IsSteady tape path (of_purpose tape fixed path purpose system words c reads)
 purpose-steady tape fixed path MacroCall system words c reads stands runs =
     arguments-steady tape path c (arguments_taken fixed path words all_vacant reads) stands runs
@@ -183,7 +183,7 @@ purpose-steady tape fixed path purpose system words c reads stands runs =
 -- every block of words is steady
 pub words-steady : (tape : List ControlProgram) (fixed : Fixed) (path : PathView) (purpose : Purpose)
     (system : System) (words : List FlowWord) (c : Control) (reads : List Var)
-    → standing tape path.place ≡ Some c → EndsNoLoop c
+    → control_of_place tape path.place ≡ Some c → EndsNoLoop c
     → IsSteady tape path (block_of_words tape fixed path purpose system words c reads)
 words-steady tape fixed path purpose system words (control.Wait code) reads stands no_end =
     record { goes = stands; keeps = tt }

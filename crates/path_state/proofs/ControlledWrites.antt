@@ -30,12 +30,12 @@ use Rattle.block_order.specs.Moves.{place_of_jump, place_behind_loop, place_of_h
 use Rattle.path_state.specs.View.{Fixed, PathView}
 use Rattle.path_state.specs.Looks.{is_shared}
 use Rattle.block_values.specs.Outcomes.{Outcome, Gives, Needs, Alarms}
-use Rattle.path_state.specs.Said.{evaluated, sense_of, words_taken, arguments_taken}
+use Rattle.path_state.specs.Said.{value_of_tree, sense_of, words_taken, arguments_taken}
 use Rattle.block_values.specs.Values.{Values, nothing_said}
 use Rattle.path_state.specs.Standing.{Standing, standing_of, standing_behind}
 use Rattle.block_values.specs.Operands.{length_of}
-use Rattle.path_state.specs.Statements.{Write, After, along, with_offset, written_path, with_common, written, named, assigned, tested, aimed, move_effect, jump_effect, next_effect, assigned_next, statement_effect}
-use Rattle.path_state.specs.Effect.{Effect, Done, Moved, acted, done_by, controlled, of_moved, of_values, of_arguments, of_purpose, block_of_words, of_after, effect_of_body, effect_of_block, block_at, effect_of}
+use Rattle.path_state.specs.Statements.{Write, After, point_along, with_offset, written_path, with_common, outcome_of_write, variable_named, outcome_of_assignment, outcome_of_test, outcome_of_aim, move_effect, jump_effect, next_effect, assigned_next, statement_effect}
+use Rattle.path_state.specs.Effect.{Effect, Done, Moved, effect_of_words, done_by, effect_of_control, of_moved, of_values, of_arguments, of_purpose, block_of_words, of_after, effect_of_body, effect_of_block, block_at, effect_of}
 use Rattle.path_state.proofs.ControlledStatements.{OnGives, behind_gives, after_any, either}
 
 -- the write, if there is one, is to a shared variable
@@ -64,28 +64,28 @@ module _ (fixed : Fixed) (path : PathView) where
 
   -- a variable of any kind that takes a value
   written-writes : (v : Variable) (value : Var) (left : List Var)
-      → OnGives (Writes fixed) (written fixed path v value left)
+      → OnGives (Writes fixed) (outcome_of_write fixed path v value left)
   written-writes (variable.Local i) value left = tt
   written-writes (variable.Common v) value left = common-writes (is_shared fixed v) v value refl
   written-writes (variable.Work n axis) value left =
-      offset-writes (Work n) (in_range (along axis (length_of value) (point_at path.offsets (Work n))))
+      offset-writes (Work n) (in_range (point_along axis (length_of value) (point_at path.offsets (Work n))))
       left
   written-writes variable.Raise value left = tt
   written-writes _ value left = tt
 
   -- an assignment
   assigned-writes : (name : Named) (tree : Tree) (reads : List Var)
-      → OnGives (Writes fixed) (assigned fixed path name tree reads)
+      → OnGives (Writes fixed) (outcome_of_assignment fixed path name tree reads)
   assigned-writes name tree reads =
-      after_any (Writes fixed) (named fixed path name reads) _ (λ v behind_name.
-      after_any (Writes fixed) (evaluated fixed path tree behind_name) _
+      after_any (Writes fixed) (variable_named fixed path name reads) _ (λ v behind_name.
+      after_any (Writes fixed) (value_of_tree fixed path tree behind_name) _
       (λ value left. written-writes v value left))
 
   -- an assignment behind which the next block follows
   assigned_next-writes : (name : Named) (tree : Tree) (reads : List Var)
       → OnGives (Writes fixed) (assigned_next fixed path name tree reads)
   assigned_next-writes name tree reads =
-      behind_gives (Writes fixed) (Writes fixed) (assigned fixed path name tree reads) _
+      behind_gives (Writes fixed) (Writes fixed) (outcome_of_assignment fixed path name tree reads) _
       (assigned-writes name tree reads)
       (λ after left writes. writes)
 
@@ -99,7 +99,7 @@ module _ (fixed : Fixed) (path : PathView) where
   jump-writes : (tape : List ControlProgram) (aim : Aim) (reads : List Var)
       → OnGives (Writes fixed) (jump_effect tape fixed path aim reads)
   jump-writes tape aim reads =
-      after_any (Writes fixed) (aimed fixed path aim reads) _
+      after_any (Writes fixed) (outcome_of_aim fixed path aim reads) _
       (λ n left. move-writes (place_of_jump tape n path.place) left)
 
   -- a statement
@@ -108,15 +108,15 @@ module _ (fixed : Fixed) (path : PathView) where
   statement-writes tape (Assign name tree) reads = assigned_next-writes name tree reads
   statement-writes tape (Goto aim) reads = jump-writes tape aim reads
   statement-writes tape (IfGoto test aim) reads =
-      after_any (Writes fixed) (tested fixed path test reads) _ (λ holds left.
+      after_any (Writes fixed) (outcome_of_test fixed path test reads) _ (λ holds left.
       either (Writes fixed) holds (jump_effect tape fixed path aim left) (next_effect path left)
       (jump-writes tape aim left) tt)
   statement-writes tape (IfThen test name tree) reads =
-      after_any (Writes fixed) (tested fixed path test reads) _ (λ holds left.
+      after_any (Writes fixed) (outcome_of_test fixed path test reads) _ (λ holds left.
       either (Writes fixed) holds (assigned_next fixed path name tree left) (next_effect path left)
       (assigned_next-writes name tree left) tt)
   statement-writes tape (WhileDo test name) reads =
-      after_any (Writes fixed) (tested fixed path test reads) _ (λ holds left.
+      after_any (Writes fixed) (outcome_of_test fixed path test reads) _ (λ holds left.
       either (Writes fixed) holds (next_effect path left)
       (move_effect path (place_behind_loop tape path.place) left) tt
       (move-writes (place_behind_loop tape path.place) left))
@@ -138,7 +138,7 @@ module _ (tape : List ControlProgram) (fixed : Fixed) (path : PathView) where
 
   -- a block whose moves are known, by its control
   controlled-writes : (moved : Moved) (arguments : Option (List Var)) (c : Control)
-      → EffectWrites fixed (controlled tape moved arguments c)
+      → EffectWrites fixed (effect_of_control tape moved arguments c)
   controlled-writes moved arguments control.End = tt
   controlled-writes moved arguments c =
       done-writes moved (standing_behind tape (standing_of moved.path) arguments c)
@@ -151,7 +151,7 @@ module _ (tape : List ControlProgram) (fixed : Fixed) (path : PathView) where
   -- a block of words, by their values
   values-write : (system : System) (words : List FlowWord) (c : Control) (values : Outcome Values)
       → EffectWrites fixed (of_values tape fixed path system words c values)
-  values-write system words c (Gives values left) = moves-write c (acted fixed path system words values)
+  values-write system words c (Gives values left) = moves-write c (effect_of_words fixed path system words values)
   values-write system words c (Needs variable) = tt
   values-write system words c (Alarms number value) = tt
 

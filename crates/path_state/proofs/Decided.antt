@@ -29,7 +29,7 @@ use Rattle.path_state.specs.declared.decision.Decision.TheVariants as decision
 use Rattle.block_words.specs.Codes.{is_macro}
 use Rattle.path_state.specs.Standing.{Standing, standing_of, standing_of_call, standing_behind}
 use Rattle.block_values.specs.Arguments.{arguments_with}
-use Rattle.path_state.specs.Effect.{Moved, alarm_of, of_values, of_arguments, controlled, done_by, macro_effect, block_of_words, of_purpose, words_effect}
+use Rattle.path_state.specs.Effect.{Moved, alarm_of, of_values, of_arguments, effect_of_control, done_by, macro_effect, block_of_words, of_purpose, words_effect}
 use Rattle.path_state.specs.Decisions.{macro_decided, of_said, of_arguments_said, MayTake, MayTakeWords}
 
 -- the effect of a block by the outcome of its words is that by what the code was told of them
@@ -100,7 +100,7 @@ called _ dialect words is = absurd cc
 
 -- a block whose moves are known and that is no end goes where its control leads
 pub goes : (tape : List ControlProgram) (moved : Moved) (arguments : Option (List Var)) (control : Control) → control ≢ End
-    → controlled tape moved arguments control ≡ done_by moved (standing_behind tape (standing_of moved.path) arguments control)
+    → effect_of_control tape moved arguments control ≡ done_by moved (standing_behind tape (standing_of moved.path) arguments control)
 goes tape moved arguments End is = absurd (is refl)
 goes tape moved arguments Next is = refl
 goes tape moved arguments (Goto n) is = refl
@@ -115,13 +115,13 @@ goes tape moved arguments (BackTo n) is = refl
 -- a macro call that leads somewhere, once decided, is the effect of the definition
 pub call_goes : (tape : List ControlProgram) (path : PathView) (arguments : List Var) (program repeats : ℕ) (there : Standing)
     → standing_of_call (Some arguments) program repeats (standing_of path) ≡ Ok there
-    → macro_decided path program repeats (Ok arguments) ≡ controlled tape (record { path = path; moves = [] }) (Some arguments) (Call program repeats)
+    → macro_decided path program repeats (Ok arguments) ≡ effect_of_control tape (record { path = path; moves = [] }) (Some arguments) (Call program repeats)
 call_goes tape path arguments program repeats there e = rw e refl
 
 -- a macro call that leads nowhere is the alarm of its cause
 pub call_stays : (tape : List ControlProgram) (path : PathView) (arguments : List Var) (program repeats : ℕ) (cause : Cause)
     → standing_of_call (Some arguments) program repeats (standing_of path) ≡ Err cause
-    → alarm_of cause ≡ controlled tape (record { path = path; moves = [] }) (Some arguments) (Call program repeats)
+    → alarm_of cause ≡ effect_of_control tape (record { path = path; moves = [] }) (Some arguments) (Call program repeats)
 call_stays tape path arguments program repeats cause e = rw e refl
 
 -- if the running block has a number for the one behind it, what was decided of words may be done

@@ -17,14 +17,14 @@ use Rattle.macro_eval.specs.declared.scope.Look.TheVariants as look
 use Rattle.macro_eval.specs.declared.scope.VarFault.{VarFault}
 use Rattle.macro_eval.specs.declared.scope.Eval.{Eval}
 use Rattle.macro_eval.specs.declared.scope.Eval.TheVariants.{Got, Need, Fault}
-use Rattle.macro_eval.specs.Meaning.{Answer, made, function_value, operator_value, variable_number, seen, looked_by, looked_up, then_with, meaning}
+use Rattle.macro_eval.specs.Meaning.{Answer, eval_of_number, function_value, operator_value, variable_number, answer_of_look, looked_by, looked_up, then_with, meaning}
 use Rattle.macro_eval.proofs.TakenReads.{takes, needs}
 use Rattle.modal_state.specs.View.{ModalView}
 use Rattle.path_state.specs.View.{Fixed, PathView}
 use Rattle.block_values.specs.Readings.{is_there, if_there, variable_in}
 use Rattle.path_state.specs.Looks.{is_shared, held_by, look_of}
-use Rattle.block_values.specs.Outcomes.{Outcome, Gives, Needs, Alarms, ◌>>=◌, reading_none, answered}
-use Rattle.path_state.specs.Said.{evaluated}
+use Rattle.block_values.specs.Outcomes.{Outcome, Gives, Needs, Alarms, ◌>>=◌, reading_none, outcome_of_answer}
+use Rattle.path_state.specs.Said.{value_of_tree}
 
 -- if the evaluation needs a variable, the table says that this variable is shared
 abbrev NeedsShared : (ℕ → Result Look VarFault) → Eval → Type 0
@@ -44,13 +44,13 @@ module _ (table : ℕ → Result Look VarFault) where
   then_needs (Fault n, left) next first further = tt
 
   -- a calculation needs no variable
-  made_needs : (r : Result ℤ NumberFault) → NeedsShared table (made r)
+  made_needs : (r : Result ℤ NumberFault) → NeedsShared table (eval_of_number r)
   made_needs (Ok z) = tt
   made_needs (Err fault) = tt
 
   -- a look at a variable needs it only if the table says that it is shared
   seen_needs : (n : ℕ) (found : Result Look VarFault) → table n ≡ found → (reads : List Var)
-      → NeedsShared table (seen found n reads).0
+      → NeedsShared table (answer_of_look found n reads).0
   seen_needs n (Ok (look.Is v)) is reads = tt
   seen_needs n (Ok look.Shared) is [] = is
   seen_needs n (Ok look.Shared) is (v ∷ left) = tt
@@ -142,11 +142,11 @@ none_asks fixed most reads (Err cause) = tt
 
 -- an expression asks for at most as many values as it names variables
 pub tree_asks : (fixed : Fixed) (path : PathView) (tree : Tree) (reads : List Var)
-    → Asks fixed (variables tree) reads (evaluated fixed path tree reads)
+    → Asks fixed (variables tree) reads (value_of_tree fixed path tree reads)
 tree_asks fixed path tree reads = go (meaning (look_of fixed path) tree reads) refl
   where
     go : (a : Answer) → meaning (look_of fixed path) tree reads ≡ a
-        → Asks fixed (variables tree) reads (answered a)
+        → Asks fixed (variables tree) reads (outcome_of_answer a)
     go (Got v, left) is =
         subst (λ a. length reads ≤ length a.1 + variables tree) is
         (takes (look_of fixed path) tree reads)

@@ -11,7 +11,7 @@ use Rattle.offset_store.specs.declared.slot.Slot.TheVariants.{Work}
 use Rattle.offset_store.specs.declared.fault.OffsetFault.{OffsetFault}
 use Rattle.offset_store.specs.Changes.{in_range, point_at}
 use Rattle.block_order.specs.declared.program.ControlProgram.{ControlProgram}
-use Rattle.macro_expr.specs.Tree.{Tree, Named, Fixed as Numbered, Computed, Test, Aim, ToNumber, ToNumberOf, Sentence, Assign, Goto, IfGoto, IfThen, WhileDo, DoOnly, EndLoop, variables, variables_in, evaluated_name, evaluated_aim, evaluated as evaluated_in}
+use Rattle.macro_expr.specs.Tree.{Tree, Named, Fixed as Numbered, Computed, Test, Aim, ToNumber, ToNumberOf, Sentence, Assign, Goto, IfGoto, IfThen, WhileDo, DoOnly, EndLoop, variables, variables_in, evaluated_name, evaluated_aim, trees_of_sentence}
 use Rattle.macro_expr.proofs.Kept.{variables-append}
 use Rattle.macro_eval.specs.Meaning.{whole_number, variable_number}
 use Rattle.block_order.specs.declared.frame.Frame.{Frame}
@@ -19,19 +19,19 @@ use Rattle.block_order.specs.Moves.{place_of_jump, place_behind_loop, place_of_h
 use Rattle.path_state.specs.View.{Fixed, PathView}
 use Rattle.block_values.specs.Readings.{variable_in}
 use Rattle.block_values.specs.Outcomes.{Outcome, ◌>>=◌}
-use Rattle.path_state.specs.Said.{evaluated}
-use Rattle.block_values.specs.Operands.{existing, number_named, length_of, sequence_number}
-use Rattle.path_state.specs.Statements.{After, along, with_offset, written_path, written, named, assigned, tested, aimed, move_effect, jump_effect, next_effect, assigned_next, statement_effect}
+use Rattle.path_state.specs.Said.{value_of_tree}
+use Rattle.block_values.specs.Operands.{variable_or_fault, number_named, length_of, sequence_number}
+use Rattle.path_state.specs.Statements.{After, point_along, with_offset, written_path, outcome_of_write, variable_named, outcome_of_assignment, outcome_of_test, outcome_of_aim, move_effect, jump_effect, next_effect, assigned_next, statement_effect}
 use Rattle.path_state.proofs.NeedsShared.{Asks, then_asks, none_asks, tree_asks}
 
 -- A path before its block: `fixed` is what is fixed for it.
 module _ (fixed : Fixed) (path : PathView) where
   -- the left side of an assignment asks for at most as many values as its number names variables
   named_asks : (name : Named) (reads : List Var)
-      → Asks fixed (variables_in (evaluated_name name)) reads (named fixed path name reads)
-  named_asks (Numbered n) reads = none_asks fixed 0 reads (existing (variable_in path.modal n))
+      → Asks fixed (variables_in (evaluated_name name)) reads (variable_named fixed path name reads)
+  named_asks (Numbered n) reads = none_asks fixed 0 reads (variable_or_fault (variable_in path.modal n))
   named_asks (Computed tree) reads =
-      then_asks fixed (variables tree) 0 _ (omega arith) reads (evaluated fixed path tree reads) _
+      then_asks fixed (variables tree) 0 _ (omega arith) reads (value_of_tree fixed path tree reads) _
       (tree_asks fixed path tree reads)
       (λ value left. none_asks fixed 0 left (number_named path.modal (variable_number value)))
 
@@ -43,11 +43,11 @@ module _ (fixed : Fixed) (path : PathView) where
 
   -- a write to a variable asks for none
   written_asks : (v : Variable) (value : Var) (left : List Var)
-      → Asks fixed 0 left (written fixed path v value left)
+      → Asks fixed 0 left (outcome_of_write fixed path v value left)
   written_asks (variable.Local i) value left = omega arith
   written_asks (variable.Common v) value left = omega arith
   written_asks (variable.Work n axis) value left =
-      offset_asks (Work n) (in_range (along axis (length_of value) (point_at path.offsets (Work n))))
+      offset_asks (Work n) (in_range (point_along axis (length_of value) (point_at path.offsets (Work n))))
       left
   written_asks variable.Raise value left = tt
   written_asks _ value left = tt
@@ -55,13 +55,13 @@ module _ (fixed : Fixed) (path : PathView) where
   -- an assignment asks for at most as many values as its left side and its value name variables
   assigned_asks : (name : Named) (tree : Tree) (reads : List Var)
       → Asks fixed (variables_in (evaluated_name name ++ tree ∷ [])) reads
-      (assigned fixed path name tree reads)
+      (outcome_of_assignment fixed path name tree reads)
   assigned_asks name tree reads =
       let all = variables-append (evaluated_name name) (tree ∷ []) in
       then_asks fixed (variables_in (evaluated_name name)) (variables tree) _ (omega arith) reads
-      (named fixed path name reads) _ (named_asks name reads)
+      (variable_named fixed path name reads) _ (named_asks name reads)
       (λ v behind_name. then_asks fixed (variables tree) 0 _ (omega arith) behind_name
-      (evaluated fixed path tree behind_name) _
+      (value_of_tree fixed path tree behind_name) _
       (tree_asks fixed path tree behind_name) (λ value left. written_asks v value left))
 
   -- an assignment behind which the next block follows asks for no more
@@ -70,26 +70,26 @@ module _ (fixed : Fixed) (path : PathView) where
       (assigned_next fixed path name tree reads)
   assigned_next_asks name tree reads =
       then_asks fixed (variables_in (evaluated_name name ++ tree ∷ [])) 0 _ (omega arith) reads
-      (assigned fixed path name tree reads) _
+      (outcome_of_assignment fixed path name tree reads) _
       (assigned_asks name tree reads) (λ after left. omega arith)
 
   -- a condition asks for at most as many values as both its sides name variables
   tested_asks : (test : Test) (reads : List Var)
-      → Asks fixed (variables test.left + variables test.right) reads (tested fixed path test reads)
+      → Asks fixed (variables test.left + variables test.right) reads (outcome_of_test fixed path test reads)
   tested_asks test reads =
       then_asks fixed (variables test.left) (variables test.right) _ (omega arith) reads
-      (evaluated fixed path test.left reads) _
+      (value_of_tree fixed path test.left reads) _
       (tree_asks fixed path test.left reads)
       (λ left behind_left. then_asks fixed (variables test.right) 0 _ (omega arith) behind_left
-      (evaluated fixed path test.right behind_left) _
+      (value_of_tree fixed path test.right behind_left) _
       (tree_asks fixed path test.right behind_left) (λ right rest. omega arith))
 
   -- the target of a jump asks for at most as many values as it names variables
   aimed_asks : (aim : Aim) (reads : List Var)
-      → Asks fixed (variables_in (evaluated_aim aim)) reads (aimed fixed path aim reads)
+      → Asks fixed (variables_in (evaluated_aim aim)) reads (outcome_of_aim fixed path aim reads)
   aimed_asks (ToNumber n) reads = omega arith
   aimed_asks (ToNumberOf tree) reads =
-      then_asks fixed (variables tree) 0 _ (omega arith) reads (evaluated fixed path tree reads) _
+      then_asks fixed (variables tree) 0 _ (omega arith) reads (value_of_tree fixed path tree reads) _
       (tree_asks fixed path tree reads)
       (λ value left. none_asks fixed 0 left (sequence_number (whole_number value)))
 
@@ -104,7 +104,7 @@ module _ (fixed : Fixed) (path : PathView) where
       → Asks fixed (variables_in (evaluated_aim aim)) reads (jump_effect tape fixed path aim reads)
   jump_asks tape aim reads =
       then_asks fixed (variables_in (evaluated_aim aim)) 0 _ (omega arith) reads
-      (aimed fixed path aim reads) _ (aimed_asks aim reads)
+      (outcome_of_aim fixed path aim reads) _ (aimed_asks aim reads)
       (λ n left. move_asks (place_of_jump tape n path.place) 0 left)
 
   -- a statement behind which the next block follows asks for none
@@ -117,10 +117,10 @@ module _ (fixed : Fixed) (path : PathView) where
       → ((left : List Var) → Asks fixed most left (one left))
       → ((left : List Var) → Asks fixed most left (other left))
       → Asks fixed all reads
-      (tested fixed path test reads >>= λ holds left. if holds then one left else other left)
+      (outcome_of_test fixed path test reads >>= λ holds left. if holds then one left else other left)
   test_asks test most all within reads one other first second =
       then_asks fixed (variables test.left + variables test.right) most all within reads
-      (tested fixed path test reads) _ (tested_asks test reads) either
+      (outcome_of_test fixed path test reads) _ (tested_asks test reads) either
     where
       either : (holds : Bool) (left : List Var)
           → Asks fixed most left (if holds then one left else other left)
@@ -129,7 +129,7 @@ module _ (fixed : Fixed) (path : PathView) where
 
   -- a statement asks for at most as many values as its expressions name variables
   pub statement_asks : (tape : List ControlProgram) (sentence : Sentence) (reads : List Var)
-      → Asks fixed (variables_in (evaluated_in sentence)) reads
+      → Asks fixed (variables_in (trees_of_sentence sentence)) reads
       (statement_effect tape fixed path sentence reads)
   statement_asks tape (Assign name tree) reads = assigned_next_asks name tree reads
   statement_asks tape (Goto aim) reads = jump_asks tape aim reads

@@ -19,16 +19,16 @@ use Rattle.block_forms.specs.declared.body.FlowBody.TheVariants.{Words, Statemen
 use Rattle.block_words.specs.declared.purpose.Purpose.{Purpose}
 use Rattle.block_words.specs.declared.purpose.Purpose.TheVariants.{MacroCall}
 use Rattle.block_forms.specs.Variables.{variables_of_value, variables_of_words, variables_of_body}
-use Rattle.macro_expr.specs.Tree.{variables, variables_in, evaluated as evaluated_in, sentence_of}
+use Rattle.macro_expr.specs.Tree.{variables, variables_in, trees_of_sentence, sentence_of}
 use Rattle.tape_flow.specs.declared.flow.Flow.{Flow}
 use Rattle.path_state.specs.View.{Fixed, PathView}
 use Rattle.path_state.specs.Looks.{is_shared}
 use Rattle.block_values.specs.Outcomes.{Outcome, Gives, Needs, Alarms}
-use Rattle.path_state.specs.Said.{evaluated, sense_of, word_taken, words_taken, argument_taken, arguments_taken}
-use Rattle.block_values.specs.Values.{Values, Sense, nothing_said, taken, taken_var}
+use Rattle.path_state.specs.Said.{value_of_tree, sense_of, word_taken, words_taken, argument_taken, arguments_taken}
+use Rattle.block_values.specs.Values.{Values, Sense, nothing_said, values_with, taken_var}
 use Rattle.path_state.specs.Standing.{Standing, standing_of, standing_behind}
 use Rattle.path_state.specs.Statements.{After}
-use Rattle.path_state.specs.Effect.{Effect, Need, Done, AtWait, AtEnd, Alarm, Moved, acted, done_by, controlled, of_moved, of_values, of_arguments, of_purpose, block_of_words, of_after, effect_of_body, effect_of_block, block_at, effect_of}
+use Rattle.path_state.specs.Effect.{Effect, Need, Done, AtWait, AtEnd, Alarm, Moved, effect_of_words, done_by, effect_of_control, of_moved, of_values, of_arguments, of_purpose, block_of_words, of_after, effect_of_body, effect_of_block, block_at, effect_of}
 use Rattle.path_state.specs.Controlled.{AsksForShared}
 use Rattle.path_state.proofs.NeedsShared.{Asks, then_asks, none_asks, tree_asks}
 use Rattle.path_state.proofs.NeedsStatements.{statement_asks}
@@ -44,9 +44,9 @@ module _ (fixed : Fixed) (path : PathView) where
   word_asks : (sense : Sense) (letter : ℕ) (value : WordValue) (values : Values) (reads : List Var)
       → Asks fixed (variables_of_value value) reads (word_taken fixed path sense letter value values reads)
   word_asks sense letter (Written literal) values reads =
-      none_asks fixed 0 reads (taken sense letter literal values)
+      none_asks fixed 0 reads (values_with sense letter literal values)
   word_asks sense letter (Computed minus tree) values reads =
-      then_asks fixed (variables tree) 0 _ (omega arith) reads (evaluated fixed path tree reads) _
+      then_asks fixed (variables tree) 0 _ (omega arith) reads (value_of_tree fixed path tree reads) _
       (tree_asks fixed path tree reads)
       (λ value left. none_asks fixed 0 left (taken_var sense letter minus value values))
 
@@ -65,7 +65,7 @@ module _ (fixed : Fixed) (path : PathView) where
       → Asks fixed (variables_of_value value) reads (argument_taken fixed path letter value arguments reads)
   argument_asks letter (Written literal) arguments reads = omega arith
   argument_asks letter (Computed minus tree) arguments reads =
-      then_asks fixed (variables tree) 0 _ (omega arith) reads (evaluated fixed path tree reads) _
+      then_asks fixed (variables tree) 0 _ (omega arith) reads (value_of_tree fixed path tree reads) _
       (tree_asks fixed path tree reads)
       (λ value left. omega arith)
 
@@ -90,7 +90,7 @@ module _ (fixed : Fixed) (path : PathView) where
 
     -- a block whose moves are known needs nothing, wherever it goes
     controlled-asks : (moved : Moved) (arguments : Option (List Var)) (c : Control)
-        → AsksFor fixed most reads (controlled tape moved arguments c)
+        → AsksFor fixed most reads (effect_of_control tape moved arguments c)
     controlled-asks moved arguments control.End = tt
     controlled-asks moved arguments c = done-asks moved (standing_behind tape (standing_of moved.path) arguments c)
 
@@ -104,7 +104,7 @@ module _ (fixed : Fixed) (path : PathView) where
     values-ask : (system : System) (words : List FlowWord) (c : Control) (values : Outcome Values)
         → Asks fixed most reads values
         → AsksFor fixed most reads (of_values tape fixed path system words c values)
-    values-ask system words c (Gives values left) asks = moves-ask c (acted fixed path system words values)
+    values-ask system words c (Gives values left) asks = moves-ask c (effect_of_words fixed path system words values)
     values-ask system words c (Needs variable) asks = asks
     values-ask system words c (Alarms number value) asks = tt
 
@@ -146,7 +146,7 @@ module _ (fixed : Fixed) (path : PathView) where
       → AsksFor fixed (variables_of_body body) reads (effect_of_body tape fixed path body c reads)
   body_asks tape (Words words) c reads = block-asks tape words.purpose words.dialect.system words.words c reads
   body_asks tape (Statement statement) c reads =
-      after-asks tape (variables_in (evaluated_in (sentence_of statement.statement))) reads _
+      after-asks tape (variables_in (trees_of_sentence (sentence_of statement.statement))) reads _
       (statement_asks fixed path tape (sentence_of statement.statement) reads)
 
 -- if the body of a block needs a variable, fewer values were read than it names variables

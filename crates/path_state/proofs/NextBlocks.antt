@@ -7,8 +7,8 @@ use Rattle.block_order.specs.declared.frame.Frame.{Frame}
 use Rattle.block_order.specs.declared.program.ControlBlock.{ControlBlock}
 use Rattle.block_order.specs.declared.program.ControlProgram.{ControlProgram}
 use Rattle.block_order.specs.Order.{blocks, control_of}
-use Rattle.block_order.specs.Shape.{IsListed, blocks_in}
-use Rattle.block_order.specs.Steps.{standing}
+use Rattle.block_order.specs.Shape.{IsReadTape, blocks_in}
+use Rattle.block_order.specs.Steps.{control_of_place}
 use Rattle.block_order.specs.Frames.{MayPass}
 use Rattle.block_order.proofs.Opened.{within_control}
 
@@ -22,7 +22,7 @@ few (p ∷ ps) n = go (p.number == n) refl (few ps n)
     go false is rest = rw is (omega (arith, length-append p.blocks (blocks_in ps)))
 
 -- if the order has a control at the place, there is a number for the block behind it
-pub may_pass : (tape : List ControlProgram) → IsListed tape → (place : List Frame) (c : Control) → standing tape place ≡ Some c → MayPass place
+pub may_pass : (tape : List ControlProgram) → IsReadTape tape → (place : List Frame) (c : Control) → control_of_place tape place ≡ Some c → MayPass place
 may_pass tape listed [] c e = absurd cc
 may_pass tape listed (f ∷ stack) c e =
     let inside = within_control (blocks tape f.program) f.block c e in
@@ -31,7 +31,7 @@ may_pass tape listed (f ∷ stack) c e =
     omega arith
 
 -- if a block was found at the place, there is a number for the one behind it
-pub may_pass_at : {A : Type 0} → (tape : List ControlProgram) → ((place : List Frame) (c : Control) → standing tape place ≡ Some c → MayPass place)
+pub may_pass_at : {A : Type 0} → (tape : List ControlProgram) → ((place : List Frame) (c : Control) → control_of_place tape place ≡ Some c → MayPass place)
     → (f : Frame) (stack : List Frame) (found : Option A) (block : A → ControlBlock) → option_map block found ≡ slice_get (blocks tape f.program) f.block
     → IsSome found → MayPass (f ∷ stack)
 may_pass_at tape next f stack None block e some = absurd cc

@@ -1,7 +1,7 @@
 -- The codes of an assignment behind IF, parted before the last one: those of the condition and of
 -- the number on the left, and that of the value. For `statement_step` (src/statements.rt).
 use Rattle.std.proofs.Common.{◌≡◌, List, [], ◌∷◌, ◌++◌, refl}
-use Rattle.macro_expr.specs.Tree.{Tree, Test, Named, IfThen, evaluated, evaluated_name, evaluated_test}
+use Rattle.macro_expr.specs.Tree.{Tree, Test, Named, IfThen, trees_of_sentence, evaluated_name, evaluated_test}
 
 -- a list is parted before its last element in one way
 only_parts : (front before : List Tree) (last end : Tree) → front ++ last ∷ [] ≡ before ++ end ∷ []
@@ -20,6 +20,6 @@ only_parts (a ∷ front) (b ∷ before) last end same =
 -- the codes of `IF [..] THEN #i = ..` are those of the condition and the left side, and then that
 -- of the value
 pub parts_behind_if : (front : List Tree) (last : Tree) (test : Test) (name : Named) (tree : Tree)
-    → front ++ last ∷ [] ≡ evaluated (IfThen test name tree)
+    → front ++ last ∷ [] ≡ trees_of_sentence (IfThen test name tree)
     → (front ≡ evaluated_test test ++ evaluated_name name) × (last ≡ tree)
 parts_behind_if front last test name tree same = only_parts front (evaluated_test test ++ evaluated_name name) last tree same

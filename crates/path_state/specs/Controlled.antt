@@ -7,7 +7,7 @@ use Rattle.std.specs.Prelude.{◌≡◌, ◌<◌, true, List, length, Some}
 use Rattle.nc_number.specs.declared.value.Var.{Var}
 use Rattle.block_order.specs.declared.control.Control.TheVariants.{Wait, End}
 use Rattle.block_order.specs.declared.program.ControlProgram.{ControlProgram}
-use Rattle.block_order.specs.Steps.{Step, standing}
+use Rattle.block_order.specs.Steps.{Step, control_of_place}
 use Rattle.tape_flow.specs.declared.flow.Flow.{Flow}
 use Rattle.path_state.specs.View.{PathView}
 use Rattle.path_state.specs.Looks.{is_shared}
@@ -18,8 +18,8 @@ use Rattle.path_state.specs.Effect.{Effect, Need, Done, AtWait, AtEnd, Alarm, ef
 abbrev pub GoesAsOrdered : List ControlProgram → PathView → Effect → Type 0
 GoesAsOrdered tape path (Need variable) = Unit {0}
 GoesAsOrdered tape path (Done after write moves) = Step tape path.place after.place
-GoesAsOrdered tape path (AtWait code) = standing tape path.place ≡ Some (Wait code)
-GoesAsOrdered tape path (AtEnd after moves) = (standing tape path.place ≡ Some End) × (after.place ≡ path.place)
+GoesAsOrdered tape path (AtWait code) = control_of_place tape path.place ≡ Some (Wait code)
+GoesAsOrdered tape path (AtEnd after moves) = (control_of_place tape path.place ≡ Some End) × (after.place ≡ path.place)
 GoesAsOrdered tape path (Alarm number value) = Unit {0}
 
 -- each block of the flow goes as its order allows, at every state of a path, also at one that no

@@ -1,6 +1,6 @@
 -- How a decision of the code (src/decision.rt) is read as the effect of the block, before anything
 -- of the path changes; and when it may be done. Its moves stand apart, in a list that was lent.
--- two_path takes `MayTake` and `decided`: when it does a record again, it decides the block first.
+-- two_path takes `MayTake` and `effect_of_decision`: when it does a record again, it decides the block first.
 use Rattle.std.specs.Prelude.{ℕ, List, [], Some, None, Result, Ok, Err}
 use Rattle.nc_number.specs.declared.value.Var.{Var}
 use Rattle.code_tables.specs.declared.system.System.{System}
@@ -24,7 +24,7 @@ use Rattle.path_state.specs.Routes.{route_end}
 use Rattle.path_state.specs.Standing.{standing_of, with_standing}
 use Rattle.path_state.specs.Statements.{After}
 use Rattle.path_state.specs.StatementSteps.{after_step}
-use Rattle.path_state.specs.Effect.{Effect, Need, Done, AtWait, AtEnd, Alarm, Moved, acted, controlled, of_moved, with_set_offset}
+use Rattle.path_state.specs.Effect.{Effect, Need, Done, AtWait, AtEnd, Alarm, Moved, effect_of_words, effect_of_control, of_moved, with_set_offset}
 
 -- the path behind the words of a block, control aside: modal state, offsets and position are new
 abbrev pub behind_words : PathView → WordsStep → PathView
@@ -40,31 +40,31 @@ moved_seen path (Ok step) moves = Ok (record { path = behind_words path step; mo
 moved_seen path (Err number) moves = Err number
 
 -- the need or the alarm at which a step stopped, as an effect
-abbrev pub stopped : Stop → Effect
-stopped (stop.Needs variable) = Need variable
-stopped (stop.Alarms number value) = Alarm number value
+abbrev pub effect_of_stop : Stop → Effect
+effect_of_stop (stop.Needs variable) = Need variable
+effect_of_stop (stop.Alarms number value) = Alarm number value
 
 -- the effect of a block whose words say these values, or stopped
 abbrev pub of_said : List ControlProgram → PathView → System → List FlowWord → Control → Result kept.Values Stop → Effect
 of_said tape path system words control (Ok values) =
-    of_moved tape control (acted path.fixed path system words (values_seen values))
-of_said tape path system words control (Err stop) = stopped stop
+    of_moved tape control (effect_of_words path.fixed path system words (values_seen values))
+of_said tape path system words control (Err stop) = effect_of_stop stop
 
 -- the effect of a macro call whose arguments are these, or stopped
 abbrev pub of_arguments_said : List ControlProgram → PathView → Control → Result (List Var) Stop → Effect
 of_arguments_said tape path control (Ok arguments) =
-    controlled tape (record { path = path; moves = [] }) (Some arguments) control
-of_arguments_said tape path control (Err stop) = stopped stop
+    effect_of_control tape (record { path = path; moves = [] }) (Some arguments) control
+of_arguments_said tape path control (Err stop) = effect_of_stop stop
 
 -- the effect of a macro call that was decided: the call is open with these arguments, or it stopped
 abbrev pub macro_decided : PathView → ℕ → ℕ → Result (List Var) Stop → Effect
 macro_decided path program repeats (Ok arguments) =
     Done (with_standing path (route_end (standing_of path) (Some arguments) (Call program repeats))) None []
-macro_decided path program repeats (Err stop) = stopped stop
+macro_decided path program repeats (Err stop) = effect_of_stop stop
 
 -- what was decided of words that call no macro, with these moves, as an effect
 abbrev pub words_decided : PathView → WordsTurn → List Move → Effect
-words_decided path (turn.Stops stop) moves = stopped stop
+words_decided path (turn.Stops stop) moves = effect_of_stop stop
 words_decided path (turn.AtWait code) moves = AtWait code
 words_decided path (turn.AtEnd step) moves = AtEnd (behind_words path step) moves
 words_decided path (turn.Goes step route) moves =
@@ -75,12 +75,12 @@ abbrev pub done_with : After → List Move → Effect
 done_with after moves = Done after.path after.write moves
 
 -- what was decided of a block, with these moves, as an effect
-abbrev pub decided : PathView → Decision → List Move → Effect
-decided path (decision.Stops stop) moves = stopped stop
-decided path (decision.Words turn) moves = words_decided path turn moves
-decided path (decision.Macro program repeats arguments) moves =
+abbrev pub effect_of_decision : PathView → Decision → List Move → Effect
+effect_of_decision path (decision.Stops stop) moves = effect_of_stop stop
+effect_of_decision path (decision.Words turn) moves = words_decided path turn moves
+effect_of_decision path (decision.Macro program repeats arguments) moves =
     Done (with_standing path (route_end (standing_of path) (Some arguments) (Call program repeats))) None moves
-decided path (decision.Statement step) moves = done_with (after_step path step) moves
+effect_of_decision path (decision.Statement step) moves = done_with (after_step path step) moves
 
 -- what was decided of words may be done: if control goes on, the running block has a number for the
 -- one behind it

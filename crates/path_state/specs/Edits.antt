@@ -1,6 +1,6 @@
 -- What an operator's edit does to a path: it sets an offset, or a common variable of the path's
 -- own, and nothing of control.
--- two_path takes `edited` and `shared_write` for an edit of its machine.
+-- two_path takes `path_with_edit` and `shared_write` for an edit of its machine.
 use Rattle.std.specs.Prelude.{◌≡◌, ℕ, List, Option, Some, None, if◌then◌else◌}
 use Rattle.nc_number.specs.declared.value.Var.{Var}
 use Rattle.common_vars.specs.Common.{with_value}
@@ -27,8 +27,9 @@ own_behind fixed (Offset slot to) own = own
 own_behind fixed (Common variable to) own = own_with fixed variable to own
 
 -- the path behind an edit: nothing changes but its offsets and its own variables
-abbrev pub edited : Edit → PathView → PathView
-edited edit path = record path { own = own_behind path.fixed edit path.own; offsets = offsets_behind edit path.offsets }
+abbrev pub path_with_edit : Edit → PathView → PathView
+path_with_edit edit path =
+    record path { own = own_behind path.fixed edit path.own; offsets = offsets_behind edit path.offsets }
 
 -- what an edit writes to a variable that both paths share, if it sets one
 abbrev pub shared_write : Fixed → Edit → Option Write

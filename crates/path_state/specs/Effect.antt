@@ -92,8 +92,8 @@ motion_with fixed path system words values (Err number) = Err number
 
 -- what the evaluated words of a block do, control aside: first the modal state, then the motion; or
 -- the number of the first alarm. `system` is the system of its G codes.
-abbrev pub acted : Fixed → PathView → System → List FlowWord → Values → Result Moved ℕ
-acted fixed path system words values =
+abbrev pub effect_of_words : Fixed → PathView → System → List FlowWord → Values → Result Moved ℕ
+effect_of_words fixed path system words values =
     motion_with fixed path system words values (modal_after path.modal system words values)
 
 -- the alarm of a cause, without a value
@@ -106,20 +106,20 @@ done_by moved (Ok standing) = Done (with_standing moved.path standing) None move
 done_by moved (Err cause) = alarm_of cause
 
 -- the effect of a block whose moves are known, by where control goes; at an end the path stays
-abbrev pub controlled : List ControlProgram → Moved → Option (List Var) → Control → Effect
-controlled tape moved arguments End = AtEnd moved.path moved.moves
-controlled tape moved arguments control = done_by moved (standing_behind tape (standing_of moved.path) arguments control)
+abbrev pub effect_of_control : List ControlProgram → Moved → Option (List Var) → Control → Effect
+effect_of_control tape moved arguments End = AtEnd moved.path moved.moves
+effect_of_control tape moved arguments control = done_by moved (standing_behind tape (standing_of moved.path) arguments control)
 
 -- the effect of a block whose words moved the path, or raised an alarm
 abbrev pub of_moved : List ControlProgram → Control → Result Moved ℕ → Effect
-of_moved tape control (Ok moved) = controlled tape moved None control
+of_moved tape control (Ok moved) = effect_of_control tape moved None control
 of_moved tape control (Err number) = Alarm number (pos 0)
 
 -- what a block of words comes to by its values: it is done, it needs a variable, or it raises an
 -- alarm
 abbrev pub of_values : List ControlProgram → Fixed → PathView → System → List FlowWord → Control → Outcome Values → Effect
 of_values tape fixed path system words control (Gives values left) =
-    of_moved tape control (acted fixed path system words values)
+    of_moved tape control (effect_of_words fixed path system words values)
 of_values tape fixed path system words control (Needs variable) = Need variable
 of_values tape fixed path system words control (Alarms number value) = Alarm number value
 
@@ -133,7 +133,7 @@ words_effect tape fixed path purpose system words control reads =
 -- alarm
 abbrev pub of_arguments : List ControlProgram → PathView → Control → Outcome (List Var) → Effect
 of_arguments tape path control (Gives arguments left) =
-    controlled tape (record { path = path; moves = [] }) (Some arguments) control
+    effect_of_control tape (record { path = path; moves = [] }) (Some arguments) control
 of_arguments tape path control (Needs variable) = Need variable
 of_arguments tape path control (Alarms number value) = Alarm number value
 

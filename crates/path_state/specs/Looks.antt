@@ -31,23 +31,26 @@ is_shared fixed v =
     (nat_le 100 v && nat_lt v (100 + fixed.shared100)) || (nat_le 500 v && nat_lt v (500 + fixed.shared500))
 
 -- what a variable holds, or that it is shared; #3000 can't be read
-abbrev pub held : Fixed → PathView → Variable → Result Look VarFault
-held fixed path variable.Null = Ok (look.Is Vacant)
-held fixed path (variable.Local i) = Ok (look.Is (local i path.levels))
-held fixed path (variable.Common v) = if is_shared fixed v then Ok look.Shared else Ok (look.Is (value_of v path.own))
-held fixed path (variable.Code group) = Ok (look.Is (code_in_force (code_of path.modal group)))
-held fixed path variable.Feed = Ok (look.Is path.modal.feed)
-held fixed path variable.Speed = Ok (look.Is path.modal.speed)
-held fixed path variable.Tool = Ok (look.Is (in_units path.modal.tool))
-held fixed path (variable.Programmed axis) = Ok (look.Is (in_millimetres (part axis path.position -ℤ part axis (shift_now path))))
-held fixed path (variable.Machine axis) = Ok (look.Is (in_millimetres (part axis path.position)))
-held fixed path (variable.Work n axis) = Ok (look.Is (in_millimetres (part axis (offset_at path.offsets.work n))))
-held fixed path variable.Raise = Err Range
+abbrev pub value_or_shared : Fixed → PathView → Variable → Result Look VarFault
+value_or_shared fixed path variable.Null = Ok (look.Is Vacant)
+value_or_shared fixed path (variable.Local i) = Ok (look.Is (local i path.levels))
+value_or_shared fixed path (variable.Common v) =
+    if is_shared fixed v then Ok look.Shared else Ok (look.Is (value_of v path.own))
+value_or_shared fixed path (variable.Code group) = Ok (look.Is (code_in_force (code_of path.modal group)))
+value_or_shared fixed path variable.Feed = Ok (look.Is path.modal.feed)
+value_or_shared fixed path variable.Speed = Ok (look.Is path.modal.speed)
+value_or_shared fixed path variable.Tool = Ok (look.Is (in_units path.modal.tool))
+value_or_shared fixed path (variable.Programmed axis) =
+    Ok (look.Is (in_millimetres (part axis path.position -ℤ part axis (shift_now path))))
+value_or_shared fixed path (variable.Machine axis) = Ok (look.Is (in_millimetres (part axis path.position)))
+value_or_shared fixed path (variable.Work n axis) =
+    Ok (look.Is (in_millimetres (part axis (offset_at path.offsets.work n))))
+value_or_shared fixed path variable.Raise = Err Range
 
 -- what the variable holds that a number names, or alarm 30 if it names none
 abbrev pub held_by : Fixed → PathView → Option Variable → Result Look VarFault
 held_by fixed path None = Err Range
-held_by fixed path (Some variable) = held fixed path variable
+held_by fixed path (Some variable) = value_or_shared fixed path variable
 
 -- a look at the variable of a number, as the block before left it
 abbrev pub look_of : Fixed → PathView → ℕ → Result Look VarFault

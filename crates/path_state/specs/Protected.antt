@@ -10,13 +10,14 @@ use Rattle.macro_expr.specs.Tree.{Fixed as Numbered}
 use Rattle.block_values.specs.Outcomes.{alarm}
 use Rattle.block_values.specs.Readings.{variable_in}
 use Rattle.path_state.specs.View.{Fixed, PathView}
-use Rattle.path_state.specs.Statements.{named, written}
+use Rattle.path_state.specs.Statements.{variable_named, outcome_of_write}
 
 -- The writes that are refused, and by which alarm; a law for readers, on which no crate rests
 pub record WritesAreRefused : Type 0 where
   -- a write raises alarm 31 exactly if the variable is protected
   pub protected : (fixed : Fixed) (path : PathView) (variable : Variable) (value : Var) (left : List Var)
-      → (written fixed path variable value left ≡ alarm Protected) ↔ (is_protected variable ≡ true)
-  -- a left side raises alarm 30 exactly if its number names no variable
+      → (outcome_of_write fixed path variable value left ≡ alarm Protected) ↔ (is_protected variable ≡ true)
+  -- a left side whose number is written out raises alarm 30 exactly if that names no variable
   pub missing : (fixed : Fixed) (path : PathView) (number : ℕ) (reads : List Var)
-      → (named fixed path (Numbered number) reads ≡ alarm VariableRange) ↔ (variable_in path.modal number ≡ None)
+      → (variable_named fixed path (Numbered number) reads ≡ alarm VariableRange)
+      ↔ (variable_in path.modal number ≡ None)

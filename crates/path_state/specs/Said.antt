@@ -28,8 +28,8 @@ sense_of path purpose system words = record {
 }
 
 -- the value of an expression
-abbrev pub evaluated : Fixed → PathView → Tree → List Var → Outcome Var
-evaluated fixed path tree reads = value_with (look_of fixed path) tree reads
+abbrev pub value_of_tree : Fixed → PathView → Tree → List Var → Outcome Var
+value_of_tree fixed path tree reads = value_with (look_of fixed path) tree reads
 
 -- the values behind one word of a block that calls no macro
 abbrev pub word_taken : Fixed → PathView → Sense → ℕ → WordValue → Values → List Var → Outcome Values

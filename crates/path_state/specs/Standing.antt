@@ -14,7 +14,7 @@ use Rattle.block_order.specs.declared.frame.Frame.{Frame}
 use Rattle.block_order.specs.declared.program.ControlProgram.{ControlProgram}
 use Rattle.block_order.specs.Moves.{place_behind, place_of_call, place_of_return, place_of_jump_back}
 use Rattle.local_levels.specs.declared.stack.Level.{Level}
-use Rattle.local_levels.specs.Stack.{opened, reopened, closed}
+use Rattle.local_levels.specs.Stack.{opened_level, reopened_stack, stack_below}
 use Rattle.path_state.specs.View.{PathView}
 
 -- a place, with what belongs to its open calls
@@ -35,12 +35,12 @@ abbrev pub with_standing : PathView → Standing → PathView
 with_standing path standing = record path { place = standing.place; calls = standing.calls; levels = standing.levels }
 
 -- a standing moved to another place, with the same calls
-abbrev pub elsewhere : Standing → List Frame → Standing
-elsewhere standing place = record standing { place = place }
+abbrev pub standing_moved : Standing → List Frame → Standing
+standing_moved standing place = record standing { place = place }
 
 -- a standing moved to another place, or the cause for which there is none
 abbrev pub standing_at : Standing → Result (List Frame) Cause → Result Standing Cause
-standing_at standing (Ok place) = Ok (elsewhere standing place)
+standing_at standing (Ok place) = Ok (standing_moved standing place)
 standing_at standing (Err cause) = Err cause
 
 -- the kind of a call: one with arguments is that of a macro
@@ -51,7 +51,7 @@ kind_with (Some arguments) = Macro
 -- the levels in the called program: a macro gets one more, which holds its arguments
 abbrev pub levels_with : Option (List Var) → List Level → List Level
 levels_with None levels = levels
-levels_with (Some arguments) levels = opened arguments ∷ levels
+levels_with (Some arguments) levels = opened_level arguments ∷ levels
 
 -- a standing with one call more, of a macro if it has arguments; the place is as it was
 abbrev pub with_call : Option (List Var) → Standing → Standing
@@ -65,7 +65,7 @@ calls_below (call ∷ calls) = calls
 
 -- the levels behind the end of the latest call: one less if it is that of a macro
 abbrev pub levels_below : List CallKind → List Level → List Level
-levels_below (Macro ∷ calls) levels = closed levels
+levels_below (Macro ∷ calls) levels = stack_below levels
 levels_below _ levels = levels
 
 -- a standing without its latest call, and without the level of that call if it is of a macro
@@ -75,7 +75,7 @@ without_call standing =
 
 -- the levels as the latest call begins once more: that of a macro is opened anew with its arguments
 abbrev pub levels_anew : List CallKind → List Level → List Level
-levels_anew (Macro ∷ calls) levels = reopened levels
+levels_anew (Macro ∷ calls) levels = reopened_stack levels
 levels_anew _ levels = levels
 
 -- a standing whose latest call begins once more; the place is as it was
@@ -101,7 +101,7 @@ standing_of_call arguments program repeats standing =
 -- where M99 leads
 abbrev pub standing_of_return : Standing → Standing
 standing_of_return standing =
-    elsewhere (behind_return (repeats_left standing.place) standing) (place_of_return standing.place)
+    standing_moved (behind_return (repeats_left standing.place) standing) (place_of_return standing.place)
 
 -- where a block of words of this control leads, or the cause for which it leads nowhere
 abbrev pub standing_behind : List ControlProgram → Standing → Option (List Var) → Control → Result Standing Cause
@@ -109,7 +109,7 @@ standing_behind tape standing arguments (Call program repeats) = standing_of_cal
 standing_behind tape standing arguments Back = Ok (standing_of_return standing)
 standing_behind tape standing arguments (BackTo n) =
     standing_at (without_call standing) (place_of_jump_back tape n standing.place)
-standing_behind tape standing arguments other = Ok (elsewhere standing (place_behind standing.place))
+standing_behind tape standing arguments other = Ok (standing_moved standing (place_behind standing.place))
 
 -- how many of these calls are calls of macros
 abbrev pub macros : List CallKind → ℕ

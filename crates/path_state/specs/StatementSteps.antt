@@ -9,12 +9,12 @@ use Rattle.path_state.specs.declared.writing.StatementStep.{StatementStep}
 use Rattle.path_state.specs.declared.writing.StatementStep.TheVariants.{Write, Next, To}
 use Rattle.path_state.specs.View.{Fixed, PathView}
 use Rattle.block_values.specs.Outcomes.{Outcome, Gives, ◌>>=◌}
-use Rattle.path_state.specs.Said.{evaluated}
+use Rattle.path_state.specs.Said.{value_of_tree}
 use Rattle.common_vars.specs.declared.variable.Variable.{Variable}
 use Rattle.macro_expr.specs.Tree.{Tree}
 use Rattle.block_order.specs.Moves.{place_behind, place_at}
 use Rattle.path_state.specs.Statements as statements
-use Rattle.path_state.specs.Statements.{After, after_move, written, then_next}
+use Rattle.path_state.specs.Statements.{After, after_move, outcome_of_write, then_next}
 use Rattle.path_state.specs.Effect.{Effect, Need, Done, Alarm}
 use Rattle.path_state.specs.Writings.{after_change}
 
@@ -48,5 +48,5 @@ write_seen (Some write) = Some (record { variable = write.0; value = write.1 })
 -- next block follows
 abbrev pub taken_next : Fixed → PathView → Variable → Tree → List Var → Outcome After
 taken_next fixed path variable tree reads =
-    evaluated fixed path tree reads >>= λ value left.
-    written fixed path variable value left >>= λ after rest. Gives (then_next after) rest
+    value_of_tree fixed path tree reads >>= λ value left.
+    outcome_of_write fixed path variable value left >>= λ after rest. Gives (then_next after) rest

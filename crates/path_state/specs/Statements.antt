@@ -28,7 +28,7 @@ use Rattle.path_state.specs.View.{Fixed, PathView}
 use Rattle.block_values.specs.Operands.{variable_with, length_of, condition_with, sequence_with}
 use Rattle.path_state.specs.Looks.{is_shared, look_of}
 use Rattle.block_values.specs.Outcomes.{Outcome, Gives, Alarms, ◌>>=◌, alarm}
-use Rattle.path_state.specs.Said.{evaluated}
+use Rattle.path_state.specs.Said.{value_of_tree}
 
 -- a write to a variable that both paths share
 pub record Write : Type 0 where
@@ -48,13 +48,13 @@ after_move path place = record { path = record path { place = place }; write = N
 
 -- the variable on the left side of an assignment, whose number is evaluated if it is not written
 -- out
-abbrev pub named : Fixed → PathView → Named → List Var → Outcome Variable
-named fixed path name reads = variable_with (look_of fixed path) path.modal name reads
+abbrev pub variable_named : Fixed → PathView → Named → List Var → Outcome Variable
+variable_named fixed path name reads = variable_with (look_of fixed path) path.modal name reads
 
 -- the point `now` with this coordinate, in 0.001 mm, along one axis
-abbrev pub along : AxisLetter → ℤ → Point → Point
-along X length now = changed_point now (To length) Keep
-along Z length now = changed_point now Keep (To length)
+abbrev pub point_along : AxisLetter → ℤ → Point → Point
+point_along X length now = changed_point now (To length) Keep
+point_along Z length now = changed_point now Keep (To length)
 
 -- the path with an offset at this point, or the number of the alarm of a point that it can't have
 abbrev pub with_offset : PathView → Slot → Result Point OffsetFault → Result PathView ℕ
@@ -73,29 +73,29 @@ with_common false path v value = record { path = record path { own = with_value 
 
 -- A variable takes a value: a local one, a common one, a work offset (alarm 41 past its range);
 -- `#3000` raises alarm 33 with the value; every other one is protected, alarm 31.
-abbrev pub written : Fixed → PathView → Variable → Var → List Var → Outcome After
-written fixed path (variable.Local i) value left =
+abbrev pub outcome_of_write : Fixed → PathView → Variable → Var → List Var → Outcome After
+outcome_of_write fixed path (variable.Local i) value left =
     Gives (record { path = record path { levels = with_local i value path.levels }; write = None }) left
-written fixed path (variable.Common v) value left = Gives (with_common (is_shared fixed v) path v value) left
-written fixed path (variable.Work n axis) value left =
-    written_path (with_offset path (Work n) (in_range (along axis (length_of value) (point_at path.offsets (Work n))))) left
-written fixed path variable.Raise value left = Alarms (cause_number MacroAlarm) (or_zero value)
-written fixed path other value left = alarm Protected
+outcome_of_write fixed path (variable.Common v) value left = Gives (with_common (is_shared fixed v) path v value) left
+outcome_of_write fixed path (variable.Work n axis) value left =
+    written_path (with_offset path (Work n) (in_range (point_along axis (length_of value) (point_at path.offsets (Work n))))) left
+outcome_of_write fixed path variable.Raise value left = Alarms (cause_number MacroAlarm) (or_zero value)
+outcome_of_write fixed path other value left = alarm Protected
 
 -- an assignment: the left side, its number in existence (30), the value, and then the writing (31,
 -- 33, 41)
-abbrev pub assigned : Fixed → PathView → Named → Tree → List Var → Outcome After
-assigned fixed path name tree reads =
-    named fixed path name reads >>= λ variable behind_name.
-    evaluated fixed path tree behind_name >>= λ value left. written fixed path variable value left
+abbrev pub outcome_of_assignment : Fixed → PathView → Named → Tree → List Var → Outcome After
+outcome_of_assignment fixed path name tree reads =
+    variable_named fixed path name reads >>= λ variable behind_name.
+    value_of_tree fixed path tree behind_name >>= λ value left. outcome_of_write fixed path variable value left
 
 -- whether a condition holds; its left side is evaluated before its right one
-abbrev pub tested : Fixed → PathView → Test → List Var → Outcome Bool
-tested fixed path test reads = condition_with (look_of fixed path) test reads
+abbrev pub outcome_of_test : Fixed → PathView → Test → List Var → Outcome Bool
+outcome_of_test fixed path test reads = condition_with (look_of fixed path) test reads
 
 -- the sequence number to which a jump goes
-abbrev pub aimed : Fixed → PathView → Aim → List Var → Outcome ℕ
-aimed fixed path aim reads = sequence_with (look_of fixed path) aim reads
+abbrev pub outcome_of_aim : Fixed → PathView → Aim → List Var → Outcome ℕ
+outcome_of_aim fixed path aim reads = sequence_with (look_of fixed path) aim reads
 
 -- the outcome of a statement that goes to a place, or the alarm of the cause for which there is
 -- none
@@ -106,7 +106,7 @@ move_effect path (Err cause) left = alarm cause
 -- the outcome of a jump: its target is evaluated, and the path goes to where that leads
 abbrev pub jump_effect : List ControlProgram → Fixed → PathView → Aim → List Var → Outcome After
 jump_effect tape fixed path aim reads =
-    aimed fixed path aim reads >>= λ n left. move_effect path (place_of_jump tape n path.place) left
+    outcome_of_aim fixed path aim reads >>= λ n left. move_effect path (place_of_jump tape n path.place) left
 
 -- the outcome of a statement behind which the next block follows
 abbrev pub next_effect : PathView → List Var → Outcome After
@@ -118,18 +118,18 @@ then_next after = record after { path = record after.path { place = place_behind
 
 -- the outcome of an assignment, behind which the next block follows
 abbrev pub assigned_next : Fixed → PathView → Named → Tree → List Var → Outcome After
-assigned_next fixed path name tree reads = assigned fixed path name tree reads >>= λ after left. Gives (then_next after) left
+assigned_next fixed path name tree reads = outcome_of_assignment fixed path name tree reads >>= λ after left. Gives (then_next after) left
 
 -- the outcome of a statement; what stands behind IF is evaluated only if the condition holds
 abbrev pub statement_effect : List ControlProgram → Fixed → PathView → Sentence → List Var → Outcome After
 statement_effect tape fixed path (Assign name tree) reads = assigned_next fixed path name tree reads
 statement_effect tape fixed path (Goto aim) reads = jump_effect tape fixed path aim reads
 statement_effect tape fixed path (IfGoto test aim) reads =
-    tested fixed path test reads >>= λ holds left. if holds then jump_effect tape fixed path aim left else next_effect path left
+    outcome_of_test fixed path test reads >>= λ holds left. if holds then jump_effect tape fixed path aim left else next_effect path left
 statement_effect tape fixed path (IfThen test name tree) reads =
-    tested fixed path test reads >>= λ holds left. if holds then assigned_next fixed path name tree left else next_effect path left
+    outcome_of_test fixed path test reads >>= λ holds left. if holds then assigned_next fixed path name tree left else next_effect path left
 statement_effect tape fixed path (WhileDo test name) reads =
-    tested fixed path test reads >>= λ holds left.
+    outcome_of_test fixed path test reads >>= λ holds left.
     if holds then next_effect path left else move_effect path (place_behind_loop tape path.place) left
 statement_effect tape fixed path (DoOnly name) reads = next_effect path reads
 statement_effect tape fixed path (EndLoop name) reads = move_effect path (place_of_head tape path.place) reads

@@ -56,12 +56,12 @@ abbrev pub path_at : Point → PathView
 path_at at = path_of A at
 
 -- a word that is written out with a point, its value in millionths
-abbrev pub written : ℕ → ℤ → FlowWord
-written letter micro = record { letter = letter; value = Written (record { value = micro; point = true }) }
+abbrev pub word : ℕ → ℤ → FlowWord
+word letter micro = record { letter = letter; value = Written (record { value = micro; point = true }) }
 
 -- a word whose value is an expression
-abbrev pub computed : ℕ → Tree → FlowWord
-computed letter tree = record { letter = letter; value = Computed false tree }
+abbrev pub word_of_tree : ℕ → Tree → FlowWord
+word_of_tree letter tree = record { letter = letter; value = Computed false tree }
 
 -- the moves of a block that is done or ends; none of any other
 abbrev pub moves_in : Effect → List Move
@@ -97,15 +97,15 @@ statement_done path sentence reads = block_of_statement [] cell path sentence re
 pub record WorkedBlocks : Type 0 where
   -- G90 X40. Z-20. F0.2 from X50. Z2.: to X, a cut to Z, a cut back to X, and home along Z
   pub cycle : moves_in (words_done (path_at (point (pos 50000) (pos 2000)))
-      (written 71 (pos 90000000) ∷ written 88 (pos 40000000) ∷ written 90 (negsuc 19999999) ∷ written 70 (pos 200000) ∷ []))
+      (word 71 (pos 90000000) ∷ word 88 (pos 40000000) ∷ word 90 (negsuc 19999999) ∷ word 70 (pos 200000) ∷ []))
       ≡ move.Rapid (point (pos 40000) (pos 2000)) ∷ move.Feed (point (pos 40000) (negsuc 19999)) (pos 200000) true
       ∷ move.Feed (point (pos 50000) (negsuc 19999)) (pos 200000) true ∷ move.Rapid (point (pos 50000) (pos 2000)) ∷ []
   -- G00 X5. X#1 with #1 vacant goes to X5.
   pub vacant : moves_in (words_done (path_at (point (pos 0) (pos 0)))
-      (written 71 (pos 0) ∷ written 88 (pos 5000000) ∷ computed 88 (Variable 1) ∷ []))
+      (word 71 (pos 0) ∷ word 88 (pos 5000000) ∷ word_of_tree 88 (Variable 1) ∷ []))
       ≡ move.Rapid (point (pos 5000) (pos 0)) ∷ []
   -- S[1.5] X#500 is alarm 64 without a read
-  pub range : words_done (path_at (point (pos 0) (pos 0))) (computed 83 (Number (pos 1500000)) ∷ computed 88 (Variable 500) ∷ [])
+  pub range : words_done (path_at (point (pos 0) (pos 0))) (word_of_tree 83 (Number (pos 1500000)) ∷ word_of_tree 88 (Variable 500) ∷ [])
       ≡ Alarm 64 (pos 0)
   -- #1=1/3 is 0.333333
   pub third : local_in 1 (statement_done (path_at (point (pos 0) (pos 0)))
@@ -122,10 +122,10 @@ pub record WorkedBlocks : Type 0 where
       ≡ record { program = 1; block = 1; left = 0 } ∷ []
   -- G65 P1000 A1. opens a call, and its level has #1
   pub called : place_in (block_of_words [] cell (path_at (point (pos 0) (pos 0))) MacroCall A
-      (written 71 (pos 65000000) ∷ written 80 (pos 1000000000) ∷ written 65 (pos 1000000) ∷ []) (Call 1000 1) [])
+      (word 71 (pos 65000000) ∷ word 80 (pos 1000000000) ∷ word 65 (pos 1000000) ∷ []) (Call 1000 1) [])
       ≡ record { program = 1000; block = 0; left = 0 } ∷ record { program = 1; block = 0; left = 0 } ∷ []
   pub argument : local_in 1 (block_of_words [] cell (path_at (point (pos 0) (pos 0))) MacroCall A
-      (written 71 (pos 65000000) ∷ written 80 (pos 1000000000) ∷ written 65 (pos 1000000) ∷ []) (Call 1000 1) [])
+      (word 71 (pos 65000000) ∷ word 80 (pos 1000000000) ∷ word 65 (pos 1000000) ∷ []) (Call 1000 1) [])
       ≡ Is (pos 1000000)
   -- T0101 with the geometry of tool 1 at X-1.: the programmed X is 10. while the machine stands at
   -- 9.
@@ -137,26 +137,26 @@ pub record WorkedBlocks : Type 0 where
       (Assign (Numbered 1) (Variable 5001)) []) ≡ Is (pos 10000000)
   -- G04 X1.5 rests 1,500 ms
   pub rest : moves_in (block_of_words [] cell (path_at (point (pos 0) (pos 0))) Dwell A
-      (written 71 (pos 4000000) ∷ written 88 (pos 1500000) ∷ []) Next []) ≡ move.Dwell 1500 ∷ []
+      (word 71 (pos 4000000) ∷ word 88 (pos 1500000) ∷ []) Next []) ≡ move.Dwell 1500 ∷ []
   -- G28 U0 W0 from X50. Z2.: to the intermediate point, and home
   pub home : moves_in (words_done (path_at (point (pos 50000) (pos 2000)))
-      (written 71 (pos 28000000) ∷ written 85 (pos 0) ∷ written 87 (pos 0) ∷ []))
+      (word 71 (pos 28000000) ∷ word 85 (pos 0) ∷ word 87 (pos 0) ∷ []))
       ≡ move.Rapid (point (pos 50000) (pos 2000)) ∷ move.Rapid (point (pos 0) (pos 0)) ∷ []
   -- G02 X0 Z-10.01 I-10. K0 F0.1 from X20. Z0, and alarm 42 where Z is -10.011
   pub arc : moves_in (words_done (path_at (point (pos 20000) (pos 0)))
-      (written 71 (pos 2000000) ∷ written 88 (pos 0) ∷ written 90 (minus 10010000) ∷ written 73 (minus 10000000)
-      ∷ written 75 (pos 0) ∷ written 70 (pos 100000) ∷ []))
+      (word 71 (pos 2000000) ∷ word 88 (pos 0) ∷ word 90 (minus 10010000) ∷ word 73 (minus 10000000)
+      ∷ word 75 (pos 0) ∷ word 70 (pos 100000) ∷ []))
       ≡ move.Arc true (point (pos 0) (minus 10010)) (Offset (minus 10000) (pos 0)) (pos 100000) true ∷ []
   pub off_the_circle : words_done (path_at (point (pos 20000) (pos 0)))
-      (written 71 (pos 2000000) ∷ written 88 (pos 0) ∷ written 90 (minus 10011000) ∷ written 73 (minus 10000000)
-      ∷ written 75 (pos 0) ∷ written 70 (pos 100000) ∷ []) ≡ Alarm 42 (pos 0)
+      (word 71 (pos 2000000) ∷ word 88 (pos 0) ∷ word 90 (minus 10011000) ∷ word 73 (minus 10000000)
+      ∷ word 75 (pos 0) ∷ word 70 (pos 100000) ∷ []) ≡ Alarm 42 (pos 0)
   -- G01 X1. with F vacant is alarm 44, and I beside G00 alarm 56
-  pub no_feed : words_done (path_at (point (pos 0) (pos 0))) (written 71 (pos 1000000) ∷ written 88 (pos 1000000) ∷ [])
+  pub no_feed : words_done (path_at (point (pos 0) (pos 0))) (word 71 (pos 1000000) ∷ word 88 (pos 1000000) ∷ [])
       ≡ Alarm 44 (pos 0)
-  pub no_arc : words_done (path_at (point (pos 0) (pos 0))) (written 73 (pos 1000000) ∷ []) ≡ Alarm 56 (pos 0)
+  pub no_arc : words_done (path_at (point (pos 0) (pos 0))) (word 73 (pos 1000000) ∷ []) ≡ Alarm 56 (pos 0)
   -- G96 S200 M03: the speed at the surface, and then the auxiliary code
   pub speed : moves_in (words_done (path_at (point (pos 0) (pos 0)))
-      (written 71 (pos 96000000) ∷ written 83 (pos 200000000) ∷ written 77 (pos 3000000) ∷ []))
+      (word 71 (pos 96000000) ∷ word 83 (pos 200000000) ∷ word 77 (pos 3000000) ∷ []))
       ≡ move.Speed true 200 ∷ move.Aux 3 ∷ []
   -- M99 in a macro with a repeat left begins it anew, with its arguments; without one it returns
   -- behind the call
@@ -165,29 +165,29 @@ pub record WorkedBlocks : Type 0 where
         place = record { program = 2; block = 7; left = 1 } ∷ record { program = 1; block = 4; left = 0 } ∷ [];
         calls = Macro ∷ [];
         levels = base_level ∷ base_level ∷ [];
-      }) Return A (written 77 (pos 99000000) ∷ []) Back [])
+      }) Return A (word 77 (pos 99000000) ∷ []) Back [])
       ≡ record { program = 2; block = 0; left = 0 } ∷ record { program = 1; block = 4; left = 0 } ∷ []
   pub returns : place_in (block_of_words [] cell
       (record (path_at (point (pos 0) (pos 0))) {
         place = record { program = 2; block = 7; left = 0 } ∷ record { program = 1; block = 4; left = 0 } ∷ [];
         calls = Macro ∷ [];
         levels = base_level ∷ base_level ∷ [];
-      }) Return A (written 77 (pos 99000000) ∷ []) Back [])
+      }) Return A (word 77 (pos 99000000) ∷ []) Back [])
       ≡ record { program = 1; block = 5; left = 0 } ∷ []
   -- X1. M30 from X0 Z0: the word beside M30 makes its move
   pub ends : moves_in (block_of_words [] cell (path_at (point (pos 0) (pos 0))) Other A
-      (written 88 (pos 1000000) ∷ written 77 (pos 30000000) ∷ []) End []) ≡ move.Rapid (point (pos 1000) (pos 0)) ∷ []
+      (word 88 (pos 1000000) ∷ word 77 (pos 30000000) ∷ []) End []) ≡ move.Rapid (point (pos 1000) (pos 0)) ∷ []
   -- Of system B: G91 G01 X-5. Z-1. F0.2 goes so far, G77 X40. Z-20. F0.2 is the cycle that G90 is
   -- in A, G91 G53 X0 is alarm 56, and so is G91 G53 alone.
-  pub incremental : moves_in (done_in_b (written 71 (pos 91000000) ∷ written 71 (pos 1000000) ∷ written 88 (minus 5000000)
-      ∷ written 90 (minus 1000000) ∷ written 70 (pos 200000) ∷ []))
+  pub incremental : moves_in (done_in_b (word 71 (pos 91000000) ∷ word 71 (pos 1000000) ∷ word 88 (minus 5000000)
+      ∷ word 90 (minus 1000000) ∷ word 70 (pos 200000) ∷ []))
       ≡ move.Feed (point (pos 45000) (pos 1000)) (pos 200000) true ∷ []
-  pub cycle_in_b : moves_in (done_in_b (written 71 (pos 77000000) ∷ written 88 (pos 40000000) ∷ written 90 (negsuc 19999999)
-      ∷ written 70 (pos 200000) ∷ []))
+  pub cycle_in_b : moves_in (done_in_b (word 71 (pos 77000000) ∷ word 88 (pos 40000000) ∷ word 90 (negsuc 19999999)
+      ∷ word 70 (pos 200000) ∷ []))
       ≡ move.Rapid (point (pos 40000) (pos 2000)) ∷ move.Feed (point (pos 40000) (negsuc 19999)) (pos 200000) true
       ∷ move.Feed (point (pos 50000) (negsuc 19999)) (pos 200000) true ∷ move.Rapid (point (pos 50000) (pos 2000)) ∷ []
-  pub in_machine : done_in_b (written 71 (pos 91000000) ∷ written 71 (pos 53000000) ∷ written 88 (pos 0) ∷ []) ≡ Alarm 56 (pos 0)
-  pub in_machine_alone : done_in_b (written 71 (pos 91000000) ∷ written 71 (pos 53000000) ∷ []) ≡ Alarm 56 (pos 0)
+  pub in_machine : done_in_b (word 71 (pos 91000000) ∷ word 71 (pos 53000000) ∷ word 88 (pos 0) ∷ []) ≡ Alarm 56 (pos 0)
+  pub in_machine_alone : done_in_b (word 71 (pos 91000000) ∷ word 71 (pos 53000000) ∷ []) ≡ Alarm 56 (pos 0)
   -- #1=#4003 is 90 at first in system B, and alarm 30 in A; #4003=0 is alarm 31 in B, and alarm 30
   -- in A
   pub absolute_in_b : local_in 1 (statement_done (path_of B (point (pos 0) (pos 0))) (Assign (Numbered 1) (Variable 4003)) [])

@@ -4,7 +4,7 @@
 ghost use Rattle.std.specs.Prelude.{◌≡◌, ◌≤◌, [], Ok, IfOk, OnErr, IfSome, length, codes};
 ghost use Rattle.nc_number.specs.Position.{IsPosition};
 ghost use Rattle.motion_track.specs.Within.{AreMovesWithin};
-ghost use Rattle.path_state.specs.Effect.{acted, moved_by};
+ghost use Rattle.path_state.specs.Effect.{effect_of_words, moved_by};
 ghost use Rattle.block_words.specs.Codes.{one_shot};
 ghost use Rattle.block_words.specs.Words.{has};
 ghost use Rattle.block_values.specs.Motion.{motion_kind, motion_of};
@@ -18,7 +18,7 @@ ghost use Rattle.block_values.specs.Within.{AreLengthsSaid};
 use crate::path::PathState;
 use crate::words_step::WordsStep;
 use block_forms::FlowWords;
-use block_values::{MotionStep, Values, last_end, modal_behind, motion_behind, moves_behind};
+use block_values::{MotionStep, Values, last_end, modal_after, motion_behind, moves_behind};
 use modal_state::Modal;
 use motion_track::LONGEST;
 use nc_moves::MoveList;
@@ -67,12 +67,13 @@ impl PathState {
     ) -> Result<WordsStep, u8>
         requires lengths { AreLengthsSaid values.now }
         ensures fit { IfOk result IsFit }
-        ensures acted { moved_seen self.now result moves.new ≡ acted self.now.fixed self.now words.now.dialect.system
+        ensures acted { moved_seen self.now result moves.new
+            ≡ effect_of_words self.now.fixed self.now words.now.dialect.system
             words.now.words (values_seen values.now) }
         ensures moves { AreFitMoves moves.old → AreFitMoves moves.new }
         ensures still { OnErr result (moves.new ≡ moves.old) }
     {
-        let modal = match modal_behind(&self.modal, words, values) {
+        let modal = match modal_after(&self.modal, words, values) {
             Ok(modal) => modal,
             Err(number) => return Err(number),
         };

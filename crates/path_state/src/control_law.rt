@@ -10,7 +10,7 @@ ghost use Rattle.block_order.specs.declared.control.Control.TheVariants.{Wait, E
 ghost use Rattle.block_order.specs.declared.program.ControlProgram.{ControlProgram};
 ghost use Rattle.block_order.specs.Faults.{IsSound};
 ghost use Rattle.block_order.specs.Labels.{IsUnforked};
-ghost use Rattle.block_order.specs.Steps.{IsPlace, standing};
+ghost use Rattle.block_order.specs.Steps.{IsPlace, control_of_place};
 ghost use Rattle.nc_text.specs.declared.tape.Program.{Program};
 ghost use Rattle.block_forms.specs.declared.body.FlowBody.{FlowBody};
 ghost use Rattle.block_words.specs.declared.dialect.Dialect.{Dialect};
@@ -38,13 +38,13 @@ pub fn control_goes_as_the_flow_orders()
 /// last block of a program there is the alarm of it.
 pub fn waits_and_ends_stop_a_path()
     ensures waits { (flow : Flow) (path : PathView) (code : ℕ) (reads : List Var)
-        → standing flow.order path.place ≡ Some (Wait code) → effect_of flow path reads ≡ AtWait code }
+        → control_of_place flow.order path.place ≡ Some (Wait code) → effect_of flow path reads ≡ AtWait code }
     ensures ends { (flow : Flow) (path : PathView) (reads : List Var)
-        → standing flow.order path.place ≡ Some End
+        → control_of_place flow.order path.place ≡ Some End
         → (after : PathView) (write : Option Write) (moves : List Move)
         → effect_of flow path reads ≢ Done after write moves }
     ensures past { (flow : Flow) (path : PathView) (reads : List Var)
-        → standing flow.order path.place ≡ None → effect_of flow path reads ≡ past_the_last }
+        → control_of_place flow.order path.place ≡ None → effect_of flow path reads ≡ past_the_last }
 {}
 
 /// If all runs of a flow come to one list of labels, a block that is done keeps the labels ahead of

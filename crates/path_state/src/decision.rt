@@ -14,8 +14,8 @@ ghost use Rattle.code_tables.specs.Kinds.{is_arc};
 ghost use Rattle.modal_state.specs.Modal.{motion_after};
 ghost use Rattle.path_state.specs.View.{PathView};
 ghost use Rattle.path_state.specs.Advances.{moves_of, effect_told, path_after, AreFitMoves};
-ghost use Rattle.path_state.specs.Effect.{Alarm, acted, block_at, block_of_words, controlled, effect_of, effect_of_body, macro_effect, of_moved, words_effect};
-ghost use Rattle.path_state.specs.Decisions.{behind_words, decided, macro_decided, words_decided, of_arguments_said, of_said, stopped, MayTake};
+ghost use Rattle.path_state.specs.Effect.{Alarm, effect_of_words, block_at, block_of_words, effect_of_control, effect_of, effect_of_body, macro_effect, of_moved, words_effect};
+ghost use Rattle.path_state.specs.Decisions.{behind_words, effect_of_decision, macro_decided, words_decided, of_arguments_said, of_said, effect_of_stop, MayTake};
 ghost use Rattle.path_state.specs.StatementSteps.{after_step, write_seen};
 ghost use Rattle.path_state.specs.Fits.{HasFitWords, IsFit, IsFitTurn};
 ghost use Rattle.nc_number.specs.declared.value.Var.{Var};
@@ -56,7 +56,7 @@ pub enum Decision {
 
 /// The answer of a path whose block stopped: a need or an alarm.
 pub(crate) fn answer_of_stop(stop: Stop) -> BlockAnswer
-    ensures { (moves : List Move) (after : PathView) → effect_told result moves after ≡ stopped stop }
+    ensures { (moves : List Move) (after : PathView) → effect_told result moves after ≡ effect_of_stop stop }
 {
     match stop {
         Stop::Needs(variable) => BlockAnswer::Need(variable),
@@ -99,7 +99,8 @@ impl Decision {
     /// What the path answers that does what was decided.
     pub fn answer(&self) -> BlockAnswer
         ensures { (path : PathView) (moves : List Move)
-            → effect_told result moves (path_after path (decided path self.now moves)) ≡ decided path self.now moves }
+            → effect_told result moves (path_after path (effect_of_decision path self.now moves))
+            ≡ effect_of_decision path self.now moves }
     {
         match self {
             Decision::Stops(stop) => answer_of_stop(*stop),
@@ -199,7 +200,7 @@ impl PathState {
         repeats: u16,
         arguments: [Var; LOCALS],
     ) -> Result<[Var; LOCALS], Stop>
-        ensures { macro_decided self.now program repeats result ≡ controlled order.now
+        ensures { macro_decided self.now program repeats result ≡ effect_of_control order.now
             (record { path = self.now; moves = [] }) (Some arguments) (Control.Call program repeats) }
     {
         let call = Control::Call { program, repeats };
@@ -250,7 +251,8 @@ impl PathState {
         requires empty { moves.old ≡ [] }
         ensures fit { IsFitTurn result }
         ensures decided { words_decided self.now result moves.new
-            ≡ of_moved order.now control (acted self.now.fixed self.now words.now.dialect.system words.now.words
+            ≡ of_moved order.now control
+            (effect_of_words self.now.fixed self.now words.now.dialect.system words.now.words
             (values_seen values.now)) }
         ensures moves { AreFitMoves moves.new }
         ensures told { (path : PathView) → moves_of (words_decided path result moves.new) ≡ moves.new }
@@ -275,7 +277,8 @@ impl PathState {
         requires moves { AreFitMoves moves.old }
         ensures fit { IsFitTurn result }
         ensures decided { words_decided self.now result moves.new
-            ≡ controlled order.now (record { path = behind_words self.now step; moves = moves.old }) None control }
+            ≡ effect_of_control order.now
+            (record { path = behind_words self.now step; moves = moves.old }) None control }
         ensures moves { AreFitMoves moves.new }
         ensures told { (path : PathView) → moves_of (words_decided path result moves.new) ≡ moves.new }
     {
@@ -301,10 +304,10 @@ impl PathState {
     ) -> Decision
         requires empty { moves.old ≡ [] }
         ensures fit { HasFitWords result }
-        ensures decided { decided self.now result moves.new
+        ensures decided { effect_of_decision self.now result moves.new
             ≡ effect_of_body order.now self.now.fixed self.now block.now.body block.now.control reads.now }
         ensures moves { AreFitMoves moves.new }
-        ensures told { (path : PathView) → moves_of (decided path result moves.new) ≡ moves.new }
+        ensures told { (path : PathView) → moves_of (effect_of_decision path result moves.new) ≡ moves.new }
     {
         match &block.body {
             FlowBody::Words(words) => match macro_call(words, block.control) {
@@ -348,11 +351,11 @@ impl PathState {
     /// list, which is cleared first.
     #[tactic(auto, using(crate::proofs::Decided::may_take))]
     pub fn decide(&self, flow: &Flow, reads: &[Var], moves: &mut MoveList) -> Decision
-        ensures decided { decided self.now result moves.new ≡ effect_of flow.now self.now reads.now }
+        ensures decided { effect_of_decision self.now result moves.new ≡ effect_of flow.now self.now reads.now }
         ensures fit { HasFitWords result }
         ensures may { MayTake self.now result }
         ensures moves { AreFitMoves moves.new }
-        ensures told { (path : PathView) → moves_of (decided path result moves.new) ≡ moves.new }
+        ensures told { (path : PathView) → moves_of (effect_of_decision path result moves.new) ≡ moves.new }
     {
         moves.clear();
         match self.block(flow) {

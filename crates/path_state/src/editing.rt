@@ -5,7 +5,7 @@ ghost use Rattle.std.specs.Prelude.{◌≡◌};
 ghost use Rattle.run_records.specs.declared.edit.Edit.{Edit};
 ghost use Rattle.path_state.specs.View.{PathView};
 ghost use Rattle.common_vars.specs.Common.{IsCommon};
-ghost use Rattle.path_state.specs.Edits.{own_with, edited, KeepsControl};
+ghost use Rattle.path_state.specs.Edits.{own_with, path_with_edit, KeepsControl};
 
 use crate::path::PathState;
 use nc_number::Var;
@@ -16,7 +16,7 @@ impl PathState {
     ///
     /// A variable that both paths share is no part of a path: nothing changes here.
     pub fn edit(&mut self, what: &Edit)
-        ensures { self.new ≡ edited what.now self.old }
+        ensures { self.new ≡ path_with_edit what.now self.old }
     {
         match what {
             Edit::Offset { slot, to } => self.offsets.put(slot, to.get()),
@@ -38,5 +38,5 @@ impl PathState {
 /// An edit moves nothing: place, calls, local variables, what is in force, position and what is
 /// fixed for the path stay.
 pub fn edits_keep_control()
-    ensures { (path : PathView) (edit : Edit) → KeepsControl path (edited edit path) }
+    ensures { (path : PathView) (edit : Edit) → KeepsControl path (path_with_edit edit path) }
 {}

@@ -9,7 +9,7 @@ ghost use Rattle.block_order.specs.declared.control.Control.TheVariants.{Wait};
 ghost use Rattle.block_order.specs.declared.control.Control.{Control};
 ghost use Rattle.block_order.specs.declared.frame.Frame.{Frame};
 ghost use Rattle.block_order.specs.Frames.{MayPass};
-ghost use Rattle.block_order.specs.Steps.{place_behind, standing};
+ghost use Rattle.block_order.specs.Steps.{place_behind, control_of_place};
 ghost use Rattle.common_vars.specs.Common.{IsCommon, value_of};
 ghost use Rattle.local_levels.specs.Stack.{local};
 ghost use Rattle.cell_settings.specs.Preset.{IsPreset};
@@ -75,7 +75,8 @@ impl Model for PathState {
 /// Each block of a checked tape has a number for the one behind it.
 #[tactic(auto, using(crate::proofs::NextBlocks::may_pass))]
 pub(crate) fn blocks_have_next(order: &BlockOrder)
-    ensures { (place : List Frame) (control : Control) → standing order.now place ≡ Some control → MayPass place }
+    ensures { (place : List Frame) (control : Control)
+        → control_of_place order.now place ≡ Some control → MayPass place }
 {
     let _ = order.as_slice();
 }
@@ -148,7 +149,7 @@ impl PathState {
 
     /// Goes on to the block behind a wait at which the path stands.
     pub fn pass_wait(&mut self, flow: &Flow)
-        requires { (code : ℕ) × (standing flow.now.order self.old.place ≡ Some (Wait code)) }
+        requires { (code : ℕ) × (control_of_place flow.now.order self.old.place ≡ Some (Wait code)) }
         ensures { self.new ≡ record self.old { place = place_behind self.old.place } }
     {
         blocks_have_next(&flow.order);

@@ -6,7 +6,7 @@ ghost use Rattle.nc_number.specs.Position.{IsWithin};
 ghost use Rattle.offset_store.specs.Offsets.{shift_travel};
 ghost use Rattle.common_vars.specs.Variables.{IsVariable};
 ghost use Rattle.block_values.specs.Readings.{part, in_units, in_millimetres, code_in_force, variable_in};
-ghost use Rattle.path_state.specs.Looks.{look_of, held, shift_now, is_shared};
+ghost use Rattle.path_state.specs.Looks.{look_of, value_or_shared, shift_now, is_shared};
 
 use crate::path::PathState;
 use block_values::{code_in_force, in_millimetres, in_units, part, programmed, variable_in};
@@ -43,7 +43,7 @@ impl PathState {
     /// What a common variable of the path's own holds, or that it is shared.
     fn common(&self, v: u32) -> Look
         requires { IsVariable (Variable.Common v) }
-        ensures { held self.now.fixed self.now (Variable.Common v) ≡ Ok result }
+        ensures { value_or_shared self.now.fixed self.now (Variable.Common v) ≡ Ok result }
     {
         if self.shares(v) {
             Look::Shared
@@ -58,7 +58,7 @@ impl PathState {
     /// Error: `#3000` can't be read.
     fn held(&self, variable: Variable) -> Result<Look, VarFault>
         requires { IsVariable variable }
-        ensures { result ≡ held self.now.fixed self.now variable }
+        ensures { result ≡ value_or_shared self.now.fixed self.now variable }
     {
         let value = match variable {
             Variable::Null => Var::Vacant,

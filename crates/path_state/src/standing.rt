@@ -7,7 +7,7 @@ ghost use Rattle.block_order.specs.Moves.{place_behind, place_at};
 ghost use Rattle.block_order.specs.Frames.{start_of, MayPass};
 ghost use Rattle.local_levels.specs.Stack.{base_level, local, with_local};
 ghost use Rattle.path_state.specs.Standing.{calls_below, levels_below, levels_anew, macros};
-ghost use Rattle.path_state.specs.Standing.{elsewhere, without_call, standing_of_return, standing_behind};
+ghost use Rattle.path_state.specs.Standing.{standing_moved, without_call, standing_of_return, standing_behind};
 ghost use Rattle.path_state.specs.Routes.{route_end, route_end_or_cause};
 
 use crate::route::Route;
@@ -145,14 +145,14 @@ impl Standing {
     /// Goes to the next block, from a wait as from any other block.
     pub(crate) fn pass(&mut self)
         requires { MayPass self.old.place }
-        ensures { self.new ≡ elsewhere self.old (place_behind self.old.place) }
+        ensures { self.new ≡ standing_moved self.old (place_behind self.old.place) }
     {
         self.place.next();
     }
 
     /// Goes to another block of the running program.
     pub(crate) fn to(&mut self, block: u32)
-        ensures { self.new ≡ elsewhere self.old (place_at block self.old.place) }
+        ensures { self.new ≡ standing_moved self.old (place_at block self.old.place) }
     {
         self.place.to(block);
     }

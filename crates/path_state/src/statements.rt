@@ -12,7 +12,7 @@ ghost use Rattle.path_state.specs.Looks.{is_shared};
 ghost use Rattle.block_values.specs.Seen.{outcome_of};
 ghost use Rattle.block_order.specs.Moves.{place_to};
 ghost use Rattle.block_values.specs.Operands.{length_of};
-ghost use Rattle.path_state.specs.Statements.{named, with_common, written, assigned_next, aimed, move_effect, jump_effect, statement_effect};
+ghost use Rattle.path_state.specs.Statements.{variable_named, with_common, outcome_of_write, assigned_next, outcome_of_aim, move_effect, jump_effect, statement_effect};
 ghost use Rattle.path_state.specs.Effect.{of_after};
 ghost use Rattle.path_state.specs.StatementSteps.{after_writing, after_step, step_seen, write_seen, taken_next};
 
@@ -68,7 +68,7 @@ impl PathState {
     fn offset_written(&self, n: u8, axis: AxisLetter, value: &Var) -> Result<Writing, Stop>
         requires { IsVariable (Variable.Work n axis) }
         ensures { (left : List Var) → outcome_of (after_writing self.now) result left
-            ≡ written self.now.fixed self.now (Variable.Work n axis) value.now left }
+            ≡ outcome_of_write self.now.fixed self.now (Variable.Work n axis) value.now left }
     {
         let slot = Slot::Work(WorkNumber::new(n));
         let told = Axis::To(length_of(value));
@@ -89,7 +89,7 @@ impl PathState {
     fn written(&self, variable: Variable, value: Var) -> Result<Writing, Stop>
         requires { IsVariable variable }
         ensures { (left : List Var) → outcome_of (after_writing self.now) result left
-            ≡ written self.now.fixed self.now variable value left }
+            ≡ outcome_of_write self.now.fixed self.now variable value left }
     {
         match variable {
             Variable::Local(i) => Ok(Writing {

@@ -7,7 +7,7 @@ ghost use Rattle.block_words.specs.Codes.{is_macro};
 ghost use Rattle.block_order.specs.declared.control.Control.TheVariants as Control;
 ghost use Rattle.tape_flow.specs.Places.{line_at};
 ghost use Rattle.path_state.specs.Advances.{effect_told, effect_seen, moves_of, path_after, StaysUnlessTold, StaysUnlessDone, AreFitMoves, AreMovesAt};
-ghost use Rattle.path_state.specs.Decisions.{decided, words_decided, behind_words, MayTake, MayTakeWords};
+ghost use Rattle.path_state.specs.Decisions.{effect_of_decision, words_decided, behind_words, MayTake, MayTakeWords};
 ghost use Rattle.path_state.specs.Fits.{HasFitWords, IsFit, IsFitTurn};
 ghost use Rattle.path_state.specs.Effect.{block_of_words, effect_of, effect_of_body, macro_effect};
 ghost use Rattle.path_state.specs.StatementSteps.{step_seen};
@@ -72,7 +72,8 @@ impl PathState {
     pub fn take(&mut self, decision: Decision) -> BlockAnswer
         requires fit { HasFitWords decision }
         requires may { MayTake self.old decision }
-        ensures effect { (moves : List Move) → effect_told result moves self.new ≡ decided self.old decision moves }
+        ensures effect { (moves : List Move)
+            → effect_told result moves self.new ≡ effect_of_decision self.old decision moves }
         ensures stays { StaysUnlessTold result self.old self.new }
     {
         match decision {

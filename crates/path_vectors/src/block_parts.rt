@@ -1,9 +1,9 @@
 //! Tests of what block_values gives the one who runs a block, without a path: what a block leaves
-//! in force (`modal_after`), its motion (`motion_of`), and all its moves in their order
+//! in force (`modal_of_rows`), its motion (`motion_of`), and all its moves in their order
 //! (`all_moves`).
 use crate::lone_path::{put_var, units};
 use crate::move_text::put_move;
-use block_values::{MotionWords, all_moves, modal_after, motion_of};
+use block_values::{MotionWords, all_moves, modal_of_rows, motion_of};
 use code_tables::{CodeKind, Row, System, system_a, system_b};
 use modal_state::Modal;
 use nc_moves::{Move, MoveList};
@@ -79,7 +79,7 @@ fn modal_text(alloc: Global, modal: &Modal) -> Result<String, AllocError> {
 
 /// What a block of these codes of system A with a speed and a tool leaves in force, or its alarm.
 fn text_after(alloc: Global, codes: &[Row], speed: Var, tool: u16) -> Result<String, AllocError> {
-    match modal_after(
+    match modal_of_rows(
         &Modal::for_system(System::A),
         codes,
         Var::Vacant,

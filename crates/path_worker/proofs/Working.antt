@@ -5,7 +5,7 @@ use Rattle.std.proofs.lemmas.List.{length-append}
 use Rattle.std.proofs.lemmas.Grind.{flat_map-append}
 use Rattle.nc_number.specs.declared.path.Path.{Path}
 use Rattle.nc_outside.specs.declared.lined_move.LinedMove.{LinedMove}
-use Rattle.nc_outside.specs.Lined.{lined}
+use Rattle.nc_outside.specs.Lined.{lined_moves}
 use Rattle.nc_outside.specs.declared.halt.Next.{Next}
 use Rattle.nc_outside.specs.declared.halt.Next.TheVariants.{Silent, Moves, Drain, Finished, Halted}
 use Rattle.nc_outside.specs.declared.stepper.Call.{Call}
@@ -33,7 +33,7 @@ moves_then (what ∷ moves) items = ap (λ l. what ∷ l) (moves_then moves item
 -- the moves that are sent at an answer are those that it gives
 sent_at : (answer : Next) (items : List Item) → moves_among (items_at answer ++ items) ≡ moves_of answer ++ moves_among items
 sent_at Silent items = refl
-sent_at (Moves moves) items = moves_then (lined moves) items
+sent_at (Moves moves) items = moves_then (lined_moves moves) items
 sent_at Drain items = refl
 sent_at Finished items = refl
 sent_at (Halted why) items = refl

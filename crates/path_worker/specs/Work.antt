@@ -8,7 +8,7 @@ use Rattle.nc_outside.specs.declared.halt.Next.TheVariants.{Silent, Moves, Drain
 use Rattle.nc_outside.specs.declared.stepper.Call.{Call}
 use Rattle.nc_outside.specs.declared.stepper.Call.TheVariants.{Step, Drained}
 use Rattle.nc_outside.specs.Calls.{IsCalled, moves_of}
-use Rattle.nc_outside.specs.Lined.{lined}
+use Rattle.nc_outside.specs.Lined.{lined_moves}
 use Rattle.drive_line.specs.declared.item.Item.{Item}
 use Rattle.drive_line.specs.declared.item.Item.TheVariants.{Move, Mark, End}
 use Rattle.drive_line.specs.Line.{moves_among}
@@ -18,7 +18,7 @@ use Rattle.path_worker.specs.declared.worker.Why.{Why}
 -- turret has every move before it and is at rest; and the end if the answer is the last
 abbrev pub items_at : Next → List Item
 items_at Silent = []
-items_at (Moves moves) = map Move (lined moves)
+items_at (Moves moves) = map Move (lined_moves moves)
 items_at Drain = Mark ∷ []
 items_at Finished = End ∷ []
 items_at (Halted why) = End ∷ []

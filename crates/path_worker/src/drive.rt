@@ -6,7 +6,7 @@ ghost use Rattle.nc_outside.specs.Calls.{IsCalled};
 ghost use Rattle.nc_outside.specs.declared.lined_move.LinedMove.{LinedMove};
 ghost use Rattle.nc_outside.specs.Received.{TurretState};
 ghost use Rattle.drive_line.specs.declared.item.Item.{Item as Sent};
-ghost use Rattle.drive_line.specs.Driving.{fresh, has_failed, IsAtRest, Serves};
+ghost use Rattle.drive_line.specs.Driving.{fresh_drive, has_failed, IsAtRest, Serves};
 ghost use Rattle.drive_line.specs.Line.{moves_among, has_end};
 ghost use Rattle.path_worker.specs.Drive.{halts_at, halts_for, once_halted, StandsAt};
 
@@ -58,7 +58,7 @@ pub fn run_drive<R: Wait, H: Stepper, T: Turret>(
     driven: &mut Driven<T>,
 )
     requires line { (line.old.items ≡ []) × (line.old.asked ≡ false) }
-    requires driven { driven.old ≡ fresh driven.old.state }
+    requires driven { driven.old ≡ fresh_drive driven.old.state }
     ensures line { (line.new.line ≡ line.old.line) × (has_end line.new.items ≡ true) }
     ensures serves { Serves (moves_among line.new.items) driven.old.state driven.new }
     ensures rest { IsAtRest driven.new (length (moves_among line.new.items)) }

@@ -3,7 +3,7 @@
 ghost use Rattle.std.specs.Prelude.{◌≡◌, [], List, false, true, length};
 ghost use Rattle.nc_outside.specs.Calls.{IsCalled, moves_answered};
 ghost use Rattle.nc_outside.specs.declared.halt.Next.{Next as Answer};
-ghost use Rattle.drive_line.specs.Driving.{fresh, has_failed, IsAtRest, Serves};
+ghost use Rattle.drive_line.specs.Driving.{fresh_drive, has_failed, IsAtRest, Serves};
 ghost use Rattle.drive_line.specs.Line.{moves_among, has_end};
 ghost use Rattle.path_worker.specs.Drive.{halts_at, HasSettled};
 ghost use Rattle.path_worker.specs.Work.{Works, IsWhole, calls_made};
@@ -92,7 +92,7 @@ fn drive<'r, R: Wait, H: Stepper + Drop, T: Turret>(
     line: LineOut<'r, R, T>,
 ) -> Drove<'r, H, T, R>
     requires line { (line.items ≡ []) × (line.asked ≡ false) }
-    requires driven { driven ≡ fresh driven.state }
+    requires driven { driven ≡ fresh_drive driven.state }
     ensures line { (result.line.line ≡ line.entry.line) × (has_end result.line.items ≡ true) }
     ensures serves { Serves (moves_among result.line.items) driven.state result.driven }
     ensures rest { IsAtRest result.driven (length (moves_among result.line.items)) }
@@ -125,7 +125,7 @@ where
     H: Stepper + Drop + Send,
     T: Turret + Send,
     requires line { (ends.0.line ≡ ends.1.line) × (ends.0.items ≡ []) × (ends.1.items ≡ []) × (ends.1.asked ≡ false) }
-    requires driven { lane.driven ≡ fresh lane.driven.state }
+    requires driven { lane.driven ≡ fresh_drive lane.driven.state }
     ensures moves { (answers : List Answer)
         × IsCalled (S.calls lane.stepper) (S.calls result.stepper) (calls_made path 0 answers)
         × IsWhole answers result.why
@@ -153,7 +153,7 @@ where
             ensures origin { S.origin result.stepper ≡ S.origin stepper }
         { work(rt, path, stepper, line_in) },
         move || -> Drove<'_, H, T, R>
-            requires { (line_out.items ≡ []) × (line_out.asked ≡ false) × (driven ≡ fresh driven.state) }
+            requires { (line_out.items ≡ []) × (line_out.asked ≡ false) × (driven ≡ fresh_drive driven.state) }
             ensures line { (result.line.line ≡ line_out.entry.line) × (has_end result.line.items ≡ true) }
             ensures serves { Serves (moves_among result.line.items) driven.state result.driven }
             ensures rest { IsAtRest result.driven (length (moves_among result.line.items)) }

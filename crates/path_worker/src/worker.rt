@@ -2,7 +2,7 @@
 //! thread.
 ghost use Rattle.std.specs.Prelude.{◌≡◌, ◌++◌, [], ◌∷◌, List, false, map, MatchOption, ⊤};
 ghost use Rattle.nc_outside.specs.declared.halt.Next.{Next as Answer};
-ghost use Rattle.nc_outside.specs.Lined.{lined};
+ghost use Rattle.nc_outside.specs.Lined.{lined_moves};
 ghost use Rattle.drive_line.specs.Line.{has_end};
 ghost use Rattle.drive_line.specs.declared.item.Item.TheVariants.{Move as Sent};
 ghost use Rattle.path_worker.specs.Work.{Works, GoesOn, IsAnswerOf, IsWhole};
@@ -26,7 +26,7 @@ pub enum Why {
 fn send_all<R: Wait>(line: &mut LineIn<'_, R>, moves: &Moves)
     requires { has_end line.old.items ≡ false }
     ensures line { line.new.line ≡ line.old.line }
-    ensures items { line.new.items ≡ line.old.items ++ map Sent (lined moves.now) }
+    ensures items { line.new.items ≡ line.old.items ++ map Sent (lined_moves moves.now) }
     ensures open { has_end line.new.items ≡ false }
 {
     for what in moves.list.as_slice() {

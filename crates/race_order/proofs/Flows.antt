@@ -11,7 +11,7 @@ use Rattle.block_order.specs.Labels.{IsUnforked}
 use Rattle.block_forms.specs.declared.block.FlowBlock.{FlowBlock}
 use Rattle.block_forms.specs.declared.body.FlowBody.{FlowBody}
 use Rattle.block_forms.specs.declared.body.FlowBody.TheVariants.{Words, Statement}
-use Rattle.macro_expr.specs.Tree.{evaluated, sentence_of}
+use Rattle.macro_expr.specs.Tree.{trees_of_sentence, sentence_of}
 use Rattle.tape_flow.specs.declared.flow.Flow.{Flow}
 use Rattle.tape_flow.specs.Places.{flow_block}
 use Rattle.path_state.specs.View.{PathView}
@@ -41,7 +41,7 @@ may_named (Some block) v e = go block.body e
   where
     go : (body : FlowBody) → body_may_write body v ≡ true → body_names body v ≡ true
     go (Words words) e = absurd cc
-    go (Statement s) e = or_left (sentence_may_write (sentence_of s.statement) v) (some_names (evaluated (sentence_of s.statement)) v) e
+    go (Statement s) e = or_left (sentence_may_write (sentence_of s.statement) v) (some_names (trees_of_sentence (sentence_of s.statement)) v) e
 
 -- behind n waits the path is at this place, and shares these variables
 pub record IsThere (flow : Flow) (shared : ℕ → Bool) (n : ℕ) (path : PathView) : Type 0 where

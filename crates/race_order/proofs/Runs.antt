@@ -17,7 +17,7 @@ use Rattle.race_order.proofs.Alone.{PathOf}
 use Rattle.race_order.proofs.Together.{Pair, pair_at, Goes, one, two, meet, IsRun, begun, gone, IsFree, race_free_runs_agree}
 use Rattle.race_order.proofs.Calm.{finished_calm}
 use Rattle.race_order.proofs.Stable.{var_stable}
-use Rattle.race_order.specs.Agreement.{moves_in, turn_moves, moves_by, AreDone, unstamped, but_for_order, AreMixed, Agree}
+use Rattle.race_order.specs.Agreement.{moves_in, turn_moves, moves_by, AreDone, unstamped_part, but_for_order, AreMixed, Agree}
 use Rattle.race_order.specs.Agreement as mixed
 use Rattle.race_order.proofs.Machines.{Known, Told, nothing_told, path_of}
 use Rattle.race_order.proofs.Turns.{shown, waits, IsTold, IsFit, IsShown, own_shown}
@@ -147,12 +147,12 @@ run_shown b d k l x m mine yours s (path ∷ turns) calm =
 
 -- parts with the same path, values, wait and end are the same but for numbers of records
 same_part : (a b : Part) → a.path ≡ b.path → a.values ≡ b.values → a.waiting ≡ b.waiting → a.finished ≡ b.finished
-    → unstamped a ≡ unstamped b
+    → unstamped_part a ≡ unstamped_part b
 same_part a b path values waiting finished =
     λ i. record { path = path i; values = values i; stamps = []; waiting = waiting i; finished = finished i; since = 0 }
 
 -- machines of parts that are the same but for numbers of records are the same but for order
-same_machine : (m n : MachineView) → unstamped m.paths.one ≡ unstamped n.paths.one → unstamped m.paths.two ≡ unstamped n.paths.two
+same_machine : (m n : MachineView) → unstamped_part m.paths.one ≡ unstamped_part n.paths.one → unstamped_part m.paths.two ≡ unstamped_part n.paths.two
     → m.count ≡ n.count → m.alarm ≡ n.alarm → but_for_order m ≡ but_for_order n
 same_machine m n first second count alarm =
     λ i. record { paths = record { one = first i; two = second i }; writes = []; count = count i; alarm = alarm i }

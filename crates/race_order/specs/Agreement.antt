@@ -52,13 +52,13 @@ pub record AreDone (m : MachineView) : Type 0 where
   pub second : m.paths.two.finished ≡ true
 
 -- a path in the machine but for the numbers of records that it holds
-abbrev pub unstamped : Part → Part
-unstamped part = record part { stamps = []; since = 0 }
+abbrev pub unstamped_part : Part → Part
+unstamped_part part = record part { stamps = []; since = 0 }
 
 -- the machine but for the writes to shared variables, and for the numbers of records that paths
 -- hold
 abbrev pub but_for_order : MachineView → MachineView
-but_for_order m = record m { paths = both_of unstamped m.paths; writes = [] }
+but_for_order m = record m { paths = both_of unstamped_part m.paths; writes = [] }
 
 -- these writes are those of the first path and those of the second, each in their order
 pub data AreMixed : List Written → List Written → List Write → Type 0 where

@@ -2,7 +2,7 @@
 //! computed may be any. The definitions are those of named_vars.
 //! meeting.rt and table.rt ask `does` of each block.
 ghost use Rattle.std.specs.Prelude.{◌≡◌};
-ghost use Rattle.macro_expr.specs.Tree.{variable_of, sentence_of, evaluated};
+ghost use Rattle.macro_expr.specs.Tree.{variable_of, sentence_of, trees_of_sentence};
 ghost use Rattle.named_vars.specs.Names.{names, may_be, some_names, sentence_may_write, sentence_names, word_names, words_name, body_names, body_may_write};
 ghost use Rattle.race_report.specs.Reads.{may_read, some_read};
 ghost use Rattle.race_report.specs.Lines.{does};

@@ -152,8 +152,10 @@ fn add_race(
     variable: u32,
 ) -> Result<(), NoMemory>
     requires shared { shared_by verified.now.settings variable ≡ true }
-    requires listed { IsListedBelow (shared_by verified.now.settings) verified.now.left verified.now.right variable races.old.items }
-    ensures { OnOk result (IsListedBelow (shared_by verified.now.settings) verified.now.left verified.now.right (variable + 1) races.new.items) }
+    requires listed { IsListedBelow
+        (shared_by verified.now.settings) verified.now.left verified.now.right variable races.old.items }
+    ensures { OnOk result (IsListedBelow (shared_by verified.now.settings) verified.now.left verified.now.right
+        (variable + 1) races.new.items) }
 {
     match race_of(alloc, verified, variable)? {
         Some(race) => {

@@ -131,7 +131,8 @@ fn add_program(
     program: &FlowProgram,
     table: &mut LineTable,
 ) -> Result<(), NoMemory>
-    ensures { OnOk result ((flow : Flow) (rest : List FlowProgram) → IsToldWith flow sought variable table.old (program.now ∷ rest)
+    ensures { OnOk result ((flow : Flow) (rest : List FlowProgram)
+        → IsToldWith flow sought variable table.old (program.now ∷ rest)
         → IsToldWith flow sought variable table.new rest) }
 {
     if table.get(program.number).is_some() {
@@ -149,7 +150,8 @@ pub(crate) fn table_of(
     variable: u32,
     flow: &Flow,
 ) -> Result<LineTable, NoMemory>
-    ensures { IfOk result (λ table. (program place : ℕ) → table_line table program place ≡ sought_line flow.now sought variable program place) }
+    ensures { IfOk result (λ table. (program place : ℕ) → table_line table program place
+        ≡ sought_line flow.now sought variable program place) }
 {
     let mut table = LineTable::new(alloc);
     for program in flow.programs.as_slice() {

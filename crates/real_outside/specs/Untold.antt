@@ -7,8 +7,8 @@ use Rattle.nc_outside.specs.Received.{TurretState}
 
 -- Nothing is told but how often it has failed: a crash may leave any bytes, any call may fail, and
 -- its clock stands at the last value of a u64.
-abbrev pub untold : ℕ → DiskState
-untold faults = record {
+abbrev pub untold_disk : ℕ → DiskState
+untold_disk faults = record {
   reads = None;
   image = λ bytes. ⊤;
   image_since = λ time bytes. ⊤;
@@ -20,7 +20,7 @@ untold faults = record {
 }
 
 -- the facts that are told of such a disk, none, agree with one another
-pub untold_agrees : (faults : ℕ) → IsCoherent (untold faults)
+pub untold_agrees : (faults : ℕ) → IsCoherent (untold_disk faults)
 untold_agrees faults = record {
   counts_now = λ t c le now. tt;
   only_now = λ c since. tt;

@@ -64,9 +64,9 @@ impl<'a, D: Folder + Drop> FileDisk<'a, D> {
 }
 
 impl<D: Folder + Drop> Disk for FileDisk<'_, D> {
-    ghost use Rattle.real_outside.specs.Untold.{untold, untold_agrees};
+    ghost use Rattle.real_outside.specs.Untold.{untold_disk, untold_agrees};
 
-    ghost state = { λ disk. untold disk.faults };
+    ghost state = { λ disk. untold_disk disk.faults };
 
     ghost coherent = { λ disk. untold_agrees disk.faults };
 

@@ -10,7 +10,7 @@ use Rattle.std.proofs.lemmas.Int.{ints}
 use Rattle.std.proofs.Math.Nat.{mul-le-mul, mul-le-mul_left, mul-le-mul_right}
 use Rattle.nc_number.specs.declared.point.Point.{Point}
 use Rattle.rough_cycle.specs.declared.block.PlainBlock.{PlainBlock}
-use Rattle.rough_cycle.specs.Contour.{Descends, last_of, moved_point, moved}
+use Rattle.rough_cycle.specs.Contour.{Descends, last_of, moved_point, moved_points}
 use Rattle.nc_number.specs.Distances.{distance}
 use Rattle.rough_cycle.specs.Inside.{holds, is_below, some_holds, is_below_each, is_inside_from}
 use Rattle.rough_cycle.specs.Roughing.{end_at, Rough, IsForm, IsFinishStart, first_moved, points_moved, x_of_pass, pass_of, is_made, passes_from, across_to, along_to, straight_to, pass_blocks, contour_blocks, rough_blocks, finish_blocks}
@@ -18,7 +18,7 @@ use Rattle.nc_number.proofs.Bools.{both, only_false}
 use Rattle.nc_number.proofs.Integers.{lt_is, le_is}
 use Rattle.rough_cycle.proofs.Orders.{not_le_is, is_le}
 use Rattle.rough_cycle.proofs.Products.{quotient_below, part_below}
-use Rattle.rough_cycle.specs.Moves.{IsOn, after, after_all, IsClear, AreClear}
+use Rattle.rough_cycle.specs.Moves.{IsOn, point_after, after_all, IsClear, AreClear}
 
 -- a number at most two others is at most the lesser of them
 not_before_least : (z a b : ℤ) → z ≤ℤ a → z ≤ℤ b → z ≤ℤ int_min a b
@@ -171,12 +171,12 @@ end_is_low x p (q ∷ points) (rises, falls, later) = go (int_le q.x x) (end_is_
 -- the allowances
 
 -- a contour that descends does so with its allowances
-moved_descends : (u w : ℕ) (p : Point) (points : List Point) → Descends p points → Descends (moved_point u w p) (moved u w points)
+moved_descends : (u w : ℕ) (p : Point) (points : List Point) → Descends p points → Descends (moved_point u w p) (moved_points u w points)
 moved_descends u w p [] falls = tt
 moved_descends u w p (q ∷ points) (rises, falls, later) = (omega (arith, ints), omega (arith, ints), moved_descends u w q points later)
 
 -- the last point with its allowances is the last of the contour with them
-last_moved : (u w : ℕ) (p : Point) (points : List Point) → last_of (moved_point u w p) (moved u w points) ≡ moved_point u w (last_of p points)
+last_moved : (u w : ℕ) (p : Point) (points : List Point) → last_of (moved_point u w p) (moved_points u w points) ≡ moved_point u w (last_of p points)
 last_moved u w p [] = refl
 last_moved u w p (q ∷ points) = last_moved u w q points
 
@@ -185,7 +185,7 @@ last_moved u w p (q ∷ points) = last_moved u w q points
 -- if blocks are clear, and those after them are clear from where the first lead, all are clear
 clear_behind : (p : Point) (points : List Point) (from : Point) (xs ys : List PlainBlock) → AreClear p points from xs → AreClear p points (after_all from xs) ys → AreClear p points from (xs ++ ys)
 clear_behind p points from [] ys first rest = rest
-clear_behind p points from (x ∷ xs) ys (clear, first) rest = (clear, clear_behind p points (after from x) xs ys first rest)
+clear_behind p points from (x ∷ xs) ys (clear, first) rest = (clear, clear_behind p points (point_after from x) xs ys first rest)
 
 -- a move is clear if both its ends lie right of x, and past the end of a pass at x
 move_behind : (x : ℤ) (p : Point) (points : List Point) (from to : Point) → Descends p points → p.x ≤ℤ x → x ≤ℤ from.x → x ≤ℤ to.x → end_at x p points ≤ℤ from.z → end_at x p points ≤ℤ to.z → IsClear p points from to
@@ -225,7 +225,7 @@ ends_at_last p (q ∷ points) = ends_at_last q points
 
 -- the blocks to the contour, along it and back are clear, if the way to its first point is
 contour_clear : (start p : Point) (points : List Point) (from : Point) → Descends p points → (last_of p points).x ≤ℤ start.x → p.x ≤ℤ from.x
-    → IsClear p points from (after from (along_to false p)) → AreClear p points from (contour_blocks start p points)
+    → IsClear p points from (point_after from (along_to false p)) → AreClear p points from (contour_blocks start p points)
 contour_clear start p points from falls high right rise =
     let low = end_is_low p.x p points falls in
     let there : Point = record { x = from.x; z = p.z } in
@@ -258,7 +258,7 @@ record MayBegin (r : Rough) (k : ℕ) (from : Point) : Type 0 where
   -- its X is at least that of the contour's first point
   of_first : (first_moved r).x ≤ℤ from.x
   -- the move from there along to the first point's Z is clear
-  rise : IsClear (first_moved r) (points_moved r) from (after from (along_to false (first_moved r)))
+  rise : IsClear (first_moved r) (points_moved r) from (point_after from (along_to false (first_moved r)))
 
 -- a point that is not left of a pass, and not before its end
 record IsPast (r : Rough) (k : ℕ) (at : Point) : Type 0 where

@@ -8,8 +8,8 @@ abbrev pub moved_point : ℕ → ℕ → Point → Point
 moved_point u w p = record { x = p.x +ℤ pos u; z = p.z +ℤ pos w }
 
 -- points with the finishing allowance: u in X, w in Z
-abbrev pub moved : ℕ → ℕ → List Point → List Point
-moved u w points = map (moved_point u w) points
+abbrev pub moved_points : ℕ → ℕ → List Point → List Point
+moved_points u w points = map (moved_point u w) points
 
 -- from this first point on, X does not fall and Z does not rise
 abbrev pub Descends : Point → List Point → Type 0

@@ -16,13 +16,13 @@ pub record IsOn (from to at : Point) : Type 0 where
   pub line : distance at.x from.x * distance to.z from.z ≡ distance to.x from.x * distance at.z from.z
 
 -- the point to which a block leads
-abbrev pub after : Point → PlainBlock → Point
-after at block = record { x = unwrap_or block.x at.x; z = unwrap_or block.z at.z }
+abbrev pub point_after : Point → PlainBlock → Point
+point_after at block = record { x = unwrap_or block.x at.x; z = unwrap_or block.z at.z }
 
 -- the point to which blocks lead, one after another
 abbrev pub after_all : Point → List PlainBlock → Point
 after_all at [] = at
-after_all at (block ∷ blocks) = after_all (after at block) blocks
+after_all at (block ∷ blocks) = after_all (point_after at block) blocks
 
 -- no whole point on the move lies inside the contour
 abbrev pub IsClear : Point → List Point → Point → Point → Type 0
@@ -31,4 +31,4 @@ IsClear p points from to = (at : Point) → IsOn from to at → is_inside_from p
 -- no whole point on one of the moves of these blocks lies inside the contour
 abbrev pub AreClear : Point → List Point → Point → List PlainBlock → Type 0
 AreClear p points from [] = Unit {0}
-AreClear p points from (block ∷ blocks) = IsClear p points from (after from block) × AreClear p points (after from block) blocks
+AreClear p points from (block ∷ blocks) = IsClear p points from (point_after from block) × AreClear p points (point_after from block) blocks

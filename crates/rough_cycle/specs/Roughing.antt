@@ -6,7 +6,7 @@ use Rattle.std.specs.List.{flat_map}
 use Rattle.std.specs.Int.{int_min}
 use Rattle.nc_number.specs.declared.point.Point.{Point}
 use Rattle.rough_cycle.specs.declared.block.PlainBlock.{PlainBlock}
-use Rattle.rough_cycle.specs.Contour.{Descends, last_of, moved_point, moved}
+use Rattle.rough_cycle.specs.Contour.{Descends, last_of, moved_point, moved_points}
 use Rattle.nc_number.specs.Distances.{distance}
 
 -- the end of a pass at x, rounded up to a whole number: the least Z at which the contour has X at
@@ -41,7 +41,7 @@ first_moved r = moved_point r.across r.along r.first
 
 -- the points after the first, with their allowances
 abbrev pub points_moved : Rough → List Point
-points_moved r = moved r.across r.along r.points
+points_moved r = moved_points r.across r.along r.points
 
 -- what makes a form one that may be written out: its passes and its contour then never cut too deep
 pub record IsForm (r : Rough) : Type 0 where

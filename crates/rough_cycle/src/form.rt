@@ -2,7 +2,9 @@
 //! `RoughForm` of the blocks of a tape and asks for its blocks.
 ghost use Rattle.std.specs.Prelude.{◌≡◌, ◌≤◌, ◌++◌, IfOk, IfSome, OnOk, unsigned_abs, All, true, map, [], ◌∷◌};
 ghost use Rattle.std.specs.List.{flat_map};
-ghost use Rattle.rough_cycle.specs.Contour.{moved_point, moved};
+ghost use Rattle.nc_number.specs.declared.limits.TheConstants.{LONGEST_SAID};
+ghost use Rattle.rough_cycle.specs.declared.form.TheConstants.{TRIED};
+ghost use Rattle.rough_cycle.specs.Contour.{moved_point, moved_points};
 ghost use Rattle.rough_cycle.specs.Inside.{IsNear};
 ghost use Rattle.rough_cycle.specs.Roughing.{passes_from, made_at, off_pass, x_of_pass, pass_blocks, contour_blocks, rough_blocks, finish_blocks, first_moved, points_moved, across_to, along_to, straight_to};
 ghost use Rattle.rough_cycle.specs.Form.{rough_of, IsNearForm, IsNearPass, IsWritten};
@@ -13,8 +15,8 @@ use nc_number::Point;
 use std::alloc::{AllocError, Global};
 
 /// One pass more than a form may have: cycle_form takes no form with so many (its `MOST_PASSES` is
-/// one less). The contracts here and cycle_form's specs (Forms, Parts) write it as 1001.
-const TRIED: u32 = 1_001;
+/// one less).
+pub const TRIED: u32 = 1_001;
 
 /// What a G71 form says; lengths are in 0.001 mm.
 #[derive(Debug, Drop)]
@@ -39,7 +41,7 @@ impl RoughForm {
     /// The blocks of the G71 part: the passes, and then the contour with its allowances.
     pub fn rough_blocks(&self, alloc: Global) -> Result<Vec<PlainBlock>, AllocError>
         requires { IsNearForm (rough_of self.now) }
-        ensures { IfOk result (λ v. v.items ≡ rough_blocks (rough_of self.now) 1001) }
+        ensures { IfOk result (λ v. v.items ≡ rough_blocks (rough_of self.now) TRIED) }
     {
         let first = moved_point(self.across, self.along, &self.first);
         let points = moved(alloc, self.across, self.along, &self.points)?;
@@ -71,7 +73,7 @@ impl RoughForm {
         requires points { points.now ≡ points_moved (rough_of self.now) }
         requires near_first { IsNear first.now }
         requires near_points { All IsNear points.now }
-        ensures passes { IfOk result (λ v. v.items ≡ passes_from (rough_of self.now) 1 1001) }
+        ensures passes { IfOk result (λ v. v.items ≡ passes_from (rough_of self.now) 1 TRIED) }
         ensures near { IfOk result (λ v. All IsNearPass v.items) }
     {
         let mut passes = Vec::new(alloc);
@@ -92,7 +94,7 @@ impl RoughForm {
         requires points { points.now ≡ points_moved (rough_of self.now) }
         requires near_first { IsNear first.now }
         requires near_points { All IsNear points.now }
-        requires k { k ≤ 1001 }
+        requires k { k ≤ TRIED }
         ensures pass { result ≡ made_at (rough_of self.now) k }
         ensures near { IfSome result IsNearPass }
     {
@@ -112,7 +114,7 @@ impl RoughForm {
     /// lower.
     fn x_of_pass(&self, k: u32) -> i64
         requires near { IsNearForm (rough_of self.now) }
-        requires k { k ≤ 1001 }
+        requires k { k ≤ TRIED }
         ensures x { result ≡ x_of_pass (rough_of self.now) k }
         ensures near { unsigned_abs result ≤ 400000000000000 }
     {
@@ -166,8 +168,8 @@ impl RoughForm {
 
 /// A point with its allowances.
 fn moved_point(across: u64, along: u64, point: &Point) -> Point
-    requires across { across ≤ 100000000000 }
-    requires along { along ≤ 100000000000 }
+    requires across { across ≤ LONGEST_SAID }
+    requires along { along ≤ LONGEST_SAID }
     requires point { IsWritten point.now }
     ensures point { result ≡ moved_point across along point.now }
     ensures near { IsNear result }
@@ -180,10 +182,10 @@ fn moved_point(across: u64, along: u64, point: &Point) -> Point
 
 /// Points with their allowances.
 fn moved(alloc: Global, across: u64, along: u64, points: &[Point]) -> Result<Vec<Point>, AllocError>
-    requires across { across ≤ 100000000000 }
-    requires along { along ≤ 100000000000 }
+    requires across { across ≤ LONGEST_SAID }
+    requires along { along ≤ LONGEST_SAID }
     requires points { All IsWritten points.now }
-    ensures points { IfOk result (λ v. v.items ≡ moved across along points.now) }
+    ensures points { IfOk result (λ v. v.items ≡ moved_points across along points.now) }
     ensures near { IfOk result (λ v. All IsNear v.items) }
 {
     let mut out = Vec::new(alloc);

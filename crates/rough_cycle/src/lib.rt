@@ -9,7 +9,7 @@ mod form;
 mod law;
 
 pub use block::PlainBlock;
-pub use form::RoughForm;
+pub use form::{RoughForm, TRIED};
 pub use law::no_move_enters_the_contour;
 
 // For users of the library: what no crate of the program takes.

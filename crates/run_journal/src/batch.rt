@@ -60,7 +60,8 @@ impl Batch {
     /// Puts a record after the others.
     pub(crate) fn put(&mut self, entry: &Entry)
         requires { pending_in self.old < MOST_PENDING }
-        ensures { (version : Version) (pending : List Entry) → MayStand version entry.now → Pends version pending self.old
+        ensures { (version : Version) (pending : List Entry) → MayStand version entry.now
+            → Pends version pending self.old
             → Pends version (pending ++ entry.now ∷ []) self.new }
     {
         put_behind(&mut self.bytes, entry);
@@ -88,7 +89,8 @@ fn put_behind(body: &mut Vec<u8>, entry: &Entry)
     requires has { HasBatch body.old.items }
     requires few { pending_in body.old.items < MOST_PENDING }
     requires room { LONGEST_BODY ≤ vec_capacity body.old }
-    ensures items { body.new.items ≡ (pending_in body.old.items + 1) ∷ (drop 1 body.old.items ++ entry_bytes entry.now) }
+    ensures items { body.new.items
+        ≡ (pending_in body.old.items + 1) ∷ (drop 1 body.old.items ++ entry_bytes entry.now) }
     ensures fits { length (entry_bytes entry.now) ≤ LONGEST_RECORD }
     ensures entry { IsEntry entry.now }
     ensures capacity { vec_capacity body.old ≤ vec_capacity body.new }

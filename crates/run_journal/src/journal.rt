@@ -156,13 +156,16 @@ impl<D: Disk> Journal<D> {
             → Holds header self.new.version (entries ++ pending) (D.state self.new.file.disk) self.new.file.end) }
         // A crash at any moment of the call leaves the records that it held, or those and all that
         // were to be written.
-        ensures any_moment { (header : Header) (entries pending : List Entry) → Pends self.old.version pending self.old.batch
+        ensures any_moment { (header : Header) (entries pending : List Entry)
+            → Pends self.old.version pending self.old.batch
             → Holds header self.old.version entries (D.state self.old.file.disk) self.old.file.end
-            → LeavesOnly (StandsEither header entries pending) (D.state self.old.file.disk) (D.state self.new.file.disk) }
+            → LeavesOnly (StandsEither header entries pending) (D.state self.old.file.disk)
+            (D.state self.new.file.disk) }
         ensures flushed { IsFlushed self.old self.new result }
         ensures idle { pending_in self.old.batch ≡ 0 → self.new ≡ self.old }
         ensures cause { HasCause (D.state self.old.file.disk) (D.state self.new.file.disk) result }
-        ensures uses { Uses 4 (self.old.file.end + length self.old.batch + 6) (D.state self.old.file.disk) (D.state self.new.file.disk) }
+        ensures uses { Uses 4 (self.old.file.end + length self.old.batch + 6) (D.state self.old.file.disk)
+            (D.state self.new.file.disk) }
     {
         if self.batch.count() == 0 {
             return Ok(());

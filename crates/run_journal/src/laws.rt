@@ -21,7 +21,8 @@ pub fn a_journal_stands_for_one_thing()
 /// Whatever a crash may leave of a disk that holds these records stands for them.
 pub fn a_held_journal_leaves_its_records<D: Disk>()
     ensures { (disk : D) (header : Header) (version : Version) (entries : List Entry) (end : ℕ)
-        → Holds header version entries (D.state disk) end → (c : List ℕ) → (D.state disk).image c → Stands header entries c }
+        → Holds header version entries (D.state disk) end → (c : List ℕ) → (D.state disk).image c
+        → Stands header entries c }
 {}
 
 /// A journal takes at most five bytes and its header, eight bytes for the raising mark, and six

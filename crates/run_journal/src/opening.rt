@@ -35,7 +35,8 @@ pub struct Opened<D: Disk> {
 /// Opens the journal on the disk. It begins with a sync, and writes nothing. `NoRun` comes where
 /// the file has at most one byte or its first gate is shut, `Cut` with the offset of the first open
 /// gate whose entry does not end inside the file, and `BadRecord` where the bodies are not a
-/// header, batches and at most one raising mark: the first body that is bad tells offset and cause.
+/// header, batches and, if the header is of version 1, at most one raising mark, with no edit before
+/// it: the first body that is bad tells offset and cause.
 /// An error gives the disk back.
 pub fn open_journal<D: Disk>(alloc: Global, disk: D) -> Result<Opened<D>, (D, JournalFault)>
     ensures finds { FindsRun (D.state disk) (D.state (disk_opened result)) (found_with result) }

@@ -35,7 +35,8 @@ pub(crate) struct Contents {
 /// Reads the bodies of a file, of which there is one at least; or tells the first that is bad.
 pub(crate) fn read_contents(alloc: Global, bodies: &BodyList) -> Result<Contents, JournalFault>
     requires { bodies.now ≡ [] → ⊥ }
-    ensures contents { IfOk result (λ found. IsContents found.header found.version found.entries.items found.offsets bodies.now) }
+    ensures contents { IfOk result
+        (λ found. IsContents found.header found.version found.entries.items found.offsets bodies.now) }
     ensures refused { IfErr result (RefusesBodies bodies.now) }
 {
     let header = match take_header(alloc, bodies.body(0)) {
@@ -70,7 +71,8 @@ fn read_pieces(
 ) -> Result<Version, JournalFault>
     requires some { 1 ≤ length bodies.now }
     requires empty { (entries.old.items ≡ []) × (offsets.old.items ≡ []) }
-    ensures read { IfOk result (λ behind. AreRead version behind bodies.now (length bodies.now) entries.new.items offsets.new.items) }
+    ensures read { IfOk result
+        (λ behind. AreRead version behind bodies.now (length bodies.now) entries.new.items offsets.new.items) }
     ensures refused { IfErr result (λ fault. (header : Header) → IsShort header → header.version ≡ version
         → take 1 bodies.now ≡ header_bytes header ∷ [] → RefusesBodies bodies.now fault) }
 {

@@ -9,7 +9,7 @@ use Rattle.run_records.specs.declared.edit.Edit.{Edit}
 use Rattle.run_records.specs.declared.entry.EntryKind.{EntryKind}
 use Rattle.run_records.specs.declared.entry.EntryKind.TheVariants.{Edited}
 use Rattle.run_records.specs.declared.head.Head.{Head}
-use Rattle.run_records.specs.Entries.{Entry, edit_of, MayHave}
+use Rattle.run_records.specs.Entries.{Entry, edit_of, MayHaveStamps}
 use Rattle.run_records.specs.Heads.{step_of, step_in, edits_in, place_of, no_edit, kind_at, entry_of, entries_of, IsPlaced, StandsIn}
 use Rattle.run_records.proofs.OneSpelling.{edited_kind}
 
@@ -47,14 +47,14 @@ kind_put kind None e stamps edits = rw e refl
 kind_put kind (Some edit) e stamps edits = rw e (ap Edited (get_or_at edits edit [] no_edit (length edits) refl) ∙ sym (edited_kind kind edit e))
 
 -- the stamps that are added with a head are those that it stands for
-stamps_put : (kind : EntryKind) (x : Option Edit) → edit_of kind ≡ x → (before stamps : List ℕ) (edits : ℕ) → MayHave kind stamps
+stamps_put : (kind : EntryKind) (x : Option Edit) → edit_of kind ≡ x → (before stamps : List ℕ) (edits : ℕ) → MayHaveStamps kind stamps
     → take (length stamps) (drop (place_of (step_in kind) (length before) edits) (before ++ stamps)) ≡ stamps
 stamps_put kind None e before stamps edits bare =
     rw e (ap (take (length stamps)) (drop_at before stamps (length before) refl) ∙ take_all (length stamps) stamps (omega arith))
 stamps_put kind (Some edit) e before stamps edits bare = rw (bare (ap is_some e)) refl
 
 -- with one head more, its stamps or its edit after the others, there is one record more at the end
-pub entries_push : (before : List ℕ) (edits : List Edit) (heads : List Head) (head : Head) (entry : Entry) → All (StandsIn before edits) heads → MayHave entry.kind entry.stamps → head.path ≡ entry.path
+pub entries_push : (before : List ℕ) (edits : List Edit) (heads : List Head) (head : Head) (entry : Entry) → All (StandsIn before edits) heads → MayHaveStamps entry.kind entry.stamps → head.path ≡ entry.path
     → step_of head.kind ≡ step_in entry.kind → head.count ≡ length entry.stamps → head.first ≡ place_of (step_in entry.kind) (length before) (length edits)
     → entries_of (before ++ entry.stamps) (edits ++ edits_in (edit_of entry.kind)) (heads ++ head ∷ []) ≡ entries_of before edits heads ++ entry ∷ []
 entries_push before edits heads head entry stand bare path kind count first =
@@ -86,7 +86,7 @@ placed_put kind None e count stamps edits bare = rw e (omega arith)
 placed_put kind (Some edit) e count stamps edits bare = rw e (bare refl, omega arith)
 
 -- after a record was added each head stands in the lists, the new one too
-pub stand_push : (before : List ℕ) (edits : List Edit) (heads : List Head) (head : Head) (entry : Entry) → All (StandsIn before edits) heads → MayHave entry.kind entry.stamps → length entry.stamps ≤ 32
+pub stand_push : (before : List ℕ) (edits : List Edit) (heads : List Head) (head : Head) (entry : Entry) → All (StandsIn before edits) heads → MayHaveStamps entry.kind entry.stamps → length entry.stamps ≤ 32
     → step_of head.kind ≡ step_in entry.kind → head.count ≡ length entry.stamps → head.first ≡ place_of (step_in entry.kind) (length before) (length edits)
     → All (StandsIn (before ++ entry.stamps) (edits ++ edits_in (edit_of entry.kind))) (heads ++ head ∷ [])
 stand_push before edits heads head entry stand bare few kind count first =

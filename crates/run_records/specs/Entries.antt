@@ -1,5 +1,7 @@
 -- What clauses see of a record of a run. How it is spelled is in Spelling. Which records are legal
--- is in two_path. run_journal, two_path, run_table and 11 more crates above cite it.
+-- is in two_path. run_journal, two_path, run_table and 11 more crates
+-- above, tests apart, cite it. A further kind needs its line in each function here, and in
+-- `kind_number` of Spelling.
 use Rattle.std.specs.Prelude.{◌≡◌, ℕ, Bool, true, false, List, [], Option, Some, None, IsSome}
 use Rattle.nc_number.specs.declared.path.Path.{Path}
 use Rattle.run_records.specs.declared.edit.Edit.{Edit}
@@ -34,5 +36,5 @@ is_meeting Alarmed = false
 is_meeting (Edited edit) = false
 
 -- a record of this kind may have these stamps: an edit has none, since it reads nothing
-abbrev pub MayHave : EntryKind → List ℕ → Type 0
-MayHave kind stamps = IsSome (edit_of kind) → stamps ≡ []
+abbrev pub MayHaveStamps : EntryKind → List ℕ → Type 0
+MayHaveStamps kind stamps = IsSome (edit_of kind) → stamps ≡ []

@@ -11,7 +11,7 @@ use Rattle.run_records.specs.declared.entry.EntryKind.{EntryKind}
 use Rattle.run_records.specs.declared.entry.EntryKind.TheVariants.{Did, Arrived, Met, Ended, Alarmed, Edited}
 use Rattle.run_records.specs.declared.numbers.EditNumbers.{EditNumbers}
 use Rattle.run_records.specs.Edits.{numbers_of, IsEdit}
-use Rattle.run_records.specs.Entries.{Entry, edit_of, MayHave}
+use Rattle.run_records.specs.Entries.{Entry, edit_of, MayHaveStamps}
 use Rattle.run_records.specs.Stamps.{AreStamps}
 
 -- the byte of a kind: 1 to 5 for a step, 6 for an edit
@@ -57,6 +57,6 @@ pub record IsEntry (entry : Entry) : Type 0 where
   -- each stamp fits four bytes
   pub stamps : AreStamps entry.stamps
   -- an edit has no stamps
-  pub bare : MayHave entry.kind entry.stamps
+  pub bare : MayHaveStamps entry.kind entry.stamps
   -- an edit sets what is there, to what is in range
   pub edit : IsKind (edit_of entry.kind)

@@ -105,13 +105,13 @@ pub struct Entry {
 // Clauses see the three fields.
 impl Model for Entry {
     ghost use Rattle.run_records.specs.Entries;
-    ghost use Rattle.run_records.specs.Entries.{MayHave};
+    ghost use Rattle.run_records.specs.Entries.{MayHaveStamps};
 
     ghost Value = { Entries.Entry };
 
     ghost view = { λ e. record { path = e.path; kind = e.kind; stamps = e.stamps } };
 
-    ghost invariant = { λ e. MayHave e.kind e.stamps };
+    ghost invariant = { λ e. MayHaveStamps e.kind e.stamps };
 }
 
 impl Entry {

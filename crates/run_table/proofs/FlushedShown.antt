@@ -29,7 +29,7 @@ use Rattle.run_table.specs.Made.{shown_from, moves_made}
 use Rattle.run_table.specs.Since.{Since}
 use Rattle.run_table.specs.Stepping.{is_shown, bound_of, drains, step_by, step_of, Answers, IsStep}
 use Rattle.run_table.specs.Stepping.Answers.{at_once, flushed, failed}
-use Rattle.run_table.specs.Holding.{HeldView, held_of, ShowsFlushed, MayHold, handed, next_of_turn, next_of, is_lost, records_since}
+use Rattle.run_table.specs.Holding.{HeldView, held_of, ShowsFlushed, MayHold, next_of_moves, next_of_turn, next_of, is_lost, records_since}
 use Rattle.run_table.proofs.HeldSteps.{comes}
 use Rattle.run_table.proofs.Then.{since_none, since_more}
 
@@ -46,22 +46,22 @@ may_same before after (inr is) = ap moves_in is ∙ moves_more before [] ∙ app
 -- an answer that shows nothing adds no moves
 module _ {H : Type 0} (old new : H) (before after : List (List LinedMove)) (same : new ≡ old → after ≡ before) where
   -- the moves of a block that show nothing add none to the list
-  quiet_handed : (moves : Moves) (b : Bool) → (length moves.list == 0) ≡ b → not b ≡ false → Adds before (handed moves) after → moves_in after ≡ moves_in before
-  quiet_handed moves true none quiet adds = may_same before after (rw none at adds)
-  quiet_handed moves false some quiet adds = absurd cc
+  unshown_next : (moves : Moves) (b : Bool) → (length moves.list == 0) ≡ b → not b ≡ false → Adds before (next_of_moves moves) after → moves_in after ≡ moves_in before
+  unshown_next moves true none quiet adds = may_same before after (rw none at adds)
+  unshown_next moves false some quiet adds = absurd cc
 
   -- a turn that shows nothing leaves the moves of the lists as they are
-  pub quiet_turn : (t : Turn) → is_shown t ≡ false → MatchOption (next_of_turn t) (new ≡ old) (λ next. Adds before next after) → moves_in after ≡ moves_in before
-  quiet_turn (turn.Read variable stamp) quiet adds = may_same before after adds
-  quiet_turn (turn.Did moves) quiet adds = quiet_handed moves (length moves.list == 0) refl quiet adds
-  quiet_turn (turn.Arrived code) quiet adds = absurd cc
-  quiet_turn (turn.Met code) quiet adds = absurd cc
-  quiet_turn (turn.Ended moves) quiet adds = absurd cc
-  quiet_turn (turn.Waiting code) quiet adds = ap moves_in (same adds)
-  quiet_turn turn.Finished quiet adds = ap moves_in adds
-  quiet_turn (turn.Alarm alarm) quiet adds = absurd cc
-  quiet_turn (turn.Halted alarm) quiet adds = may_same before after adds
-  quiet_turn turn.Edited quiet adds = may_same before after adds
+  pub unshown_turn : (t : Turn) → is_shown t ≡ false → MatchOption (next_of_turn t) (new ≡ old) (λ next. Adds before next after) → moves_in after ≡ moves_in before
+  unshown_turn (turn.Read variable stamp) quiet adds = may_same before after adds
+  unshown_turn (turn.Did moves) quiet adds = unshown_next moves (length moves.list == 0) refl quiet adds
+  unshown_turn (turn.Arrived code) quiet adds = absurd cc
+  unshown_turn (turn.Met code) quiet adds = absurd cc
+  unshown_turn (turn.Ended moves) quiet adds = absurd cc
+  unshown_turn (turn.Waiting code) quiet adds = ap moves_in (same adds)
+  unshown_turn turn.Finished quiet adds = ap moves_in adds
+  unshown_turn (turn.Alarm alarm) quiet adds = absurd cc
+  unshown_turn (turn.Halted alarm) quiet adds = may_same before after adds
+  unshown_turn turn.Edited quiet adds = may_same before after adds
 
 -- if the moves of the path that stepped stay, and the other's list stays, the moves of each path
 -- stay
@@ -170,10 +170,10 @@ module _ {D : Type 0} (state : D → DiskState) (path : Path) (start t t' : Tabl
       still same (none (subst (λ (r : TableStep). MatchOption (next_of r) (◌≡◌ {A = HeldView D} (held_of t' shown') (held_of t shown)) (λ next. Adds (before path) next (after path))) is came.0))
 
   -- a turn that shows nothing leaves what was shown on the disk
-  quiet_one : (t'.recording.flushed ≡ t.recording.flushed) → (u : Turn) → result ≡ Turned u → is_shown u ≡ false → ShowsFlushed (Some start) (held_of t' shown') t'
-  quiet_one same u is none =
+  unshown_one : (t'.recording.flushed ≡ t.recording.flushed) → (u : Turn) → result ≡ Turned u → is_shown u ≡ false → ShowsFlushed (Some start) (held_of t' shown') t'
+  unshown_one same u is none =
       quiet same (Turned u) is
-      (λ adds. quiet_turn {H = HeldView D} (held_of t shown) (held_of t' shown') (before path) (after path) (λ even. ap (λ (h : HeldView D). records_since (Some start) h path) even) u none adds)
+      (λ adds. unshown_turn {H = HeldView D} (held_of t shown) (held_of t' shown') (before path) (after path) (λ even. ap (λ (h : HeldView D). records_since (Some start) h path) even) u none adds)
 
   -- an answer that the table has stopped leaves what was shown on the disk
   halted : (t'.recording.flushed ≡ t.recording.flushed) → (why : Halt) → result ≡ Halted why → ShowsFlushed (Some start) (held_of t' shown') t'
@@ -219,4 +219,4 @@ module _ {D : Type 0} (state : D → DiskState) (path : Path) (start t t' : Tabl
       go None None true is s = by_answer false Drain (λ clash. cc) (λ clash. absurd cc) s.answer (λ even same quiet. drain even same)
       go None None false is s =
           let u = (turn_of (tapes_in t.verified) path t.machine).turn in
-          by_answer _ (Turned u) (λ clash. cc) (λ due. is) s.answer (λ even same quiet. quiet_one even u same (neither (is_shown u) _ quiet).0)
+          by_answer _ (Turned u) (λ clash. cc) (λ due. is) s.answer (λ even same quiet. unshown_one even u same (neither (is_shown u) _ quiet).0)

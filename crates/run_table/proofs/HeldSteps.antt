@@ -30,7 +30,7 @@ use Rattle.run_table.specs.Kept.{TableView, tapes_in, opening_of, MayGoOn, HasRe
 use Rattle.run_table.specs.Since.{Since}
 use Rattle.run_table.specs.Stepping.{is_due, bound_of, drains, step_by, step_of, Answers, reason_behind, IsStep}
 use Rattle.run_table.specs.Stepping.Answers.{at_once, flushed, failed}
-use Rattle.two_path.specs.Made.{made_in}
+use Rattle.two_path.specs.Made.{moves_made_in}
 use Rattle.two_path.proofs.Folds.{fold_parts}
 use Rattle.run_table.specs.Holding.{HeldView, held_of, answered_from, records_since, next_of, is_lost}
 use Rattle.run_table.proofs.OtherGoesOn.{waits_still}
@@ -143,27 +143,27 @@ module _ {D : Type 0} (state : D → DiskState) (path : Path) (start t t' : Tabl
     kept = subst (λ (v : Verified). IsKept (tapes_in v) (opening_of v) t.recording.history t.machine) since.verified table.kept
 
     -- the moves of the turn's record, done again, are those of the turn
-    same_moves : (k : EntryKind) → edit_of k ≡ None → made_in (turn_of_entry tapes (entry k) (fold tapes first since.made)) ≡ made_in the_turn
+    same_moves : (k : EntryKind) → edit_of k ≡ None → moves_made_in (turn_of_entry tapes (entry k) (fold tapes first since.made)) ≡ moves_made_in the_turn
     same_moves k plain =
         let there : fold tapes first since.made ≡ without_reads t.machine =
         sym (fold_parts tapes (opening_of start.verified) start.recording.history since.made) ∙ ap (fold tapes (opening_of start.verified)) (sym since.recording.history) ∙ kept.folds in
-        ap (λ (m : MachineView). made_in (turn_of_entry tapes (entry k) m)) there
-        ∙ ap made_in (redone tapes path t.machine k plain kept.lawful)
-        ∙ ap (λ (v : Verified). made_in (turn_of (tapes_in v) path t.machine).turn) (sym since.verified)
+        ap (λ (m : MachineView). moves_made_in (turn_of_entry tapes (entry k) m)) there
+        ∙ ap moves_made_in (redone tapes path t.machine k plain kept.lawful)
+        ∙ ap (λ (v : Verified). moves_made_in (turn_of (tapes_in v) path t.machine).turn) (sym since.verified)
 
     -- a step that makes one record, and its answer
     module _ (k : EntryKind) (grown : t'.recording.history ≡ t.recording.history ++ entry k ∷ []) where
       -- a record whose moves are answered adds them to the list of its path
-      pub shown_grown : edit_of k ≡ None → (is_lost result (length t.recording.history) (length t'.recording.history) ≡ false) → GrowsBy path (made_in the_turn) before after
+      pub shown_grown : edit_of k ≡ None → (is_lost result (length t.recording.history) (length t'.recording.history) ≡ false) → GrowsBy path (moves_made_in the_turn) before after
       shown_grown plain kept_it =
           let now : shown' ≡ true = shown_is ∙ ap (λ (b : Bool). shown && not b) kept_it ∙ still shown ∙ shown_before in
-          subst (λ (b : Bool). GrowsBy path (made_in the_turn) (λ p. answered_from tapes first p b (drop (length start.recording.history) t.recording.history)) after) (sym shown_before)
-          (subst (λ (b : Bool). GrowsBy path (made_in the_turn) (λ p. answered_from tapes first p true (drop (length start.recording.history) t.recording.history))
+          subst (λ (b : Bool). GrowsBy path (moves_made_in the_turn) (λ p. answered_from tapes first p b (drop (length start.recording.history) t.recording.history)) after) (sym shown_before)
+          (subst (λ (b : Bool). GrowsBy path (moves_made_in the_turn) (λ p. answered_from tapes first p true (drop (length start.recording.history) t.recording.history))
           (λ p. answered_from tapes first p b (drop (length start.recording.history) t'.recording.history))) (sym now)
-          (subst (λ (l : List Entry). GrowsBy path (made_in the_turn) (λ p. answered_from tapes first p true l)
+          (subst (λ (l : List Entry). GrowsBy path (moves_made_in the_turn) (λ p. answered_from tapes first p true l)
           (λ p. answered_from tapes first p true (drop (length start.recording.history) t'.recording.history))) (sym behind)
-          (subst (λ (l : List Entry). GrowsBy path (made_in the_turn) (λ p. answered_from tapes first p true since.made) (λ p. answered_from tapes first p true l)) (sym (behind' (entry k ∷ []) grown))
-          (shown_grows tapes first path since.made (entry k) refl (made_in the_turn) (same_moves k plain)))))
+          (subst (λ (l : List Entry). GrowsBy path (moves_made_in the_turn) (λ p. answered_from tapes first p true since.made) (λ p. answered_from tapes first p true l)) (sym (behind' (entry k ∷ []) grown))
+          (shown_grows tapes first path since.made (entry k) refl (moves_made_in the_turn) (same_moves k plain)))))
 
       -- a record whose moves were lost adds an entry without moves
       pub lost_grown : (is_lost result (length t.recording.history) (length t'.recording.history) ≡ true) → GrowsBy path [] before after

@@ -8,7 +8,7 @@ use Rattle.nc_number.specs.declared.path.Path.{Path}
 use Rattle.nc_number.specs.declared.path.Path.TheVariants.{One, Two}
 use Rattle.nc_outside.specs.declared.halt.Next.TheVariants as next
 use Rattle.nc_outside.specs.declared.lined_move.LinedMove.{LinedMove}
-use Rattle.nc_outside.specs.Lined.{lined, lined_move}
+use Rattle.nc_outside.specs.Lined.{lined_moves, lined_move}
 use Rattle.nc_moves.specs.declared.motion.Moves.{Moves}
 use Rattle.run_records.specs.Entries.{Entry}
 use Rattle.run_records.specs.declared.entry.EntryKind.{EntryKind}
@@ -20,18 +20,18 @@ use Rattle.two_path.specs.Turns.{Tapes, kind_of}
 use Rattle.two_path.specs.Histories.{behind_entry, fold}
 use Rattle.two_path.specs.Again.{turn_of_entry}
 use Rattle.seat_table.specs.Turning.{Answers as Adds}
-use Rattle.two_path.specs.Made.{made_in}
+use Rattle.two_path.specs.Made.{moves_made_in}
 use Rattle.run_table.specs.Made.{if_of, shown_from}
-use Rattle.run_table.specs.Holding.{lost_from, answered_from, handed, next_of_turn}
+use Rattle.run_table.specs.Holding.{lost_from, answered_from, next_of_moves, next_of_turn}
 
 -- with one record more, the list of its path has the moves of its turn more
 shown_more : (tapes : Tapes) (m : MachineView) (path : Path) (entries : List Entry) (e : Entry)
-    → shown_from tapes m path (entries ++ e ∷ []) ≡ shown_from tapes m path entries ++ if_of path e (made_in (turn_of_entry tapes e (fold tapes m entries)))
-shown_more tapes m path [] e = append-nil (if_of path e (made_in (turn_of_entry tapes e m)))
+    → shown_from tapes m path (entries ++ e ∷ []) ≡ shown_from tapes m path entries ++ if_of path e (moves_made_in (turn_of_entry tapes e (fold tapes m entries)))
+shown_more tapes m path [] e = append-nil (if_of path e (moves_made_in (turn_of_entry tapes e m)))
 shown_more tapes m path (f ∷ entries) e =
-    ap (λ (l : List (List LinedMove)). if_of path f (made_in (turn_of_entry tapes f m)) ++ l) (shown_more tapes (behind_entry tapes f m) path entries e)
-    ∙ sym (append_assoc (if_of path f (made_in (turn_of_entry tapes f m))) (shown_from tapes (behind_entry tapes f m) path entries)
-    (if_of path e (made_in (turn_of_entry tapes e (fold tapes m (f ∷ entries))))))
+    ap (λ (l : List (List LinedMove)). if_of path f (moves_made_in (turn_of_entry tapes f m)) ++ l) (shown_more tapes (behind_entry tapes f m) path entries e)
+    ∙ sym (append_assoc (if_of path f (moves_made_in (turn_of_entry tapes f m))) (shown_from tapes (behind_entry tapes f m) path entries)
+    (if_of path e (moves_made_in (turn_of_entry tapes e (fold tapes m (f ∷ entries))))))
 
 -- with one record more whose moves were not answered, the list of its path has an entry without
 -- moves more
@@ -39,10 +39,10 @@ lost_more : (tapes : Tapes) (m : MachineView) (path : Path) (entries : List Entr
     → lost_from tapes m path (entries ++ e ∷ []) ≡ shown_from tapes m path entries ++ if_of path e []
 lost_more tapes m path [] e = refl
 lost_more tapes m path (f ∷ []) e =
-    ap (λ (l : List (List LinedMove)). l ++ if_of path e []) (sym (append-nil (if_of path f (made_in (turn_of_entry tapes f m)))))
+    ap (λ (l : List (List LinedMove)). l ++ if_of path e []) (sym (append-nil (if_of path f (moves_made_in (turn_of_entry tapes f m)))))
 lost_more tapes m path (f ∷ g ∷ entries) e =
-    ap (λ (l : List (List LinedMove)). if_of path f (made_in (turn_of_entry tapes f m)) ++ l) (lost_more tapes (behind_entry tapes f m) path (g ∷ entries) e)
-    ∙ sym (append_assoc (if_of path f (made_in (turn_of_entry tapes f m))) (shown_from tapes (behind_entry tapes f m) path (g ∷ entries)) (if_of path e []))
+    ap (λ (l : List (List LinedMove)). if_of path f (moves_made_in (turn_of_entry tapes f m)) ++ l) (lost_more tapes (behind_entry tapes f m) path (g ∷ entries) e)
+    ∙ sym (append_assoc (if_of path f (moves_made_in (turn_of_entry tapes f m))) (shown_from tapes (behind_entry tapes f m) path (g ∷ entries)) (if_of path e []))
 
 -- the moves of a record, as one entry of the list of the record's path
 mine : (path : Path) (e : Entry) (moves : List LinedMove) → e.path ≡ path → if_of path e moves ≡ moves ∷ []
@@ -81,7 +81,7 @@ module _ (tapes : Tapes) (m : MachineView) (path : Path) (entries : List Entry) 
   }
 
   -- a record whose moves were answered makes the lists grow by them
-  pub shown_grows : (moves : List LinedMove) → made_in (turn_of_entry tapes e (fold tapes m entries)) ≡ moves
+  pub shown_grows : (moves : List LinedMove) → moves_made_in (turn_of_entry tapes e (fold tapes m entries)) ≡ moves
       → GrowsBy path moves (λ p. answered_from tapes m p true entries) (λ p. answered_from tapes m p true (entries ++ e ∷ []))
   shown_grows moves same =
       by_moves moves (λ p. shown_from tapes m p (entries ++ e ∷ []))
@@ -92,7 +92,7 @@ module _ (tapes : Tapes) (m : MachineView) (path : Path) (entries : List Entry) 
   lost_grows = by_moves [] (λ p. lost_from tapes m p (entries ++ e ∷ [])) (λ p. lost_more tapes m p entries e)
 
 -- a block's moves as they are handed on, or that it has none, are one entry more
-no_moves : (moves : Moves) (before after : List (List LinedMove)) → after ≡ before ++ lined moves ∷ [] → Adds before (handed moves) after
+no_moves : (moves : Moves) (before after : List (List LinedMove)) → after ≡ before ++ lined_moves moves ∷ [] → Adds before (next_of_moves moves) after
 no_moves moves before after is = go (length moves.list == 0) refl
   where
     go : (b : Bool) → (length moves.list == 0) ≡ b → Adds before (if b then next.Silent else next.Moves moves) after
@@ -104,7 +104,7 @@ no_moves moves before after is = go (length moves.list == 0) refl
 -- the list of a path before and after a turn of it
 module _ {H : Type 0} (old new : H) (before after : List (List LinedMove)) where
   -- a turn with a record adds its moves to the list of its path
-  pub turn_adds : (t : Turn) (k : EntryKind) → kind_of t ≡ Some k → after ≡ before ++ made_in t ∷ []
+  pub turn_adds : (t : Turn) (k : EntryKind) → kind_of t ≡ Some k → after ≡ before ++ moves_made_in t ∷ []
       → MatchOption (next_of_turn t) (new ≡ old) (λ next. Adds before next after)
   turn_adds (turn.Read variable stamp) k is more = absurd (let clash : None ≡ Some k = is in cc)
   turn_adds (turn.Did moves) k is more = no_moves moves before after more

@@ -56,11 +56,11 @@ use Rattle.block_values.specs.Outcomes.{Outcome, Gives, Needs, Alarms}
 use Rattle.block_values.specs.Values.{Values, nothing_said}
 use Rattle.path_state.specs.Said.{sense_of, words_taken}
 use Rattle.block_values.specs.Moves.{speed_moves, tool_moves, is_auxiliary, auxiliary_moves, all_moves}
-use Rattle.block_values.specs.Motion.{Motion, motion_number, offset_number, setting_of, set_motion, passed_motion, tracked, cut_motion, block_motion, turret_motion, unless_incremental, motion_of}
+use Rattle.block_values.specs.Motion.{Motion, motion_number, offset_number, setting_of, set_motion, passed_motion, motion_of_track, cut_motion, block_motion, turret_motion, unless_incremental, motion_of}
 use Rattle.path_state.specs.Standing.{Standing, standing_of, standing_behind}
 use Rattle.path_state.specs.Statements.{After}
 use Rattle.block_values.specs.InForce.{modal_after}
-use Rattle.path_state.specs.Effect.{Effect, Need, Done, AtWait, AtEnd, Moved, after_motion, motion_with, acted, done_by, controlled, of_moved, of_values, of_arguments, of_purpose, block_of_words, of_after, effect_of_body, effect_of_block, block_at, effect_of}
+use Rattle.path_state.specs.Effect.{Effect, Need, Done, AtWait, AtEnd, Moved, after_motion, motion_with, effect_of_words, done_by, effect_of_control, of_moved, of_values, of_arguments, of_purpose, block_of_words, of_after, effect_of_body, effect_of_block, block_at, effect_of}
 use Rattle.path_state.specs.Effect as effect
 use Rattle.run_records.specs.Entries.{Entry, edit_of}
 use Rattle.run_records.specs.declared.edit.Edit.{Edit}
@@ -70,7 +70,7 @@ use Rattle.two_path.specs.Turns.{TurnResult, blocks_of, tapes_of, result_at_wait
 use Rattle.two_path.specs.Histories.{with_reads, behind_entry, fold}
 use Rattle.two_path.specs.Again.{turn_by, turn_of_entry}
 use Rattle.run_table.specs.Kept.{tapes_in, opening_of}
-use Rattle.two_path.specs.Made.{made_in}
+use Rattle.two_path.specs.Made.{moves_made_in}
 use Rattle.run_table.specs.Made.{shown_from, moves_made}
 
 -- the answer of a track: two moves at most, or a fault
@@ -154,7 +154,7 @@ passed_few (Ok pass) few = few
 passed_few (Err fault) few = tt
 
 -- the motion of a track has four moves at most
-tracked_few : (kept : Option Point) (r : Result (List Move) MotionFault) → FewTracked r → FewMotion (tracked kept r)
+tracked_few : (kept : Option Point) (r : Result (List Move) MotionFault) → FewTracked r → FewMotion (motion_of_track kept r)
 tracked_few kept (Ok moves) few = omega arith
 tracked_few kept (Err fault) few = tt
 
@@ -257,7 +257,7 @@ module _ (tape : List ControlProgram) (fixed : Fixed) (path : PathView) where
   done_few moved (Err cause) few = tt
 
   -- a block with this control has seven moves at most
-  controlled_few : (moved : Moved) (arguments : Option (List Var)) (c : Control) → length moved.moves ≤ 7 → FewMoves (controlled tape moved arguments c)
+  controlled_few : (moved : Moved) (arguments : Option (List Var)) (c : Control) → length moved.moves ≤ 7 → FewMoves (effect_of_control tape moved arguments c)
   controlled_few moved arguments control.End few = few
   controlled_few moved arguments c few = done_few moved (standing_behind tape (standing_of moved.path) arguments c) few
 
@@ -268,7 +268,7 @@ module _ (tape : List ControlProgram) (fixed : Fixed) (path : PathView) where
 
   -- a block whose words have their values, or need a variable, has seven moves at most
   values_few : (system : System) (words : List FlowWord) (c : Control) (values : Outcome Values) → FewMoves (of_values tape fixed path system words c values)
-  values_few system words c (Gives values left) = moved_few c (acted fixed path system words values) (with_few fixed path system words values (modal_after path.modal system words values))
+  values_few system words c (Gives values left) = moved_few c (effect_of_words fixed path system words values) (with_few fixed path system words values (modal_after path.modal system words values))
   values_few system words c (Needs variable) = tt
   values_few system words c (Alarms number value) = tt
 
@@ -313,16 +313,16 @@ lined_few : (line : ℕ) (moves : List Move) → length moves ≤ 7 → length (
 lined_few line moves few = omega (arith, few, length-map moves (lined_move line))
 
 -- a turn at a wait has seven moves at most
-wait_few : (path : Path) (line : ℕ) (m : MachineView) (code : ℕ) (there : Option ℕ) → length (made_in (result_at_wait path line m code there).turn) ≤ 7
+wait_few : (path : Path) (line : ℕ) (m : MachineView) (code : ℕ) (there : Option ℕ) → length (moves_made_in (result_at_wait path line m code there).turn) ≤ 7
 wait_few path line m code None = omega arith
 wait_few path line m code (Some there) = go (code == there) refl
   where
-    go : (b : Bool) → (code == there) ≡ b → length (made_in (result_at_wait path line m code (Some there)).turn) ≤ 7
+    go : (b : Bool) → (code == there) ≡ b → length (moves_made_in (result_at_wait path line m code (Some there)).turn) ≤ 7
     go true e = rw e (omega arith)
     go false e = rw e (omega arith)
 
 -- a turn by what its block comes to has seven moves at most
-result_few : (path : Path) (line : ℕ) (m : MachineView) (e : Effect) → FewMoves e → length (made_in (result_by path line m e).turn) ≤ 7
+result_few : (path : Path) (line : ℕ) (m : MachineView) (e : Effect) → FewMoves e → length (moves_made_in (result_by path line m e).turn) ≤ 7
 result_few path line m (Need variable) few = omega arith
 result_few path line m (Done after write moves) few = lined_few line moves few
 result_few path line m (AtWait code) few = wait_few path line m code m.paths.two.waiting
@@ -330,27 +330,27 @@ result_few path line m (AtEnd after moves) few = lined_few line moves few
 result_few path line m (effect.Alarm number value) few = omega arith
 
 -- a turn that may do nothing has seven moves at most
-unless_few : (m : MachineView) (a : Option Alarm) (f : Bool) (w : Option ℕ) (rest : TurnResult) → length (made_in rest.turn) ≤ 7 → length (made_in (unless_idle m a f w rest).turn) ≤ 7
+unless_few : (m : MachineView) (a : Option Alarm) (f : Bool) (w : Option ℕ) (rest : TurnResult) → length (moves_made_in rest.turn) ≤ 7 → length (moves_made_in (unless_idle m a f w rest).turn) ≤ 7
 unless_few m (Some alarm) f w rest few = omega arith
 unless_few m None true w rest few = omega arith
 unless_few m None false (Some code) rest few = omega arith
 unless_few m None false None rest few = few
 
 -- a turn of the path whose part stands first has seven moves at most
-turn_few : (flow : Flow) (path : Path) (m : MachineView) → length (made_in (own_turn (blocks_of flow) path m).turn) ≤ 7
+turn_few : (flow : Flow) (path : Path) (m : MachineView) → length (moves_made_in (own_turn (blocks_of flow) path m).turn) ≤ 7
 turn_few flow path m =
     unless_few m m.alarm m.paths.one.finished m.paths.one.waiting (block_turn (blocks_of flow) path m)
     (result_few path ((blocks_of flow).line m.paths.one.path.place) m (effect_of flow m.paths.one.path m.paths.one.values) (block_few flow m.paths.one.path m.paths.one.values))
 
 -- a turn of either path has seven moves at most
-either_few : (left right : Flow) (path own : Path) (m : MachineView) → length (made_in (own_turn (of_path (tapes_of left right) path) own m).turn) ≤ 7
+either_few : (left right : Flow) (path own : Path) (m : MachineView) → length (moves_made_in (own_turn (of_path (tapes_of left right) path) own m).turn) ≤ 7
 either_few left right One own m = turn_few left own m
 either_few left right Two own m = turn_few right own m
 
 -- a record that is done again has seven moves at most, whether it is an edit or of a turn with
 -- these stamps
 again_few : (left right : Flow) (path : Path) (edit : Option Edit) (stamps : List ℕ) (m : MachineView)
-    → length (made_in (turn_by (of_path (tapes_of left right) path) path edit stamps m)) ≤ 7
+    → length (moves_made_in (turn_by (of_path (tapes_of left right) path) path edit stamps m)) ≤ 7
 again_few left right path None stamps m = either_few left right path path (with_reads (of_path (tapes_of left right) path) stamps m)
 again_few left right path (Some edit) stamps m = omega arith
 
@@ -358,7 +358,7 @@ again_few left right path (Some edit) stamps m = omega arith
 records_few : (left right : Flow) (path : Path) (entries : List Entry) (m : MachineView) → length (moves_in (shown_from (tapes_of left right) m path entries)) ≤ 7 * length entries
 records_few left right path [] m = omega arith
 records_few left right path (e ∷ entries) m =
-    go (is_same path e.path) (made_in (turn_of_entry (tapes_of left right) e m))
+    go (is_same path e.path) (moves_made_in (turn_of_entry (tapes_of left right) e m))
     (again_few left right e.path (edit_of e.kind) e.stamps (own_first e.path m))
     (records_few left right path entries (behind_entry (tapes_of left right) e m))
   where

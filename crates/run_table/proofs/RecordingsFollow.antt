@@ -14,7 +14,7 @@ use Rattle.run_records.specs.Spelling.{entry_bytes}
 use Rattle.run_journal.specs.Batches.{records_bytes, batch_bytes}
 use Rattle.run_journal.specs.Kept.{Log}
 use Rattle.run_journal.specs.Stands.{Stands}
-use Rattle.run_table.specs.Recording.{RecordingView, StandsForPrefix, sent, most_bytes, Sends, Follows}
+use Rattle.run_table.specs.Recording.{RecordingView, StandsForPrefix, sent_count, most_bytes, Sends, Follows}
 
 -- the most bytes of two lists of records, one after the other, are those of each added
 most_append : (xs ys : List Entry) → most_bytes (xs ++ ys) ≡ most_bytes xs + most_bytes ys
@@ -29,11 +29,11 @@ most_behind n before made after within is =
     ap (λ (l : List Entry). most_bytes (drop n l)) is ∙ ap most_bytes (drop-append-le n before made within) ∙ most_append (drop n before) made
 
 -- while the journal may be written, the records that were sent are those flushed
-sent_live : {D : Type 0} (r : RecordingView D) → r.log.file.live ≡ true → sent r ≡ r.flushed
+sent_live : {D : Type 0} (r : RecordingView D) → r.log.file.live ≡ true → sent_count r ≡ r.flushed
 sent_live r is = ap (λ (b : Bool). if b then r.flushed else length r.history) is
 
 -- once the journal may not be written any more, all records count as sent
-sent_dead : {D : Type 0} (r : RecordingView D) → r.log.file.live ≡ false → sent r ≡ length r.history
+sent_dead : {D : Type 0} (r : RecordingView D) → r.log.file.live ≡ false → sent_count r ≡ length r.history
 sent_dead r is = ap (λ (b : Bool). if b then r.flushed else length r.history) is
 
 -- a recording whose history grew without a call of the disk
@@ -44,13 +44,13 @@ module _ {D : Type 0} (state : D → DiskState) (made : List Entry) (old new : R
   grown = ap length history ∙ length-append old.history made
 
   -- no fewer records are sent than before
-  more_sent : sent old ≤ sent new
+  more_sent : sent_count old ≤ sent_count new
   more_sent = go old.log.file.live refl
     where
       same : new.log.file.live ≡ old.log.file.live
       same = ap (λ (f : Gate D). f.live) file
 
-      go : (b : Bool) → old.log.file.live ≡ b → sent old ≤ sent new
+      go : (b : Bool) → old.log.file.live ≡ b → sent_count old ≤ sent_count new
       go true is = omega (arith, sent_live old is, sent_live new (ap (λ (f : Gate D). f.live) file ∙ is), flushed)
       go false is = omega (arith, sent_dead old is, sent_dead new (ap (λ (f : Gate D). f.live) file ∙ is), grown)
 
@@ -59,8 +59,8 @@ module _ {D : Type 0} (state : D → DiskState) (made : List Entry) (old new : R
   sends_nothing within = record {
     within = omega (arith, within, flushed, grown);
     more = more_sent;
-    uses = subst (λ (f : Gate D). Uses (4 * (sent new - sent old)) (old.log.file.end + 1 + most_bytes (drop old.flushed new.history)) (state old.log.file.disk) (state f.disk)) (sym file)
-        (uses_none (4 * (sent new - sent old)) (old.log.file.end + 1 + most_bytes (drop old.flushed new.history)) (state old.log.file.disk));
+    uses = subst (λ (f : Gate D). Uses (4 * (sent_count new - sent_count old)) (old.log.file.end + 1 + most_bytes (drop old.flushed new.history)) (state old.log.file.disk) (state f.disk)) (sym file)
+        (uses_none (4 * (sent_count new - sent_count old)) (old.log.file.end + 1 + most_bytes (drop old.flushed new.history)) (state old.log.file.disk));
     end = λ live.
         let ends : new.log.file.end ≡ old.log.file.end = ap (λ (f : Gate D). f.end) file in
         let behind : most_bytes (drop new.flushed new.history) ≡ most_bytes (drop old.flushed new.history) = ap (λ (n : ℕ). most_bytes (drop n new.history)) flushed in
@@ -84,10 +84,10 @@ module _ {D : Type 0} (state : D → DiskState) (first second : List Entry) (a b
       record {
         within = t.within;
         more = omega (arith, s.more, t.more);
-        uses = uses_widened (4 * (sent b - sent a) + 4 * (sent c - sent b)) (4 * (sent c - sent a))
+        uses = uses_widened (4 * (sent_count b - sent_count a) + 4 * (sent_count c - sent_count b)) (4 * (sent_count c - sent_count a))
             (max (a.log.file.end + 1 + most_bytes (drop a.flushed b.history)) (b.log.file.end + 1 + most_bytes (drop b.flushed c.history)))
             (a.log.file.end + 1 + most_bytes (drop a.flushed c.history)) (state a.log.file.disk) (state c.log.file.disk)
-            (uses_add (4 * (sent b - sent a)) (4 * (sent c - sent b)) (a.log.file.end + 1 + most_bytes (drop a.flushed b.history))
+            (uses_add (4 * (sent_count b - sent_count a)) (4 * (sent_count c - sent_count b)) (a.log.file.end + 1 + most_bytes (drop a.flushed b.history))
             (b.log.file.end + 1 + most_bytes (drop b.flushed c.history)) (state a.log.file.disk) (state b.log.file.disk) (state c.log.file.disk) s.uses t.uses)
             (omega (arith, s.more, t.more)) (omega (arith, ends, of_a, of_b));
         end = λ still. omega (arith, ends, of_a, of_b, t.end still);
@@ -100,8 +100,8 @@ module _ {D : Type 0} (state : D → DiskState) (first second : List Entry) (a b
       record {
         within = t.within;
         more = omega (arith, s.more, t.more);
-        uses = subst (λ (f : Gate D). Uses (4 * (sent c - sent a)) (a.log.file.end + 1 + most_bytes (drop a.flushed c.history)) (state a.log.file.disk) (state f.disk)) (sym same)
-            (uses_widened (4 * (sent b - sent a)) (4 * (sent c - sent a)) (a.log.file.end + 1 + most_bytes (drop a.flushed b.history))
+        uses = subst (λ (f : Gate D). Uses (4 * (sent_count c - sent_count a)) (a.log.file.end + 1 + most_bytes (drop a.flushed c.history)) (state a.log.file.disk) (state f.disk)) (sym same)
+            (uses_widened (4 * (sent_count b - sent_count a)) (4 * (sent_count c - sent_count a)) (a.log.file.end + 1 + most_bytes (drop a.flushed b.history))
             (a.log.file.end + 1 + most_bytes (drop a.flushed c.history)) (state a.log.file.disk) (state b.log.file.disk) s.uses
             (omega (arith, s.more, t.more)) (omega (arith, of_a)));
         end = λ still.
@@ -200,9 +200,9 @@ module _ {D : Type 0} (state : D → DiskState) (history : List Entry) (room flu
   bytes = omega (arith, ap length batch)
 
   -- a flush sends each record that pends, within the bytes of all of them
-  some_sent : flushed < length history → sent new ≡ length history → Uses (4 * (sent new - sent old)) (log.file.end + 1 + most_bytes (drop flushed history)) (state log.file.disk) (state log'.file.disk)
+  some_sent : flushed < length history → sent_count new ≡ length history → Uses (4 * (sent_count new - sent_count old)) (log.file.end + 1 + most_bytes (drop flushed history)) (state log.file.disk) (state log'.file.disk)
   some_sent some all =
-      uses_widened 4 (4 * (sent new - sent old)) (log.file.end + length log.batch + 6) (log.file.end + 1 + most_bytes (drop flushed history))
+      uses_widened 4 (4 * (sent_count new - sent_count old)) (log.file.end + length log.batch + 6) (log.file.end + 1 + most_bytes (drop flushed history))
       (state log.file.disk) (state log'.file.disk) uses (omega (arith, some, all, sent_live old live)) (omega (arith, some, bytes, pending))
 
   -- a flush that is done sends each record that pends, within the bytes of all of them
@@ -213,7 +213,7 @@ module _ {D : Type 0} (state : D → DiskState) (history : List Entry) (room flu
       go : (some : Bool) → nat_lt flushed (length history) ≡ some → Sends state old new
       go true is =
           let some : flushed < length history = grind arith in
-          let sends : sent new ≡ length history = sent_live new still ∙ all in
+          let sends : sent_count new ≡ length history = sent_live new still ∙ all in
           let none : most_bytes (drop now history) ≡ 0 = ap (λ (n : ℕ). most_bytes (drop n history)) all ∙ ap most_bytes (drop_all (length history) history (omega arith)) in
           record {
             within = omega (arith, all);
@@ -233,7 +233,7 @@ module _ {D : Type 0} (state : D → DiskState) (history : List Entry) (room flu
       go : (some : Bool) → nat_lt flushed (length history) ≡ some → Sends state old new
       go true is =
           let some : flushed < length history = grind arith in
-          let sends : sent new ≡ length history = sent_dead new dead in
+          let sends : sent_count new ≡ length history = sent_dead new dead in
           record {
             within = omega (arith, stays, within);
             more = omega (arith, some, sends, sent_live old live);

@@ -23,7 +23,7 @@ use Rattle.nc_number.specs.declared.both.Both.{Both}
 use Rattle.nc_number.proofs.Bools.{neither}
 use Rattle.nc_number.specs.declared.limits.TheConstants.{MOST_PENDING, MOST_RECORDS}
 use Rattle.run_table.specs.Kept.{TableView, tapes_in, opening_of, MayGoOn, HasReason, IsTable}
-use Rattle.run_table.specs.Stepping.{is_shown, is_due, bound_of, drains, drained_by, step_by, step_of, Answers, reason_of, IsStep}
+use Rattle.run_table.specs.Stepping.{is_shown, is_due, bound_of, drains, step_without_drain, step_by, step_of, Answers, reason_of, IsStep}
 use Rattle.run_table.specs.Stepping.Answers.{at_once, flushed, failed}
 use Rattle.run_table.proofs.AlarmsKept.{alarm_behind, turn_alarm}
 
@@ -103,7 +103,7 @@ module _ {D : Type 0} (state : D → DiskState) (v : Verified) (m m' : RoomyMach
       (answers : Answers state (is_due r (list_of entry) t) (Turned t) r r' answer) (records : Records state (list_of entry) r r')
       (spent : budget' + length (list_of entry) ≡ budget) where
     -- the parts of a turn are the turn of the table
-    turn_by : IsStep state (drained_by (table_of v m r before budget owed) path None None) (table_of v m r None budget owed) (table_of v m' r' (reason_of answer) budget' owed') answer
+    turn_by : IsStep state (step_without_drain (table_of v m r before budget owed) path None None) (table_of v m r None budget owed) (table_of v m' r' (reason_of answer) budget' owed') answer
     turn_by = record {
       answer = subst (λ (e : Option Entry). Answers state (is_due r (list_of e) (turn_of (tapes_in v) path m.machine).turn) (Turned (turn_of (tapes_in v) path m.machine).turn) r r' answer) entry_is
           (subst (λ (u : Turn). Answers state (is_due r (list_of entry) u) (Turned u) r r' answer) turn_is answers);

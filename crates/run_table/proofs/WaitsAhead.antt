@@ -11,7 +11,7 @@ use Rattle.nc_moves.specs.declared.alarm.Alarm.{Alarm}
 use Rattle.block_order.specs.declared.control.Control.{Control}
 use Rattle.block_order.specs.declared.control.Control.TheVariants.{Next, Goto, While, Do, EndLoop, Wait, End, Call, Back, BackTo}
 use Rattle.block_order.specs.declared.frame.Frame.{Frame}
-use Rattle.block_order.specs.Steps.{standing}
+use Rattle.block_order.specs.Steps.{control_of_place}
 use Rattle.tape_flow.specs.declared.flow.Flow.{Flow}
 use Rattle.tape_flow.specs.Places.{label_of, label_at}
 use Rattle.path_state.specs.View.{PathView}
@@ -50,13 +50,13 @@ at_wait path line m code (Some there) = go (code == there) refl
 
 -- the path whose part stands first, on a flow whose blocks go as ordered
 module _ (flow : Flow) (control : IsControlled flow)
-    (waits : (path : PathView) (code : ℕ) (reads : _) → standing flow.order path.place ≡ Some (Wait code) → effect_of flow path reads ≡ AtWait code)
+    (waits : (path : PathView) (code : ℕ) (reads : _) → control_of_place flow.order path.place ≡ Some (Wait code) → effect_of flow path reads ≡ AtWait code)
     (path : Path) (m : MachineView) where
   -- a path whose block comes to no wait stands on no wait
   elsewhere : (e : Effect) → effect_of flow m.paths.one.path m.paths.one.values ≡ e → ((code : ℕ) → e ≡ AtWait code → ⊥)
       → comes_to (label_at flow.order m.paths.one.path.place) m.paths.two.waiting ≡ false
   elsewhere e is never =
-      no_label (slice_get m.paths.one.path.place 1) (standing flow.order m.paths.one.path.place) m.paths.two.waiting
+      no_label (slice_get m.paths.one.path.place 1) (control_of_place flow.order m.paths.one.path.place) m.paths.two.waiting
       (λ code on. never code (sym is ∙ waits m.paths.one.path code m.paths.one.values on))
 
   -- the turn of a block brings the path to a wait just if its label is a wait to which it may come
@@ -65,7 +65,7 @@ module _ (flow : Flow) (control : IsControlled flow)
   here (Need variable) is line = sym (elsewhere (Need variable) is (λ code clash. cc))
   here (Done after write moves) is line = sym (elsewhere (Done after write moves) is (λ code clash. cc))
   here (AtWait code) is line =
-      let stands : standing flow.order m.paths.one.path.place ≡ Some (Wait code) = subst (GoesAsOrdered flow.order m.paths.one.path) is (control m.paths.one.path m.paths.one.values) in
+      let stands : control_of_place flow.order m.paths.one.path.place ≡ Some (Wait code) = subst (GoesAsOrdered flow.order m.paths.one.path) is (control m.paths.one.path m.paths.one.values) in
       at_wait path line m code m.paths.two.waiting ∙ sym (ap (λ (s : Option Control). comes_to (label_of (slice_get m.paths.one.path.place 1) s) m.paths.two.waiting) stands)
   here (AtEnd after moves) is line = sym (elsewhere (AtEnd after moves) is (λ code clash. cc))
   here (effect.Alarm number value) is line = sym (elsewhere (effect.Alarm number value) is (λ code clash. cc))
@@ -86,7 +86,7 @@ module _ (flow : Flow) (control : IsControlled flow)
 
 -- a turn of either path brings it to a wait just if its label is one to which it may come
 pub wait_ahead : (verified : Verified) → ((flow : Flow) → IsControlled flow)
-    → ((flow : Flow) (path : PathView) (code : ℕ) (reads : _) → standing flow.order path.place ≡ Some (Wait code) → effect_of flow path reads ≡ AtWait code)
+    → ((flow : Flow) (path : PathView) (code : ℕ) (reads : _) → control_of_place flow.order path.place ≡ Some (Wait code) → effect_of flow path reads ≡ AtWait code)
     → (path : Path) (m : MachineView)
     → comes_by m.alarm (of_path m.paths path).finished (of_path m.paths path).waiting
     (label_at (flow_for verified path).order (of_path m.paths path).path.place) (of_path m.paths (other_of path)).waiting

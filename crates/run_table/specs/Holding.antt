@@ -26,7 +26,7 @@ use Rattle.nc_number.specs.declared.both.Both.{Both}
 use Rattle.nc_number.specs.Both.{of_path}
 use Rattle.run_table.specs.Draining.{is_wait}
 use Rattle.run_table.specs.Kept.{TableView, tapes_in, opening_of}
-use Rattle.two_path.specs.Made.{made_in}
+use Rattle.two_path.specs.Made.{moves_made_in}
 use Rattle.run_table.specs.Made.{if_of, shown_from, moves_made}
 use Rattle.run_table.specs.Since.{Since}
 use Rattle.run_table.specs.Stepping.{bound_by, is_waiting, step_of, IsStep}
@@ -93,7 +93,7 @@ abbrev pub lost_from : Tapes → MachineView → Path → List Entry → List (L
 lost_from tapes m path [] = []
 lost_from tapes m path (e ∷ []) = if_of path e []
 lost_from tapes m path (e ∷ f ∷ entries) =
-    if_of path e (made_in (turn_of_entry tapes e m)) ++ lost_from tapes (behind_entry tapes e m) path (f ∷ entries)
+    if_of path e (moves_made_in (turn_of_entry tapes e m)) ++ lost_from tapes (behind_entry tapes e m) path (f ∷ entries)
 
 -- the moves of each record of the path that were answered: of all records (true), or of all but the
 -- last one of the history (false)
@@ -134,17 +134,17 @@ pub record IsHeld {D : Type 0} (state : D → DiskState) (opened : Option (Table
   pub shows : ShowsFlushed opened (held_of t shown) t
 
 -- what a block with these moves is for the worker: its moves, or `Silent` if it has none
-abbrev pub handed : Moves → Next
-handed moves = if length moves.list == 0 then next.Silent else next.Moves moves
+abbrev pub next_of_moves : Moves → Next
+next_of_moves moves = if length moves.list == 0 then next.Silent else next.Moves moves
 
 -- a turn as it is handed on to the worker of its path; None if the path waits (no step answers
 -- `Edited`, which stands here since it is a turn)
 abbrev pub next_of_turn : Turn → Option Next
 next_of_turn (turn.Read variable stamp) = Some next.Silent
-next_of_turn (turn.Did moves) = Some (handed moves)
+next_of_turn (turn.Did moves) = Some (next_of_moves moves)
 next_of_turn (turn.Arrived code) = Some next.Silent
 next_of_turn (turn.Met code) = Some next.Silent
-next_of_turn (turn.Ended moves) = Some (handed moves)
+next_of_turn (turn.Ended moves) = Some (next_of_moves moves)
 next_of_turn (turn.Waiting code) = None
 next_of_turn turn.Finished = Some next.Finished
 next_of_turn (turn.Alarm alarm) = Some (next.Halted (halt.Alarm alarm))

@@ -11,7 +11,7 @@ use Rattle.two_path.specs.Machine.{MachineView}
 use Rattle.two_path.specs.Turns.{Tapes}
 use Rattle.two_path.specs.Histories.{behind_entry, fold}
 use Rattle.two_path.specs.Again.{turn_of_entry}
-use Rattle.two_path.specs.Made.{made_in}
+use Rattle.two_path.specs.Made.{moves_made_in}
 use Rattle.run_table.specs.Kept.{tapes_in, opening_of}
 
 -- these moves of the record as a list of one, if the record is one of the path; else an empty list
@@ -22,7 +22,7 @@ if_of path entry moves = if is_same path entry.path then moves ∷ [] else []
 abbrev pub shown_from : Tapes → MachineView → Path → List Entry → List (List LinedMove)
 shown_from tapes m path [] = []
 shown_from tapes m path (e ∷ entries) =
-    if_of path e (made_in (turn_of_entry tapes e m)) ++ shown_from tapes (behind_entry tapes e m) path entries
+    if_of path e (moves_made_in (turn_of_entry tapes e m)) ++ shown_from tapes (behind_entry tapes e m) path entries
 
 -- the moves of the path's records in a history of the pair: of the records after the first `from`,
 -- up to number `upto`

@@ -59,8 +59,8 @@ pub record KeepsJournal {D : Type 0} (state : D → DiskState) (header : Header)
       → LeavesOnly (StandsForPrefix header old.flushed new.history) (state old.log.file.disk) (state new.log.file.disk)
 
 -- how many records were sent to the disk: those that are flushed, or all once it has failed
-abbrev pub sent : {D : Type 0} → RecordingView D → ℕ
-sent r = if r.log.file.live then r.flushed else length r.history
+abbrev pub sent_count : {D : Type 0} → RecordingView D → ℕ
+sent_count r = if r.log.file.live then r.flushed else length r.history
 
 -- the most bytes that these records take in the file: their own, and six for each batch, which has
 -- one record at least
@@ -73,9 +73,10 @@ pub record Sends {D : Type 0} (state : D → DiskState) (old new : RecordingView
   -- no more records are flushed than there are
   pub within : new.flushed ≤ length new.history
   -- no fewer records are sent than before
-  pub more : sent old ≤ sent new
+  pub more : sent_count old ≤ sent_count new
   -- four calls at most for each record that was sent, and how far they reach
-  pub uses : Uses (4 * (sent new - sent old)) (old.log.file.end + 1 + most_bytes (drop old.flushed new.history))
+  pub uses : Uses (4 * (sent_count new - sent_count old))
+      (old.log.file.end + 1 + most_bytes (drop old.flushed new.history))
       (state old.log.file.disk) (state new.log.file.disk)
   -- the file has room left for what still pends, within the bytes of what pended
   pub end : IsTrue new.log.file.live → new.log.file.end + most_bytes (drop new.flushed new.history)

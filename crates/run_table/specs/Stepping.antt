@@ -103,16 +103,16 @@ turn_by t path =
 
 -- The step if no drain is due: a reason that is kept goes before a full journal, that before a
 -- spent budget, and each of them before a turn.
-abbrev pub drained_by : {D : Type 0} → TableView D → Path → Option Halt → Option Halt → StepResult
-drained_by t path (Some why) bound = idle_step t (Halted why)
-drained_by t path None (Some why) = bound_step t why
-drained_by t path None None = turn_by t path
+abbrev pub step_without_drain : {D : Type 0} → TableView D → Path → Option Halt → Option Halt → StepResult
+step_without_drain t path (Some why) bound = idle_step t (Halted why)
+step_without_drain t path None (Some why) = bound_step t why
+step_without_drain t path None None = turn_by t path
 
 -- the step by the table's reason, its bound, and whether the path has to be drained: only a path
 -- whose turn would come is drained
 abbrev pub step_by : {D : Type 0} → TableView D → Path → Option Halt → Option Halt → Bool → StepResult
 step_by t path None None true = idle_step t Drain
-step_by t path why bound drain = drained_by t path why bound
+step_by t path why bound drain = step_without_drain t path why bound
 
 -- what a step of the path comes to: a drain, its turn, or nothing
 abbrev pub step_of : {D : Type 0} → TableView D → Path → StepResult

@@ -4,7 +4,7 @@ ghost use Rattle.std.specs.Prelude.{◌≡◌, ◌&&◌, not, List};
 ghost use Rattle.nc_moves.specs.declared.motion.Move.{Move};
 ghost use Rattle.two_path.specs.Made.{turn_with};
 ghost use Rattle.run_table.specs.Apart.{step_with};
-ghost use Rattle.run_table.specs.Holding.{handed, next_of_turn, next_of, is_lost};
+ghost use Rattle.run_table.specs.Holding.{next_of_moves, next_of_turn, next_of, is_lost};
 
 use crate::answer::StepAnswer;
 use nc_moves::{MoveList, Moves};
@@ -13,7 +13,7 @@ use two_path::TurnAnswer;
 
 /// What a block with these moves is for the worker: its moves, or `Silent` if it has none.
 fn handed(line: u32, list: MoveList) -> Next
-    ensures { result ≡ handed (record { line = line; list = list }) }
+    ensures { result ≡ next_of_moves (record { line = line; list = list }) }
 {
     if list.as_slice().is_empty() {
         return Next::Silent;

@@ -19,8 +19,8 @@ use Rattle.seat_table.specs.Turning.{Records}
 use Rattle.seat_table.specs.declared.knowing.Rights.{Rights}
 use Rattle.seat_table.specs.declared.knowing.Knows.{Knows}
 use Rattle.seat_table.specs.declared.knowing.Stop.{Stop}
-use Rattle.seat_table.specs.Knowing.{Lists, Right, steps, halts, has, Fits, Kept, no_lists, idle, opened, lists_of, stop_by, stop_of, AreStops, listed, first_stop, holding, took, gave, plus, minus, without, only, joined, picked, spent, called, no_rights, right_of}
-use Rattle.seat_table.specs.Passes.{HasStopped, IsStill}
+use Rattle.seat_table.specs.Knowing.{Lists, Right, steps, halts, has, Fits, Kept, no_lists, idle, first_knowledge, lists_of, stop_by, stop_of, AreStops, stop_list, first_stop, knowledge_in_turn, took, gave, plus, minus, knowledge_left, knowledge_cut_off, joined_knowledge, picked_lists, no_knowledge, knowledge_with_calls, no_rights, right_of}
+use Rattle.seat_table.specs.Passes.{HasStopped, IsAsAtStop}
 
 -- An entry of a list lies below its length.
 at_bound : {A : Type 0} (l : List A) (i : ℕ) (a : A) → get_elem? l i ≡ some a → i < length l
@@ -66,7 +66,7 @@ stops_first stop [] second are = (tt, are)
 stops_first stop (s ∷ first) second are = let t = stops_first stop first second are.1 in ((are.0, t.0), t.1)
 
 -- The stop as a list is one whose stops are all that stop.
-stops_listed : (stop : Option Stop) → AreStops stop (listed stop)
+stops_listed : (stop : Option Stop) → AreStops stop (stop_list stop)
 stops_listed None = tt
 stops_listed (Some s) = (refl, tt)
 
@@ -125,7 +125,7 @@ module _ {C : Type 0} (records : C → Path → Records) (reason : C → Option 
       Goal n = (w : Knows) × (a : Act (Option C)) × Valid s.homes m.1 a × Rule (stepped s 0 n id m.1 w a) × took records reason (step slots 0 0 1 maybe.none) m (get_or s.words 0 0) (w, carried_after m.1 a)
 
       hit : get_or s.words 0 0 ≡ 0 → Goal 1
-      hit e = let h = k.home e in let c : C = h.0 in let l : Lists = lists_of records c in let same : l ≡ k.now = same_lists c k.now h.2 in let w : Knows = holding m.0 l (stop_of records reason c) in
+      hit e = let h = k.home e in let c : C = h.0 in let l : Lists = lists_of records c in let same : l ≡ k.now = same_lists c k.now h.2 in let w : Knows = knowledge_in_turn m.0 l (stop_of records reason c) in
           let mine = k.each id m.0 at in (
             w,
             takes 0 (Some c),
@@ -156,7 +156,7 @@ module _ {C : Type 0} (records : C → Path → Records) (reason : C → Option 
   gives_turn slots id m v c is busy others on = subst (λ (x : Sat). Allows Rule slots id x 0 (λ _. 0) (gave records reason (step slots 0 0 0 maybe.none) x)) (sym is) gives_here
     where
       gives_here : Allows Rule slots id (v, (0, Some c) ∷ []) 0 (λ _. 0) (gave records reason (step slots 0 0 0 maybe.none) (v, (0, Some c) ∷ []))
-      gives_here s k long at small = let l : Lists = lists_of records c in let stop : Option Stop = stop_of records reason c in let w : Knows = idle v.rights l (listed stop) v.calls in let mine = k.each id v at in let had = mine.busy busy in
+      gives_here s k long at small = let l : Lists = lists_of records c in let stop : Option Stop = stop_of records reason c in let w : Knows = idle v.rights l (stop_list stop) v.calls in let mine = k.each id v at in let had = mine.busy busy in
           let fits : (j : ℕ) (u : Knows) → j ≢ id → get_elem? s.views j ≡ some u → Fits l stop k.owner 0 0 j u =
           λ j u other there. let f = k.each j u there in record {
             owns = f.owns;
@@ -273,7 +273,7 @@ module _ {C : Type 0} (records : C → Path → Records) (reason : C → Option 
       }
 
   -- A table without records starts with the rule.
-  pub starts : (c : C) → ((p : Path) → records c p ≡ []) → Rule (opening (0 ∷ 0 ∷ 0 ∷ []) (Some c ∷ []) opened)
+  pub starts : (c : C) → ((p : Path) → records c p ≡ []) → Rule (opening (0 ∷ 0 ∷ 0 ∷ []) (Some c ∷ []) first_knowledge)
   starts c none = record {
     now = no_lists;
     stop = stop_of records reason c;
@@ -290,11 +290,11 @@ module _ {C : Type 0} (records : C → Path → Records) (reason : C → Option 
       no_list One = refl
       no_list Two = refl
 
-      fits : Fits no_lists (stop_of records reason c) (λ _. 0) 0 0 0 opened
+      fits : Fits no_lists (stop_of records reason c) (λ _. 0) 0 0 0 first_knowledge
       fits = record { owns = λ r h. refl; lists = λ p h. refl; stops = tt; busy = λ z. absurd (true≢false (sym z)); busy_stop = λ z. absurd (true≢false (sym z)) }
 
-      first_alone : (j : ℕ) (u : Knows) → get_elem? (opened ∷ []) j ≡ some u → Fits no_lists (stop_of records reason c) (λ _. 0) 0 0 j u
-      first_alone zero u e = subst (Fits no_lists (stop_of records reason c) (λ _. 0) 0 0 0) (some-injective opened u e) fits
+      first_alone : (j : ℕ) (u : Knows) → get_elem? (first_knowledge ∷ []) j ≡ some u → Fits no_lists (stop_of records reason c) (λ _. 0) 0 0 j u
+      first_alone zero u e = subst (Fits no_lists (stop_of records reason c) (λ _. 0) 0 0 0) (some-injective first_knowledge u e) fits
       first_alone (suc j) u e = absurd (some-ne-none u (sym e))
 
   -- A change of a word other than that of the turn keeps the rule.
@@ -339,8 +339,8 @@ module _ {C : Type 0} (records : C → Path → Records) (reason : C → Option 
       )
 
   -- To note calls at the second word keeps the rule, for a seat without the turn.
-  pub notes : (slots id : ℕ) (m : Sat) (calls : List Call) → m.0.busy ≡ false → Allows Rule slots id m 1 (λ n. n) (λ _ w. w ≡ (called calls m.0, m.1))
-  notes slots id m calls rests s k long at small = let w : Knows = called calls m.0 in let mine = k.each id m.0 at in (
+  pub notes : (slots id : ℕ) (m : Sat) (calls : List Call) → m.0.busy ≡ false → Allows Rule slots id m 1 (λ n. n) (λ _ w. w ≡ (knowledge_with_calls calls m.0, m.1))
+  notes slots id m calls rests s k long at small = let w : Knows = knowledge_with_calls calls m.0 in let mine = k.each id m.0 at in (
     w,
     keeps,
     tt,
@@ -422,66 +422,66 @@ of_either false b x y e = inr (e, refl)
 -- The cuts and joins of seats as the code makes them, and the end.
 module _ {C : Type 0} (records : C → Path → Records) (reason : C → Option Halt) where
   -- To join two seats keeps the rule, as the code joins them.
-  pub glues : (id : ℕ) (v : Knows) (other : ℕ) (w : Knows) → v.busy ≡ false → w.busy ≡ false → Joins (Kept records reason) id v other w (joined v w) spent
-  glues id v other w rests wrests = joins records reason id v other w (joined v w) spent rests wrests refl refl lacks_all (λ r. has_plus r v.rights w.rights) lists refl refl
+  pub glues : (id : ℕ) (v : Knows) (other : ℕ) (w : Knows) → v.busy ≡ false → w.busy ≡ false → Joins (Kept records reason) id v other w (joined_knowledge v w) no_knowledge
+  glues id v other w rests wrests = joins records reason id v other w (joined_knowledge v w) no_knowledge rests wrests refl refl lacks_all (λ r. has_plus r v.rights w.rights) lists refl refl
     where
       lists : (p : Path) → has (steps p) (plus v.rights w.rights) ≡ true
-          → ((has (steps p) v.rights ≡ true) × (of_path (picked v w) p ≡ of_path v.lists p)) ⊎ ((has (steps p) w.rights ≡ true) × (of_path (picked v w) p ≡ of_path w.lists p))
+          → ((has (steps p) v.rights ≡ true) × (of_path (picked_lists v w) p ≡ of_path v.lists p)) ⊎ ((has (steps p) w.rights ≡ true) × (of_path (picked_lists v w) p ≡ of_path w.lists p))
       lists One e = of_either v.rights.steps.one w.rights.steps.one v.lists.one w.lists.one e
       lists Two e = of_either v.rights.steps.two w.rights.steps.two v.lists.two w.lists.two e
 
   -- To cut off some of a seat's rights keeps the rule.
-  pub cuts : (id : ℕ) (u v : Knows) (m : Rights) → u ≡ v → v.busy ≡ false → ((r : Right) → has r m ≡ true → has r v.rights ≡ true) → Splits (Kept records reason) id u (without m u) (only m u)
-  cuts id u v m e rests had = subst (λ (x : Knows). Splits (Kept records reason) id x (without m x) (only m x)) (sym e)
-      (splits records reason id v (without m v) (only m v) rests refl refl refl refl refl refl (λ r. has_minus r v.rights m) (λ r h. (had r h, minus_lacks r v.rights m h)))
+  pub cuts : (id : ℕ) (u v : Knows) (m : Rights) → u ≡ v → v.busy ≡ false → ((r : Right) → has r m ≡ true → has r v.rights ≡ true) → Splits (Kept records reason) id u (knowledge_left m u) (knowledge_cut_off m u)
+  cuts id u v m e rests had = subst (λ (x : Knows). Splits (Kept records reason) id x (knowledge_left m x) (knowledge_cut_off m x)) (sym e)
+      (splits records reason id v (knowledge_left m v) (knowledge_cut_off m v) rests refl refl refl refl refl refl (λ r. has_minus r v.rights m) (λ r h. (had r h, minus_lacks r v.rights m h)))
 
   -- The seat that took in all others has all rights, so the table is in its slot with the records
   -- of both paths.
-  pub ends_joined : (id : ℕ) (u a b c d : Knows) (ws : List ℕ) (xs : List (Option C)) → u ≡ joined (joined (joined a b) c) d → a.rights ≡ right_of (steps One) → b.rights ≡ right_of (steps Two)
+  pub ends_joined : (id : ℕ) (u a b c d : Knows) (ws : List ℕ) (xs : List (Option C)) → u ≡ joined_knowledge (joined_knowledge (joined_knowledge a b) c) d → a.rights ≡ right_of (steps One) → b.rights ≡ right_of (steps Two)
       → c.rights ≡ right_of (halts One) → d.rights ≡ right_of (halts Two) → Final (Seen (Kept records reason) id u) ws xs
       → (t : C) × (get_elem? xs 0 ≡ some (Some t)) × (records t One ≡ a.lists.one) × (records t Two ≡ b.lists.two)
       × AreStops (stop_of records reason t) (((a.stops ++ b.stops) ++ c.stops) ++ d.stops)
-  ends_joined id u a b c d ws xs is ea eb ec ed end = let v : Knows = joined (joined (joined a b) c) d in
+  ends_joined id u a b c d ws xs is ea eb ec ed end = let v : Knows = joined_knowledge (joined_knowledge (joined_knowledge a b) c) d in
       let t = ends records reason id v ws xs refl all (subst (λ (x : Knows). Final (Seen (Kept records reason) id x) ws xs) is end) in
       (t.0, t.1, t.2 One ∙ first_is, t.2 Two ∙ second_is, t.3)
     where
-      all : (r : Right) → has r (joined (joined (joined a b) c) d).rights ≡ true
+      all : (r : Right) → has r (joined_knowledge (joined_knowledge (joined_knowledge a b) c) d).rights ≡ true
       all (steps One) = λ i. has (steps One) (plus (plus (plus (ea i) (eb i)) (ec i)) (ed i))
       all (steps Two) = λ i. has (steps Two) (plus (plus (plus (ea i) (eb i)) (ec i)) (ed i))
       all (halts One) = λ i. has (halts One) (plus (plus (plus (ea i) (eb i)) (ec i)) (ed i))
       all (halts Two) = λ i. has (halts Two) (plus (plus (plus (ea i) (eb i)) (ec i)) (ed i))
 
-      first_is : (joined (joined (joined a b) c) d).lists.one ≡ a.lists.one
-      first_is = subst (λ (x : Rights). (joined (joined (joined (record a { rights = x }) b) c) d).lists.one ≡ a.lists.one) (sym ea) refl
+      first_is : (joined_knowledge (joined_knowledge (joined_knowledge a b) c) d).lists.one ≡ a.lists.one
+      first_is = subst (λ (x : Rights). (joined_knowledge (joined_knowledge (joined_knowledge (record a { rights = x }) b) c) d).lists.one ≡ a.lists.one) (sym ea) refl
 
-      second_is : (joined (joined (joined a b) c) d).lists.two ≡ b.lists.two
-      second_is = subst (λ (x : Rights × Rights). (joined (joined (joined (record a { rights = x.0 }) (record b { rights = x.1 })) c) d).lists.two ≡ b.lists.two) (λ i. (sym ea i, sym eb i)) refl
+      second_is : (joined_knowledge (joined_knowledge (joined_knowledge a b) c) d).lists.two ≡ b.lists.two
+      second_is = subst (λ (x : Rights × Rights). (joined_knowledge (joined_knowledge (joined_knowledge (record a { rights = x.0 }) (record b { rights = x.1 })) c) d).lists.two ≡ b.lists.two) (λ i. (sym ea i, sym eb i)) refl
 
   -- The first cut: the seat that steps path 2.
-  pub cuts_two : (id : ℕ) (u : Knows) → u ≡ opened → Splits (Kept records reason) id u (without (right_of (steps Two)) u) (only (right_of (steps Two)) u)
-  cuts_two id u e = cuts id u opened (right_of (steps Two)) e refl all_had
+  pub cuts_two : (id : ℕ) (u : Knows) → u ≡ first_knowledge → Splits (Kept records reason) id u (knowledge_left (right_of (steps Two)) u) (knowledge_cut_off (right_of (steps Two)) u)
+  cuts_two id u e = cuts id u first_knowledge (right_of (steps Two)) e refl all_had
     where
-      all_had : (r : Right) → has r (right_of (steps Two)) ≡ true → has r opened.rights ≡ true
+      all_had : (r : Right) → has r (right_of (steps Two)) ≡ true → has r first_knowledge.rights ≡ true
       all_had (steps One) h = refl
       all_had (steps Two) h = refl
       all_had (halts One) h = refl
       all_had (halts Two) h = refl
 
   -- The second cut: the seat that halts for path 1's turret.
-  pub cuts_three : (id : ℕ) (u : Knows) → u ≡ without (right_of (steps Two)) opened → Splits (Kept records reason) id u (without (right_of (halts One)) u) (only (right_of (halts One)) u)
-  cuts_three id u e = cuts id u (without (right_of (steps Two)) opened) (right_of (halts One)) e refl all_had
+  pub cuts_three : (id : ℕ) (u : Knows) → u ≡ knowledge_left (right_of (steps Two)) first_knowledge → Splits (Kept records reason) id u (knowledge_left (right_of (halts One)) u) (knowledge_cut_off (right_of (halts One)) u)
+  cuts_three id u e = cuts id u (knowledge_left (right_of (steps Two)) first_knowledge) (right_of (halts One)) e refl all_had
     where
-      all_had : (r : Right) → has r (right_of (halts One)) ≡ true → has r (without (right_of (steps Two)) opened).rights ≡ true
+      all_had : (r : Right) → has r (right_of (halts One)) ≡ true → has r (knowledge_left (right_of (steps Two)) first_knowledge).rights ≡ true
       all_had (steps One) h = refl
       all_had (steps Two) h = h
       all_had (halts One) h = refl
       all_had (halts Two) h = refl
 
   -- The third cut: the seat that halts for path 2's turret.
-  pub cuts_four : (id : ℕ) (u : Knows) → u ≡ without (right_of (halts One)) (without (right_of (steps Two)) opened) → Splits (Kept records reason) id u (without (right_of (halts Two)) u) (only (right_of (halts Two)) u)
-  cuts_four id u e = cuts id u (without (right_of (halts One)) (without (right_of (steps Two)) opened)) (right_of (halts Two)) e refl all_had
+  pub cuts_four : (id : ℕ) (u : Knows) → u ≡ knowledge_left (right_of (halts One)) (knowledge_left (right_of (steps Two)) first_knowledge) → Splits (Kept records reason) id u (knowledge_left (right_of (halts Two)) u) (knowledge_cut_off (right_of (halts Two)) u)
+  cuts_four id u e = cuts id u (knowledge_left (right_of (halts One)) (knowledge_left (right_of (steps Two)) first_knowledge)) (right_of (halts Two)) e refl all_had
     where
-      all_had : (r : Right) → has r (right_of (halts Two)) ≡ true → has r (without (right_of (halts One)) (without (right_of (steps Two)) opened)).rights ≡ true
+      all_had : (r : Right) → has r (right_of (halts Two)) ≡ true → has r (knowledge_left (right_of (halts One)) (knowledge_left (right_of (steps Two)) first_knowledge)).rights ≡ true
       all_had (steps One) h = refl
       all_had (steps Two) h = h
       all_had (halts One) h = h
@@ -528,20 +528,20 @@ module _ {C : Type 0} (records : C → Path → Records) (reason : C → Option 
       list_is c Two = refl
 
   -- If the seat knew of a halt, the table is what it was then.
-  still : (c : C) (stops : List Stop) → AreStops (stop_of records reason c) stops → IsStill records reason c (first_stop stops)
+  still : (c : C) (stops : List Stop) → AreStops (stop_of records reason c) stops → IsAsAtStop records reason c (first_stop stops)
   still c [] are = tt
   still c (s ∷ stops) are = has_stopped c s are.0
 
   -- What each of four seats knew is so of the table that was taken out.
   pub stills : (c held : C) → c ≡ held → (first second third fourth : List Stop) → AreStops (stop_of records reason c) (((first ++ second) ++ third) ++ fourth)
-      → IsStill records reason held (first_stop first) × IsStill records reason held (first_stop second) × IsStill records reason held (first_stop third)
-      × IsStill records reason held (first_stop fourth)
+      → IsAsAtStop records reason held (first_stop first) × IsAsAtStop records reason held (first_stop second) × IsAsAtStop records reason held (first_stop third)
+      × IsAsAtStop records reason held (first_stop fourth)
   stills c held same first second third fourth are =
       let a = stops_first (stop_of records reason c) ((first ++ second) ++ third) fourth are in
       let b = stops_first (stop_of records reason c) (first ++ second) third a.0 in
       let d = stops_first (stop_of records reason c) first second b.0 in
-      subst (λ (x : C). IsStill records reason x (first_stop first) × IsStill records reason x (first_stop second) × IsStill records reason x (first_stop third)
-      × IsStill records reason x (first_stop fourth)) same (still c first d.0, still c second d.1, still c third b.1, still c fourth a.1)
+      subst (λ (x : C). IsAsAtStop records reason x (first_stop first) × IsAsAtStop records reason x (first_stop second) × IsAsAtStop records reason x (first_stop third)
+      × IsAsAtStop records reason x (first_stop fourth)) same (still c first d.0, still c second d.1, still c third b.1, still c fourth a.1)
 
   -- If each stop of a list is the table's, and the first of them is `s`, the table's stop is `s`.
   pub first_known : (stop : Option Stop) (stops : List Stop) (s : Stop) → AreStops stop stops → first_stop stops ≡ Some s → stop ≡ Some s
@@ -549,6 +549,6 @@ module _ {C : Type 0} (records : C → Path → Records) (reason : C → Option 
   first_known stop (x ∷ stops) s are is = are.0 ∙ is
 
   -- The first of a stop as a list is that stop.
-  pub first_listed : (stop : Option Stop) → first_stop (listed stop) ≡ stop
+  pub first_listed : (stop : Option Stop) → first_stop (stop_list stop) ≡ stop
   first_listed None = refl
   first_listed (Some s) = refl

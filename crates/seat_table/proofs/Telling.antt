@@ -4,7 +4,7 @@ use Rattle.std.proofs.Common.{◌≡◌, ◌⊎◌, inl, inr, ℕ, List, [], ◌
 use Rattle.std.specs.Prelude.{IsTrue, is_some}
 use Rattle.nc_number.specs.declared.path.Path.{Path}
 use Rattle.nc_outside.specs.declared.lined_move.LinedMove.{LinedMove}
-use Rattle.nc_outside.specs.Lined.{lined}
+use Rattle.nc_outside.specs.Lined.{lined_moves}
 use Rattle.nc_outside.specs.declared.halt.Halt.{Halt as Reason}
 use Rattle.nc_outside.specs.declared.halt.Next.{Next}
 use Rattle.nc_outside.specs.declared.halt.Next.TheVariants.{Silent, Moves, Drain, Finished, Halted}
@@ -36,7 +36,7 @@ same_moves before after e = ap moves_in e ∙ sym (append-nil (moves_in before))
 -- The moves of the records after a step are those before and those that it answered.
 pub answered : (before : Records) (next : Next) (after : Records) → Answers before next after → moves_in after ≡ moves_in before ++ moves_of next
 answered before Silent after a = none_more before after a
-answered before (Moves moves) after a = ap moves_in a ∙ one_more before (lined moves)
+answered before (Moves moves) after a = ap moves_in a ∙ one_more before (lined_moves moves)
 answered before Drain after a = same_moves before after a
 answered before Finished after a = same_moves before after a
 answered before (Halted why) after a = none_more before after a

@@ -57,9 +57,9 @@ AreStops stop [] = ⊤
 AreStops stop (s ∷ stops) = (stop ≡ Some s) × AreStops stop stops
 
 -- The stop as a list, which is empty if there is none.
-abbrev pub listed : Option Stop → List Stop
-listed None = []
-listed (Some stop) = stop ∷ []
+abbrev pub stop_list : Option Stop → List Stop
+stop_list None = []
+stop_list (Some stop) = stop ∷ []
 
 -- The first of these, if there is one.
 abbrev pub first_stop : List Stop → Option Stop
@@ -152,12 +152,12 @@ right_of (steps path) = record { steps = for_one path; halts = for_none }
 right_of (halts path) = record { steps = for_none; halts = for_one path }
 
 -- What the first seat knows: it has all rights.
-abbrev pub opened : Knows
-opened = idle all_rights no_lists [] []
+abbrev pub first_knowledge : Knows
+first_knowledge = idle all_rights no_lists [] []
 
 -- What a seat knows that was joined to another: it has no right.
-abbrev pub spent : Knows
-spent = idle no_rights no_lists [] []
+abbrev pub no_knowledge : Knows
+no_knowledge = idle no_rights no_lists [] []
 
 -- For each path the right without that of `m`.
 abbrev pub rest_of : Both Bool → Both Bool → Both Bool
@@ -177,34 +177,34 @@ plus r m = record { steps = joint_of r.steps m.steps; halts = joint_of r.halts m
 
 -- What a seat knows that is cut off from one that knows `v`: it has these rights alone, the same
 -- lists, no stop and no call.
-abbrev pub only : Rights → Knows → Knows
-only m v = idle m v.lists [] []
+abbrev pub knowledge_cut_off : Rights → Knows → Knows
+knowledge_cut_off m v = idle m v.lists [] []
 
 -- What a seat that knew `v` knows once a seat with these rights was cut off from it: it has its
 -- other rights, and keeps its lists, stops and calls.
-abbrev pub without : Rights → Knows → Knows
-without m v = idle (minus v.rights m) v.lists v.stops v.calls
+abbrev pub knowledge_left : Rights → Knows → Knows
+knowledge_left m v = idle (minus v.rights m) v.lists v.stops v.calls
 
 -- Of each path the records that the first seat lists, if it may step the path; else those of the
 -- second seat.
-abbrev pub picked : Knows → Knows → Lists
-picked v w = record {
+abbrev pub picked_lists : Knows → Knows → Lists
+picked_lists v w = record {
   one = if v.rights.steps.one then v.lists.one else w.lists.one;
   two = if v.rights.steps.two then v.lists.two else w.lists.two;
 }
 
 -- What a seat that knew `v` knows once it took in one that knew `w`: it has the rights and stops of
 -- both, of each path the records of the one that may step it, and its own calls alone.
-abbrev pub joined : Knows → Knows → Knows
-joined v w = idle (plus v.rights w.rights) (picked v w) (v.stops ++ w.stops) v.calls
+abbrev pub joined_knowledge : Knows → Knows → Knows
+joined_knowledge v w = idle (plus v.rights w.rights) (picked_lists v w) (v.stops ++ w.stops) v.calls
 
 -- What the seat knows once a stepper over it had these calls besides.
-abbrev pub called : List Call → Knows → Knows
-called calls v = record v { calls = v.calls ++ calls }
+abbrev pub knowledge_with_calls : List Call → Knows → Knows
+knowledge_with_calls calls v = record v { calls = v.calls ++ calls }
 
 -- What a seat that knew `v` knows with the turn, once it found these records and this stop.
-abbrev pub holding : Knows → Lists → Option Stop → Knows
-holding v l stop = record {
+abbrev pub knowledge_in_turn : Knows → Lists → Option Stop → Knows
+knowledge_in_turn v l stop = record {
   rights = v.rights;
   lists = v.lists;
   stops = v.stops;
@@ -225,7 +225,7 @@ module _ {C : Type 0} (records : C → Path → Records) (reason : C → Option 
     -- The table.
     pub table : C
     -- The seat has the turn, and found the table's records.
-    pub view : m'.0 ≡ holding m.0 (lists_of records table) (stop_of records reason table)
+    pub view : m'.0 ≡ knowledge_in_turn m.0 (lists_of records table) (stop_of records reason table)
     -- The table is in its hand.
     pub slot : m'.1 ≡ (0, Some table) ∷ m.1
     -- What it listed of the paths that it may step are the table's records.
@@ -246,7 +246,7 @@ module _ {C : Type 0} (records : C → Path → Records) (reason : C → Option 
   -- The stop of the table in hand as a list, which is empty if it has not halted.
   abbrev pub stops_at : List (ℕ × Option C) → List Stop
   stops_at [] = []
-  stops_at ((k, Some c) ∷ xs) = listed (stop_of records reason c)
+  stops_at ((k, Some c) ∷ xs) = stop_list (stop_of records reason c)
   stops_at ((k, None) ∷ xs) = []
 
   -- The seat gave the table back: it keeps its rights and calls, and lists the table's records of
@@ -266,7 +266,7 @@ Idle m = (m.0.busy ≡ false) × (m.1 ≡ [])
 pub record Took {C : Type 0} (records : C → Path → Records) (reason : C → Option Halt) (m : Me (Option C) Knows) (table : C)
     (m' : Me (Option C) Knows) : Type 0 where
   -- The seat has the turn, and found the table's records.
-  pub view : m'.0 ≡ holding m.0 (lists_of records table) (stop_of records reason table)
+  pub view : m'.0 ≡ knowledge_in_turn m.0 (lists_of records table) (stop_of records reason table)
   -- It left nothing in the slot.
   pub slot : m'.1 ≡ (0, None) ∷ []
   -- What it listed of the paths that it may step are the table's records.

@@ -1,5 +1,5 @@
--- What the passes of a table mean: what clauses see of them (src/seats.rt, src/stepper.rt).
--- turret_run and lane_vectors cite it.
+-- What the passes of a table mean: what clauses see of them (src/seats.rt, src/stepper.rt, and of
+-- `IsAsAtStop` src/taking.rt). turret_run and lane_vectors cite it.
 use Rattle.std.specs.Prelude.{◌≡◌, Bool, true, false, List, [], ◌∷◌, Option, Some, None, IfSome}
 use Rattle.atomic_table.specs.Seated.{TableId}
 use Rattle.atomic_table.specs.declared.badge.Badge.{Badge}
@@ -36,8 +36,8 @@ pub record Halter : Type 0 where
   pub calls : List Call
 
 -- A pass that has made no step.
-abbrev pub fresh : TableId → Path → Pass
-fresh table path = record { table = table; path = path; records = []; stop = None; calls = [] }
+abbrev pub fresh_pass : TableId → Path → Pass
+fresh_pass table path = record { table = table; path = path; records = []; stop = None; calls = [] }
 
 -- A pass that has halted nothing.
 abbrev pub fresh_halter : TableId → Path → Halter
@@ -51,8 +51,8 @@ pub record HasStopped {C : Type 0} (records : C → Path → Records) (reason : 
   pub records_are : (p : Path) → records c p ≡ of_path stop.records p
 
 -- If a pass knows that the table has halted, the table is what it was then.
-abbrev pub IsStill : {C : Type 0} → (C → Path → Records) → (C → Option Halt) → C → Option Stop → Type 0
-IsStill records reason c stop = IfSome stop (HasStopped records reason c)
+abbrev pub IsAsAtStop : {C : Type 0} → (C → Path → Records) → (C → Option Halt) → C → Option Stop → Type 0
+IsAsAtStop records reason c stop = IfSome stop (HasStopped records reason c)
 
 -- Whether there is a halt among these calls.
 abbrev pub has_halt : List Call → Bool

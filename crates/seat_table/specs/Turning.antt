@@ -3,7 +3,7 @@
 -- turret_run, lathe_top and lane_vectors read this.
 use Rattle.std.specs.Prelude.{◌≡◌, ◌≢◌, ◌⊎◌, Bool, true, false, List, [], ◌∷◌, ◌++◌, Option, Some, None}
 use Rattle.nc_outside.specs.declared.lined_move.LinedMove.{LinedMove}
-use Rattle.nc_outside.specs.Lined.{lined}
+use Rattle.nc_outside.specs.Lined.{lined_moves}
 use Rattle.nc_outside.specs.declared.halt.Halt.{Halt}
 use Rattle.nc_outside.specs.declared.halt.Next.{Next}
 use Rattle.nc_outside.specs.declared.halt.Next.TheVariants.{Silent, Moves, Drain, Finished, Halted}
@@ -26,7 +26,7 @@ MayRecord before after = (after ≡ before) ⊎ (after ≡ before ++ [] ∷ [])
 -- an end add none.
 abbrev pub Answers : Records → Next → Records → Type 0
 Answers before Silent after = MayRecord before after
-Answers before (Moves moves) after = after ≡ before ++ lined moves ∷ []
+Answers before (Moves moves) after = after ≡ before ++ lined_moves moves ∷ []
 Answers before Drain after = after ≡ before
 Answers before Finished after = after ≡ before
 Answers before (Halted why) after = MayRecord before after

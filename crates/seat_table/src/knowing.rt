@@ -4,7 +4,7 @@
 ghost use Rattle.std.specs.Prelude.{◌≡◌, List, []};
 ghost use Rattle.nc_number.specs.declared.path.Path.TheVariants.{One, Two};
 ghost use Rattle.nc_outside.specs.declared.stepper.Call.{Call as Called};
-ghost use Rattle.seat_table.specs.Knowing.{Kept, steps, halts, right_of, opened, took, gave, only, without, joined, spent, called};
+ghost use Rattle.seat_table.specs.Knowing.{Kept, steps, halts, right_of, first_knowledge, took, gave, knowledge_cut_off, knowledge_left, joined_knowledge, no_knowledge, knowledge_with_calls};
 
 use crate::turning::Turns;
 use atomic_table::{Join, Play, Split, TableRule};
@@ -59,7 +59,7 @@ pub struct Law;
 impl<C: Turns> TableRule<Option<C>, Knows, ()> for Law {
     ghost holds = { λ _. Kept C.records C.reason };
 
-    ghost first = { λ _. opened };
+    ghost first = { λ _. first_knowledge };
 }
 
 /// The step that takes the turn.
@@ -107,34 +107,34 @@ pub struct Note<N> {
 }
 
 impl<S, N: Noted> Play<S, Knows> for Note<N> {
-    ghost then = { λ _ m _ w. w ≡ (called N.calls m.0, m.1) };
+    ghost then = { λ _ m _ w. w ≡ (knowledge_with_calls N.calls m.0, m.1) };
 }
 
 /// Cuts off the seat that steps path 2.
 pub struct CutSecond;
 
 impl Split<Knows> for CutSecond {
-    ghost left = { without (right_of (steps Two)) };
+    ghost left = { knowledge_left (right_of (steps Two)) };
 
-    ghost right = { only (right_of (steps Two)) };
+    ghost right = { knowledge_cut_off (right_of (steps Two)) };
 }
 
 /// Cuts off the seat that halts for the turret of path 1.
 pub struct CutFirstHalt;
 
 impl Split<Knows> for CutFirstHalt {
-    ghost left = { without (right_of (halts One)) };
+    ghost left = { knowledge_left (right_of (halts One)) };
 
-    ghost right = { only (right_of (halts One)) };
+    ghost right = { knowledge_cut_off (right_of (halts One)) };
 }
 
 /// Cuts off the seat that halts for the turret of path 2.
 pub struct CutSecondHalt;
 
 impl Split<Knows> for CutSecondHalt {
-    ghost left = { without (right_of (halts Two)) };
+    ghost left = { knowledge_left (right_of (halts Two)) };
 
-    ghost right = { only (right_of (halts Two)) };
+    ghost right = { knowledge_cut_off (right_of (halts Two)) };
 }
 
 /// Puts two seats together: one has the rights, records and stops of both and its own calls, the
@@ -142,7 +142,7 @@ impl Split<Knows> for CutSecondHalt {
 pub struct Glue;
 
 impl Join<Knows> for Glue {
-    ghost both = { joined };
+    ghost both = { joined_knowledge };
 
-    ghost spent = { spent };
+    ghost spent = { no_knowledge };
 }

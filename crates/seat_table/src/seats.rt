@@ -6,7 +6,7 @@ ghost use Rattle.nc_outside.specs.Calls.{IsOfTurret};
 ghost use Rattle.nc_outside.specs.declared.halt.Next.TheVariants.{Halted};
 ghost use Rattle.nc_outside.specs.declared.stepper.Call.TheVariants.{Step};
 ghost use Rattle.seat_table.specs.Knowing.{KeepsStop};
-ghost use Rattle.seat_table.specs.Passes.{fresh, fresh_halter, IsStill};
+ghost use Rattle.seat_table.specs.Passes.{fresh_pass, fresh_halter, IsAsAtStop};
 ghost use Rattle.seat_table.specs.Turning.{Answers};
 
 use crate::knowing::{CutFirstHalt, CutSecond, CutSecondHalt, Knows, Law, Noted};
@@ -118,7 +118,7 @@ impl<C: Turns> SeatTable<C> {
     /// their drives. If memory ran out, the table comes back as the error.
     pub fn new(alloc: Global, table: C) -> Result<Seated<C>, C>
         requires { (p : Path) → C.records table p ≡ [] }
-        ensures passes { IfOk result (λ s. (s.first ≡ fresh s.table One) × (s.second ≡ fresh s.table Two)) }
+        ensures passes { IfOk result (λ s. (s.first ≡ fresh_pass s.table One) × (s.second ≡ fresh_pass s.table Two)) }
         ensures halters { IfOk result (λ s. (s.first_halt ≡ fresh_halter s.table One)
             × (s.second_halt ≡ fresh_halter s.table Two)) }
         ensures err { IfErr result (λ t. t ≡ table) }
@@ -133,7 +133,7 @@ impl<C: Turns> SeatTable<C> {
     /// memory ran out, the table comes back as the error.
     fn over(alloc: Global, table: Box<C>) -> Result<Seated<C>, Box<C>>
         requires { (p : Path) → C.records table.value p ≡ [] }
-        ensures passes { IfOk result (λ s. (s.first ≡ fresh s.table One) × (s.second ≡ fresh s.table Two)) }
+        ensures passes { IfOk result (λ s. (s.first ≡ fresh_pass s.table One) × (s.second ≡ fresh_pass s.table Two)) }
         ensures halters { IfOk result (λ s. (s.first_halt ≡ fresh_halter s.table One)
             × (s.second_halt ≡ fresh_halter s.table Two)) }
         ensures err { IfErr result (λ t. t ≡ table) }
@@ -263,9 +263,9 @@ impl<C: Turns> SeatTable<C> {
             × (first_halt.path ≡ One) × (second_halt.path ≡ Two) }
         ensures first { C.records result One ≡ first.records }
         ensures second { C.records result Two ≡ second.records }
-        ensures stops { IsStill C.records C.reason result first.stop × IsStill C.records C.reason result second.stop }
-        ensures halts { IsStill C.records C.reason result first_halt.stop
-            × IsStill C.records C.reason result second_halt.stop }
+        ensures stops { IsAsAtStop C.records C.reason result first.stop × IsAsAtStop C.records C.reason result second.stop }
+        ensures halts { IsAsAtStop C.records C.reason result first_halt.stop
+            × IsAsAtStop C.records C.reason result second_halt.stop }
     {
         let SeatTable { table } = self;
         let SeatPass { place: one, .. } = first;

@@ -4,11 +4,11 @@
 ghost use Rattle.std.specs.Prelude.{◌≡◌, ◌≢◌, ◌&&◌, ◌||◌, not, true, false, [], ◌∷◌, MatchOption, IsTrue, is_some, Some, None};
 ghost use Rattle.nc_number.specs.declared.path.Path.TheVariants.{One, Two};
 ghost use Rattle.nc_outside.specs.declared.halt.Next.TheVariants.{Halted};
-ghost use Rattle.seat_table.specs.Passes.{IsStill};
+ghost use Rattle.seat_table.specs.Passes.{IsAsAtStop};
 ghost use Rattle.seat_table.specs.Taking.{Tries, AnswersWhy, IsGiven, IsHalt};
 ghost use Rattle.seat_table.specs.Turning.{Answers};
 ghost use Rattle.nc_number.specs.Both.{of_path};
-ghost use Rattle.seat_table.specs.Knowing.{Right, steps, halts, has, lists_of, stop_of, listed, idle, called, Idle, IsAt, IsOf, Took, Keeps, KeepsStop, list_at, stop_at};
+ghost use Rattle.seat_table.specs.Knowing.{Right, steps, halts, has, lists_of, stop_of, stop_list, idle, knowledge_with_calls, Idle, IsAt, IsOf, Took, Keeps, KeepsStop, list_at, stop_at};
 ghost use Rattle.seat_table.specs.declared.knowing.Stop.{Stop};
 
 use crate::knowing::{Ask, Count, Give, Glue, Knows, Law, Note, Noted, Take};
@@ -76,7 +76,7 @@ fn give<C: Turns>(shared: &Shared<Option<C>, Knows, (), Law>, place: &mut Place<
     ensures same { (place.new.table_id ≡ place.old.table_id) × (place.new.id ≡ place.old.id) }
     ensures gave { place.new.me ≡ (
       idle place.old.me.0.rights (lists_of C.records table)
-          (listed (stop_of C.records C.reason table)) place.old.me.0.calls,
+          (stop_list (stop_of C.records C.reason table)) place.old.me.0.calls,
       [],
     ) }
 {
@@ -180,7 +180,7 @@ pub(crate) fn note<C: Turns, N: Noted>(
     requires table { IsAt place.old.table_id shared.now.table_id }
     requires idle { Idle place.old.me }
     ensures same { (place.new.table_id ≡ place.old.table_id) × (place.new.id ≡ place.old.id) }
-    ensures noted { place.new.me ≡ (called N.calls place.old.me.0, place.old.me.1) }
+    ensures noted { place.new.me ≡ (knowledge_with_calls N.calls place.old.me.0, place.old.me.1) }
 {
     shared.load::<Note<N>>(place, 1);
 }
@@ -328,10 +328,10 @@ pub(crate) fn close_all<C: Turns>(
     requires halts { IsOf (halts One) first_halt.me × IsOf (halts Two) second_halt.me }
     ensures first { C.records result One ≡ list_at One first.me }
     ensures second { C.records result Two ≡ list_at Two second.me }
-    ensures stops { IsStill C.records C.reason result (stop_at first.me)
-        × IsStill C.records C.reason result (stop_at second.me) }
-    ensures halts { IsStill C.records C.reason result (stop_at first_halt.me)
-        × IsStill C.records C.reason result (stop_at second_halt.me) }
+    ensures stops { IsAsAtStop C.records C.reason result (stop_at first.me)
+        × IsAsAtStop C.records C.reason result (stop_at second.me) }
+    ensures halts { IsAsAtStop C.records C.reason result (stop_at first_halt.me)
+        × IsAsAtStop C.records C.reason result (stop_at second_halt.me) }
 {
     let mut place = first;
     table.shared.join_seat::<Glue>(&mut place, second);

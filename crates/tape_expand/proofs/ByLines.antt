@@ -1,19 +1,19 @@
--- A text with edits, byte by byte, is the same line by line. For `edited` (src/edits.rt), which
+-- A text with edits, byte by byte, is the same line by line. For `edited_lines` (src/edits.rt), which
 -- works byte by byte.
 use Rattle.std.proofs.Common.{◌≡◌, ℕ, ◌+◌, Bool, true, false, ◌==◌, List, [], ◌∷◌, ◌++◌, drop, refl, ap, sym, ◌∙◌, arith}
 use Rattle.std.proofs.lemmas.Bool.Decides.{nat_tests}
 use Rattle.nc_text.specs.Lines.{Line, lines_of, onto_line}
 use Rattle.tape_expand.specs.declared.edits.Edit.{Edit}
-use Rattle.tape_expand.specs.Splice.{edited, spliced, is_due, first_new}
+use Rattle.tape_expand.specs.Splice.{edited_lines, spliced_text, is_due, first_new}
 use Rattle.tape_expand.proofs.Splicing.{none, replaced, dropped}
 
 -- a byte of a line that an edit names leaves no trace
-left_out : (n : ℕ) (edits : List Edit) (b : ℕ) (lines : List Line) → is_due n edits ≡ true → edited n edits (onto_line b lines) ≡ edited n edits lines
+left_out : (n : ℕ) (edits : List Edit) (b : ℕ) (lines : List Line) → is_due n edits ≡ true → edited_lines n edits (onto_line b lines) ≡ edited_lines n edits lines
 left_out n edits b [] due = rw due refl
 left_out n edits b (line ∷ lines) due = rw due refl
 
 -- a byte of a line that no edit names stays before the rest of the line
-kept : (n : ℕ) (edits : List Edit) (b : ℕ) (lines : List Line) → is_due n edits ≡ false → edited n edits (onto_line b lines) ≡ b ∷ edited n edits lines
+kept : (n : ℕ) (edits : List Edit) (b : ℕ) (lines : List Line) → is_due n edits ≡ false → edited_lines n edits (onto_line b lines) ≡ b ∷ edited_lines n edits lines
 kept n edits b [] due = rw due refl
 kept n edits b (line ∷ lines) due = rw due refl
 
@@ -31,48 +31,48 @@ byte_is b bs other = rw other refl
 
 -- an empty line that an edit names gives way to the edit's bytes
 named_end : (n : ℕ) (edits : List Edit) (lines : List Line) → is_due n edits ≡ true
-    → edited n edits (record { bytes = []; ended = true } ∷ lines) ≡ first_new edits ++ edited (n + 1) (drop 1 edits) lines
+    → edited_lines n edits (record { bytes = []; ended = true } ∷ lines) ≡ first_new edits ++ edited_lines (n + 1) (drop 1 edits) lines
 named_end n edits lines due = rw due refl
 
 -- an empty line that no edit names keeps its line feed
 other_end : (n : ℕ) (edits : List Edit) (lines : List Line) → is_due n edits ≡ false
-    → edited n edits (record { bytes = []; ended = true } ∷ lines) ≡ 10 ∷ edited (n + 1) edits lines
+    → edited_lines n edits (record { bytes = []; ended = true } ∷ lines) ≡ 10 ∷ edited_lines (n + 1) edits lines
 other_end n edits lines due = rw due refl
 
 -- byte by byte, a line feed of a line that no edit names stays, and the next line follows
 other_feed : (n : ℕ) (edits : List Edit) (b : ℕ) (bs : List ℕ) → is_due n edits ≡ false → (b == 10) ≡ true
-    → spliced n edits (b ∷ bs) ≡ b ∷ spliced (n + 1) edits bs
-unfolding spliced
+    → spliced_text n edits (b ∷ bs) ≡ b ∷ spliced_text (n + 1) edits bs
+unfolding spliced_text
 other_feed n edits b bs due end = rw (due, end) refl
 
 -- byte by byte, a byte within a line that no edit names stays
 other_byte : (n : ℕ) (edits : List Edit) (b : ℕ) (bs : List ℕ) → is_due n edits ≡ false → (b == 10) ≡ false
-    → spliced n edits (b ∷ bs) ≡ b ∷ spliced n edits bs
-unfolding spliced
+    → spliced_text n edits (b ∷ bs) ≡ b ∷ spliced_text n edits bs
+unfolding spliced_text
 other_byte n edits b bs due other = rw (due, other) refl
 
 -- with one byte more in front, a text is the same both ways, if the rest is
 one_byte : (n : ℕ) (edits : List Edit) (b : ℕ) (bs : List ℕ) (is_named is_end : Bool) → is_due n edits ≡ is_named → (b == 10) ≡ is_end
-    → spliced n edits bs ≡ edited n edits (lines_of bs)
-    → spliced (n + 1) edits bs ≡ edited (n + 1) edits (lines_of bs)
-    → spliced (n + 1) (drop 1 edits) bs ≡ edited (n + 1) (drop 1 edits) (lines_of bs)
-    → spliced n edits (b ∷ bs) ≡ edited n edits (lines_of (b ∷ bs))
+    → spliced_text n edits bs ≡ edited_lines n edits (lines_of bs)
+    → spliced_text (n + 1) edits bs ≡ edited_lines (n + 1) edits (lines_of bs)
+    → spliced_text (n + 1) (drop 1 edits) bs ≡ edited_lines (n + 1) (drop 1 edits) (lines_of bs)
+    → spliced_text n edits (b ∷ bs) ≡ edited_lines n edits (lines_of (b ∷ bs))
 one_byte n edits b bs true true due end here next behind =
     replaced n edits b bs due end ∙ ap (λ l. first_new edits ++ l) behind
-    ∙ sym (named_end n edits (lines_of bs) due) ∙ ap (edited n edits) (sym (end_is b bs end))
+    ∙ sym (named_end n edits (lines_of bs) due) ∙ ap (edited_lines n edits) (sym (end_is b bs end))
 one_byte n edits b bs true false due end here next behind =
-    dropped n edits b bs due end ∙ here ∙ sym (left_out n edits b (lines_of bs) due) ∙ ap (edited n edits) (sym (byte_is b bs end))
+    dropped n edits b bs due end ∙ here ∙ sym (left_out n edits b (lines_of bs) due) ∙ ap (edited_lines n edits) (sym (byte_is b bs end))
 one_byte n edits b bs false true due end here next behind =
-    other_feed n edits b bs due end ∙ ap (λ x. x ∷ spliced (n + 1) edits bs) (line_feed b end) ∙ ap (λ l. 10 ∷ l) next
-    ∙ sym (other_end n edits (lines_of bs) due) ∙ ap (edited n edits) (sym (end_is b bs end))
+    other_feed n edits b bs due end ∙ ap (λ x. x ∷ spliced_text (n + 1) edits bs) (line_feed b end) ∙ ap (λ l. 10 ∷ l) next
+    ∙ sym (other_end n edits (lines_of bs) due) ∙ ap (edited_lines n edits) (sym (end_is b bs end))
 one_byte n edits b bs false false due end here next behind =
-    other_byte n edits b bs due end ∙ ap (λ l. b ∷ l) here ∙ sym (kept n edits b (lines_of bs) due) ∙ ap (edited n edits) (sym (byte_is b bs end))
+    other_byte n edits b bs due end ∙ ap (λ l. b ∷ l) here ∙ sym (kept n edits b (lines_of bs) due) ∙ ap (edited_lines n edits) (sym (byte_is b bs end))
 
 -- any text is the same both ways, from any line on
-of_text : (text : List ℕ) (n : ℕ) (edits : List Edit) → spliced n edits text ≡ edited n edits (lines_of text)
+of_text : (text : List ℕ) (n : ℕ) (edits : List Edit) → spliced_text n edits text ≡ edited_lines n edits (lines_of text)
 of_text [] n edits = none n edits
 of_text (b ∷ bs) n edits = one_byte n edits b bs (is_due n edits) (b == 10) refl refl (of_text bs n edits) (of_text bs (n + 1) edits) (of_text bs (n + 1) (drop 1 edits))
 
 -- a text with edits is the same byte by byte and line by line
-pub by_lines : (n : ℕ) (edits : List Edit) (text : List ℕ) → spliced n edits text ≡ edited n edits (lines_of text)
+pub by_lines : (n : ℕ) (edits : List Edit) (text : List ℕ) → spliced_text n edits text ≡ edited_lines n edits (lines_of text)
 by_lines n edits text = of_text text n edits

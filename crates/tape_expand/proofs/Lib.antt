@@ -1,5 +1,5 @@
 -- The lemmas of tape_expand, each file by its subject. No other crate takes any.
-pub mod Answered
-pub mod ByLines
-pub mod Counting
-pub mod Splicing
+mod Answered
+mod ByLines
+mod Counting
+mod Splicing

@@ -10,22 +10,22 @@ use Rattle.nc_text.specs.Tape.{tape_of}
 use Rattle.cycle_form.specs.declared.fault.CycleFault.{CycleFault}
 use Rattle.cycle_form.specs.Marks.{marks_of}
 use Rattle.cycle_form.specs.Parts.{PartView, IsClearPart}
-use Rattle.cycle_form.specs.Sizes.{sized}
+use Rattle.cycle_form.specs.Sizes.{size_verdict}
 use Rattle.cycle_form.specs.Walk.{parts_of}
 use Rattle.tape_expand.specs.declared.fault.ExpandFault.{ExpandFault}
 use Rattle.tape_expand.specs.declared.fault.ExpandFault.TheVariants.{Unreadable, Cycle}
 use Rattle.tape_expand.specs.Replaced.{edits_of}
-use Rattle.tape_expand.specs.Splice.{edited}
+use Rattle.tape_expand.specs.Splice.{edited_lines}
 
 -- these parts, if the judgement on their size is that they fit; else its refusal
-abbrev pub fitting : List PartView → Result ⊤ CycleFault → Result (List PartView) CycleFault
-fitting parts (Ok done) = Ok parts
-fitting parts (Err fault) = Err fault
+abbrev pub fitting_parts : List PartView → Result ⊤ CycleFault → Result (List PartView) CycleFault
+fitting_parts parts (Ok done) = Ok parts
+fitting_parts parts (Err fault) = Err fault
 
 -- the parts, if no cycle was refused and a tape of so many blocks has at most 20,000 with them
 -- written out; else the refusal
 abbrev pub sized_by : ℕ → Result (List PartView) CycleFault → Result (List PartView) CycleFault
-sized_by blocks (Ok parts) = fitting parts (sized blocks parts)
+sized_by blocks (Ok parts) = fitting_parts parts (size_verdict blocks parts)
 sized_by blocks (Err fault) = Err fault
 
 -- the parts of a tape, if no cycle is refused and it has at most 20,000 blocks with them written
@@ -34,29 +34,29 @@ abbrev pub sized_parts : List Bool → List Program → Result (List PartView) C
 sized_parts marks tape = sized_by (length (blocks_in tape)) (parts_of marks tape)
 
 -- the parts, or the refusal of a cycle
-abbrev pub of_cycles : Result (List PartView) CycleFault → Result (List PartView) ExpandFault
-of_cycles (Ok parts) = Ok parts
-of_cycles (Err fault) = Err (Cycle fault)
+abbrev pub parts_of_cycles : Result (List PartView) CycleFault → Result (List PartView) ExpandFault
+parts_of_cycles (Ok parts) = Ok parts
+parts_of_cycles (Err fault) = Err (Cycle fault)
 
 -- the parts of a text that reads as this tape, or the refusal of a text that is no tape
-abbrev pub of_tape : List ℕ → Result (List Program) TextFault → Result (List PartView) ExpandFault
-of_tape text (Ok tape) = of_cycles (sized_parts (marks_of text) tape)
-of_tape text (Err fault) = Err (Unreadable fault)
+abbrev pub parts_of_tape : List ℕ → Result (List Program) TextFault → Result (List PartView) ExpandFault
+parts_of_tape text (Ok tape) = parts_of_cycles (sized_parts (marks_of text) tape)
+parts_of_tape text (Err fault) = Err (Unreadable fault)
 
 -- The parts of a text that are written out, read with no skip switch set; or why it is refused: as
 -- no tape, else for a cycle that is part of no form, else for its size.
 unfoldable pub parts_in : List ℕ → Result (List PartView) ExpandFault
-parts_in text = of_tape text (tape_of 0 text)
+parts_in text = parts_of_tape text (tape_of 0 text)
 
 -- the text with the blocks of the parts, or its refusal
-abbrev pub written_out : List ℕ → Result (List PartView) ExpandFault → Result (List ℕ) ExpandFault
-written_out text (Ok parts) = Ok (edited 1 (flat_map edits_of parts) (lines_of text))
-written_out text (Err fault) = Err fault
+abbrev pub expanded_lines : List ℕ → Result (List PartView) ExpandFault → Result (List ℕ) ExpandFault
+expanded_lines text (Ok parts) = Ok (edited_lines 1 (flat_map edits_of parts) (lines_of text))
+expanded_lines text (Err fault) = Err fault
 
 -- the text in which each part gives way to its blocks, and every other line stays byte for byte; or
 -- its refusal
 abbrev pub expansion_of : List ℕ → Result (List ℕ) ExpandFault
-expansion_of text = written_out text (parts_in text)
+expansion_of text = expanded_lines text (parts_in text)
 
 -- nothing is refused, and no whole point on a move of the blocks of a part lies inside its contour
 -- (of a G71 the one with its allowances)

@@ -6,14 +6,14 @@ use Rattle.tape_expand.specs.declared.edits.Edit.{Edit}
 use Rattle.tape_expand.specs.BlockText.{part_text}
 
 -- the edit by which a line goes, with its line feed
-abbrev pub removed : ℕ → Edit
-removed line = record { line = line; new = [] }
+abbrev pub line_removal : ℕ → Edit
+line_removal line = record { line = line; new = [] }
 
 -- the first of these lines gives way to a text, and the others go
-abbrev pub replaced : List ℕ → List ℕ → List Edit
-replaced text [] = []
-replaced text (line ∷ lines) = record { line = line; new = text } ∷ map removed lines
+abbrev pub line_replacements : List ℕ → List ℕ → List Edit
+line_replacements text [] = []
+line_replacements text (line ∷ lines) = record { line = line; new = text } ∷ map line_removal lines
 
 -- the edits of a part: its blocks stand in place of its first line
 unfoldable pub edits_of : PartView → List Edit
-edits_of part = replaced (part_text part) part.lines
+edits_of part = line_replacements (part_text part) part.lines

@@ -1,8 +1,8 @@
 //! A text in which some lines give way to others. part_text.rt says which lines those are, and
-//! expand.rt calls `edited`.
+//! expand.rt calls `edited_lines`.
 ghost use Rattle.std.specs.Prelude.{◌≡◌, ◌<◌, ◌^◌, ◌++◌, ◌∷◌, [], IfOk, OnOk, drop};
 ghost use Rattle.nc_text.specs.Lines.{lines_of};
-ghost use Rattle.tape_expand.specs.Splice.{edited, spliced, is_due, first_new, line_behind};
+ghost use Rattle.tape_expand.specs.Splice.{edited_lines, spliced_text, is_due, first_new, line_behind};
 
 use nc_number::ByteList;
 use std::alloc::{AllocError, Global};
@@ -18,7 +18,7 @@ pub struct Edit {
 
 /// The text with edits, which are in the order of their lines.
 pub(crate) fn edited(alloc: Global, text: &[u8], edits: &[Edit]) -> Result<Vec<u8>, AllocError>
-    ensures { IfOk result (λ bytes. bytes.items ≡ edited 1 edits.now (lines_of text.now)) }
+    ensures { IfOk result (λ bytes. bytes.items ≡ edited_lines 1 edits.now (lines_of text.now)) }
 {
     let bytes = splice(alloc, text, edits)?;
     Ok(bytes)
@@ -27,7 +27,7 @@ pub(crate) fn edited(alloc: Global, text: &[u8], edits: &[Edit]) -> Result<Vec<u
 /// The text with edits, byte by byte: the bytes of a line that an edit names go, and its line feed,
 /// if it has one, gives way to the edit's bytes.
 fn splice(alloc: Global, text: &[u8], edits: &[Edit]) -> Result<Vec<u8>, AllocError>
-    ensures { IfOk result (λ v. v.items ≡ spliced 1 edits.now text.now) }
+    ensures { IfOk result (λ v. v.items ≡ spliced_text 1 edits.now text.now) }
 {
     let mut out = Vec::new(alloc);
     let mut line = 1u128;

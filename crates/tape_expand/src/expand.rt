@@ -12,10 +12,10 @@ ghost use Rattle.nc_text.specs.Tape.{tape_of};
 ghost use Rattle.cycle_form.specs.declared.fault.CycleFault.{CycleFault};
 ghost use Rattle.cycle_form.specs.Marks.{marks_of};
 ghost use Rattle.cycle_form.specs.Parts.{PartView, IsSoundPart};
-ghost use Rattle.cycle_form.specs.Sizes.{sized};
-ghost use Rattle.tape_expand.specs.Expansion.{fitting, sized_parts, of_cycles, of_tape, parts_in, expansion_of, AreClearParts};
+ghost use Rattle.cycle_form.specs.Sizes.{size_verdict};
+ghost use Rattle.tape_expand.specs.Expansion.{fitting_parts, sized_parts, parts_of_cycles, parts_of_tape, parts_in, expansion_of, AreClearParts};
 ghost use Rattle.tape_expand.specs.Replaced.{edits_of};
-ghost use Rattle.tape_expand.specs.Splice.{edited};
+ghost use Rattle.tape_expand.specs.Splice.{edited_lines};
 
 use crate::edits::edited;
 use crate::fault::ExpandFault;
@@ -53,7 +53,7 @@ fn count_blocks(tape: &[Program]) -> usize
 /// The refusal of a text that is no tape, as that of the expansion.
 fn unread(fault: Failing<TextFault>) -> Failing<ExpandFault>
     ensures { (text : List ℕ) (tape : Result (List Program) TextFault)
-        → Fails fault tape → Fails result (of_tape text tape) }
+        → Fails fault tape → Fails result (parts_of_tape text tape) }
 {
     match fault {
         Failing::Fault(fault) => Failing::Fault(ExpandFault::Unreadable(fault)),
@@ -63,7 +63,7 @@ fn unread(fault: Failing<TextFault>) -> Failing<ExpandFault>
 
 /// The refusal of a cycle, as that of the expansion.
 fn bad_cycle(fault: Failing<CycleFault>) -> Failing<ExpandFault>
-    ensures { (parts : Result (List PartView) CycleFault) → Fails fault parts → Fails result (of_cycles parts) }
+    ensures { (parts : Result (List PartView) CycleFault) → Fails fault parts → Fails result (parts_of_cycles parts) }
 {
     match fault {
         Failing::Fault(fault) => Failing::Fault(ExpandFault::Cycle(fault)),
@@ -75,7 +75,7 @@ fn bad_cycle(fault: Failing<CycleFault>) -> Failing<ExpandFault>
 fn sized(alloc: Global, blocks: usize, parts: Vec<Part>) -> Result<Vec<Part>, Failing<CycleFault>>
     requires few { blocks ≤ MOST_BLOCKS }
     requires sound { All IsSoundPart parts.items }
-    ensures exact { Gives (λ parts. parts.items) result (fitting parts.items (sized blocks parts.items)) }
+    ensures exact { Gives (λ parts. parts.items) result (fitting_parts parts.items (size_verdict blocks parts.items)) }
     ensures sound { IfOk result (λ kept. All IsSoundPart kept.items) }
 {
     match check_sizes(alloc, blocks, &parts) {
@@ -107,7 +107,7 @@ fn cycles_in(
     tape: &[Program],
 ) -> Result<Vec<Part>, Failing<ExpandFault>>
     requires { length (blocks_in tape.now) ≤ MOST_BLOCKS }
-    ensures exact { Gives (λ parts. parts.items) result (of_cycles (sized_parts (marks_of text.now) tape.now)) }
+    ensures exact { Gives (λ parts. parts.items) result (parts_of_cycles (sized_parts (marks_of text.now) tape.now)) }
     ensures sound { IfOk result (λ parts. All IsSoundPart parts.items) }
 {
     let marks = marks_of(alloc, text)?;
@@ -130,7 +130,7 @@ fn parts_in(alloc: Global, text: &[u8]) -> Result<Vec<Part>, Failing<ExpandFault
 
 /// The text with these parts written out.
 fn written(alloc: Global, text: &[u8], parts: &[Part]) -> Result<Vec<u8>, AllocError>
-    ensures { IfOk result (λ bytes. bytes.items ≡ edited 1 (flat_map edits_of parts.now) (lines_of text.now)) }
+    ensures { IfOk result (λ bytes. bytes.items ≡ edited_lines 1 (flat_map edits_of parts.now) (lines_of text.now)) }
 {
     let edits = edits_of(alloc, parts)?;
     let bytes = edited(alloc, text, &edits)?;
@@ -149,6 +149,7 @@ pub fn expand_tape(alloc: Global, text: &[u8]) -> Result<Vec<u8>, Failing<Expand
     // No whole point on a move of the blocks that it prints lies inside the contour of their part.
     ensures clear { IfOk result (λ _. AreClearParts (parts_in text.now)) }
 {
+    // (the law of cycle_form on which `clear` rests)
     a_sound_part_is_clear();
     let parts = match parts_in(alloc, text) {
         Ok(parts) => parts,

@@ -3,7 +3,7 @@
 ghost use Rattle.std.specs.Prelude.{◌≡◌, ◌++◌, ◌∷◌, [], Some, IfOk, OnOk, map};
 ghost use Rattle.std.specs.List.{flat_map};
 ghost use Rattle.tape_expand.specs.BlockText.{code_text, axis_text, feed_text, block_text, blocks_text, part_text};
-ghost use Rattle.tape_expand.specs.Replaced.{removed, edits_of};
+ghost use Rattle.tape_expand.specs.Replaced.{line_removal, edits_of};
 
 use crate::edits::{Edit, push_all};
 use cycle_form::Part;
@@ -99,7 +99,7 @@ fn push(edits: &mut Vec<Edit>, line: u32, new: Vec<u8>) -> Result<(), AllocError
 
 /// Puts an edit without bytes for each of these lines: they go.
 fn push_removed(alloc: Global, edits: &mut Vec<Edit>, lines: &[u32]) -> Result<(), AllocError>
-    ensures ok { OnOk result (edits.new.items ≡ edits.old.items ++ map removed lines.now) }
+    ensures ok { OnOk result (edits.new.items ≡ edits.old.items ++ map line_removal lines.now) }
 {
     for line in lines {
         push(edits, *line, Vec::new(alloc))?;

@@ -14,7 +14,7 @@ use Rattle.nc_text.specs.Shape.{IsTapeShape}
 use Rattle.block_words.specs.declared.dialect.Dialect.{Dialect}
 use Rattle.block_forms.specs.Forms.{BlockForm, Form, form_or_refusal, block_at}
 use Rattle.block_order.specs.Shape as order
-use Rattle.block_order.specs.Shape.{IsListed}
+use Rattle.block_order.specs.Shape.{IsReadTape}
 use Rattle.tape_flow.specs.Forms.{ProgramForm, at_line, block_read, blocks_from, program_read, programs_from, programs_read}
 use Rattle.tape_flow.specs.Controls.{control_block, control_program, controls}
 
@@ -149,7 +149,7 @@ programs_kept dialect (program ∷ rest) done lines blocks programs split =
 
 -- the controls of a tape that was read are as the check of their order wants them
 pub read_listed : (dialect : Dialect) (programs : List Program) (forms : List ProgramForm) → IsTapeShape programs
-    → programs_read dialect programs ≡ Ok forms → IsListed (controls forms)
+    → programs_read dialect programs ≡ Ok forms → IsReadTape (controls forms)
 read_listed dialect programs forms shape read =
     let blocks = length (tape.blocks_in programs) in
     let kept = programs_kept dialect programs [] (tape.lines_in programs) blocks (length programs)

@@ -15,7 +15,7 @@ use Rattle.block_order.specs.declared.program.ControlBlock.{ControlBlock}
 use Rattle.block_order.specs.declared.program.ControlProgram.{ControlProgram}
 use Rattle.block_order.specs.Order.{program_of, main_number, control_at}
 use Rattle.block_order.specs.Loud.{loud, mark_of}
-use Rattle.block_order.specs.Steps.{standing}
+use Rattle.block_order.specs.Steps.{control_of_place}
 use Rattle.block_forms.specs.declared.block.FlowBlock.{FlowBlock}
 use Rattle.tape_flow.specs.declared.program.FlowProgram.{FlowProgram}
 
@@ -63,12 +63,12 @@ label_of caller (Some other) = None
 
 -- the label that a path comes to at a place, if it comes to one there
 abbrev pub label_at : List ControlProgram → List Frame → Option Label
-label_at tape place = label_of (slice_get place 1) (standing tape place)
+label_at tape place = label_of (slice_get place 1) (control_of_place tape place)
 
 -- the first mark of a list; a block has at most one
-abbrev pub only : List Mark → Option Mark
-only [] = None
-only (mark ∷ marks) = Some mark
+abbrev pub first_mark : List Mark → Option Mark
+first_mark [] = None
+first_mark (mark ∷ marks) = Some mark
 
 -- the mark of a block of this control, in the program of this O number; none without a control.
 -- Only the main program and loud programs, which reach a wait or an end themselves or by their
@@ -76,7 +76,7 @@ only (mark ∷ marks) = Some mark
 abbrev pub mark_of_block : List ControlProgram → ℕ → Option Control → Option Mark
 mark_of_block tape number None = None
 mark_of_block tape number (Some control) =
-    if (number == main_number tape) || loud tape number then only (mark_of (loud tape) control) else None
+    if (number == main_number tape) || loud tape number then first_mark (mark_of (loud tape) control) else None
 
 -- the mark at a place of a program, which is `Past` behind its last block; none if there is no
 -- program

@@ -11,7 +11,7 @@ ghost use Rattle.block_order.specs.Loud.{loud, mark_of};
 ghost use Rattle.block_order.specs.Order.{blocks, control_at, main_number, seek};
 ghost use Rattle.tape_flow.specs.Controls.{control_block};
 ghost use Rattle.tape_flow.specs.Places.{flow_program, flow_blocks, flow_block, last_line, line_in, line_at};
-ghost use Rattle.tape_flow.specs.Places.{label_of, label_at, only, mark_of_block, mark_at};
+ghost use Rattle.tape_flow.specs.Places.{label_of, label_at, first_mark, mark_of_block, mark_at};
 
 use crate::flow::Flow;
 use crate::program::FlowProgram;
@@ -89,7 +89,7 @@ fn label_of(caller: Option<Frame>, control: Option<Control>) -> Option<Label>
 /// The mark of a block of this control, if it has one: at a mark the labels of a program go on, end
 /// or turn to another program. A call has a mark only if its program reaches a wait or an end.
 fn mark_of(order: &BlockOrder, control: Control) -> Option<Mark>
-    ensures { result ≡ only (mark_of (loud order.now) control) }
+    ensures { result ≡ first_mark (mark_of (loud order.now) control) }
 {
     match control {
         Control::Wait(code) => Some(Mark::Wait(code)),

@@ -4,7 +4,7 @@
 ghost use Rattle.std.specs.Prelude.{◌≡◌, map, IfOk, IfErr};
 ghost use Rattle.block_order.specs.Answers.{IfFault};
 ghost use Rattle.block_order.specs.Faults.{IsSound};
-ghost use Rattle.block_order.specs.Shape.{IsListed};
+ghost use Rattle.block_order.specs.Shape.{IsReadTape};
 ghost use Rattle.tape_flow.specs.Forms.{program_form};
 ghost use Rattle.tape_flow.specs.Controls.{control_block, control_program, controls};
 ghost use Rattle.tape_flow.specs.Exact.{IsOrderFault};
@@ -73,7 +73,7 @@ pub(crate) fn order_of(
     alloc: Global,
     programs: &[FlowProgram],
 ) -> Result<BlockOrder, Failing<FlowFault>>
-    requires { IsListed (controls (map program_form programs.now)) }
+    requires { IsReadTape (controls (map program_form programs.now)) }
     ensures same { IfOk result (λ order. order ≡ controls (map program_form programs.now)) }
     ensures sound { IfOk result (λ _. IsSound (controls (map program_form programs.now))) }
     ensures first { IfErr result (λ error. IfFault error

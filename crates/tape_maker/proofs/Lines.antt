@@ -5,22 +5,22 @@ use Rattle.std.specs.List.{flat_map, range_with_len}
 use Rattle.std.proofs.lemmas.Grind.{flat_map-append}
 use Rattle.std.proofs.lemmas.List.{append-nil, map-append}
 use Rattle.nc_number.specs.declared.path.Path.{Path}
-use Rattle.tape_maker.specs.MadeTape.{cut_line, cuts, end_lines, ended, head_lines, made_lines, made_tape, round_lines, rounds, text_of, variable_line, wait_line}
+use Rattle.tape_maker.specs.MadeTape.{cut_line, cuts, end_lines, line_with_end, head_lines, made_lines, made_tape, round_lines, rounds, text_of, variable_line, wait_line}
 
 -- the text of two lists of lines is the text of the first and that of the second
 pub text_of-append : (xs ys : List (List ℕ)) → text_of (xs ++ ys) ≡ text_of xs ++ text_of ys
 unfolding text_of
-text_of-append xs ys = flat_map-append ended xs ys
+text_of-append xs ys = flat_map-append line_with_end xs ys
 
 -- the text of one line is that line and its line feed
-text_of-one : (x : List ℕ) → text_of (x ∷ []) ≡ ended x
+text_of-one : (x : List ℕ) → text_of (x ∷ []) ≡ line_with_end x
 unfolding text_of
-text_of-one x = append-nil (ended x)
+text_of-one x = append-nil (line_with_end x)
 
 -- the text of two lines is each line and its line feed
-pub text_of-two : (x y : List ℕ) → text_of (x ∷ y ∷ []) ≡ ended x ++ ended y
+pub text_of-two : (x y : List ℕ) → text_of (x ∷ y ∷ []) ≡ line_with_end x ++ line_with_end y
 unfolding text_of
-text_of-two x y = ap (λ t. ended x ++ t) (append-nil (ended y))
+text_of-two x y = ap (λ t. line_with_end x ++ t) (append-nil (line_with_end y))
 
 -- a range with one more number has it at its end
 range_more : (a n j : ℕ) → a + n ≡ j → range_with_len a (n + 1) ≡ range_with_len a n ++ j ∷ []
@@ -37,7 +37,7 @@ first_line f before = sym (append-nil before)
 
 -- a text that ends with n lines made from numbers, and the next such line, ends with n + 1 of them
 pub line_more : (f : ℕ → List ℕ) (before now after : List ℕ) (n : ℕ)
-    → now ≡ before ++ text_of (map f (range_with_len 0 n)) → after ≡ now ++ ended (f n)
+    → now ≡ before ++ text_of (map f (range_with_len 0 n)) → after ≡ now ++ line_with_end (f n)
     → after ≡ before ++ text_of (map f (range_with_len 0 (n + 1)))
 line_more f before now after n so_far here =
     let e = range_more 0 n n (omega arith) in
@@ -72,8 +72,8 @@ round_lines_are path number round = refl
 -- after 98 cuts, the line on a variable and the wait a text ends with a whole round
 pub round_done : (path : Path) (number round : ℕ) (before now later : List ℕ) (cut : ℕ) → cut ≡ 98
     → now ≡ before ++ text_of (map (cut_line path number round) (range_with_len 0 cut))
-    → later ≡ now ++ ended (variable_line path round)
-    → before ++ text_of (round_lines path number round) ≡ later ++ ended (wait_line number round)
+    → later ≡ now ++ line_with_end (variable_line path round)
+    → before ++ text_of (round_lines path number round) ≡ later ++ line_with_end (wait_line number round)
 round_done path number round before now later cut all so_far statement =
     rw (round_lines_are path number round, cuts_are cut all, text_of-append, text_of-two, ← append_assoc, ← append_assoc, ← so_far, statement) refl
 

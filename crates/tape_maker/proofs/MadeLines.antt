@@ -15,7 +15,7 @@ use Rattle.std.proofs.lemmas.List.Splits.{length-slice_split}
 use Rattle.std.proofs.lemmas.List.FromFn.{length-range_with_len}
 use Rattle.nc_number.specs.declared.path.Path.{Path}
 use Rattle.nc_number.specs.declared.path.Path.TheVariants.{One, Two}
-use Rattle.tape_maker.specs.MadeTape.{begins_with_m, cut_depth, cut_diameter, cut_line, cuts, end_lines, ended, head_lines, made_lines, made_tape, round_lines, rounds, text_of, variable_line, wait_code, wait_line}
+use Rattle.tape_maker.specs.MadeTape.{begins_with_m, cut_depth, cut_diameter, cut_line, cuts, end_lines, line_with_end, head_lines, made_lines, made_tape, round_lines, rounds, text_of, variable_line, wait_code, wait_line}
 
 -- How many lines.
 
@@ -158,7 +158,7 @@ unfolding text_of
 read_lines [] clean = refl
 read_lines (line ∷ ls) clean =
     let parts = and_parts (plain line) (list_all plain ls) clean in
-    let rest = flat_map ended ls in
+    let rest = flat_map line_with_end ls in
     let cut : slice_split (λ b. nat_eq b 10) ((line ++ 10 ∷ []) ++ rest) ≡ line ∷ slice_split (λ b. nat_eq b 10) rest
     = ap (slice_split (λ b. nat_eq b 10)) (append_assoc line (10 ∷ []) rest) ∙ split_plain line rest parts.0 in
     ap lines_of_parts cut

@@ -8,7 +8,7 @@ use Rattle.std.proofs.lemmas.Fmt.{length-decimal-le}
 use Rattle.std.proofs.lemmas.List.FromFn.{length-range_with_len}
 use Rattle.nc_number.specs.declared.path.Path.{Path}
 use Rattle.nc_number.specs.declared.path.Path.TheVariants.{One, Two}
-use Rattle.tape_maker.specs.MadeTape.{cut_depth, cut_diameter, cut_line, cuts, end_lines, ended, head_lines, made_tape, round_lines, rounds, text_of, variable_line, wait_code, wait_line}
+use Rattle.tape_maker.specs.MadeTape.{cut_depth, cut_diameter, cut_line, cuts, end_lines, line_with_end, head_lines, made_tape, round_lines, rounds, text_of, variable_line, wait_code, wait_line}
 use Rattle.tape_maker.proofs.Lines.{made_tape_is, text_of-append, text_of-two}
 
 -- the length of five parts in a row is the sum of their lengths
@@ -45,7 +45,7 @@ wait_length number round =
     omega (arith, length-append (codes "M") (decimal code), few)
 
 -- a line feed makes a line one byte longer
-one_longer : (line : List ℕ) → length (ended line) ≡ length line + 1
+one_longer : (line : List ℕ) → length (line_with_end line) ≡ length line + 1
 one_longer line = length-append line (10 ∷ [])
 
 -- the cuts of a round have 15 bytes each at most, with their line feeds
@@ -54,8 +54,8 @@ unfolding text_of
 cuts_length path number round [] = omega arith
 cuts_length path number round (k ∷ ks) =
     let line = cut_line path number round k in
-    let rest = flat_map ended (map (cut_line path number round) ks) in
-    omega (arith, length-append (ended line) rest, one_longer line, cut_length path number round k, cuts_length path number round ks)
+    let rest = flat_map line_with_end (map (cut_line path number round) ks) in
+    omega (arith, length-append (line_with_end line) rest, one_longer line, cut_length path number round k, cuts_length path number round ks)
 
 -- a round has 1,487 bytes at most: 98 cuts of 15, 12 of the variable and 5 of the wait
 round_length : (path : Path) (number round : ℕ) → length (text_of (round_lines path number round)) ≤ 1487
@@ -64,9 +64,9 @@ round_length path number round =
     let front = map (cut_line path number round) (range_with_len 0 98) in
     let statement = variable_line path round in
     let wait = wait_line number round in
-    let whole : length (text_of (front ++ statement ∷ wait ∷ [])) ≡ length (text_of front) + (length (ended statement) + length (ended wait))
+    let whole : length (text_of (front ++ statement ∷ wait ∷ [])) ≡ length (text_of front) + (length (line_with_end statement) + length (line_with_end wait))
     = ap length (text_of-append front (statement ∷ wait ∷ [])) ∙ length-append (text_of front) (text_of (statement ∷ wait ∷ []))
-    ∙ ap (λ t. length (text_of front) + length t) (text_of-two statement wait) ∙ ap (λ n. length (text_of front) + n) (length-append (ended statement) (ended wait)) in
+    ∙ ap (λ t. length (text_of front) + length t) (text_of-two statement wait) ∙ ap (λ n. length (text_of front) + n) (length-append (line_with_end statement) (line_with_end wait)) in
     omega (
       arith,
       whole,

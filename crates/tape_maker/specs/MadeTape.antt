@@ -64,12 +64,12 @@ unfoldable pub made_lines : Path → ℕ → List (List ℕ)
 made_lines path number = head_lines ++ flat_map (round_lines path number) rounds ++ end_lines
 
 -- a line with the line feed (10) that ends it
-abbrev pub ended : List ℕ → List ℕ
-ended line = line ++ 10 ∷ []
+abbrev pub line_with_end : List ℕ → List ℕ
+line_with_end line = line ++ 10 ∷ []
 
 -- lines as a text: a line feed ends each
 unfoldable pub text_of : List (List ℕ) → List ℕ
-text_of lines = flat_map ended lines
+text_of lines = flat_map line_with_end lines
 
 -- the made tape of a path for a number, as a text
 unfoldable pub made_tape : Path → ℕ → List ℕ

@@ -2,7 +2,7 @@
 //! lathe_top runs them (`make N`), and race_vectors tests with them.
 ghost use Rattle.std.specs.Prelude.{◌≡◌, ◌≤◌, ◌++◌, IfOk, OnOk, length};
 ghost use Rattle.std.specs.Fmt.{decimal};
-ghost use Rattle.tape_maker.specs.MadeTape.{cut_depth, cut_diameter, cut_line, ended, made_tape, round_lines, text_of, variable_line, wait_line};
+ghost use Rattle.tape_maker.specs.MadeTape.{cut_depth, cut_diameter, cut_line, line_with_end, made_tape, round_lines, text_of, variable_line, wait_line};
 
 use itoa::Buffer;
 use nc_number::{NoMemory, Path};
@@ -68,7 +68,7 @@ fn put_cut(
     round: u32,
     cut: u32,
 ) -> Result<(), NoMemory>
-    ensures { OnOk result (text.new.items ≡ text.old.items ++ ended (cut_line path number round cut)) }
+    ensures { OnOk result (text.new.items ≡ text.old.items ++ line_with_end (cut_line path number round cut)) }
 {
     put_number(text, b"G01 X", diameter(path, number, round, cut))?;
     put_number(text, b". Z-", depth(number, round, cut))?;
@@ -107,7 +107,7 @@ fn line_on_variable(path: Path, round: u32) -> &'static [u8]
 /// Adds the line of the wait that ends a round.
 #[tactic(auto, unfolding(crate::specs::MadeTape::wait_line))]
 fn put_wait(text: &mut Vec<u8>, number: u32, round: u32) -> Result<(), NoMemory>
-    ensures { OnOk result (text.new.items ≡ text.old.items ++ ended (wait_line number round)) }
+    ensures { OnOk result (text.new.items ≡ text.old.items ++ line_with_end (wait_line number round)) }
 {
     let code = 100 + (u64::from(number) + u64::from(round)) % 98;
     put_number(text, b"M", code)?;
@@ -126,7 +126,7 @@ fn put_number(text: &mut Vec<u8>, before: &[u8], number: u64) -> Result<(), NoMe
 
 /// Adds a text, and the end of its line.
 fn put_line(text: &mut Vec<u8>, line: &[u8]) -> Result<(), NoMemory>
-    ensures { OnOk result (text.new.items ≡ text.old.items ++ ended line.now) }
+    ensures { OnOk result (text.new.items ≡ text.old.items ++ line_with_end line.now) }
 {
     text.extend_from_slice(line)?;
     text.extend_from_slice(b"\n")?;

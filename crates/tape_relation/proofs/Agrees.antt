@@ -9,7 +9,7 @@ use Rattle.nc_text.specs.declared.fault.TextFault.{TextFault}
 use Rattle.line_text.specs.declared.refusal.Refusal.TheVariants.{NoProgramNumber, NoEnd}
 use Rattle.nc_text.specs.declared.tape.Program.{Program}
 use Rattle.nc_text.specs.Lines.{Line, lines_of}
-use Rattle.nc_text.specs.Tape.{Before, Answer, next, begun, not_begun, in_leader, nothing_read, tape_of}
+use Rattle.nc_text.specs.Tape.{Before, Answer, next, tape_begun, not_begun, in_leader, nothing_read, tape_of}
 use Rattle.tape_relation.specs.Parts.{begins_percent, has_percent, before_percent, behind_percent, body_of, is_closed, opening_line}
 use Rattle.tape_relation.proofs.LineRead.{says_something, says_in_range, SayPrograms}
 use Rattle.tape_relation.proofs.LineSays.{silent_read, silent_found}
@@ -53,7 +53,7 @@ opened_first : (test : Bool) (skips : ℕ) (line : Line) (lines : List Line) (be
     → (has_percent lines ≡ true → Opened skips lines (next before (length line.bytes) line.ended)) → Opened skips (line ∷ lines) before
 opened_first true skips line lines before t e later = record {
   opening = line;
-  there = begun (next before (length line.bytes) line.ended);
+  there = tape_begun (next before (length line.bytes) line.ended);
   lines_are = rw t refl;
   is_percent = t;
   leader_is = rw t refl;
@@ -85,7 +85,7 @@ opened skips (line ∷ lines) before e = opened_first (begins_percent line) skip
 -- before lines without a `%` line, one more line of the leader leaves the answer that no tape has
 -- begun
 closed_first : (test : Bool) (skips : ℕ) (line : Line) (lines : List Line) (before : Before) → (test || has_percent lines) ≡ false → (has_percent lines ≡ false → leader_end skips lines (next before (length line.bytes) line.ended) ≡ not_begun)
-    → cond test (body_end skips lines (begun (next before (length line.bytes) line.ended))) (leader_end skips lines (next before (length line.bytes) line.ended)) ≡ not_begun
+    → cond test (body_end skips lines (tape_begun (next before (length line.bytes) line.ended))) (leader_end skips lines (next before (length line.bytes) line.ended)) ≡ not_begun
 closed_first true skips line lines before e later = absurd cc
 closed_first false skips line lines before e later = later e
 

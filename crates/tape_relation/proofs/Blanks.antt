@@ -10,7 +10,7 @@ use Rattle.line_text.specs.declared.said.Said.TheVariants as said
 use Rattle.line_text.specs.Signs.{Scan, is_blank, is_allowed, are_allowed, add_sign, inside_behind, scan_of, signs_of}
 use Rattle.line_text.specs.Pieces.{is_comment, bytes_of}
 use Rattle.line_text.specs.Front.{behind_comments, switch_of}
-use Rattle.line_text.specs.Said.{judged, is_skipped, read_head, line_says}
+use Rattle.line_text.specs.Said.{said_or_refusal, is_skipped, read_head, line_says}
 
 -- two scans of lines with the same signs but for their places; both lines end inside a comment or
 -- neither does
@@ -72,4 +72,4 @@ pub only_comments : (skips : ℕ) (line : List ℕ) (ended : Bool) → list_all 
 unfolding line_says read_head
 only_comments skips line ended all closed =
     let signs = (signs_of line ended).list in
-    λ i. judged (is_skipped skips (switch_of (none_behind signs all i))) (comments_allowed signs all i) (closed i) (read_head (none_behind signs all i))
+    λ i. said_or_refusal (is_skipped skips (switch_of (none_behind signs all i))) (comments_allowed signs all i) (closed i) (read_head (none_behind signs all i))

@@ -16,7 +16,7 @@ use Rattle.line_text.specs.declared.said.Said.{Said}
 use Rattle.line_text.specs.declared.said.Said.TheVariants as said
 use Rattle.line_text.specs.Refusals.{refusal_number}
 use Rattle.nc_text.specs.Lines.{Line, size_of}
-use Rattle.nc_text.specs.Tape.{Before, Answer, fault_behind, next, with_said, unless_refused, goes_on, after_line, finished, unfinished, not_begun, begun, in_rest, in_body, in_leader, is_said_in_range, is_block, nothing_read}
+use Rattle.nc_text.specs.Tape.{Before, Answer, fault_behind, next, with_said, unless_refused, goes_on, after_line, answer_at_end, answer_without_end, not_begun, tape_begun, in_rest, in_body, in_leader, is_said_in_range, is_block, nothing_read}
 use Rattle.tape_relation.specs.Parts.{size, begins_percent, has_percent, behind_percent, is_closed}
 use Rattle.tape_relation.proofs.LineRead.{says, says_block, is_something, says_something}
 use Rattle.tape_relation.specs.Conditions.{Counts, Holds, NoneHolds}
@@ -44,14 +44,14 @@ said_bytes before (said.Block block) = refl
 module _ (skips : ℕ) where
   -- the answer from a line of the body on, if no line is refused
   abbrev pub body_end : List Line → Before → Answer
-  body_end [] before = unfinished before
-  body_end (line ∷ lines) before = cond (begins_percent line) (finished before) (body_end lines (next (with_said before (says skips line)) (length line.bytes) line.ended))
+  body_end [] before = answer_without_end before
+  body_end (line ∷ lines) before = cond (begins_percent line) (answer_at_end before) (body_end lines (next (with_said before (says skips line)) (length line.bytes) line.ended))
 
   -- the answer from a line before the first `%` line on, if no line is refused
   abbrev pub leader_end : List Line → Before → Answer
   leader_end [] before = not_begun
   leader_end (line ∷ lines) before =
-      cond (begins_percent line) (body_end lines (begun (next before (length line.bytes) line.ended))) (leader_end lines (next before (length line.bytes) line.ended))
+      cond (begins_percent line) (body_end lines (tape_begun (next before (length line.bytes) line.ended))) (leader_end lines (next before (length line.bytes) line.ended))
 
   -- no condition holds and the answer is the one that is due, or the answer is the first fault
   abbrev pub Comes : List Line → List Line → Answer → Answer → Type 0
@@ -100,11 +100,11 @@ module _ (skips : ℕ) where
   not_in_rest front line e counts = let bad : true ≡ false = sym e ∙ counts.1 in absurd cc
 
   -- after the second `%` line the reader comes to the first fault, or to the end of the tape
-  rest_comes : (lines front : List Line) (before : Before) → Stands front before → is_closed front ≡ true → Comes front lines (in_rest lines before) (finished before)
+  rest_comes : (lines front : List Line) (before : Before) → Stands front before → is_closed front ≡ true → Comes front lines (in_rest lines before) (answer_at_end before)
   rest_comes [] front before stands closed = inl (none_left skips front, refl)
   rest_comes (line ∷ lines) front before stands closed =
       let tells = outer_tells skips front line before stands (not_in_rest front line closed) in
-      one_step front lines line before (next before (length line.bytes) line.ended) (outer_test before line) (in_rest lines) (finished before) stands.lines_are tells (first_of (outer_test before line) order) refl
+      one_step front lines line before (next before (length line.bytes) line.ended) (outer_test before line) (in_rest lines) (answer_at_end before) stands.lines_are tells (first_of (outer_test before line) order) refl
       (λ none. rest_comes lines (front ++ line ∷ []) (next before (length line.bytes) line.ended)
       (stands_next front line before before stands refl refl (tells_none skips front line (outer_test before line) tells none TapeTooLong)) (closed_more front (line ∷ []) closed))
 
@@ -155,10 +155,10 @@ module _ (skips : ℕ) where
       → (Stands (front ++ line ∷ []) (next (with_said before (says skips line)) (length line.bytes) line.ended) → Inside skips (front ++ line ∷ []) (next (with_said before (says skips line)) (length line.bytes) line.ended)
       → Comes (front ++ line ∷ []) lines (in_body skips lines (next (with_said before (says skips line)) (length line.bytes) line.ended)) (body_end lines (next (with_said before (says skips line)) (length line.bytes) line.ended)))
       → Comes front (line ∷ lines) (cond test (goes_on before (unless_refused (first_of (percent_test before line) order) (next before (length line.bytes) line.ended)) (in_rest lines)) (goes_on before (after_line skips before line.bytes line.ended) (in_body skips lines)))
-      (cond test (finished before) (body_end lines (next (with_said before (says skips line)) (length line.bytes) line.ended)))
+      (cond test (answer_at_end before) (body_end lines (next (with_said before (says skips line)) (length line.bytes) line.ended)))
   body_first true lines front line before is stands inside later =
       let tells = percent_tells skips front line before stands (counts_here skips front line before inside) is in
-      one_step front lines line before (next before (length line.bytes) line.ended) (percent_test before line) (in_rest lines) (finished before) stands.lines_are tells (first_of (percent_test before line) order) refl
+      one_step front lines line before (next before (length line.bytes) line.ended) (percent_test before line) (in_rest lines) (answer_at_end before) stands.lines_are tells (first_of (percent_test before line) order) refl
       (λ none. rest_comes lines (front ++ line ∷ []) (next before (length line.bytes) line.ended)
       (stands_next front line before before stands refl refl (tells_none skips front line (percent_test before line) tells none TapeTooLong))
       (ap has_percent (behind_more front (line ∷ []) inside.opened) ∙ has_last (behind_percent front) line inside.not_closed ∙ ap (λ (b : Bool). b || false) is))
@@ -179,19 +179,19 @@ module _ (skips : ℕ) where
   leader_first : (test : Bool) (lines front : List Line) (line : Line) (before : Before) → begins_percent line ≡ test → Stands front before → has_percent front ≡ false → before.blocks ≡ 0 → before.current ≡ None
       → (Stands (front ++ line ∷ []) (next before (length line.bytes) line.ended) → has_percent (front ++ line ∷ []) ≡ false
       → Comes (front ++ line ∷ []) lines (in_leader skips lines (next before (length line.bytes) line.ended)) (leader_end lines (next before (length line.bytes) line.ended)))
-      → Comes front (line ∷ lines) (cond test (goes_on before (unless_refused (first_of (percent_test before line) order) (next before (length line.bytes) line.ended)) (λ after. in_body skips lines (begun after)))
+      → Comes front (line ∷ lines) (cond test (goes_on before (unless_refused (first_of (percent_test before line) order) (next before (length line.bytes) line.ended)) (λ after. in_body skips lines (tape_begun after)))
       (goes_on before (unless_refused (first_of (outer_test before line) order) (next before (length line.bytes) line.ended)) (in_leader skips lines)))
-      (cond test (body_end lines (begun (next before (length line.bytes) line.ended))) (leader_end lines (next before (length line.bytes) line.ended)))
+      (cond test (body_end lines (tape_begun (next before (length line.bytes) line.ended))) (leader_end lines (next before (length line.bytes) line.ended)))
   leader_first true lines front line before is stands closed no_blocks no_program later =
       let opened : has_percent (front ++ line ∷ []) ≡ true = has_last front line closed ∙ ap (λ (b : Bool). b || false) is in
       let counts : Counts front line = (opened, ap has_percent (behind_none front closed)) in
       let tells = percent_tells skips front line before stands counts is in
       let after = next before (length line.bytes) line.ended in
       let body : behind_percent (front ++ line ∷ []) ≡ [] = behind_last front line closed in
-      one_step front lines line before after (percent_test before line) (λ a. in_body skips lines (begun a)) (body_end lines (begun after)) stands.lines_are tells (first_of (percent_test before line) order) refl
+      one_step front lines line before after (percent_test before line) (λ a. in_body skips lines (tape_begun a)) (body_end lines (tape_begun after)) stands.lines_are tells (first_of (percent_test before line) order) refl
       (λ none.
       let next-stands = stands_next front line before before stands refl refl (tells_none skips front line (percent_test before line) tells none TapeTooLong) in
-      body_comes lines (front ++ line ∷ []) (begun after) (record { lines_are = next-stands.lines_are; bytes_are = next-stands.bytes_are; few = next-stands.few }) (record {
+      body_comes lines (front ++ line ∷ []) (tape_begun after) (record { lines_are = next-stands.lines_are; bytes_are = next-stands.bytes_are; few = next-stands.few }) (record {
         opened = opened;
         not_closed = ap has_percent body;
         blocks_are = no_blocks ∙ ap (λ (ls : List Line). length (filter (says_block skips) ls)) (sym body);

@@ -11,7 +11,7 @@ use Rattle.line_text.specs.declared.sign.Sign.{Sign}
 use Rattle.line_text.specs.declared.piece.Piece.{Piece}
 use Rattle.line_text.specs.Pieces.{is_comment, bytes_of, pieces_of, value_len}
 use Rattle.line_text.specs.Front.{is_switch, behind_digit, switch_of, behind_switch, behind_comments, is_statement, sentence_of, is_number_sign, number_part, behind_number, is_numbered}
-use Rattle.line_text.specs.Said.{is_sound, stands_alone, read_pieces, unreadable, read_words, read_block, read_head}
+use Rattle.line_text.specs.Said.{is_sound, stands_alone, read_pieces, broken_reading, read_words, read_block, read_head}
 use Rattle.tape_relation.specs.Words.{AreWords}
 use Rattle.tape_relation.specs.Cut.{IsCut}
 use Rattle.tape_relation.specs.LineGrammar.{Sentence, NoBlock, ProgramNumber, WordBlock, StatementBlock, IsSkip, none, alone, named, text_of, has_program_word, IsBlock, program, computed, worded, stated, numbered, IsSentence, blank, block}
@@ -74,10 +74,10 @@ words_found skip signs words are is-alone = go (has_program_word words) refl
         literal word are o false lit = (WordBlock (word ∷ []), computed signs word are o (no_literal_found word.text lit))
 
 -- signs that the reader cuts into whole words are a block of the grammar
-cut_found : (skip : Option ℕ) (signs : List Sign) → (cond (value_len signs 0 == 0) (read_pieces (is_some skip) (pieces_of signs)) unreadable).broken ≡ false → Found (IsBlock skip) signs
+cut_found : (skip : Option ℕ) (signs : List Sign) → (cond (value_len signs 0 == 0) (read_pieces (is_some skip) (pieces_of signs)) broken_reading).broken ≡ false → Found (IsBlock skip) signs
 cut_found skip signs e = go (value_len signs 0 == 0) refl e
   where
-    go : (t : Bool) → (value_len signs 0 == 0) ≡ t → (cond t (read_pieces (is_some skip) (pieces_of signs)) unreadable).broken ≡ false → Found (IsBlock skip) signs
+    go : (t : Bool) → (value_len signs 0 == 0) ≡ t → (cond t (read_pieces (is_some skip) (pieces_of signs)) broken_reading).broken ≡ false → Found (IsBlock skip) signs
     go true z h =
         let p = or_parts (nat_lt (prefix_len is_sound (pieces_of signs)) (length (pieces_of signs))) (not (stands_alone (is_some skip) (pieces_of signs))) h in
         let cut : IsCut signs (pieces_of signs) = record { at_letter = eqb-true (value_len signs 0) 0 z; words_are = refl; whole = all_prefix (pieces_of signs) p.0 } in

@@ -6,7 +6,7 @@ use Rattle.std.proofs.lemmas.List.{length-append}
 use Rattle.std.proofs.lemmas.List.Folds.{list_any-append}
 use Rattle.std.proofs.lemmas.Grind.{flat_map-append}
 use Rattle.nc_text.specs.Lines.{Line, size_of}
-use Rattle.tape_relation.specs.Parts.{written, size, begins_percent, has_percent, behind_percent}
+use Rattle.tape_relation.specs.Parts.{written_line, size, begins_percent, has_percent, behind_percent}
 
 -- a `%` line among the first is one among all
 pub has_more : (front more : List Line) → has_percent front ≡ true → has_percent (front ++ more) ≡ true
@@ -56,17 +56,17 @@ behind_last [] line e = nothing_behind (begins_percent line) [] refl
 behind_last (first ∷ front) line e = opened_first (begins_percent first) front line e (behind_last front line)
 
 -- a line in the text has its bytes and its line feed
-written_size : (bytes : List ℕ) (ended : Bool) → length (written (record { bytes = bytes; ended = ended })) ≡ size_of (length bytes) ended
+written_size : (bytes : List ℕ) (ended : Bool) → length (written_line (record { bytes = bytes; ended = ended })) ≡ size_of (length bytes) ended
 written_size bytes true = length-append bytes (10 ∷ [])
 written_size bytes false = let e : length (bytes ++ []) ≡ length bytes + 0 = length-append bytes [] in omega arith
 
 -- one line more has its bytes more, with its line feed
 pub size_last : (front : List Line) (line : Line) → size (front ++ line ∷ []) ≡ size front + size_of (length line.bytes) line.ended
 size_last front line =
-    let all : size (front ++ line ∷ []) ≡ length (flat_map written front ++ flat_map written (line ∷ [])) = ap length (flat_map-append written front (line ∷ [])) in
-    let parts : length (flat_map written front ++ flat_map written (line ∷ [])) ≡ size front + length (flat_map written (line ∷ [])) = length-append (flat_map written front) (flat_map written (line ∷ [])) in
-    let one : length (written line ++ []) ≡ length (written line) + 0 = length-append (written line) [] in
-    let own : length (written line) ≡ size_of (length line.bytes) line.ended = written_size line.bytes line.ended in
+    let all : size (front ++ line ∷ []) ≡ length (flat_map written_line front ++ flat_map written_line (line ∷ [])) = ap length (flat_map-append written_line front (line ∷ [])) in
+    let parts : length (flat_map written_line front ++ flat_map written_line (line ∷ [])) ≡ size front + length (flat_map written_line (line ∷ [])) = length-append (flat_map written_line front) (flat_map written_line (line ∷ [])) in
+    let one : length (written_line line ++ []) ≡ length (written_line line) + 0 = length-append (written_line line) [] in
+    let own : length (written_line line) ≡ size_of (length line.bytes) line.ended = written_size line.bytes line.ended in
     omega arith
 
 -- one line more makes the lines one more

@@ -17,8 +17,8 @@ use Rattle.line_text.specs.declared.said.SaidBlock.{SaidBlock}
 use Rattle.line_text.specs.Refusals.{refusal_number}
 use Rattle.nc_text.specs.Lines.{Line, is_percent, size_of}
 use Rattle.line_text.specs.Said.{line_says}
-use Rattle.tape_relation.specs.Changed.{changed, changed_body, changed_block, changed_program}
-use Rattle.nc_text.specs.Tape.{Before, Answer, next, programs_of, is_past_end, is_block, is_said_in_range, said_refusal, block_at, program_at, with_block, with_said, unless_refused, after_said, finished, unfinished, goes_on, in_rest, in_body, in_leader, begun, nothing_read}
+use Rattle.tape_relation.specs.Changed.{changed_answer, changed_body, changed_block, changed_program}
+use Rattle.nc_text.specs.Tape.{Before, Answer, next, programs_of, is_past_end, is_block, is_said_in_range, said_refusal, block_at, program_at, with_block, with_said, unless_refused, after_said, answer_at_end, answer_without_end, goes_on, in_rest, in_body, in_leader, tape_begun, nothing_read}
 
 -- a line of both texts, or a line of the second text alone
 pub data Row : Type 0 where
@@ -161,7 +161,7 @@ module _ (skips : ℕ) (f g : ℕ → ℕ) (w : Word → Word) where
 
   -- both answers look the same with their changes
   abbrev pub Looks : Answer → Answer → Type 0
-  Looks p q = changed f w p ≡ changed g w q
+  Looks p q = changed_answer f w p ≡ changed_answer g w q
 
   -- a program of the first text with its changes
   abbrev F : Program → Program
@@ -198,7 +198,7 @@ module _ (skips : ℕ) (f g : ℕ → ℕ) (w : Word → Word) where
   alone_agree : (m n c d : ℕ) (a b : Before) (agree : Agree m n c d a b) (y : Line) → Agree m (n + 1) c (d + line_size y) a (next b (length y.bytes) y.ended)
   alone_agree m n c d a b agree y = record { lines_a = agree.lines_a; lines_b = λ i. agree.lines_b i + 1; bytes_a = agree.bytes_a; bytes_b = λ i. agree.bytes_b i + line_size y; same = agree.same }
 
-  begun_agree : (m n c d : ℕ) (a b : Before) (agree : Agree m n c d a b) → f m ≡ g n → Agree m n c d (begun a) (begun b)
+  begun_agree : (m n c d : ℕ) (a b : Before) (agree : Agree m n c d a b) → f m ≡ g n → Agree m n c d (tape_begun a) (tape_begun b)
   begun_agree m n c d a b agree last =
       let percent : f a.lines ≡ g b.lines = ap f agree.lines_a ∙ last ∙ sym (ap g agree.lines_b) in
       record { lines_a = agree.lines_a; lines_b = agree.lines_b; bytes_a = agree.bytes_a; bytes_b = agree.bytes_b; same = λ i. record (agree.same i) { percent = percent i } }
@@ -214,10 +214,10 @@ module _ (skips : ℕ) (f g : ℕ → ℕ) (w : Word → Word) where
         ∙ (λ i. (agree.same i).done ++ (list_same F a.current ∙ (λ j. option_to_list (agree.same j).current) ∙ sym (list_same G b.current)) i)
         ∙ sym (map-append G b.done (option_to_list b.current))
 
-    finished_agree : Looks (finished a) (finished b)
+    finished_agree : Looks (answer_at_end a) (answer_at_end b)
     finished_agree = chosen (is_none a.current) (is_none b.current) _ _ _ _ none_agree (refused_same (refusal_number NoProgramNumber) a.percent b.percent (λ i. (agree.same i).percent)) (λ some. taped_same (programs_of a) (programs_of b) programs_agree)
 
-    unfinished_agree : f m ≡ g n → Looks (unfinished a) (unfinished b)
+    unfinished_agree : f m ≡ g n → Looks (answer_without_end a) (answer_without_end b)
     unfinished_agree last =
         chosen (is_none a.current) (is_none b.current) _ _ _ _ none_agree (refused_same (refusal_number NoProgramNumber) a.percent b.percent (λ i. (agree.same i).percent))
         (λ some. refused_same (refusal_number NoEnd) a.lines b.lines (ap f agree.lines_a ∙ last ∙ sym (ap g agree.lines_b)))
@@ -305,7 +305,7 @@ module _ (skips : ℕ) (f g : ℕ → ℕ) (w : Word → Word) where
       (rests_look_same rows (m + 1) (n + 1) (c + line_size x) (d + line_size y) _ _ (next_agree m n c d a b agree x y) alike_rows.2 (omega arith) (omega arith))
   rests_look_same (Alone y ∷ rows) m n c d a b agree alike_rows p q =
       let past_b = not_past b d y (seconds rows) agree.bytes_b q in
-      rests_look_same rows m (n + 1) c (d + line_size y) a _ (alone_agree m n c d a b agree y) alike_rows.1 p (omega arith) ∙ sym (ap (changed g w) (rest_alone b y (seconds rows) past_b))
+      rests_look_same rows m (n + 1) c (d + line_size y) a _ (alone_agree m n c d a b agree y) alike_rows.1 p (omega arith) ∙ sym (ap (changed_answer g w) (rest_alone b y (seconds rows) past_b))
 
   bodies_look_same : (rows : List Row) (m n c d : ℕ) (a b : Before) → Agree m n c d a b → Rows m n rows → c + size_all (firsts rows) ≤ 4194304 → d + size_all (seconds rows) ≤ 4194304 → Looks (in_body skips (firsts rows) a) (in_body skips (seconds rows) b)
   bodies_look_same [] m n c d a b agree alike_rows p q = unfinished_agree m n c d a b agree alike_rows
@@ -320,7 +320,7 @@ module _ (skips : ℕ) (f g : ℕ → ℕ) (w : Word → Word) where
       (λ u v later. bodies_look_same rows (m + 1) (n + 1) (c + line_size x) (d + line_size y) u v later alike_rows.2 (omega arith) (omega arith)))
   bodies_look_same (Alone y ∷ rows) m n c d a b agree alike_rows p q =
       let past_b = not_past b d y (seconds rows) agree.bytes_b q in
-      bodies_look_same rows m (n + 1) c (d + line_size y) a _ (alone_agree m n c d a b agree y) alike_rows.1 p (omega arith) ∙ sym (ap (changed g w) (body_alone skips b y (seconds rows) alike_rows.0 past_b))
+      bodies_look_same rows m (n + 1) c (d + line_size y) a _ (alone_agree m n c d a b agree y) alike_rows.1 p (omega arith) ∙ sym (ap (changed_answer g w) (body_alone skips b y (seconds rows) alike_rows.0 past_b))
 
   leaders_look_same : f 1 ≡ g 1 → (rows : List Row) (m n c d : ℕ) (a b : Before) → Agree m n c d a b → Rows m n rows → c + size_all (firsts rows) ≤ 4194304 → d + size_all (seconds rows) ≤ 4194304 → Looks (in_leader skips (firsts rows) a) (in_leader skips (seconds rows) b)
   leaders_look_same first_line [] m n c d a b agree alike_rows p q = refused_same (refusal_number NoProgramNumber) 1 1 first_line
@@ -330,13 +330,13 @@ module _ (skips : ℕ) (f g : ℕ → ℕ) (w : Word → Word) where
       let alike = alike_rows.1 in
       let behind = next_agree m n c d a b agree x y in
       chosen (is_percent x.bytes) (is_percent y.bytes) _ _ _ _ alike.percent
-      (unless_agree m n c d a b agree alike_rows.0 _ _ _ _ (λ after. in_body skips (firsts rows) (begun after)) (λ after. in_body skips (seconds rows) (begun after)) (rw (past_a, past_b, alike.long) refl)
+      (unless_agree m n c d a b agree alike_rows.0 _ _ _ _ (λ after. in_body skips (firsts rows) (tape_begun after)) (λ after. in_body skips (seconds rows) (tape_begun after)) (rw (past_a, past_b, alike.long) refl)
       (bodies_look_same rows (m + 1) (n + 1) (c + line_size x) (d + line_size y) _ _ (begun_agree (m + 1) (n + 1) (c + line_size x) (d + line_size y) _ _ behind alike_rows.0) alike_rows.2 (omega arith) (omega arith)))
       (λ other. unless_agree m n c d a b agree alike_rows.0 _ _ _ _ (in_leader skips (firsts rows)) (in_leader skips (seconds rows)) (rw (past_a, past_b) refl)
       (leaders_look_same first_line rows (m + 1) (n + 1) (c + line_size x) (d + line_size y) _ _ behind alike_rows.2 (omega arith) (omega arith)))
   leaders_look_same first_line (Alone y ∷ rows) m n c d a b agree alike_rows p q =
       let past_b = not_past b d y (seconds rows) agree.bytes_b q in
-      leaders_look_same first_line rows m (n + 1) c (d + line_size y) a _ (alone_agree m n c d a b agree y) alike_rows.1 p (omega arith) ∙ sym (ap (changed g w) (leader_alone skips b y (seconds rows) alike_rows.0 past_b))
+      leaders_look_same first_line rows m (n + 1) c (d + line_size y) a _ (alone_agree m n c d a b agree y) alike_rows.1 p (omega arith) ∙ sym (ap (changed_answer g w) (leader_alone skips b y (seconds rows) alike_rows.0 past_b))
 
   -- two texts whose rows say the same have answers that look the same, if both have at most 4 MiB
   pub same_answer : (rows : List Row) → f 0 ≡ g 0 → f 1 ≡ g 1 → Rows 0 0 rows → size_all (firsts rows) ≤ 4194304 → size_all (seconds rows) ≤ 4194304 → Looks (in_leader skips (firsts rows) nothing_read) (in_leader skips (seconds rows) nothing_read)

@@ -7,7 +7,7 @@ use Rattle.std.proofs.lemmas.List.{append-nil}
 use Rattle.std.proofs.lemmas.List.Elements.{All-nil, All-cons, All-head, All-tail}
 use Rattle.nc_text.specs.Lines.{Line, IsOneLine, lines_of, onto_line}
 use Rattle.nc_text.proofs.LineEnds.{line_ends, text_ends}
-use Rattle.tape_relation.specs.Parts.{written, AreEnded, AreLines}
+use Rattle.tape_relation.specs.Parts.{written_line, AreEnded, AreLines}
 
 -- the bytes of a line have no line feed
 abbrev IsOne : Line → Type 0
@@ -16,21 +16,21 @@ IsOne line = IsOneLine line.bytes
 -- From the lines to the text.
 
 -- The next two are the steps of `lines_written`: the last line, and a line with others after it.
-last_line : (bytes : List ℕ) (ended : Bool) → IsOneLine bytes → (ended ≡ false → 0 < length bytes) → lines_of (written (record { bytes = bytes; ended = ended }) ++ []) ≡ record { bytes = bytes; ended = ended } ∷ []
+last_line : (bytes : List ℕ) (ended : Bool) → IsOneLine bytes → (ended ≡ false → 0 < length bytes) → lines_of (written_line (record { bytes = bytes; ended = ended }) ++ []) ≡ record { bytes = bytes; ended = ended } ∷ []
 last_line bytes true one some = ap lines_of (append-nil (bytes ++ 10 ∷ [])) ∙ line_ends bytes [] one
 last_line [] false one some = let none : 0 < 0 = some refl in absurd (omega arith)
 last_line (b ∷ bytes) false one some = ap lines_of (append-nil ((b ∷ bytes) ++ []) ∙ append-nil (b ∷ bytes)) ∙ text_ends b bytes one
 
-inner_line : (bytes more : List ℕ) (ended : Bool) → IsOneLine bytes → ended ≡ true → lines_of (written (record { bytes = bytes; ended = ended }) ++ more) ≡ record { bytes = bytes; ended = ended } ∷ lines_of more
+inner_line : (bytes more : List ℕ) (ended : Bool) → IsOneLine bytes → ended ≡ true → lines_of (written_line (record { bytes = bytes; ended = ended }) ++ more) ≡ record { bytes = bytes; ended = ended } ∷ lines_of more
 inner_line bytes more true one e = ap lines_of (append_assoc bytes (10 ∷ []) more) ∙ line_ends bytes more one
 inner_line bytes more false one e = absurd cc
 
 -- lines that are written out are read as these lines
-lines_written : (lines : List Line) → All IsOne lines → AreEnded lines → lines_of (flat_map written lines) ≡ lines
+lines_written : (lines : List Line) → All IsOne lines → AreEnded lines → lines_of (flat_map written_line lines) ≡ lines
 lines_written [] one ended = refl
 lines_written (line ∷ []) one ended = last_line line.bytes line.ended (All-head IsOne line [] one) ended
 lines_written (line ∷ next ∷ lines) one ended =
-    inner_line line.bytes (flat_map written (next ∷ lines)) line.ended (All-head IsOne line (next ∷ lines) one) ended.0
+    inner_line line.bytes (flat_map written_line (next ∷ lines)) line.ended (All-head IsOne line (next ∷ lines) one) ended.0
     ∙ ap (λ (others : List Line). line ∷ others) (lines_written (next ∷ lines) (All-tail IsOne line (next ∷ lines) one) ended.1)
 
 -- the lines of the relation are those that the reader has

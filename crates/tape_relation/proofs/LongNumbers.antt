@@ -16,7 +16,7 @@ use Rattle.nc_text.specs.Lines.{Line}
 use Rattle.line_text.specs.Pieces.{Group, Cut, is_comment, bytes_of, value_part, piece_of, pieces_of, value_len, cut_at, add_to_cut}
 use Rattle.line_text.specs.Values.{has_long_front}
 use Rattle.line_text.specs.Front.{is_switch, switch_behind, behind_digit, switch_of, behind_switch, behind_comments, is_statement, sentence_of, is_number_sign, number_part, behind_number, is_numbered}
-use Rattle.line_text.specs.Said.{is_sound, is_long, is_skipped, read_pieces, unreadable, read_words, read_numbered, read_statement, read_block, read_head}
+use Rattle.line_text.specs.Said.{is_sound, is_long, is_skipped, read_pieces, broken_reading, read_words, read_numbered, read_statement, read_block, read_head}
 use Rattle.tape_relation.specs.Numbers.{BeginsLong}
 use Rattle.tape_relation.specs.Words.{AreWords}
 use Rattle.tape_relation.specs.LineGrammar.{IsSkip, none, alone, named}
@@ -280,7 +280,7 @@ cut_long : (slash : Bool) (signs : List Sign) → (read_words slash signs).long 
 unfolding read_words
 cut_long slash signs e = go (value_len signs 0 == 0) refl e
   where
-    go : (t : Bool) → (value_len signs 0 == 0) ≡ t → (cond t (read_pieces slash (pieces_of signs)) unreadable).long ≡ true → LongBehind signs
+    go : (t : Bool) → (value_len signs 0 == 0) ≡ t → (cond t (read_pieces slash (pieces_of signs)) broken_reading).long ≡ true → LongBehind signs
     go true z h = words_long signs (eqb-true (value_len signs 0) 0 z) h
     go false z h = absurd cc
 

@@ -11,7 +11,7 @@ use Rattle.line_text.specs.declared.body.Body.TheVariants.{Words, Statement}
 use Rattle.nc_text.specs.declared.tape.Block.{Block}
 use Rattle.nc_text.specs.declared.tape.Program.{Program}
 use Rattle.nc_text.specs.Lines.{IsOneLine, Line, lines_of}
-use Rattle.tape_relation.specs.Changed.{changed, changed_body, changed_block, changed_program, lower, lowered}
+use Rattle.tape_relation.specs.Changed.{changed_answer, changed_body, changed_block, changed_program, lower, lowered_answer}
 use Rattle.tape_relation.specs.Alike.{IsAlike, Fits}
 use Rattle.tape_relation.specs.Edited.{are_whole}
 use Rattle.nc_text.specs.Tape.{Answer, in_leader, nothing_read, tape_of}
@@ -44,7 +44,7 @@ abbrev taped : List Program → Answer
 taped programs = Ok programs
 
 -- an answer of which nothing is changed is itself
-unchanged : (answer : Answer) → changed same_line same_word answer ≡ answer
+unchanged : (answer : Answer) → changed_answer same_line same_word answer ≡ answer
 unchanged (Ok programs) = ap taped (programs_unchanged programs)
 unchanged (Err fault) = refl
 
@@ -81,13 +81,13 @@ zipped skips (x ∷ xs) (y ∷ ys) alike =
 
 -- two texts whose rows say the same have the same answer, as far as it is looked at
 texts_alike : (skips : ℕ) (f g : ℕ → ℕ) (w : Word → Word) (a b : List ℕ) (rows : List Row) → firsts rows ≡ lines_of a → seconds rows ≡ lines_of b → f 0 ≡ g 0 → f 1 ≡ g 1 → Rows skips f g w 0 0 rows → Fits a → Fits b
-    → changed f w (tape_of skips a) ≡ changed g w (tape_of skips b)
+    → changed_answer f w (tape_of skips a) ≡ changed_answer g w (tape_of skips b)
 unfolding tape_of
 texts_alike skips f g w a b rows first second zero_same top alike fits_a fits_b =
     let size_a : size_all (firsts rows) ≡ length a = ap size_all first ∙ size_of_lines a in
     let size_b : size_all (seconds rows) ≡ length b = ap size_all second ∙ size_of_lines b in
-    ap (λ (ls : List Line). changed f w (in_leader skips ls nothing_read)) (sym first) ∙ same_answer skips f g w rows zero_same top alike (omega arith) (omega arith)
-    ∙ ap (λ (ls : List Line). changed g w (in_leader skips ls nothing_read)) second
+    ap (λ (ls : List Line). changed_answer f w (in_leader skips ls nothing_read)) (sym first) ∙ same_answer skips f g w rows zero_same top alike (omega arith) (omega arith)
+    ∙ ap (λ (ls : List Line). changed_answer g w (in_leader skips ls nothing_read)) second
 
 -- texts whose lines are alike have the same answer
 pub lines_alike : (skips : ℕ) (a b : List ℕ) → Fits a → Fits b → AllZip (IsAlike skips) (lines_of a) (lines_of b) → tape_of skips a ≡ tape_of skips b
@@ -150,7 +150,7 @@ some_lines text some = go (lines_of text) (size_of_lines text)
 -- if a line is replaced by one that says the same but for its words, the answer is the same but for
 -- them
 pub line_in_place : (skips : ℕ) (w : Word → Word) (front x y back : List ℕ) → are_whole front ≡ true → IsOneLine x → IsOneLine y → SayAlike skips w (record { bytes = x; ended = true }) (record { bytes = y; ended = true })
-    → Fits (front ++ (x ++ 10 ∷ back)) → Fits (front ++ (y ++ 10 ∷ back)) → changed same_line w (tape_of skips (front ++ (x ++ 10 ∷ back))) ≡ changed same_line w (tape_of skips (front ++ (y ++ 10 ∷ back)))
+    → Fits (front ++ (x ++ 10 ∷ back)) → Fits (front ++ (y ++ 10 ∷ back)) → changed_answer same_line w (tape_of skips (front ++ (x ++ 10 ∷ back))) ≡ changed_answer same_line w (tape_of skips (front ++ (y ++ 10 ∷ back)))
 line_in_place skips w front x y back whole one_x one_y alike fits_x fits_y =
     let behind = same_front (lines_of back) [] in
     let rows = same_front (lines_of front) (Both (ended x) (ended y) ∷ behind) in
@@ -172,7 +172,7 @@ alike_in_place skips front x y back whole one_x one_y alike fits_x fits_y =
 -- if the last line, without a line feed, is replaced by one that says the same but for its words,
 -- the answer is the same but for them
 pub last_in_place : (skips : ℕ) (w : Word → Word) (front x y : List ℕ) → are_whole front ≡ true → IsOneLine x → IsOneLine y → 0 < length x → 0 < length y → SayAlike skips w (record { bytes = x; ended = false }) (record { bytes = y; ended = false })
-    → Fits (front ++ x) → Fits (front ++ y) → changed same_line w (tape_of skips (front ++ x)) ≡ changed same_line w (tape_of skips (front ++ y))
+    → Fits (front ++ x) → Fits (front ++ y) → changed_answer same_line w (tape_of skips (front ++ x)) ≡ changed_answer same_line w (tape_of skips (front ++ y))
 last_in_place skips w front x y whole one_x one_y some_x some_y alike fits_x fits_y =
     let rows = Both (last x) (last y) ∷ [] in
     texts_alike skips same_line same_line w (front ++ x) (front ++ y) (same_front (lines_of front) rows)
@@ -184,7 +184,7 @@ last_in_place skips w front x y whole one_x one_y some_x some_y alike fits_x fit
 -- a line that says nothing may be taken out, if lines stand before it: the later ones are numbered
 -- one less
 pub line_taken_out : (skips : ℕ) (front line back : List ℕ) → are_whole front ≡ true → 0 < length front → IsOneLine line → SaysNothing skips (record { bytes = line; ended = true })
-    → Fits (front ++ (line ++ 10 ∷ back)) → tape_of skips (front ++ back) ≡ lowered (length (lines_of front)) (tape_of skips (front ++ (line ++ 10 ∷ back)))
+    → Fits (front ++ (line ++ 10 ∷ back)) → tape_of skips (front ++ back) ≡ lowered_answer (length (lines_of front)) (tape_of skips (front ++ (line ++ 10 ∷ back)))
 line_taken_out skips front line back whole some one nothing fits =
     let before = length (lines_of front) in
     let behind = same_front (lines_of back) [] in
@@ -202,7 +202,7 @@ line_taken_out skips front line back whole some one nothing fits =
 
 -- a last line that says nothing may be taken out, if lines stand before it
 pub last_taken_out : (skips : ℕ) (front line : List ℕ) → are_whole front ≡ true → 0 < length front → IsOneLine line → 0 < length line → SaysNothing skips (record { bytes = line; ended = false })
-    → Fits (front ++ line) → tape_of skips front ≡ lowered (length (lines_of front)) (tape_of skips (front ++ line))
+    → Fits (front ++ line) → tape_of skips front ≡ lowered_answer (length (lines_of front)) (tape_of skips (front ++ line))
 last_taken_out skips front line whole some one some_line nothing fits =
     let before = length (lines_of front) in
     let rows = Alone (last line) ∷ [] in

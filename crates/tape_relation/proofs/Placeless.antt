@@ -20,7 +20,7 @@ use Rattle.line_text.specs.Signs.{Scan, is_allowed, are_allowed}
 use Rattle.line_text.specs.Pieces.{Group, Cut, is_comment, depth_behind, begins_word, add_to_cut, cut_at, bytes_of, value_part, piece_of, pieces_of, value_len}
 use Rattle.line_text.specs.Front.{behind_comments, is_switch, switch_of, behind_digit, behind_switch, sentence_of, is_statement, is_number_sign, number_part, behind_number, is_numbered}
 use Rattle.line_text.specs.Values.{number_in}
-use Rattle.line_text.specs.Said.{is_sequence, is_sound, is_long, has_program_letter, sequence_from, is_in_range, word_of, words_of, is_program, program_number, said_by, read_pieces, unreadable, read_words, numbered_text, numbered_sentence, read_numbered, read_statement, read_block, is_skipped, judged, read_head, judged_signs}
+use Rattle.line_text.specs.Said.{is_sequence, is_sound, is_long, has_program_letter, sequence_from, is_in_range, word_of, words_of, is_program, program_number, said_by, read_pieces, broken_reading, read_words, numbered_text, numbered_sentence, read_numbered, read_statement, read_block, is_skipped, said_or_refusal, read_head, judged_signs}
 use Rattle.tape_relation.specs.Changed.{without_place}
 use Rattle.tape_relation.proofs.Blanks.{IsSameText}
 use Rattle.tape_relation.proofs.LineByLine.{changed_said, changed_says}
@@ -179,9 +179,9 @@ read_pieces_bare slash pieces =
 read_words_bare : (slash : Bool) (signs : List Sign) → bare_reading (read_words slash (bare signs)) ≡ bare_reading (read_words slash signs)
 unfolding read_words
 read_words_bare slash signs =
-    ap (λ (n : ℕ). bare_reading (cond (n == 0) (read_pieces slash (pieces_of (bare signs))) unreadable)) (value_len_bare signs 0) ∙ either (value_len signs 0 == 0)
+    ap (λ (n : ℕ). bare_reading (cond (n == 0) (read_pieces slash (pieces_of (bare signs))) broken_reading)) (value_len_bare signs 0) ∙ either (value_len signs 0 == 0)
   where
-    either : (test : Bool) → bare_reading (cond test (read_pieces slash (pieces_of (bare signs))) unreadable) ≡ bare_reading (cond test (read_pieces slash (pieces_of signs)) unreadable)
+    either : (test : Bool) → bare_reading (cond test (read_pieces slash (pieces_of (bare signs))) broken_reading) ≡ bare_reading (cond test (read_pieces slash (pieces_of signs)) broken_reading)
     either true = sym (read_pieces_bare slash (pieces_of (bare signs))) ∙ ap (read_pieces slash) (pieces_bare signs) ∙ read_pieces_bare slash (pieces_of signs)
     either false = refl
 
@@ -213,7 +213,7 @@ least_bare false false false true x what = refl
 least_bare false false false false true what = refl
 least_bare false false false false false what = refl
 
-judged_bare : (skipped allowed unclosed : Bool) (reading : Reading) → changed_says without_place (judged skipped allowed unclosed reading) ≡ judged skipped allowed unclosed (bare_reading reading)
+judged_bare : (skipped allowed unclosed : Bool) (reading : Reading) → changed_says without_place (said_or_refusal skipped allowed unclosed reading) ≡ said_or_refusal skipped allowed unclosed (bare_reading reading)
 judged_bare skipped allowed unclosed reading = least_bare (reading.long && not skipped) (not allowed) reading.broken unclosed skipped reading.said
 
 signs_bare : (skips : ℕ) (signs : List Sign) (unclosed : Bool) → changed_says without_place (judged_signs skips (record { list = signs; unclosed = unclosed })) ≡ changed_says without_place (judged_signs skips (record { list = bare signs; unclosed = unclosed }))
@@ -222,10 +222,10 @@ signs_bare skips signs unclosed =
     let skipped = is_skipped skips (switch_of head) in
     let bare_head : behind_comments (bare signs) ≡ bare head = comments_bare signs in
     let allowed = list_all-map (λ (sign : Sign). is_allowed sign.byte) unplaced signs in
-    judged_bare skipped (are_allowed signs) unclosed (read_head head) ∙ (λ i. judged skipped (are_allowed signs) unclosed (sym (read_head_bare head) i))
+    judged_bare skipped (are_allowed signs) unclosed (read_head head) ∙ (λ i. said_or_refusal skipped (are_allowed signs) unclosed (sym (read_head_bare head) i))
     ∙ sym (judged_bare skipped (are_allowed signs) unclosed (read_head (bare head)))
-    ∙ (λ i. changed_says without_place (judged (is_skipped skips (sym (switch_bare head) i)) (sym allowed i) unclosed (read_head (bare head))))
-    ∙ (λ i. changed_says without_place (judged (is_skipped skips (switch_of (sym bare_head i))) (are_allowed (bare signs)) unclosed (read_head (sym bare_head i))))
+    ∙ (λ i. changed_says without_place (said_or_refusal (is_skipped skips (sym (switch_bare head) i)) (sym allowed i) unclosed (read_head (bare head))))
+    ∙ (λ i. changed_says without_place (said_or_refusal (is_skipped skips (switch_of (sym bare_head i))) (are_allowed (bare signs)) unclosed (read_head (sym bare_head i))))
 
 bare_from_bytes : (xs ys : List Sign) → bytes_of xs ≡ bytes_of ys → bare xs ≡ bare ys
 bare_from_bytes xs ys e = sym (map-map at_start (λ (sign : Sign). sign.byte) xs) ∙ ap (map at_start) e ∙ map-map at_start (λ (sign : Sign). sign.byte) ys

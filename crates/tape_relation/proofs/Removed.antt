@@ -14,7 +14,7 @@ use Rattle.line_text.specs.Pieces.{bytes_of}
 use Rattle.line_text.specs.Front.{switch_of, behind_comments}
 use Rattle.nc_text.specs.Lines.{IsOneLine, lines_of, is_percent}
 use Rattle.line_text.specs.Said.{is_skipped, read_head, line_says}
-use Rattle.tape_relation.specs.Changed.{lowered}
+use Rattle.tape_relation.specs.Changed.{lowered_answer}
 use Rattle.tape_relation.specs.Alike.{Fits}
 use Rattle.tape_relation.specs.Edited.{are_whole, with_line, IsLine, IsLastLine, IsSkipped, HasOnlyComments}
 use Rattle.nc_text.specs.Tape.{tape_of}
@@ -95,15 +95,15 @@ emptied skips front line back is says =
 
 -- a line that says nothing may be taken out, if lines stand before it: the later ones are numbered
 -- one less
-pub taken_out : (skips : ℕ) (front line back : List ℕ) → IsLine front line back → 0 < length front → line_says skips line true ≡ Ok said.Nothing → tape_of skips (front ++ back) ≡ lowered (length (lines_of front)) (tape_of skips (with_line front line back))
+pub taken_out : (skips : ℕ) (front line back : List ℕ) → IsLine front line back → 0 < length front → line_says skips line true ≡ Ok said.Nothing → tape_of skips (front ++ back) ≡ lowered_answer (length (lines_of front)) (tape_of skips (with_line front line back))
 taken_out skips front line back is some says = line_taken_out skips front line back is.whole some is.one_line (nothing skips line true is.short says) is.fits
 
 -- a last line without a line feed that says nothing may be taken out, if lines stand before it
-pub last_out : (skips : ℕ) (front line : List ℕ) → IsLastLine front line → 0 < length front → line_says skips line false ≡ Ok said.Nothing → tape_of skips front ≡ lowered (length (lines_of front)) (tape_of skips (front ++ line))
+pub last_out : (skips : ℕ) (front line : List ℕ) → IsLastLine front line → 0 < length front → line_says skips line false ≡ Ok said.Nothing → tape_of skips front ≡ lowered_answer (length (lines_of front)) (tape_of skips (front ++ line))
 last_out skips front line is some says = last_taken_out skips front line is.whole some is.one_line is.some (nothing skips line false is.short says) is.fits
 
 -- an empty line after others may be taken out: the later lines are numbered one less
-pub empty_taken_out : (skips : ℕ) (front back : List ℕ) → are_whole front ≡ true → 0 < length front → Fits (front ++ 10 ∷ back) → tape_of skips (front ++ back) ≡ lowered (length (lines_of front)) (tape_of skips (front ++ 10 ∷ back))
+pub empty_taken_out : (skips : ℕ) (front back : List ℕ) → are_whole front ≡ true → 0 < length front → Fits (front ++ 10 ∷ back) → tape_of skips (front ++ back) ≡ lowered_answer (length (lines_of front)) (tape_of skips (front ++ 10 ∷ back))
 empty_taken_out skips front back whole some fits =
     let short : 0 ≤ 512 = omega arith in
     taken_out skips front [] back (record { whole = whole; one_line = no_feed; short = short; fits = fits }) some (no_line_says_nothing skips)

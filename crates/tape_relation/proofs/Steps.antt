@@ -12,7 +12,7 @@ use Rattle.line_text.specs.declared.said.Said.TheVariants as said
 use Rattle.line_text.specs.declared.said.Reading.{Reading}
 use Rattle.nc_text.specs.Lines.{Line, size_of}
 use Rattle.line_text.specs.Signs.{are_allowed}
-use Rattle.line_text.specs.Said.{judged, line_says}
+use Rattle.line_text.specs.Said.{said_or_refusal, line_says}
 use Rattle.nc_text.specs.Tape.{Before, is_past_end, is_block, is_said_in_range, next, with_said, unless_refused, after_said, after_line}
 use Rattle.tape_relation.specs.Parts.{size, begins_percent, has_percent, behind_percent, is_closed}
 use Rattle.tape_relation.proofs.LineRead.{scan, reading, is_off, says, says_block, says_something}
@@ -215,7 +215,7 @@ judged_step : (skipped allowed unclosed : Bool) (read : Reading) (before : Befor
     → test TooManyDigits ≡ (read.long && not skipped) → test BadCharacter ≡ not allowed → test NoNumber ≡ read.broken → test OpenComment ≡ unclosed
     → test NoProgramNumber ≡ (is_block what && is_none before.current) → test NoEnd ≡ false → test LineTooLong ≡ ltb 512 len → test TooManyBlocks ≡ (is_block what && leb 20000 before.blocks)
     → test TapeTooLong ≡ is_past_end before len ended → test WordRange ≡ not (is_said_in_range what)
-    → after_said before len ended (judged skipped allowed unclosed read) ≡ unless_refused (first_of test order) (next (with_said before what) len ended)
+    → after_said before len ended (said_or_refusal skipped allowed unclosed read) ≡ unless_refused (first_of test order) (next (with_said before what) len ended)
 judged_step skipped allowed unclosed read before len ended test what said-is t5 t10 t11 t12 t13 t14 t15 t16 t17 t64 =
     rw (t5, t10, t11, t12, t13, t14, t15, t16, t17, t64) (go (read.long && not skipped) allowed read.broken unclosed skipped said-is)
   where

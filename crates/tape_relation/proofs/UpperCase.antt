@@ -10,7 +10,7 @@ use Rattle.std.proofs.lemmas.List.{length-map, take-map, map-append, reverse-app
 use Rattle.line_text.specs.Signs.{Scan, is_blank, add_sign, inside_behind, scan_of, without_last, without_return, without_blanks, content_of, signs_of}
 use Rattle.nc_text.specs.Lines.{Line, onto_line, lines_of, is_percent}
 use Rattle.line_text.specs.Said.{line_says, judged_signs}
-use Rattle.nc_text.specs.Tape.{Before, goes_on, after_said, after_outer, after_percent, in_rest, in_body, in_leader, begun, nothing_read, tape_of}
+use Rattle.nc_text.specs.Tape.{Before, goes_on, after_said, after_outer, after_percent, in_rest, in_body, in_leader, tape_begun, nothing_read, tape_of}
 use Rattle.tape_relation.proofs.Mapped.{either_map, prefix_same}
 
 -- a byte in upper case
@@ -115,7 +115,7 @@ body_up skips (line ∷ lines) before = λ i.
 leader_up : (skips : ℕ) (lines : List Line) (before : Before) → in_leader skips (map up_line lines) before ≡ in_leader skips lines before
 leader_up skips [] before = refl
 leader_up skips (line ∷ lines) before = λ i.
-    cond (percent_up line.bytes i) (goes_on before (after_percent before (length-map line.bytes up i) line.ended) (λ after. body_up skips lines (begun after) i))
+    cond (percent_up line.bytes i) (goes_on before (after_percent before (length-map line.bytes up i) line.ended) (λ after. body_up skips lines (tape_begun after) i))
     (goes_on before (after_outer before (length-map line.bytes up i) line.ended) (λ after. leader_up skips lines after i))
 
 -- a text has the same answer with all its letters in upper case

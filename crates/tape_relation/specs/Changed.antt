@@ -22,17 +22,17 @@ abbrev pub changed_program : (ℕ → ℕ) → (Word → Word) → Program → P
 changed_program line word program = record program { line = line program.line; blocks = map (changed_block line word) program.blocks }
 
 -- an answer with each line number and each word changed
-abbrev pub changed : (ℕ → ℕ) → (Word → Word) → Answer → Answer
-changed line word (Ok programs) = Ok (map (changed_program line word) programs)
-changed line word (Err fault) = Err (record fault { line = line fault.line })
+abbrev pub changed_answer : (ℕ → ℕ) → (Word → Word) → Answer → Answer
+changed_answer line word (Ok programs) = Ok (map (changed_program line word) programs)
+changed_answer line word (Err fault) = Err (record fault { line = line fault.line })
 
 -- the number that a line has after the line that follows `before` lines was taken out
 abbrev pub lower : ℕ → ℕ → ℕ
 lower before line = if nat_lt before line then line - 1 else line
 
 -- an answer with each line number above `before` lowered by one
-abbrev pub lowered : ℕ → Answer → Answer
-lowered before answer = changed (lower before) (λ word. word) answer
+abbrev pub lowered_answer : ℕ → Answer → Answer
+lowered_answer before answer = changed_answer (lower before) (λ word. word) answer
 
 -- a word without its place in the line
 abbrev pub without_place : Word → Word
@@ -40,4 +40,4 @@ without_place word = record word { start = 0; end = 0 }
 
 -- an answer without the places of its words
 abbrev pub forget_places : Answer → Answer
-forget_places answer = changed (λ line. line) without_place answer
+forget_places answer = changed_answer (λ line. line) without_place answer

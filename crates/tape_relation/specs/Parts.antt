@@ -6,12 +6,12 @@ use Rattle.std.specs.List.{list_any, flat_map}
 use Rattle.nc_text.specs.Lines.{Line}
 
 -- a line as it stands in the text, with its line feed
-abbrev pub written : Line → List ℕ
-written line = line.bytes ++ (if line.ended then 10 ∷ [] else [])
+abbrev pub written_line : Line → List ℕ
+written_line line = line.bytes ++ (if line.ended then 10 ∷ [] else [])
 
 -- how many bytes these lines have, with their line feeds
 abbrev pub size : List Line → ℕ
-size lines = length (flat_map written lines)
+size lines = length (flat_map written_line lines)
 
 -- each line has its line feed; the last has it, or it holds a byte
 abbrev pub AreEnded : List Line → Type 0
@@ -26,7 +26,7 @@ HasNoFeed bytes = All (λ b. (b == 10) ≡ false) bytes
 -- a text is these lines, one behind the other, and no line feed stands in one
 pub record AreLines (text : List ℕ) (lines : List Line) : Type 0 where
   -- the lines, each with its line feed, make the text
-  pub text_is : text ≡ flat_map written lines
+  pub text_is : text ≡ flat_map written_line lines
   -- no line feed stands in a line
   pub one_line : All (λ line. HasNoFeed line.bytes) lines
   -- only the last line may have no line feed, and then it has a byte

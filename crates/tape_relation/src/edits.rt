@@ -11,7 +11,7 @@ ghost use Rattle.nc_text.specs.Tape.{tape_of};
 ghost use Rattle.nc_text.specs.Lines.{lines_of};
 ghost use Rattle.tape_relation.specs.Alike.{IsAlike, Fits};
 ghost use Rattle.tape_relation.specs.Edited.{are_whole, with_line, with_returns, IsLine, IsLastLine, IsSkipped, HasOnlyComments, EndsWithoutReturn, HasNoReturn, HaveRoom, MayHaveBlank};
-ghost use Rattle.tape_relation.specs.Changed.{lowered, forget_places};
+ghost use Rattle.tape_relation.specs.Changed.{lowered_answer, forget_places};
 ghost use Rattle.std.specs.List.{AllZip};
 
 /// A law: lower case reads as upper case. A text has the same answer with all its letters in upper
@@ -32,7 +32,8 @@ pub fn lines_that_say_the_same_read_the_same()
 pub fn an_empty_line_only_moves_lines()
     ensures { (skips : ℕ) (front back : List ℕ) → are_whole front ≡ true → 0 < length front
         → Fits (front ++ 10 ∷ back)
-        → tape_of skips (front ++ back) ≡ lowered (length (lines_of front)) (tape_of skips (front ++ 10 ∷ back)) }
+        → tape_of skips (front ++ back)
+        ≡ lowered_answer (length (lines_of front)) (tape_of skips (front ++ 10 ∷ back)) }
 {}
 
 /// A law: a line that says nothing reads as an empty line (`emptied`). If lines stand before it, it
@@ -46,10 +47,10 @@ pub fn a_line_that_says_nothing_reads_as_no_line()
     ensures taken_out { (skips : ℕ) (front line back : List ℕ) → IsLine front line back → 0 < length front
         → line_says skips line true ≡ Ok said.Nothing
         → tape_of skips (front ++ back)
-        ≡ lowered (length (lines_of front)) (tape_of skips (with_line front line back)) }
+        ≡ lowered_answer (length (lines_of front)) (tape_of skips (with_line front line back)) }
     ensures last { (skips : ℕ) (front line : List ℕ) → IsLastLine front line → 0 < length front
         → line_says skips line false ≡ Ok said.Nothing
-        → tape_of skips front ≡ lowered (length (lines_of front)) (tape_of skips (front ++ line)) }
+        → tape_of skips front ≡ lowered_answer (length (lines_of front)) (tape_of skips (front ++ line)) }
 {}
 
 /// A law: a line of nothing but closed comments and ignored bytes is no block. It reads as an empty
@@ -62,10 +63,10 @@ pub fn a_line_of_comments_is_no_block()
     ensures taken_out { (skips : ℕ) (front line back : List ℕ) → IsLine front line back → 0 < length front
         → HasOnlyComments line true
         → tape_of skips (front ++ back)
-        ≡ lowered (length (lines_of front)) (tape_of skips (with_line front line back)) }
+        ≡ lowered_answer (length (lines_of front)) (tape_of skips (with_line front line back)) }
     ensures last { (skips : ℕ) (front line : List ℕ) → IsLastLine front line → 0 < length front
         → HasOnlyComments line false
-        → tape_of skips front ≡ lowered (length (lines_of front)) (tape_of skips (front ++ line)) }
+        → tape_of skips front ≡ lowered_answer (length (lines_of front)) (tape_of skips (front ++ line)) }
 {}
 
 /// A law: a readable block whose switch is set reads as an empty line (`emptied`), and if lines
@@ -78,10 +79,10 @@ pub fn a_skipped_block_reads_as_no_line()
     ensures taken_out { (skips : ℕ) (front line back : List ℕ) → IsLine front line back → 0 < length front
         → IsSkipped skips line true
         → tape_of skips (front ++ back)
-        ≡ lowered (length (lines_of front)) (tape_of skips (with_line front line back)) }
+        ≡ lowered_answer (length (lines_of front)) (tape_of skips (with_line front line back)) }
     ensures last { (skips : ℕ) (front line : List ℕ) → IsLastLine front line → 0 < length front
         → IsSkipped skips line false
-        → tape_of skips front ≡ lowered (length (lines_of front)) (tape_of skips (front ++ line)) }
+        → tape_of skips front ≡ lowered_answer (length (lines_of front)) (tape_of skips (front ++ line)) }
 {}
 
 /// A law: a carriage return before a line feed changes nothing, if the line stays within 512 bytes

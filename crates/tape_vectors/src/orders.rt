@@ -1,7 +1,7 @@
 //! Tests of block_order and wait_order: the order of the blocks of small tapes, or their first
 //! fault. The proofs of this file say that each tape is one that may be checked.
 ghost use Rattle.std.specs.Prelude.{◌≡◌, ◌++◌, true, IfOk, OnOk};
-ghost use Rattle.block_order.specs.Shape.{IsListed, lines_of_program, lines_in};
+ghost use Rattle.block_order.specs.Shape.{IsReadTape, lines_of_program, lines_in};
 ghost use Rattle.nc_number.specs.Rising.{RiseFrom};
 ghost use Rattle.block_order.specs.declared.program.ControlProgram.{ControlProgram};
 
@@ -103,7 +103,7 @@ fn is_rising(lines: &[u32]) -> bool
 
 /// Whether the tape may be checked: it has a program, its lines rise, and they are not too many.
 fn is_listed(alloc: Global, tape: &[ControlProgram]) -> Result<bool, NoMemory>
-    ensures { IfOk result (λ listed. listed ≡ true → IsListed tape.now) }
+    ensures { IfOk result (λ listed. listed ≡ true → IsReadTape tape.now) }
 {
     let lines = all_lines(alloc, tape)?;
     if tape.is_empty() || lines.len() > MOST_BLOCKS {
@@ -219,7 +219,7 @@ fn told(alloc: Global, order: &BlockOrder, call: Call) -> Result<String, AllocEr
 
 /// The refusal of a tape, or what is asked of its order.
 fn answer(alloc: Global, tape: Vec<ControlProgram>, call: Call) -> Result<String, AllocError>
-    requires { IsListed tape.items }
+    requires { IsReadTape tape.items }
 {
     match check_order(alloc, tape) {
         Ok(order) => told(alloc, &order, call),

@@ -10,8 +10,8 @@ use Rattle.nc_number.specs.Path.{number_of}
 use Rattle.nc_number.specs.Printed.{length_text}
 
 -- a number after these bytes
-abbrev pub numbered : List ℕ → ℕ → List ℕ
-numbered before number = before ++ decimal number
+abbrev pub text_with_number : List ℕ → ℕ → List ℕ
+text_with_number before number = before ++ decimal number
 
 -- a blank and the name of a cause, and nothing without a cause
 abbrev pub name_text : Option Cause → List ℕ
@@ -28,7 +28,7 @@ code_text code = if nat_lt code 10 then codes "0" ++ decimal code else decimal c
 
 -- a path by its number, and a line of its tape, as they are printed: ` path 1 line 3`
 unfoldable pub place_text : ℕ → ℕ → List ℕ
-place_text path line = numbered (codes " path ") path ++ numbered (codes " line ") line
+place_text path line = text_with_number (codes " path ") path ++ text_with_number (codes " line ") line
 
 -- a path as "path" and its number
 unfoldable pub path_name : Path → List ℕ

@@ -10,5 +10,5 @@
 mod piece;
 mod pushing;
 
-pub use piece::Piece;
+pub use piece::{MOST_BYTES, Piece};
 pub use pushing::{push_bytes, push_numbered, push_piece};

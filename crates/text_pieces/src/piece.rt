@@ -2,16 +2,17 @@
 //! how much room a call asks for. move_text, nc_verify, move_list and 7 more crates above make
 //! their lines of pieces.
 ghost use Rattle.std.specs.Prelude.{◌≡◌, ◌+◌, ◌≤◌, ◌%◌, [], ◌++◌, length, codes, decimal};
+ghost use Rattle.text_pieces.specs.declared.piece.TheConstants.{MOST_BYTES};
 ghost use Rattle.nc_number.specs.Printed.{last_digits, length_text, value_text};
-ghost use Rattle.text_pieces.specs.Pieces.{code_text, name_text, numbered, path_name, place_text, point_text};
+ghost use Rattle.text_pieces.specs.Pieces.{code_text, name_text, text_with_number, path_name, place_text, point_text};
 
 use arrayvec::ArrayVec;
 use itoa::Buffer;
 use nc_number::{Cause, Path, Point, Value};
 use std::marker::Model;
 
-/// The most bytes of a piece. Clauses say it as 512, here and in the crates that make pieces.
-const MOST_BYTES: usize = 512;
+/// The most bytes of a piece.
+pub const MOST_BYTES: usize = 512;
 
 /// A piece of a text, of which each part is put behind what is there. It takes no memory.
 #[derive(Drop)]
@@ -47,7 +48,7 @@ impl Piece {
 
     /// Adds bytes as they are.
     pub fn add(&mut self, bytes: &[u8])
-        requires { length self.old + length bytes.now ≤ 512 }
+        requires { length self.old + length bytes.now ≤ MOST_BYTES }
         ensures text { self.new ≡ self.old ++ bytes.now }
         ensures size { length self.new ≡ length self.old + length bytes.now }
     {
@@ -56,7 +57,7 @@ impl Piece {
 
     /// Adds a whole number in decimal digits.
     pub fn add_number(&mut self, number: u64)
-        requires { length self.old + 20 ≤ 512 }
+        requires { length self.old + 20 ≤ MOST_BYTES }
         ensures text { self.new ≡ self.old ++ decimal number }
         ensures size { length self.new ≤ length self.old + 20 }
     {
@@ -66,8 +67,8 @@ impl Piece {
 
     /// Adds bytes as they are, and a number after them.
     pub fn add_numbered(&mut self, before: &[u8], number: u64)
-        requires { length self.old + length before.now + 20 ≤ 512 }
-        ensures text { self.new ≡ self.old ++ numbered before.now number }
+        requires { length self.old + length before.now + 20 ≤ MOST_BYTES }
+        ensures text { self.new ≡ self.old ++ text_with_number before.now number }
         ensures size { length self.new ≤ length self.old + length before.now + 20 }
     {
         self.add(before);
@@ -76,7 +77,7 @@ impl Piece {
 
     /// Adds a count in decimal digits.
     pub fn add_count(&mut self, count: u128)
-        requires { length self.old + 40 ≤ 512 }
+        requires { length self.old + 40 ≤ MOST_BYTES }
         ensures text { self.new ≡ self.old ++ decimal count }
         ensures size { length self.new ≤ length self.old + 40 }
     {
@@ -86,7 +87,7 @@ impl Piece {
 
     /// Adds a length, given in 0.001 mm, in mm with three decimals.
     pub fn add_length(&mut self, increments: i64)
-        requires { length self.old + 24 ≤ 512 }
+        requires { length self.old + 24 ≤ MOST_BYTES }
         ensures text { self.new ≡ self.old ++ length_text increments }
         ensures size { length self.new ≤ length self.old + 24 }
     {
@@ -97,7 +98,7 @@ impl Piece {
 
     /// Adds a value without the zeros that its fraction ends with.
     pub fn add_value(&mut self, value: Value)
-        requires { length self.old + 24 ≤ 512 }
+        requires { length self.old + 24 ≤ MOST_BYTES }
         ensures text { self.new ≡ self.old ++ value_text value }
         ensures size { length self.new ≤ length self.old + 24 }
     {
@@ -108,7 +109,7 @@ impl Piece {
 
     /// Adds the last four digits of a number.
     pub fn add_four_digits(&mut self, number: u16)
-        requires { length self.old + 4 ≤ 512 }
+        requires { length self.old + 4 ≤ MOST_BYTES }
         ensures text { self.new ≡ self.old ++ last_digits 4 number }
         ensures size { length self.new ≡ length self.old + 4 }
     {
@@ -123,7 +124,7 @@ impl Piece {
     /// Adds a G or M code, which has at least two digits.
     #[tactic(auto, unfolding(crate::specs::Pieces::code_text))]
     pub fn add_code(&mut self, code: u16)
-        requires { length self.old + 21 ≤ 512 }
+        requires { length self.old + 21 ≤ MOST_BYTES }
         ensures text { self.new ≡ self.old ++ code_text code }
         ensures size { length self.new ≤ length self.old + 21 }
     {
@@ -136,7 +137,7 @@ impl Piece {
     /// Adds a path as `path` and its number.
     #[tactic(auto, unfolding(crate::specs::Pieces::path_name))]
     pub fn add_path(&mut self, path: Path)
-        requires { length self.old + 25 ≤ 512 }
+        requires { length self.old + 25 ≤ MOST_BYTES }
         ensures text { self.new ≡ self.old ++ path_name path }
         ensures size { length self.new ≤ length self.old + 25 }
     {
@@ -147,7 +148,7 @@ impl Piece {
     /// Adds a blank and the name of a cause, if there is one.
     #[tactic(auto, using(crate::proofs::NameRoom::name_room))]
     pub fn add_name(&mut self, cause: Option<Cause>)
-        requires { length self.old + 20 ≤ 512 }
+        requires { length self.old + 20 ≤ MOST_BYTES }
         ensures text { self.new ≡ self.old ++ name_text cause }
         ensures size { length self.new ≤ length self.old + 20 }
     {
@@ -160,7 +161,7 @@ impl Piece {
     /// Adds a path by its number, and a line of its tape.
     #[tactic(auto, unfolding(crate::specs::Pieces::place_text))]
     pub fn add_place(&mut self, path: u8, line: u32)
-        requires { length self.old + 52 ≤ 512 }
+        requires { length self.old + 52 ≤ MOST_BYTES }
         ensures text { self.new ≡ self.old ++ place_text path line }
         ensures size { length self.new ≤ length self.old + 52 }
     {
@@ -171,7 +172,7 @@ impl Piece {
     /// Adds the X and the Z of a point, given in 0.001 mm, in mm with three decimals.
     #[tactic(auto, unfolding(crate::specs::Pieces::point_text))]
     pub fn add_point(&mut self, to: Point)
-        requires { length self.old + 52 ≤ 512 }
+        requires { length self.old + 52 ≤ MOST_BYTES }
         ensures text { self.new ≡ self.old ++ point_text to }
         ensures size { length self.new ≤ length self.old + 52 }
     {

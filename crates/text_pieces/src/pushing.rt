@@ -2,7 +2,7 @@
 //! out of memory.
 //! lathe_looks and wait_verify use it.
 ghost use Rattle.std.specs.Prelude.{◌≡◌, ◌++◌, OnOk, decimal};
-ghost use Rattle.text_pieces.specs.Pieces.{numbered};
+ghost use Rattle.text_pieces.specs.Pieces.{text_with_number};
 
 use crate::piece::Piece;
 use itoa::Buffer;
@@ -26,7 +26,7 @@ fn push_number(text: &mut Vec<u8>, number: u64) -> Result<(), NoMemory>
 
 /// Adds bytes, and a number after them, at the end of a text.
 pub fn push_numbered(text: &mut Vec<u8>, before: &[u8], number: u64) -> Result<(), NoMemory>
-    ensures { OnOk result (text.new.items ≡ text.old.items ++ numbered before.now number) }
+    ensures { OnOk result (text.new.items ≡ text.old.items ++ text_with_number before.now number) }
 {
     push_bytes(text, before)?;
     push_number(text, number)

@@ -20,8 +20,8 @@ use Rattle.block_order.specs.declared.frame.Frame.{Frame}
 use Rattle.block_order.specs.declared.label.Label.{Label}
 use Rattle.block_order.specs.declared.label.Label.TheVariants as label
 use Rattle.block_order.specs.declared.program.ControlProgram.{ControlProgram}
-use Rattle.block_order.specs.Labels.{ahead, list, start}
-use Rattle.block_order.specs.Steps.{Step, IsPlace, standing, place_behind, Kept, KeepsLabels}
+use Rattle.block_order.specs.Labels.{labels_ahead, list, start}
+use Rattle.block_order.specs.Steps.{Step, IsPlace, control_of_place, place_behind, Kept, KeepsLabels}
 use Rattle.run_records.specs.Entries.{Entry, edit_of}
 use Rattle.run_records.specs.declared.edit.Edit.{Edit}
 use Rattle.run_records.specs.declared.entry.EntryKind.{EntryKind}
@@ -42,7 +42,7 @@ use Rattle.two_path.specs.Stuck.{AreAtStart, IsPair}
 use Rattle.trace_list.specs.declared.looking.Look.{Look}
 use Rattle.trace_list.specs.declared.looking.Standing.{Standing}
 use Rattle.trace_list.specs.Stops.{Follows, none, next, anew, stop_of, stops_of}
-use Rattle.trace_list.specs.Trace.{block_lines, is_same_point, is_same_way, lines_of, look_of, met_after, moved_lines, path_in, says_speed, shift_lines, spindle_lines, standing_of, traced, turn_lines}
+use Rattle.trace_list.specs.Trace.{block_lines, is_same_point, is_same_way, lines_of, look_of, met_after, moved_lines, path_in, says_speed, shift_lines, spindle_lines, standing_of, traced_lines, turn_lines}
 use Rattle.trace_list.specs.TraceText.{Shift, Spindle, Wait, Met, Ended}
 
 -- the waits and the end that a turn tells of its own path
@@ -119,14 +119,14 @@ idle waiting finished = finished || is_some waiting
 -- the labels that a path has still to tell: those ahead of its place, without the first one if it
 -- waits or has ended
 abbrev due : List ControlProgram → Part → List Label
-due tape p = left_of (idle p.waiting p.finished) (ahead tape p.path.place)
+due tape p = left_of (idle p.waiting p.finished) (labels_ahead tape p.path.place)
 
 -- a path at a place of its tape; if it waits, it stands on that wait and has not ended
 record IsSide (tape : List ControlProgram) (at : List Frame) (waiting : Option ℕ) (finished : Bool) : Type 0 where
   -- it is a place of the tape
   place : IsPlace tape at
   -- a path that waits at a code stands on a wait of this code, and has not ended
-  waits : (code : ℕ) → waiting ≡ Some code → (standing tape at ≡ Some (control.Wait code)) × (finished ≡ false)
+  waits : (code : ℕ) → waiting ≡ Some code → (control_of_place tape at ≡ Some (control.Wait code)) × (finished ≡ false)
 
 -- the path's part of a machine is at a place of its tape, and on its wait if it waits
 abbrev SideOf : List ControlProgram → Part → Type 0
@@ -134,7 +134,7 @@ SideOf tape p = IsSide tape p.path.place p.waiting p.finished
 
 -- for a step that keeps the labels, what follows after it follows before it
 kept_labels : (tape : List ControlProgram) (f : Frame) (stack : List Frame) (c : Control) (to : List Frame) (rest : List Label) → Kept tape f stack c to
-    → Follows (list tape) (ahead tape to) rest → Follows (list tape) (ahead tape (f ∷ stack)) rest
+    → Follows (list tape) (labels_ahead tape to) rest → Follows (list tape) (labels_ahead tape (f ∷ stack)) rest
 kept_labels tape f stack control.Next to rest k follows = subst (λ xs. Follows (list tape) xs rest) k follows
 kept_labels tape f stack (control.Goto n) to rest k follows = subst (λ xs. Follows (list tape) xs rest) k follows
 kept_labels tape f stack (control.While m) to rest k follows = subst (λ xs. Follows (list tape) xs rest) k follows
@@ -151,7 +151,7 @@ kept_labels tape f [] control.Back to rest k follows =
 -- what follows from the labels ahead of where a step leads follows from those ahead of where it
 -- began
 step_labels : (tape : List ControlProgram) → KeepsLabels tape → (from to : List Frame) (rest : List Label) → IsPlace tape from → Step tape from to
-    → Follows (list tape) (ahead tape to) rest → Follows (list tape) (ahead tape from) rest
+    → Follows (list tape) (labels_ahead tape to) rest → Follows (list tape) (labels_ahead tape from) rest
 step_labels tape law [] to rest place step follows = absurd place
 step_labels tape law (f ∷ stack) to rest place (c, is, goes) follows =
     kept_labels tape f stack c to rest (law.step f stack place c is to goes).1 follows
@@ -174,20 +174,20 @@ module _ (tape : List ControlProgram) (law : KeepsLabels tape) (path : Path) (li
     (none_waits : m.paths.one.waiting ≡ None) (unfinished : m.paths.one.finished ≡ false) where
   -- what follows from the labels to tell at a place follows from those ahead of it, as the path
   -- goes on
-  awake : (place : List Frame) (rest : List Label) → Follows (list tape) (left_of (idle m.paths.one.waiting m.paths.one.finished) (ahead tape place)) rest
-      → Follows (list tape) (ahead tape place) rest
+  awake : (place : List Frame) (rest : List Label) → Follows (list tape) (left_of (idle m.paths.one.waiting m.paths.one.finished) (labels_ahead tape place)) rest
+      → Follows (list tape) (labels_ahead tape place) rest
   awake place rest f =
-      subst (λ b. Follows (list tape) (left_of (b || false) (ahead tape place)) rest) unfinished
-      (subst (λ (w : Option ℕ). Follows (list tape) (left_of (m.paths.one.finished || is_some w) (ahead tape place)) rest) none_waits f)
+      subst (λ b. Follows (list tape) (left_of (b || false) (labels_ahead tape place)) rest) unfinished
+      (subst (λ (w : Option ℕ). Follows (list tape) (left_of (m.paths.one.finished || is_some w) (labels_ahead tape place)) rest) none_waits f)
 
   -- the labels to tell are all those ahead of the path's place
-  due_is : due tape m.paths.one ≡ ahead tape m.paths.one.path.place
+  due_is : due tape m.paths.one ≡ labels_ahead tape m.paths.one.path.place
   due_is =
-      ap (λ (w : Option ℕ). left_of (m.paths.one.finished || is_some w) (ahead tape m.paths.one.path.place)) none_waits
-      ∙ ap (λ b. left_of (b || false) (ahead tape m.paths.one.path.place)) unfinished
+      ap (λ (w : Option ℕ). left_of (m.paths.one.finished || is_some w) (labels_ahead tape m.paths.one.path.place)) none_waits
+      ∙ ap (λ b. left_of (b || false) (labels_ahead tape m.paths.one.path.place)) unfinished
 
   -- what follows from the labels ahead of the path's place follows from those that it has to tell
-  from_here : (stops rest : List Label) → Follows (list tape) (ahead tape m.paths.one.path.place) (stops ++ rest) → Follows (list tape) (due tape m.paths.one) (stops ++ rest)
+  from_here : (stops rest : List Label) → Follows (list tape) (labels_ahead tape m.paths.one.path.place) (stops ++ rest) → Follows (list tape) (due tape m.paths.one) (stops ++ rest)
   from_here stops rest f = subst (λ xs. Follows (list tape) xs (stops ++ rest)) (sym due_is) f
 
   -- the path does not wait
@@ -199,17 +199,17 @@ module _ (tape : List ControlProgram) (law : KeepsLabels tape) (path : Path) (li
   stays = record { side = side; follows = λ rest f. f }
 
   -- a turn at a wait tells that wait, unless an alarm comes as the other path waits at another code
-  at_wait : (code : ℕ) → standing tape m.paths.one.path.place ≡ Some (control.Wait code) → (o : Option ℕ)
+  at_wait : (code : ℕ) → control_of_place tape m.paths.one.path.place ≡ Some (control.Wait code) → (o : Option ℕ)
       → Passes tape m.paths.one (result_at_wait path line m code o).machine.paths.one (own_stops (result_at_wait path line m code o).turn)
   at_wait code is None = record {
     side = record { place = side.place; waits = λ c same. (is ∙ ap (λ (x : ℕ). Some (control.Wait x)) (let e : ◌≡◌ {A = Option ℕ} (Some code) (Some c) = same in cc), unfinished) };
     follows = λ rest f.
         let ahead_is = (law.wait m.paths.one.path.place code side.place is).1 in
-        let told : Follows (list tape) (left_of true (ahead tape m.paths.one.path.place)) rest =
-        subst (λ b. Follows (list tape) (left_of (b || true) (ahead tape m.paths.one.path.place)) rest) unfinished f in
+        let told : Follows (list tape) (left_of true (labels_ahead tape m.paths.one.path.place)) rest =
+        subst (λ b. Follows (list tape) (left_of (b || true) (labels_ahead tape m.paths.one.path.place)) rest) unfinished f in
         from_here (label.Wait code ∷ []) rest
         (subst (λ xs. Follows (list tape) xs (label.Wait code ∷ rest)) (sym ahead_is)
-        (next (label.Wait code) (ahead tape (place_behind m.paths.one.path.place)) rest (subst (λ xs. Follows (list tape) (left_of true xs) rest) ahead_is told)));
+        (next (label.Wait code) (labels_ahead tape (place_behind m.paths.one.path.place)) rest (subst (λ xs. Follows (list tape) (left_of true xs) rest) ahead_is told)));
   }
   at_wait code is (Some there) = go (code == there) refl
     where
@@ -218,10 +218,10 @@ module _ (tape : List ControlProgram) (law : KeepsLabels tape) (path : Path) (li
         side = record { place = (law.wait m.paths.one.path.place code side.place is).0; waits = λ c same. absurd cc };
         follows = λ rest f.
             let ahead_is = (law.wait m.paths.one.path.place code side.place is).1 in
-            let told : Follows (list tape) (ahead tape (place_behind m.paths.one.path.place)) rest =
-            subst (λ b. Follows (list tape) (left_of (b || false) (ahead tape (place_behind m.paths.one.path.place))) rest) unfinished f in
+            let told : Follows (list tape) (labels_ahead tape (place_behind m.paths.one.path.place)) rest =
+            subst (λ b. Follows (list tape) (left_of (b || false) (labels_ahead tape (place_behind m.paths.one.path.place))) rest) unfinished f in
             from_here (label.Wait code ∷ []) rest
-            (subst (λ xs. Follows (list tape) xs (label.Wait code ∷ rest)) (sym ahead_is) (next (label.Wait code) (ahead tape (place_behind m.paths.one.path.place)) rest told));
+            (subst (λ xs. Follows (list tape) xs (label.Wait code ∷ rest)) (sym ahead_is) (next (label.Wait code) (labels_ahead tape (place_behind m.paths.one.path.place)) rest told));
       })
       go false e = rw e (record { side = side; follows = λ rest f. f })
 
@@ -238,7 +238,7 @@ module _ (tape : List ControlProgram) (law : KeepsLabels tape) (path : Path) (li
     follows = λ rest f.
         let ahead_is = law.ends m.paths.one.path.place side.place goes.0 in
         let told : Follows (list tape) [] rest =
-        subst (λ xs. Follows (list tape) (left_of true xs) rest) ahead_is (subst (λ place. Follows (list tape) (left_of true (ahead tape place)) rest) goes.1 f) in
+        subst (λ xs. Follows (list tape) (left_of true xs) rest) ahead_is (subst (λ place. Follows (list tape) (left_of true (labels_ahead tape place)) rest) goes.1 f) in
         from_here (label.End ∷ []) rest
         (subst (λ xs. Follows (list tape) xs (label.End ∷ rest)) (sym ahead_is) (next label.End [] rest told));
   }
@@ -251,7 +251,7 @@ module _ (tape : List ControlProgram) (law : KeepsLabels tape) (path : Path) (li
   met_there code None is = record { side = side; follows = λ rest f. f }
   met_there code (Some there) is = go (code == there) refl
     where
-      waits : (standing tape m.paths.two.path.place ≡ Some (control.Wait there)) × (m.paths.two.finished ≡ false)
+      waits : (control_of_place tape m.paths.two.path.place ≡ Some (control.Wait there)) × (m.paths.two.finished ≡ false)
       waits = side.waits there is
 
       go : (b : Bool) → (code == there) ≡ b → Passes tape m.paths.two (result_at_wait path line m code (Some there)).machine.paths.two []
@@ -259,11 +259,11 @@ module _ (tape : List ControlProgram) (law : KeepsLabels tape) (path : Path) (li
         side = record { place = (law.wait m.paths.two.path.place there side.place waits.0).0; waits = λ c same. absurd cc };
         follows = λ rest f.
             let ahead_is = (law.wait m.paths.two.path.place there side.place waits.0).1 in
-            let told : Follows (list tape) (ahead tape (place_behind m.paths.two.path.place)) rest =
-            subst (λ b. Follows (list tape) (left_of (b || false) (ahead tape (place_behind m.paths.two.path.place))) rest) waits.1 f in
-            let due_is : due tape m.paths.two ≡ ahead tape (place_behind m.paths.two.path.place) =
-            ap (λ (w : Option ℕ). left_of (m.paths.two.finished || is_some w) (ahead tape m.paths.two.path.place)) is
-            ∙ ap (λ b. left_of (b || true) (ahead tape m.paths.two.path.place)) waits.1
+            let told : Follows (list tape) (labels_ahead tape (place_behind m.paths.two.path.place)) rest =
+            subst (λ b. Follows (list tape) (left_of (b || false) (labels_ahead tape (place_behind m.paths.two.path.place))) rest) waits.1 f in
+            let due_is : due tape m.paths.two ≡ labels_ahead tape (place_behind m.paths.two.path.place) =
+            ap (λ (w : Option ℕ). left_of (m.paths.two.finished || is_some w) (labels_ahead tape m.paths.two.path.place)) is
+            ∙ ap (λ b. left_of (b || true) (labels_ahead tape m.paths.two.path.place)) waits.1
             ∙ ap (left_of true) ahead_is in
             subst (λ xs. Follows (list tape) xs rest) (sym due_is) told;
       })
@@ -357,14 +357,14 @@ entry_passes Two Two tapes tape kind (Some edit) stamps m law led side step =
 -- it has still to tell
 follows_from : (path : Path) (tapes : Tapes) (tape : List ControlProgram) → KeepsLabels tape → AreLed tape (of_path tapes path) → (met : ℕ) (m : MachineView)
     (entries : List Entry) → SideOf tape (of_path m.paths path) → IsLegal tapes m entries
-    → Follows (list tape) (due tape (of_path m.paths path)) (stops_of path (traced tapes met m entries))
-unfolding traced
+    → Follows (list tape) (due tape (of_path m.paths path)) (stops_of path (traced_lines tapes met m entries))
+unfolding traced_lines
 follows_from path tapes tape law led met m [] side legal = none (due tape (of_path m.paths path))
 follows_from path tapes tape law led met m (e ∷ entries) side legal =
     let t = turn_of_entry tapes e m in
     let after = behind_entry tapes e m in
     let lines = lines_of tapes met m e in
-    let rest = traced tapes (met_after met t) after entries in
+    let rest = traced_lines tapes (met_after met t) after entries in
     let passes = entry_passes path e.path tapes tape e.kind (edit_of e.kind) e.stamps m law led side (λ step. step_of_next tapes m e step legal.0) in
     subst (λ stops. Follows (list tape) (due tape (of_path m.paths path)) stops)
     (ap (λ (stops : List Label). stops ++ stops_of path rest) (sym (turn_stops path e.path met (standing_of tapes e.path m) (look_of (path_in e.path after)) t))
@@ -378,13 +378,13 @@ start_side tape = record { place = (refl, refl); waits = λ code is. absurd cc }
 -- in the trace of a legal history the stops of each path are its labels, from the first one on
 pub follows : (left right : Flow) → KeepsLabels left.order → KeepsLabels right.order → IsPair left right → (first second : PathView)
     → AreAtStart left.order right.order first second → (entries : List Entry) → IsLegal (tapes_of left right) (opening first second) entries
-    → Follows (list left.order) (list left.order) (stops_of One (traced (tapes_of left right) 0 (opening first second) entries))
-    × Follows (list right.order) (list right.order) (stops_of Two (traced (tapes_of left right) 0 (opening first second) entries))
+    → Follows (list left.order) (list left.order) (stops_of One (traced_lines (tapes_of left right) 0 (opening first second) entries))
+    × Follows (list right.order) (list right.order) (stops_of Two (traced_lines (tapes_of left right) 0 (opening first second) entries))
 follows left right left_law right_law pair first second at entries legal = (
-  subst (λ place. Follows (list left.order) (ahead left.order place) (stops_of One (traced (tapes_of left right) 0 (opening first second) entries))) at.one
+  subst (λ place. Follows (list left.order) (labels_ahead left.order place) (stops_of One (traced_lines (tapes_of left right) 0 (opening first second) entries))) at.one
       (follows_from One (tapes_of left right) left.order left_law pair.left_controlled 0 (opening first second) entries
       (subst (λ place. IsSide left.order place None false) (sym at.one) (start_side left.order)) legal),
-  subst (λ place. Follows (list right.order) (ahead right.order place) (stops_of Two (traced (tapes_of left right) 0 (opening first second) entries))) at.two
+  subst (λ place. Follows (list right.order) (labels_ahead right.order place) (stops_of Two (traced_lines (tapes_of left right) 0 (opening first second) entries))) at.two
       (follows_from Two (tapes_of left right) right.order right_law pair.right_controlled 0 (opening first second) entries
       (subst (λ place. IsSide right.order place None false) (sym at.two) (start_side right.order)) legal),
 )

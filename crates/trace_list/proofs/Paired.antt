@@ -26,7 +26,7 @@ use Rattle.two_path.proofs.Edited.{step_of_next}
 use Rattle.trace_list.specs.declared.looking.Look.{Look}
 use Rattle.trace_list.specs.declared.looking.Standing.{Standing}
 use Rattle.trace_list.specs.Meetings.{ArePaired, OpenWait, open_wait}
-use Rattle.trace_list.specs.Trace.{block_lines, is_same_point, is_same_way, look_of, met_after, moved_lines, path_in, says_speed, shift_lines, spindle_lines, standing_of, traced, turn_lines}
+use Rattle.trace_list.specs.Trace.{block_lines, is_same_point, is_same_way, look_of, met_after, moved_lines, path_in, says_speed, shift_lines, spindle_lines, standing_of, traced_lines, turn_lines}
 use Rattle.trace_list.specs.TraceText.{TraceLine, Shift, Spindle, Wait, Met, Raised, Ended}
 
 -- lines are in order, by the open wait of this path and that of the other one
@@ -231,15 +231,15 @@ entry_on tapes Two kind (Some edit) stamps met m after rest step p = p
 
 -- from any machine on, the lines of a legal history are in order with the waits that are open there
 paired_from : (tapes : Tapes) (met : ℕ) (m : MachineView) (entries : List Entry) → IsLegal tapes m entries
-    → ArePaired (open_in tapes One m) (open_in tapes Two m) met (traced tapes met m entries)
-unfolding traced
+    → ArePaired (open_in tapes One m) (open_in tapes Two m) met (traced_lines tapes met m entries)
+unfolding traced_lines
 paired_from tapes met m [] legal = tt
 paired_from tapes met m (e ∷ entries) legal =
     entry_on tapes e.path e.kind (edit_of e.kind) e.stamps met m (look_of (path_in e.path (behind_entry tapes e m)))
-    (traced tapes (met_after met (turn_of_entry tapes e m)) (behind_entry tapes e m) entries) (λ step. step_of_next tapes m e step legal.0)
+    (traced_lines tapes (met_after met (turn_of_entry tapes e m)) (behind_entry tapes e m) entries) (λ step. step_of_next tapes m e step legal.0)
     (paired_from tapes (met_after met (turn_of_entry tapes e m)) (behind_entry tapes e m) entries legal.1)
 
 -- in the trace of a legal history each meeting closes the open waits of both paths
 pub paired : (tapes : Tapes) (first second : PathView) (entries : List Entry) → IsLegal tapes (opening first second) entries
-    → ArePaired None None 0 (traced tapes 0 (opening first second) entries)
+    → ArePaired None None 0 (traced_lines tapes 0 (opening first second) entries)
 paired tapes first second entries legal = paired_from tapes 0 (opening first second) entries legal

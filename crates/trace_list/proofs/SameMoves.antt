@@ -10,7 +10,7 @@ use Rattle.nc_number.specs.declared.point.Point.{Point}
 use Rattle.nc_moves.specs.declared.motion.Move.{Move}
 use Rattle.nc_moves.specs.declared.motion.Moves.{Moves}
 use Rattle.nc_outside.specs.declared.lined_move.LinedMove.{LinedMove}
-use Rattle.nc_outside.specs.Lined.{lined, lined_move}
+use Rattle.nc_outside.specs.Lined.{lined_moves, lined_move}
 use Rattle.run_records.specs.Entries.{Entry}
 use Rattle.two_path.specs.declared.turn.Turn.{Turn}
 use Rattle.two_path.specs.declared.turn.Turn.TheVariants as turn
@@ -18,11 +18,11 @@ use Rattle.two_path.specs.Machine.{MachineView}
 use Rattle.two_path.specs.Turns.{Tapes}
 use Rattle.two_path.specs.Histories.{behind_entry}
 use Rattle.two_path.specs.Again.{turn_of_entry}
-use Rattle.two_path.specs.Made.{made_by, made_in, moves_in, moves_of, turns_from}
+use Rattle.two_path.specs.Made.{moves_made_by, moves_made_in, moves_in, moves_of, turns_from}
 use Rattle.trace_list.specs.declared.looking.Look.{Look}
 use Rattle.trace_list.specs.declared.looking.Standing.{Standing}
 use Rattle.trace_list.specs.Laws.{move_of, moves_traced}
-use Rattle.trace_list.specs.Trace.{block_lines, is_same_point, is_same_way, lines_of, look_of, met_after, moved_lines, path_in, says_speed, shift_lines, spindle_lines, standing_of, traced, turn_lines}
+use Rattle.trace_list.specs.Trace.{block_lines, is_same_point, is_same_way, lines_of, look_of, met_after, moved_lines, path_in, says_speed, shift_lines, spindle_lines, standing_of, traced_lines, turn_lines}
 use Rattle.trace_list.specs.TraceText.{Shift, Spindle, Ended}
 
 -- these moves for one path (true), and none for the other
@@ -57,7 +57,7 @@ no_way path of line after true = refl
 no_way path of line after false = refl
 
 -- the lines of a block have its moves, if it is one of this path
-block_moves : (path of : Path) (moves : Moves) (before after : Look) → moves_traced path (block_lines of moves before after) ≡ chosen (is_same path of) (lined moves)
+block_moves : (path of : Path) (moves : Moves) (before after : Look) → moves_traced path (block_lines of moves before after) ≡ chosen (is_same path of) (lined_moves moves)
 block_moves path of moves before after =
     let shift = shift_lines of moves.line before.shift after.shift in
     let way = spindle_lines of moves before.surface after.surface in
@@ -70,7 +70,7 @@ block_moves path of moves before after =
 
 -- the lines of a turn have the moves that the turn made, if it is one of this path
 turn_moves : (path of : Path) (met : ℕ) (before : Standing) (after : Look) (t : Turn)
-    → moves_traced path (turn_lines of met before after t) ≡ chosen (is_same path of) (made_in t)
+    → moves_traced path (turn_lines of met before after t) ≡ chosen (is_same path of) (moves_made_in t)
 turn_moves path of met before after (turn.Read variable stamp) = sym (chosen_none (is_same path of))
 turn_moves path of met before after (turn.Did moves) = block_moves path of moves before.look after
 turn_moves path of met before after (turn.Arrived code) = sym (chosen_none (is_same path of))
@@ -86,12 +86,12 @@ turn_moves path of met before after turn.Edited = sym (chosen_none (is_same path
 
 -- the trace of a history has the moves of its report
 pub same_moves : (tapes : Tapes) (met : ℕ) (m : MachineView) (path : Path) (entries : List Entry)
-    → moves_traced path (traced tapes met m entries) ≡ moves_of tapes m path entries
-unfolding traced moves_in turns_from
+    → moves_traced path (traced_lines tapes met m entries) ≡ moves_of tapes m path entries
+unfolding traced_lines moves_in turns_from
 same_moves tapes met m path [] = refl
 same_moves tapes met m path (e ∷ entries) =
     let t = turn_of_entry tapes e m in
     let next = behind_entry tapes e m in
-    flat_map-append (move_of path) (lines_of tapes met m e) (traced tapes (met_after met t) next entries)
-    ∙ ap (λ (ms : List LinedMove). ms ++ moves_traced path (traced tapes (met_after met t) next entries)) (turn_moves path e.path met (standing_of tapes e.path m) (look_of (path_in e.path next)) t)
-    ∙ ap (λ (ms : List LinedMove). made_by path (record { path = e.path; turn = t }) ++ ms) (same_moves tapes (met_after met t) next path entries)
+    flat_map-append (move_of path) (lines_of tapes met m e) (traced_lines tapes (met_after met t) next entries)
+    ∙ ap (λ (ms : List LinedMove). ms ++ moves_traced path (traced_lines tapes (met_after met t) next entries)) (turn_moves path e.path met (standing_of tapes e.path m) (look_of (path_in e.path next)) t)
+    ∙ ap (λ (ms : List LinedMove). moves_made_by path (record { path = e.path; turn = t }) ++ ms) (same_moves tapes (met_after met t) next path entries)

@@ -107,10 +107,11 @@ lines_of tapes met m e =
     turn_lines e.path met (standing_of tapes e.path m) (look_of (path_in e.path (behind_entry tapes e m))) (turn_of_entry tapes e m)
 
 -- the events of a history, from a machine on at which there were so many meetings
-unfoldable pub traced : Tapes → ℕ → MachineView → List Entry → List TraceLine
-traced tapes met m [] = []
-traced tapes met m (e ∷ entries) =
-    lines_of tapes met m e ++ traced tapes (met_after met (turn_of_entry tapes e m)) (behind_entry tapes e m) entries
+unfoldable pub traced_lines : Tapes → ℕ → MachineView → List Entry → List TraceLine
+traced_lines tapes met m [] = []
+traced_lines tapes met m (e ∷ entries) =
+    lines_of tapes met m e ++ traced_lines tapes (met_after met (turn_of_entry tapes e m))
+    (behind_entry tapes e m) entries
 
 -- the lines of how a path begins that has this reference position
 abbrev pub begin_lines : Path → Point → PathView → List TraceLine
@@ -123,4 +124,4 @@ start_lines m = begin_lines One m.paths.one.path.fixed.home m.paths.one.path ++ 
 -- the trace of a history from a machine on, which ended so
 unfoldable pub trace_text : Tapes → MachineView → List Entry → Reason → List ℕ
 trace_text tapes m entries reason =
-    head_text ++ (lines_text (start_lines m ++ traced tapes 0 m entries) ++ end_text (length entries) reason)
+    head_text ++ (lines_text (start_lines m ++ traced_lines tapes 0 m entries) ++ end_text (length entries) reason)

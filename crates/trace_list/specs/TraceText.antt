@@ -8,7 +8,7 @@ use Rattle.nc_number.specs.declared.point.Point.{Point}
 use Rattle.nc_number.specs.Path.{number_of}
 use Rattle.nc_moves.specs.declared.alarm.Alarm.{Alarm}
 use Rattle.nc_outside.specs.declared.lined_move.LinedMove.{LinedMove}
-use Rattle.text_pieces.specs.Pieces.{code_text, numbered, point_text}
+use Rattle.text_pieces.specs.Pieces.{code_text, text_with_number, point_text}
 use Rattle.move_list.specs.EndText.{cause_text}
 use Rattle.move_list.specs.Report.{lined_text}
 
@@ -52,7 +52,8 @@ met_text number code = codes "met " ++ decimal number ++ codes " M" ++ code_text
 
 -- the lines of both waits of a meeting
 unfoldable pub waits_text : ℕ → ℕ → List ℕ
-waits_text one two = numbered (codes " path 1 line ") one ++ numbered (codes " path 2 line ") two ++ codes "\n"
+waits_text one two =
+    text_with_number (codes " path 1 line ") one ++ text_with_number (codes " path 2 line ") two ++ codes "\n"
 
 -- the line of an event, as it is printed
 unfoldable pub trace_line_text : TraceLine → List ℕ

@@ -17,7 +17,7 @@ ghost use Rattle.two_path.specs.Made.{moves_of};
 ghost use Rattle.trace_list.specs.Laws.{moves_traced};
 ghost use Rattle.trace_list.specs.Meetings.{ArePaired};
 ghost use Rattle.trace_list.specs.Stops.{Follows, stops_of};
-ghost use Rattle.trace_list.specs.Trace.{traced};
+ghost use Rattle.trace_list.specs.Trace.{traced_lines};
 
 use block_order::each_step_keeps_the_labels;
 
@@ -25,7 +25,7 @@ use block_order::each_step_keeps_the_labels;
 /// order and with the same lines.
 pub fn a_trace_has_the_moves_of_the_report()
     ensures { (tapes : Tapes) (met : ℕ) (m : MachineView) (path : Path) (entries : List Entry)
-        → moves_traced path (traced tapes met m entries) ≡ moves_of tapes m path entries }
+        → moves_traced path (traced_lines tapes met m entries) ≡ moves_of tapes m path entries }
 {}
 
 /// Each meeting in the trace of a legal history is of the open waits of both paths: it has their
@@ -34,7 +34,7 @@ pub fn a_trace_has_the_moves_of_the_report()
 pub fn meetings_are_numbered_and_paired()
     ensures { (tapes : Tapes) (first second : PathView) (entries : List Entry)
         → IsLegal tapes (opening first second) entries
-        → ArePaired None None 0 (traced tapes 0 (opening first second) entries) }
+        → ArePaired None None 0 (traced_lines tapes 0 (opening first second) entries) }
 {}
 
 /// The waits and the end of a path in the trace of a legal history of an accepted pair are labels
@@ -45,9 +45,9 @@ pub fn the_waits_of_a_trace_are_the_labels()
         → AreAtStart left.order right.order first second
         → (entries : List Entry) → IsLegal (tapes_of left right) (opening first second) entries
         → Follows (list left.order) (list left.order)
-        (stops_of One (traced (tapes_of left right) 0 (opening first second) entries))
+        (stops_of One (traced_lines (tapes_of left right) 0 (opening first second) entries))
         × Follows (list right.order) (list right.order)
-        (stops_of Two (traced (tapes_of left right) 0 (opening first second) entries)) }
+        (stops_of Two (traced_lines (tapes_of left right) 0 (opening first second) entries)) }
 {
     each_step_keeps_the_labels();
 }

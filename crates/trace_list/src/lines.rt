@@ -1,6 +1,7 @@
 //! The single lines of a trace, each as a piece of text. They are defined in specs/TraceText.antt.
 //! For this crate alone: blocks.rt and tracing.rt put them.
 ghost use Rattle.std.specs.Prelude.{◌≡◌, ◌+◌, ◌≤◌, ◌++◌, length};
+ghost use Rattle.text_pieces.specs.declared.piece.TheConstants.{MOST_BYTES};
 ghost use Rattle.trace_list.specs.TraceText.{event_text, head_text, met_text, path_text, point_line, trace_line_text, waits_text};
 ghost use Rattle.trace_list.specs.TraceText as said;
 
@@ -102,7 +103,7 @@ fn met(number: u64, code: u16) -> Piece
 /// The lines of both waits of a meeting.
 #[tactic(auto, unfolding(crate::specs::TraceText::waits_text))]
 fn add_waits(piece: &mut Piece, lines: Both<u32>)
-    requires { length piece.old + 80 ≤ 512 }
+    requires { length piece.old + 80 ≤ MOST_BYTES }
     ensures text { piece.new ≡ piece.old ++ waits_text lines.one lines.two }
     ensures size { length piece.new ≤ length piece.old + 80 }
 {

@@ -62,9 +62,11 @@ impl<K: Sink + Drop> LineTurret<K> {
     /// further one fails too, and writes nothing.
     fn write(&mut self, line: &Piece, what: &Got) -> Result<(), Failed>
         requires { line.now ≡ got_text what.now }
-        ensures ok { OnOk result (Receives (told_state self.old.told.got self.old.calls self.old.settles self.old.faults)
+        ensures ok { OnOk result (Receives
+            (told_state self.old.told.got self.old.calls self.old.settles self.old.faults)
             (told_state self.new.told.got self.new.calls self.new.settles self.new.faults) (what.now ∷ []) 1) }
-        ensures err { OnErr result (Receives (told_state self.old.told.got self.old.calls self.old.settles self.old.faults)
+        ensures err { OnErr result
+            (Receives (told_state self.old.told.got self.old.calls self.old.settles self.old.faults)
             (told_state self.new.told.got self.new.calls self.new.settles self.new.faults) [] 1) }
         ensures fault { CountsFault self.old.faults self.new.faults (IsErr result) }
     {

@@ -11,7 +11,7 @@ use Rattle.nc_outside.specs.Faults.{Rose, CountsFault}
 use Rattle.nc_outside.specs.Received.{TurretState, Adds, Receives}
 use Rattle.drive_line.specs.Driving.{DrivenState, has_failed, Serves}
 use Rattle.drive_line.proofs.Adding.{adds_none, adds_both}
-use Rattle.turret_run.specs.Served.{told, GetsFirst, GetsAll, GetsPart, FailsAmong, GetsSome, Misses}
+use Rattle.turret_run.specs.Served.{moves_told, GetsFirst, GetsAll, GetsPart, FailsAmong, GetsSome, Misses}
 
 -- a turret that was not called got a prefix of anything, the empty one
 pub not_called : (what : List Got) (a : TurretState) → GetsPart what a a
@@ -28,7 +28,7 @@ not_called what a = (
 )
 
 -- a turret that took the call with its place got its place
-pub placed : (at : Point) (a b : TurretState) → Receives a b (Placed at ∷ []) 1 → b.faults ≡ a.faults → GetsAll (told at []) a b
+pub placed : (at : Point) (a b : TurretState) → Receives a b (Placed at ∷ []) 1 → b.faults ≡ a.faults → GetsAll (moves_told at []) a b
 placed at a b got same = record {
   at_call = 0;
   settles = 0;
@@ -39,7 +39,7 @@ placed at a b got same = record {
 }
 
 -- a turret that failed at its place got nothing
-pub not_placed : (at : Point) (a b : TurretState) → Receives a b [] 1 → a.faults ≤ b.faults → Rose a.faults b.faults → FailsAmong (told at []) a b
+pub not_placed : (at : Point) (a b : TurretState) → Receives a b [] 1 → a.faults ≤ b.faults → Rose a.faults b.faults → FailsAmong (moves_told at []) a b
 not_placed at a b got later rose = (
   0,
   record {
@@ -62,18 +62,18 @@ take_map : (n : ℕ) (moves : List LinedMove) → map Moved (take n moves) ≡ t
 take_map n moves = sym (take-map (λ m. Moved m) n moves)
 
 -- a turret that was placed and then served moves got its place and those that it did not miss
-pub served : (at : Point) (moves : List LinedMove) (a b : TurretState) (d : DrivenState) → GetsAll (told at []) a b → Serves moves b d
-    → GotBy (has_failed d.phase) d.missed (told at moves) a d.state
+pub served : (at : Point) (moves : List LinedMove) (a b : TurretState) (d : DrivenState) → GetsAll (moves_told at []) a b → Serves moves b d
+    → GotBy (has_failed d.phase) d.missed (moves_told at moves) a d.state
 served at moves a b d place s =
-    let long : length (told at moves) ≡ 1 + length moves = let l = length-map moves (λ m. Moved m) in omega (arith, l) in
+    let long : length (moves_told at moves) ≡ 1 + length moves = let l = length-map moves (λ m. Moved m) in omega (arith, l) in
     let both = s.all in
     let within = s.within in
     let same = place.counted.kept (λ p. true≢false (sym p)) in
     let few = place.few in
     let calls : (1 + place.at_call) + (d.taken + s.at_call) ≡ 1 + d.taken + s.at_call = omega (arith, few) in
     let one : 1 + d.taken ≡ suc d.taken = omega arith in
-    let gots : Placed at ∷ map Moved (take d.taken moves) ≡ take (1 + d.taken) (told at moves) =
-    ap (λ l. Placed at ∷ l) (take_map d.taken moves) ∙ ap (λ k. take k (told at moves)) (sym one) in (
+    let gots : Placed at ∷ map Moved (take d.taken moves) ≡ take (1 + d.taken) (moves_told at moves) =
+    ap (λ l. Placed at ∷ l) (take_map d.taken moves) ∙ ap (λ k. take k (moves_told at moves)) (sym one) in (
       1 + d.taken,
       omega (arith, both, long),
       s.none,

@@ -31,8 +31,8 @@ use Rattle.run_table.specs.Made.{moves_made}
 use Rattle.run_table.specs.Recording.{RecordingView, Follows}
 use Rattle.run_table.specs.Running.{EndsBy, IsNoneOrAlarm}
 use Rattle.run_table.specs.Since.{Since}
-use Rattle.turret_run.specs.Served.{told, GetsAll, GetsPart, FailsAmong, Misses}
-use Rattle.turret_run.specs.Runs.{due, GetsAt, GetsBeside, StandsBeside, none_missed, Stays, HasEnded, HasFailed, IsNotPlaced, RunsWith}
+use Rattle.turret_run.specs.Served.{moves_told, GetsAll, GetsPart, FailsAmong, Misses}
+use Rattle.turret_run.specs.Runs.{due_to_turret, GetsAt, GetsBeside, StandsBeside, none_missed, Stays, HasEnded, HasFailed, IsNotPlaced, RunsWith}
 use Rattle.turret_run.specs.Rests.{ArePlaced, FailsAtPlace, first_by, first_failed, HasCause}
 use Rattle.turret_run.proofs.TurretsGet.{GotBy, served, all_of, fails_of, some_of, misses_of, either_of}
 
@@ -94,10 +94,10 @@ module _ {D : Type 0} (state : D → DiskState) (limit : ℕ) (old ready : Table
       (e.0, subst (λ (file : Gate D). Rose (state file.disk).faults (state new.recording.log.file.disk).faults) stays.file e.1)
 
   -- what is due to a turret of the ready table is due by the old one
-  pub due_ready : (path : Path) (new : TableView D) → due path ready new ≡ due path old new
+  pub due_ready : (path : Path) (new : TableView D) → due_to_turret path ready new ≡ due_to_turret path old new
   due_ready path new =
-      ap (λ (m : MachineView). due path (record ready { machine = m }) new) stays.machine
-      ∙ ap (λ (n : ℕ). told (position_of path old.machine) (moves_made new.verified path n new.recording.flushed new.recording.history)) (ap length stays.history)
+      ap (λ (m : MachineView). due_to_turret path (record ready { machine = m }) new) stays.machine
+      ∙ ap (λ (n : ℕ). moves_told (position_of path old.machine) (moves_made new.verified path n new.recording.flushed new.recording.history)) (ap length stays.history)
 
   -- what stays of the ready table stays of the old one
   stays_ready : (new : TableView D) → Stays ready new → Stays old new
@@ -112,9 +112,9 @@ module _ {D : Type 0} (state : D → DiskState) (limit : ℕ) (old ready : Table
   }
 
   -- what holds beside a failed turret for the ready table holds for the old one
-  stands_ready : (path other : Path) (a b : TurretState) → StandsBeside path (told (position_of other ready.machine) []) a b → StandsBeside path (told (position_of other old.machine) []) a b
+  stands_ready : (path other : Path) (a b : TurretState) → StandsBeside path (moves_told (position_of other ready.machine) []) a b → StandsBeside path (moves_told (position_of other old.machine) []) a b
   stands_ready One other a b same = same
-  stands_ready Two other a b place = subst (λ (m : MachineView). GetsAll (told (position_of other m) []) a b) stays.machine place
+  stands_ready Two other a b place = subst (λ (m : MachineView). GetsAll (moves_told (position_of other m) []) a b) stays.machine place
 
   -- how the run of the ready table ended is how that of the old one did
   ended_ready : (new : TableView D) (before after : Both TurretState) (missed : Both ℕ) (end : Reason) → HasEnded state ready.budget ready new before after missed end
@@ -145,7 +145,7 @@ module _ {D : Type 0} (state : D → DiskState) (limit : ℕ) (old ready : Table
     since = since_ready new r.since;
     same = stays_ready new r.same;
     disk = r.disk;
-    failed = subst (λ (m : MachineView). FailsAmong (told (position_of path m) []) (of_path before path) (of_path after path)) stays.machine r.failed;
+    failed = subst (λ (m : MachineView). FailsAmong (moves_told (position_of path m) []) (of_path before path) (of_path after path)) stays.machine r.failed;
     other = stands_ready path (other_of path) (of_path before (other_of path)) (of_path after (other_of path)) r.other;
     none = r.none;
   }
@@ -162,7 +162,7 @@ module _ {D : Type 0} (state : D → DiskState) (limit : ℕ) (old ready : Table
   runs_ready new before after missed (Ok (reason.TurretFault path)) (inr r) = inr (unplaced_ready new before after missed path r)
   runs_ready new before after missed (Err none) r = record {
     same = stays_ready new r.same;
-    turrets = λ path. subst (λ (m : MachineView). GetsPart (told (position_of path m) []) (of_path before path) (of_path after path)) stays.machine (r.turrets path);
+    turrets = λ path. subst (λ (m : MachineView). GetsPart (moves_told (position_of path m) []) (of_path before path) (of_path after path)) stays.machine (r.turrets path);
     none = r.none;
   }
 
@@ -222,8 +222,8 @@ module _ {D : Type 0} (state : D → DiskState) (opened : Option (TableView D)) 
   taken_since = subst (λ o. IsOf state o taken) is of
 
   -- a turret that was placed and then served the records got what is due but what it missed
-  pub got : (path : Path) (before now : TurretState) (d : DrivenState) → GetsAll (told (position_of path start.machine) []) before now
-      → Serves (moves_in (records_since opened held path)) now d → GotBy (has_failed d.phase) d.missed (due path start taken) before d.state
+  pub got : (path : Path) (before now : TurretState) (d : DrivenState) → GetsAll (moves_told (position_of path start.machine) []) before now
+      → Serves (moves_in (records_since opened held path)) now d → GotBy (has_failed d.phase) d.missed (due_to_turret path start taken) before d.state
   got path before now d place s =
       let at : Serves (moves_in (records_since (Some start) held path)) now d = subst (λ o. Serves (moves_in (records_since o held path)) now d) is s in
       let moves = moves_made taken.verified path (length start.recording.history) taken.recording.flushed taken.recording.history in
@@ -231,7 +231,7 @@ module _ {D : Type 0} (state : D → DiskState) (opened : Option (TableView D)) 
       served (position_of path start.machine) moves before now d place (subst (λ ms. Serves ms now d) told_of at)
 
 -- a turret that was placed and got no move got no more than its place
-pub placed_only : (m : MachineView) (before now : Both TurretState) → ArePlaced m before now → (path : Path) → GetsPart (told (position_of path m) []) (of_path before path) (of_path now path)
+pub placed_only : (m : MachineView) (before now : Both TurretState) → ArePlaced m before now → (path : Path) → GetsPart (moves_told (position_of path m) []) (of_path before path) (of_path now path)
 placed_only m before now placed path = (1, placed path)
 
 -- a turret failed at its place, and nothing else was done
@@ -243,7 +243,7 @@ module _ {D : Type 0} (state : D → DiskState) (limit : ℕ) (old ready : Table
     since = since_ready state limit old ready stays leave ready itself;
     same = stays;
     disk = subst (λ h. h ≢ Some halt.Disk) (sym stays.halt) (calm_is_no_disk old.halt may);
-    failed = subst (λ (m : MachineView). FailsAmong (told (position_of path m) []) (of_path before path) (of_path after path)) stays.machine f.0;
+    failed = subst (λ (m : MachineView). FailsAmong (moves_told (position_of path m) []) (of_path before path) (of_path after path)) stays.machine f.0;
     other = stands_ready state limit old ready stays leave path (other_of path) (of_path before (other_of path)) (of_path after (other_of path)) f.1;
     none = refl;
   }
@@ -273,31 +273,31 @@ module _ {D : Type 0} (held : HeldView D) where
 -- the end of a run, by the cause that the turns after the threads found
 module _ {D : Type 0} (state : D → DiskState) (start taken : TableView D) (since : Since state start taken) (held : HeldView D) (before after : Both TurretState) (failed : Both Bool) (missed : Both ℕ)
     (ends : (end : Reason) → Ends held end → EndsBy state start taken end) (halt_is : taken.halt ≡ without_turret held.halt) (file_is : taken.recording.log.file ≡ held.file)
-    (gots : (path : Path) → GotBy (of_path failed path) (of_path missed path) (due path start taken) (of_path before path) (of_path after path)) where
+    (gots : (path : Path) → GotBy (of_path failed path) (of_path missed path) (due_to_turret path start taken) (of_path before path) (of_path after path)) where
   -- each turret missed what it did not get
-  misses : (path : Path) → Misses (due path start taken) (of_path missed path) (of_path before path) (of_path after path)
-  misses path = misses_of (of_path failed path) (of_path missed path) (due path start taken) (of_path before path) (of_path after path) (gots path)
+  misses : (path : Path) → Misses (due_to_turret path start taken) (of_path missed path) (of_path before path) (of_path after path)
+  misses path = misses_of (of_path failed path) (of_path missed path) (due_to_turret path start taken) (of_path before path) (of_path after path) (gots path)
 
   -- a turret that did not fail got all
-  gets_all : (path : Path) → of_path failed path ≡ false → GetsAll (due path start taken) (of_path before path) (of_path after path)
-  gets_all path none = all_of (of_path failed path) (of_path missed path) (due path start taken) (of_path before path) (of_path after path) (gots path) none
+  gets_all : (path : Path) → of_path failed path ≡ false → GetsAll (due_to_turret path start taken) (of_path before path) (of_path after path)
+  gets_all path none = all_of (of_path failed path) (of_path missed path) (due_to_turret path start taken) (of_path before path) (of_path after path) (gots path) none
 
   -- at an end for which no turret failed, each turret got what such an end asks for
   ended_at : (end : Reason) → (end ≢ reason.DiskFault → first_failed failed ≡ None) → (path : Path)
-      → GetsAt end (due path start taken) (of_path before path) (of_path after path)
+      → GetsAt end (due_to_turret path start taken) (of_path before path) (of_path after path)
   ended_at (reason.Alarm alarm) none path = gets_all path (none_failed failed (none (λ is. absurd cc)) path)
   ended_at reason.Done none path = gets_all path (none_failed failed (none (λ is. absurd cc)) path)
   ended_at reason.Full none path = gets_all path (none_failed failed (none (λ is. absurd cc)) path)
   ended_at reason.Stopped none path = gets_all path (none_failed failed (none (λ is. absurd cc)) path)
   ended_at (reason.TurretFault which) none path = gets_all path (none_failed failed (none (λ is. absurd cc)) path)
-  ended_at reason.DiskFault none path = some_of (of_path failed path) (of_path missed path) (due path start taken) (of_path before path) (of_path after path) (gots path)
+  ended_at reason.DiskFault none path = some_of (of_path failed path) (of_path missed path) (due_to_turret path start taken) (of_path before path) (of_path after path) (gots path)
 
   -- the turret that is named as failed got a prefix, and the other one all, or it failed too
-  failed_at : (path : Path) → first_failed failed ≡ Some path → FailsAmong (due path start taken) (of_path before path) (of_path after path)
-      × GetsBeside path (due (other_of path) start taken) (of_path before (other_of path)) (of_path after (other_of path))
+  failed_at : (path : Path) → first_failed failed ≡ Some path → FailsAmong (due_to_turret path start taken) (of_path before path) (of_path after path)
+      × GetsBeside path (due_to_turret (other_of path) start taken) (of_path before (other_of path)) (of_path after (other_of path))
   failed_at One is = (
-    fails_of failed.one missed.one (due One start taken) before.one after.one (gots One) (one_failed failed.one failed.two is),
-    either_of failed.two missed.two (due Two start taken) before.two after.two (gots Two),
+    fails_of failed.one missed.one (due_to_turret One start taken) before.one after.one (gots One) (one_failed failed.one failed.two is),
+    either_of failed.two missed.two (due_to_turret Two start taken) before.two after.two (gots Two),
   )
     where
       one_failed : (l r : Bool) → first_by l r ≡ Some One → l ≡ true
@@ -306,7 +306,7 @@ module _ {D : Type 0} (state : D → DiskState) (start taken : TableView D) (sin
       one_failed false false e = absurd cc
   failed_at Two is =
       let b = two_failed failed.one failed.two is in (
-        fails_of failed.two missed.two (due Two start taken) before.two after.two (gots Two) b.1,
+        fails_of failed.two missed.two (due_to_turret Two start taken) before.two after.two (gots Two) b.1,
         gets_all One b.0,
       )
     where

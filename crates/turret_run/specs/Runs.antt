@@ -19,12 +19,12 @@ use Rattle.run_table.specs.Kept.{TableView}
 use Rattle.run_table.specs.Made.{moves_made}
 use Rattle.run_table.specs.Running.{EndsBy}
 use Rattle.run_table.specs.Since.{Since}
-use Rattle.turret_run.specs.Served.{told, GetsAll, GetsPart, GetsSome, FailsAmong, Misses}
+use Rattle.turret_run.specs.Served.{moves_told, GetsAll, GetsPart, GetsSome, FailsAmong, Misses}
 
 -- What is due to the turret of a path: its place at the beginning, and the moves of the path's
 -- records since then that are on the disk at the end.
-abbrev pub due : {D : Type 0} → Path → TableView D → TableView D → List Got
-due path old new = told (position_of path old.machine)
+abbrev pub due_to_turret : {D : Type 0} → Path → TableView D → TableView D → List Got
+due_to_turret path old new = moves_told (position_of path old.machine)
     (moves_made new.verified path (length old.recording.history) new.recording.flushed new.recording.history)
 
 -- What a turret got at an end of the run that is no fault of a turret: all that is due. If the disk
@@ -78,9 +78,9 @@ module _ {D : Type 0} (state : D → DiskState) (limit : ℕ) (old new : TableVi
     -- the run ended for this reason
     pub ends : EndsBy state old new end
     -- what each turret got of what is due to it
-    pub turrets : (path : Path) → GetsAt end (due path old new) (of_path before path) (of_path after path)
+    pub turrets : (path : Path) → GetsAt end (due_to_turret path old new) (of_path before path) (of_path after path)
     -- how much of what is due each turret missed
-    pub misses : (path : Path) → Misses (due path old new) (of_path missed path) (of_path before path) (of_path after path)
+    pub misses : (path : Path) → Misses (due_to_turret path old new) (of_path missed path) (of_path before path) (of_path after path)
 
   -- A turret failed after its place, and no call of the disk failed.
   pub record HasFailed (path : Path) : Type 0 where
@@ -91,11 +91,11 @@ module _ {D : Type 0} (state : D → DiskState) (limit : ℕ) (old new : TableVi
     -- no call of the disk failed
     pub calm : (state new.recording.log.file.disk).faults ≡ (state old.recording.log.file.disk).faults
     -- the turret of this path got a prefix of what is due to it, and failed
-    pub failed : FailsAmong (due path old new) (of_path before path) (of_path after path)
+    pub failed : FailsAmong (due_to_turret path old new) (of_path before path) (of_path after path)
     -- what the other turret got
-    pub other : GetsBeside path (due (other_of path) old new) (of_path before (other_of path)) (of_path after (other_of path))
+    pub other : GetsBeside path (due_to_turret (other_of path) old new) (of_path before (other_of path)) (of_path after (other_of path))
     -- how much of what is due each turret missed
-    pub misses : (p : Path) → Misses (due p old new) (of_path missed p) (of_path before p) (of_path after p)
+    pub misses : (p : Path) → Misses (due_to_turret p old new) (of_path missed p) (of_path before p) (of_path after p)
 
   -- A turret failed at its place: the table is as it was, no turret got a move, and the other one
   -- got no more than its place.
@@ -107,9 +107,9 @@ module _ {D : Type 0} (state : D → DiskState) (limit : ℕ) (old new : TableVi
     -- the table keeps no fault of the disk
     pub disk : new.halt ≢ Some Disk
     -- the turret of this path failed at its place
-    pub failed : FailsAmong (told (position_of path old.machine) []) (of_path before path) (of_path after path)
+    pub failed : FailsAmong (moves_told (position_of path old.machine) []) (of_path before path) (of_path after path)
     -- what the other turret got
-    pub other : StandsBeside path (told (position_of (other_of path) old.machine) []) (of_path before (other_of path)) (of_path after (other_of path))
+    pub other : StandsBeside path (moves_told (position_of (other_of path) old.machine) []) (of_path before (other_of path)) (of_path after (other_of path))
     -- no move was missed
     pub none : missed ≡ none_missed
 
@@ -119,7 +119,7 @@ module _ {D : Type 0} (state : D → DiskState) (limit : ℕ) (old new : TableVi
     -- the table is as it was
     pub same : Stays old new
     -- each turret got its place at most
-    pub turrets : (path : Path) → GetsPart (told (position_of path old.machine) []) (of_path before path) (of_path after path)
+    pub turrets : (path : Path) → GetsPart (moves_told (position_of path old.machine) []) (of_path before path) (of_path after path)
     -- no move was missed
     pub none : missed ≡ none_missed
 

@@ -8,7 +8,7 @@ use Rattle.drive_line.specs.Driving.{has_failed}
 use Rattle.drive_line.specs.Line.{Sending, Taking}
 use Rattle.nc_number.specs.declared.path.Path.{Path}
 use Rattle.nc_outside.specs.declared.halt.Halt.{Halt}
-use Rattle.seat_table.specs.Passes.{Pass, Halter, fresh, fresh_halter}
+use Rattle.seat_table.specs.Passes.{Pass, Halter, fresh_pass, fresh_halter}
 
 -- the two ends of one line to which no move was given yet
 abbrev pub AreNewEnds : Sending → Taking → Type 0
@@ -28,7 +28,7 @@ pub record AreOf (table : TableId) (path : Path) (pass : Pass) (halter : Halter)
 -- both passes are new: no step was made by them, and they halted nothing
 pub record AreFresh (table : TableId) (path : Path) (pass : Pass) (halter : Halter) : Type 0 where
   -- the worker's pass lists no step
-  pub pass_is : pass ≡ fresh table path
+  pub pass_is : pass ≡ fresh_pass table path
   -- the drive's pass has halted nothing
   pub halter_is : halter ≡ fresh_halter table path
 

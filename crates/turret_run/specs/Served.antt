@@ -10,8 +10,8 @@ use Rattle.nc_outside.specs.Received.{TurretState, Adds}
 use Rattle.drive_line.specs.Driving.{most}
 
 -- a place and then these moves, as a turret gets them
-abbrev pub told : Point → List LinedMove → List Got
-told at moves = Placed at ∷ map Moved moves
+abbrev pub moves_told : Point → List LinedMove → List Got
+moves_told at moves = Placed at ∷ map Moved moves
 
 -- A turret got the first n of these, a call each. If it failed, that was at one call more, for
 -- the next of them, or at a settle. Only then its count of faults rose.

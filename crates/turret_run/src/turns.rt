@@ -6,7 +6,7 @@ ghost use Rattle.drive_line.specs.Driving.{Serves};
 ghost use Rattle.turret_run.specs.Draining.{IsDrained};
 ghost use Rattle.nc_number.specs.declared.path.Path.{Path as OnePath};
 ghost use Rattle.nc_outside.specs.declared.lined_move.LinedMove.{LinedMove as Lined};
-ghost use Rattle.nc_outside.specs.Lined.{lined};
+ghost use Rattle.nc_outside.specs.Lined.{lined_moves};
 ghost use Rattle.nc_outside.specs.Received.{TurretState};
 ghost use Rattle.turret_run.specs.Rests.{ServesOn};
 
@@ -20,7 +20,7 @@ use std::sync::Wait;
 /// Hands the moves of a block on to the turret, in order, until it fails.
 fn hand_all<R: Wait, T: Turret>(rt: &R, block: &Moves, driven: &mut Driven<T>)
     ensures { (moves : List Lined) (start : TurretState)
-        → Serves moves start driven.old → Serves (moves ++ lined block.now) start driven.new }
+        → Serves moves start driven.old → Serves (moves ++ lined_moves block.now) start driven.new }
 {
     for what in block.list.as_slice() {
         let what = LinedMove {

@@ -6,7 +6,7 @@ use Rattle.block_order.specs.declared.control.Control.{Control}
 use Rattle.block_order.specs.declared.control.Control.TheVariants.{Wait, End, Back}
 use Rattle.block_order.specs.declared.frame.Frame.{Frame}
 use Rattle.block_order.specs.declared.program.ControlProgram.{ControlProgram}
-use Rattle.block_order.specs.Steps.{standing}
+use Rattle.block_order.specs.Steps.{control_of_place}
 use Rattle.run_records.specs.declared.entry.EntryKind.{EntryKind}
 use Rattle.run_records.specs.declared.entry.EntryKind.TheVariants as kind
 use Rattle.tape_flow.specs.Places.{label_of, label_at}
@@ -49,10 +49,10 @@ ended_at caller s k is end = ended_is k (ap (λ x. changes_only_by (label_of cal
 -- A path that changes only by a record of this kind stays as it was if its block makes none: of
 -- a wait nothing is done, no block follows an end, and a path ends only at one.
 pub stays : (tape : List ControlProgram) (blocks : Blocks) (k : EntryKind) (caller : Option Frame) (before now other : Part) (answer : BlockAnswer) (moves : List Move)
-    → changes_only_by (label_of caller (standing tape before.path.place)) k ≡ true
+    → changes_only_by (label_of caller (control_of_place tape before.path.place)) k ≡ true
     → GoesAsOrdered tape before.path (blocks.effect before.path before.values)
-    → ((code : ℕ) → standing tape before.path.place ≡ Some (Wait code) → blocks.effect before.path before.values ≡ AtWait code)
-    → (standing tape before.path.place ≡ Some End → (after : PathView) (write : Option Write) (moves : List Move)
+    → ((code : ℕ) → control_of_place tape before.path.place ≡ Some (Wait code) → blocks.effect before.path before.values ≡ AtWait code)
+    → (control_of_place tape before.path.place ≡ Some End → (after : PathView) (write : Option Write) (moves : List Move)
     → blocks.effect before.path before.values ≡ Done after write moves → ⊥)
     → HasTaken blocks before now answer moves
     → (kind_of_block blocks before other ≡ Some k → ⊥) → now ≡ before
@@ -63,11 +63,11 @@ stays tape blocks k caller before now other (answer.AtWait code) moves only goes
 stays tape blocks k caller before now other (answer.Alarm cause value) moves only goes wait ends taken differs =
     taken.rest ∙ ap (λ (p : PathView). record before { path = p }) taken.stays
 stays tape blocks k caller before now other (answer.Done write) moves only goes wait ends taken differs =
-    let did : k ≡ kind.Did = did_at caller (standing tape before.path.place) k only
+    let did : k ≡ kind.Did = did_at caller (control_of_place tape before.path.place) k only
     (λ code at. let waits : Done now.path (write_seen write) moves ≡ AtWait code = taken.effect ∙ wait code at in cc)
     (λ at. ends at now.path (write_seen write) moves (sym taken.effect)) in
     absurd (differs (ap (λ (e : Effect). kind_of_effect e other.waiting) (sym taken.effect) ∙ ap Some (sym did)))
 stays tape blocks k caller before now other answer.AtEnd moves only goes wait ends taken differs =
     let at : GoesAsOrdered tape before.path (AtEnd now.path moves) = subst (GoesAsOrdered tape before.path) (sym taken.effect) goes in
     absurd (differs (ap (λ (e : Effect). kind_of_effect e other.waiting) (sym taken.effect)
-    ∙ ap Some (sym (ended_at caller (standing tape before.path.place) k only at.0))))
+    ∙ ap Some (sym (ended_at caller (control_of_place tape before.path.place) k only at.0))))

@@ -18,11 +18,11 @@ use Rattle.macro_eval.specs.declared.scope.Look.TheVariants as look
 use Rattle.macro_eval.specs.declared.scope.VarFault.{VarFault}
 use Rattle.macro_eval.specs.declared.scope.Eval.{Eval}
 use Rattle.macro_eval.specs.declared.scope.Eval.TheVariants.{Got, Need, Fault}
-use Rattle.macro_eval.specs.Meaning.{Answer, made, function_value, operator_value, whole_or_alarm, whole_number, named_by, variable_number, seen, looked_by, looked_up, then_with, meaning}
+use Rattle.macro_eval.specs.Meaning.{Answer, eval_of_number, function_value, operator_value, whole_or_alarm, whole_number, named_by, variable_number, answer_of_look, looked_by, looked_up, then_with, meaning}
 use Rattle.path_state.specs.View.{Fixed, PathView}
 use Rattle.path_state.specs.Looks.{look_of}
-use Rattle.block_values.specs.Outcomes.{Outcome, Gives, Needs, Alarms, ◌>>=◌, reading_none, answered}
-use Rattle.path_state.specs.Said.{evaluated}
+use Rattle.block_values.specs.Outcomes.{Outcome, Gives, Needs, Alarms, ◌>>=◌, reading_none, outcome_of_answer}
+use Rattle.path_state.specs.Said.{value_of_tree}
 
 -- the number of another alarm than that of waits that differ
 abbrev pub IsOther : ℕ → Type 0
@@ -101,12 +101,12 @@ answer_behind (Need n, left) next first further = tt
 answer_behind (Fault n, left) next first further = first
 
 -- a calculation raises another alarm, if any
-made_other : (r : Result ℤ NumberFault) → IsOtherEval (made r)
+made_other : (r : Result ℤ NumberFault) → IsOtherEval (eval_of_number r)
 made_other (Ok z) = tt
 made_other (Err f) = fault_other f
 
 -- a look at a variable raises another alarm, if any
-seen_other : (found : Result Look VarFault) (n : ℕ) (reads : List Var) → IsOtherEval (seen found n reads).0
+seen_other : (found : Result Look VarFault) (n : ℕ) (reads : List Var) → IsOtherEval (answer_of_look found n reads).0
 seen_other (Ok (look.Is v)) n reads = tt
 seen_other (Ok look.Shared) n [] = tt
 seen_other (Ok look.Shared) n (v ∷ left) = tt
@@ -138,13 +138,13 @@ module _ (table : ℕ → Result Look VarFault) where
       (λ w rest. made_other (operator_value op (or_zero v) (or_zero w))))
 
 -- the answer of an expression, as an outcome, raises another alarm, if any
-answered_other : (a : Answer) → IsOtherEval a.0 → IsOtherAlarm (answered a)
+answered_other : (a : Answer) → IsOtherEval a.0 → IsOtherAlarm (outcome_of_answer a)
 answered_other (Got v, left) other = tt
 answered_other (Need n, left) other = tt
 answered_other (Fault n, left) other = other
 
 -- an expression of a path raises another alarm, if any
 pub tree_other : (fixed : Fixed) (path : PathView) (tree : Tree) (reads : List Var)
-    → IsOtherAlarm (evaluated fixed path tree reads)
+    → IsOtherAlarm (value_of_tree fixed path tree reads)
 tree_other fixed path tree reads =
     answered_other (meaning (look_of fixed path) tree reads) (meaning_other (look_of fixed path) tree reads)

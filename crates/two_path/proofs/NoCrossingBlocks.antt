@@ -31,15 +31,15 @@ use Rattle.macro_expr.specs.Tree.{sentence_of}
 use Rattle.tape_flow.specs.declared.flow.Flow.{Flow}
 use Rattle.path_state.specs.View.{Fixed, PathView}
 use Rattle.block_values.specs.Outcomes.{Outcome, Gives, Needs, Alarms}
-use Rattle.path_state.specs.Said.{evaluated}
-use Rattle.block_values.specs.Values.{Values, Sense, nothing_said, is_meant, with_word, taken, computed, taken_var}
+use Rattle.path_state.specs.Said.{value_of_tree}
+use Rattle.block_values.specs.Values.{Values, Sense, nothing_said, is_meant, with_word, values_with, computed_literal, taken_var}
 use Rattle.path_state.specs.Said.{sense_of, word_taken, words_taken}
 use Rattle.path_state.specs.Said.{argument_taken, arguments_taken}
 use Rattle.block_values.specs.Motion.{Motion, motion_kind, motion_of}
 use Rattle.path_state.specs.Standing.{Standing, standing_of, standing_behind}
 use Rattle.path_state.specs.Statements.{After, statement_effect}
 use Rattle.block_values.specs.InForce.{modal_words, unless_fault, modal_after}
-use Rattle.path_state.specs.Effect.{Effect, Moved, after_motion, motion_with, acted, done_by, controlled, of_moved, of_values, of_arguments, of_purpose, block_of_words, of_after, effect_of_body, effect_of_block, block_at}
+use Rattle.path_state.specs.Effect.{Effect, Moved, after_motion, motion_with, effect_of_words, done_by, effect_of_control, of_moved, of_values, of_arguments, of_purpose, block_of_words, of_after, effect_of_body, effect_of_block, block_at}
 use Rattle.path_state.specs.Effect as effect
 use Rattle.two_path.specs.Turns.{blocks_of}
 use Rattle.two_path.specs.Stuck.{RaisesNoCrossing}
@@ -58,7 +58,7 @@ IsOtherEffect (effect.Alarm number value) = IsOther number
 IsOtherEffect _ = Unit {0}
 
 -- the taking of a word that is written out raises another alarm, if any
-taken_other : (sense : Sense) (letter : ℕ) (literal : Literal) (values : Values) → IsOtherCause (taken sense letter literal values)
+taken_other : (sense : Sense) (letter : ℕ) (literal : Literal) (values : Values) → IsOtherCause (values_with sense letter literal values)
 taken_other sense letter literal values =
     either (λ (r : Result Values Cause). IsOtherCause r) (not (is_meant sense letter)) (Err UnknownCode) _ refl
     (either (λ (r : Result Values Cause). IsOtherCause r) (fits (range_of sense.purpose letter) literal)
@@ -68,7 +68,7 @@ taken_other sense letter literal values =
 taken_var_other : (sense : Sense) (letter : ℕ) (minus : Bool) (value : Var) (values : Values)
     → IsOtherCause (taken_var sense letter minus value values)
 taken_var_other sense letter minus Vacant values = tt
-taken_var_other sense letter minus (Is value) values = taken_other sense letter (computed minus value) values
+taken_var_other sense letter minus (Is value) values = taken_other sense letter (computed_literal minus value) values
 
 -- the modal state behind a block raises another alarm, if any
 modal_other : (modal : ModalView) (system : System) (words : List FlowWord) (values : Values)
@@ -96,7 +96,7 @@ motion_with_other fixed path system words values (Err number) other = other
 
 -- all that the words of a block do raises another alarm, if any
 acted_other : (fixed : Fixed) (path : PathView) (system : System) (words : List FlowWord) (values : Values)
-    → IsOtherNumber (acted fixed path system words values)
+    → IsOtherNumber (effect_of_words fixed path system words values)
 acted_other fixed path system words values =
     motion_with_other fixed path system words values (modal_after path.modal system words values)
     (modal_other path.modal system words values)
@@ -107,9 +107,9 @@ module _ (fixed : Fixed) (path : PathView) where
   word_other : (sense : Sense) (letter : ℕ) (value : WordValue) (values : Values) (reads : List Var)
       → IsOtherAlarm (word_taken fixed path sense letter value values reads)
   word_other sense letter (Written literal) values reads =
-      none_other (taken sense letter literal values) (taken_other sense letter literal values) reads
+      none_other (values_with sense letter literal values) (taken_other sense letter literal values) reads
   word_other sense letter (Computed minus tree) values reads =
-      alarm_behind (evaluated fixed path tree reads) _ (tree_other fixed path tree reads)
+      alarm_behind (value_of_tree fixed path tree reads) _ (tree_other fixed path tree reads)
       (λ value left. none_other (taken_var sense letter minus value values) (taken_var_other sense letter minus value values) left)
 
   -- all words of a block raise another alarm, if any
@@ -125,7 +125,7 @@ module _ (fixed : Fixed) (path : PathView) where
       → IsOtherAlarm (argument_taken fixed path letter value arguments reads)
   argument_other letter (Written literal) arguments reads = tt
   argument_other letter (Computed minus tree) arguments reads =
-      alarm_behind (evaluated fixed path tree reads) _ (tree_other fixed path tree reads) (λ value left. tt)
+      alarm_behind (value_of_tree fixed path tree reads) _ (tree_other fixed path tree reads) (λ value left. tt)
 
   -- all arguments of a call raise another alarm, if any
   arguments_other : (words : List FlowWord) (arguments reads : List Var)
@@ -144,7 +144,7 @@ module _ (tape : List ControlProgram) where
 
   -- a block whose moves are known, by its control, raises another alarm, if any
   controlled_other : (moved : Moved) (arguments : Option (List Var)) (c : Control)
-      → IsOtherEffect (controlled tape moved arguments c)
+      → IsOtherEffect (effect_of_control tape moved arguments c)
   controlled_other moved arguments control.End = tt
   controlled_other moved arguments c =
       done_other moved (standing_behind tape (standing_of moved.path) arguments c) (behind_other tape (standing_of moved.path) arguments c)
@@ -159,7 +159,7 @@ module _ (tape : List ControlProgram) where
       (values : Outcome Values)
       → IsOtherAlarm values → IsOtherEffect (of_values tape fixed path system words c values)
   values_other fixed path system words c (Gives values left) other =
-      moved_other c (acted fixed path system words values) (acted_other fixed path system words values)
+      moved_other c (effect_of_words fixed path system words values) (acted_other fixed path system words values)
   values_other fixed path system words c (Needs variable) other = tt
   values_other fixed path system words c (Alarms number value) other = other
 

@@ -18,7 +18,7 @@ use Rattle.motion_track.specs.Centre.{centre_of}
 use Rattle.motion_track.specs.Circle.{misses, arc_of}
 use Rattle.motion_track.specs.Cut.{at_feed, line_of, thread_of}
 use Rattle.motion_track.specs.Faults.{fault}
-use Rattle.motion_track.specs.Target.{in_travel, target_of, reached}
+use Rattle.motion_track.specs.Target.{in_travel, target_of, point_reached}
 use Rattle.turn_cycles.specs.declared.pass.CyclePass.{CyclePass}
 use Rattle.turn_cycles.specs.declared.rectangle.CycleKind.{CycleKind}
 use Rattle.turn_cycles.specs.Cycles.{cycle_of, cycle_moves}
@@ -31,7 +31,7 @@ use Rattle.offset_store.specs.Faults.{fault as offset_fault}
 use Rattle.offset_store.specs.Slots.{slot_of, slot_named}
 use Rattle.offset_store.specs.Table.{OffsetTable}
 use Rattle.block_values.specs.Values.{Values}
-use Rattle.block_values.specs.Motion.{Motion, motion_number, offset_number, x_axis, z_axis, block_motion, form_of, setting_of, set_motion, passed_motion, tracked, cut_motion, turret_motion, unless_incremental, motion_of}
+use Rattle.block_values.specs.Motion.{Motion, motion_number, offset_number, x_axis, z_axis, block_motion, form_of, setting_of, set_motion, passed_motion, motion_of_track, cut_motion, turret_motion, unless_incremental, motion_of}
 use Rattle.two_path.proofs.NoCrossing.{IsOtherError, either}
 use Rattle.two_path.proofs.NoCrossingStatements.{offset_alarm, in_range_other}
 
@@ -76,7 +76,7 @@ arc_other at to clockwise (Some centre) feed per_rev =
 
 -- the target of a block raises another alarm, if any
 target_other : (block : BlockMotion) → IsOtherMotion (target_in block)
-target_other block = travel_other (reached block.start block.shift block.x block.z)
+target_other block = travel_other (point_reached block.start block.shift block.x block.z)
 
 -- an arc by the words of a block raises another alarm, if any
 arc_in_other : (clockwise : Bool) (block : BlockMotion) → IsOtherMotion (arc_in clockwise block)
@@ -98,7 +98,7 @@ due_other kind.Thread block =
 due_other kind.Home block = error_behind motion_alarm (target_in block) _ (target_other block) (λ to. tt)
 due_other kind.Machine block =
     error_behind motion_alarm (target_of block.start origin block.x block.z) _
-    (travel_other (reached block.start origin block.x block.z)) (λ to. tt)
+    (travel_other (point_reached block.start origin block.x block.z)) (λ to. tt)
 due_other _ block = tt
 
 -- the moves of a code, due or not, raise another alarm, if any
@@ -127,7 +127,7 @@ passed_other (Ok pass) other = tt
 passed_other (Err f) other = other
 
 -- a list of moves, as a motion, keeps its fault
-tracked_other : (kept : Option Point) (r : Result (List Move) MotionFault) → IsOtherMotion r → IsOtherMotion (tracked kept r)
+tracked_other : (kept : Option Point) (r : Result (List Move) MotionFault) → IsOtherMotion r → IsOtherMotion (motion_of_track kept r)
 tracked_other kept (Ok moves) other = tt
 tracked_other kept (Err f) other = other
 

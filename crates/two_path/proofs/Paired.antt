@@ -13,8 +13,8 @@ use Rattle.nc_moves.specs.declared.motion.Move.{Move}
 use Rattle.block_order.specs.declared.control.Control.TheVariants as control
 use Rattle.block_order.specs.declared.label.Label.{Label}
 use Rattle.block_order.specs.declared.program.ControlProgram.{ControlProgram}
-use Rattle.block_order.specs.Labels.{ahead, list, start}
-use Rattle.block_order.specs.Steps.{Step, IsPlace, standing, place_behind, KeepsLabels}
+use Rattle.block_order.specs.Labels.{labels_ahead, list, start}
+use Rattle.block_order.specs.Steps.{Step, IsPlace, control_of_place, place_behind, KeepsLabels}
 use Rattle.run_records.specs.declared.edit.Edit.{Edit}
 use Rattle.path_state.specs.View.{PathView}
 use Rattle.path_state.specs.Statements.{Write as Written}
@@ -39,14 +39,14 @@ AreLed tape blocks = (path : PathView) (values : List Var) → GoesAsOrdered tap
 -- an end if it has ended
 record IsSide (tape : List ControlProgram) (p : Part) : Type 0 where
   place : IsPlace tape p.path.place
-  waits : (code : ℕ) → p.waiting ≡ Some code → standing tape p.path.place ≡ Some (control.Wait code)
-  ends : p.finished ≡ true → standing tape p.path.place ≡ Some control.End
+  waits : (code : ℕ) → p.waiting ≡ Some code → control_of_place tape p.path.place ≡ Some (control.Wait code)
+  ends : p.finished ≡ true → control_of_place tape p.path.place ≡ Some control.End
 
 -- both stand at places of their tapes, the labels ahead agree, and one path at most waits
 record IsSound (left right : List ControlProgram) (all : List Label) (m : MachineView) : Type 0 where
   first : IsSide left m.paths.one
   second : IsSide right m.paths.two
-  agree : Agree all (ahead left m.paths.one.path.place) (ahead right m.paths.two.path.place)
+  agree : Agree all (labels_ahead left m.paths.one.path.place) (labels_ahead right m.paths.two.path.place)
   one : (m.paths.one.waiting ≡ None) ⊎ (m.paths.two.waiting ≡ None)
 
 -- the invariant: without an alarm the state is sound, and an alarm is another than that of paths
@@ -65,7 +65,7 @@ sound_swap : (left right : List ControlProgram) (all : List Label) (m : MachineV
 sound_swap left right all m s = record {
   first = s.second;
   second = s.first;
-  agree = agree_swap all (ahead left m.paths.one.path.place) (ahead right m.paths.two.path.place) s.agree;
+  agree = agree_swap all (labels_ahead left m.paths.one.path.place) (labels_ahead right m.paths.two.path.place) s.agree;
   one = one_swap s.one;
 }
 
@@ -87,7 +87,7 @@ done_sound : (left right : List ControlProgram) → KeepsLabels left → (path :
     → IsSound left right (list left) m → m.paths.one.waiting ≡ None → m.paths.one.finished ≡ false → Step left m.paths.one.path.place to.place
     → IsSound left right (list left) (result_by path line m (Done to write moves)).machine
 done_sound left right law path line m to write moves s awake going step =
-    let k = step_keeps left law (ahead right m.paths.two.path.place) m.paths.one.path.place to.place s.first.place step s.agree in
+    let k = step_keeps left law (labels_ahead right m.paths.two.path.place) m.paths.one.path.place to.place s.first.place step s.agree in
     record {
       first = record { place = k.0; waits = λ code e. absurd cc; ends = λ e. absurd cc };
       second = s.second;
@@ -97,7 +97,7 @@ done_sound left right law path line m to write moves s awake going step =
 
 -- the end of a path keeps the state sound
 end_sound : (left right : List ControlProgram) (path : Path) (line : ℕ) (m : MachineView) (to : PathView) (moves : List Move)
-    → IsSound left right (list left) m → m.paths.one.waiting ≡ None → standing left m.paths.one.path.place ≡ Some control.End → to.place ≡ m.paths.one.path.place
+    → IsSound left right (list left) m → m.paths.one.waiting ≡ None → control_of_place left m.paths.one.path.place ≡ Some control.End → to.place ≡ m.paths.one.path.place
     → IsSound left right (list left) (result_by path line m (AtEnd to moves)).machine
 end_sound left right path line m to moves s awake is stays = record {
   first = record { place = rw stays (s.first.place); waits = λ code e. absurd cc; ends = λ e. rw stays is };
@@ -108,16 +108,16 @@ end_sound left right path line m to moves s awake is stays = record {
 
 -- a wait of the first path, and one at which the other waits: both are the next label
 meeting : (left right : List ControlProgram) → KeepsLabels left → KeepsLabels right → (m : MachineView) → IsSound left right (list left) m → (code there : ℕ)
-    → standing left m.paths.one.path.place ≡ Some (control.Wait code) → m.paths.two.waiting ≡ Some there
-    → (code ≡ there) × (ahead left (place_behind m.paths.one.path.place) ≡ ahead right (place_behind m.paths.two.path.place))
+    → control_of_place left m.paths.one.path.place ≡ Some (control.Wait code) → m.paths.two.waiting ≡ Some there
+    → (code ≡ there) × (labels_ahead left (place_behind m.paths.one.path.place) ≡ labels_ahead right (place_behind m.paths.two.path.place))
 meeting left right here_law there_law m s code there is waits =
     let here = (here_law.wait m.paths.one.path.place code s.first.place is).1 in
     let other = (there_law.wait m.paths.two.path.place there s.second.place (s.second.waits there waits)).1 in
-    agree_waits (list left) (ahead left (place_behind m.paths.one.path.place)) (ahead right (place_behind m.paths.two.path.place)) code there (rw (← here, ← other) (s.agree))
+    agree_waits (list left) (labels_ahead left (place_behind m.paths.one.path.place)) (labels_ahead right (place_behind m.paths.two.path.place)) code there (rw (← here, ← other) (s.agree))
 
 -- a turn at a wait keeps the invariant, and never raises the alarm of waits that differ
 wait_paired : (left right : List ControlProgram) → KeepsLabels left → KeepsLabels right → (path : Path) (line : ℕ) (m : MachineView) → m.alarm ≡ None
-    → IsSound left right (list left) m → m.paths.one.finished ≡ false → (code : ℕ) → standing left m.paths.one.path.place ≡ Some (control.Wait code)
+    → IsSound left right (list left) m → m.paths.one.finished ≡ false → (code : ℕ) → control_of_place left m.paths.one.path.place ≡ Some (control.Wait code)
     → (o : Option ℕ) → m.paths.two.waiting ≡ o → IsPaired left right (list left) (result_at_wait path line m code o).machine
 wait_paired left right law law' path line m calm s going code is None e =
     calmly left right (list left) (result_at_wait path line m code None).machine calm (record {
@@ -128,7 +128,7 @@ wait_paired left right law law' path line m calm s going code is None e =
     })
 wait_paired left right law law' path line m calm s going code is (Some there) e = go (code == there) refl
   where
-    both : (code ≡ there) × (ahead left (place_behind m.paths.one.path.place) ≡ ahead right (place_behind m.paths.two.path.place))
+    both : (code ≡ there) × (labels_ahead left (place_behind m.paths.one.path.place) ≡ labels_ahead right (place_behind m.paths.two.path.place))
     both = meeting left right law law' m s code there is e
 
     go : (x : Bool) → (code == there) ≡ x → IsPaired left right (list left) (result_at_wait path line m code (Some there)).machine
@@ -279,7 +279,7 @@ waiting_stuck : (left right : List ControlProgram) → KeepsLabels left → Keep
 waiting_stuck left right law law' all m s true fe o oe un i f' fe' o' oe' i' = absurd cc
 waiting_stuck left right law law' all m s false fe None oe un i f' fe' o' oe' i' = absurd cc
 waiting_stuck left right law law' all m s false fe (Some code) oe un i true fe' o' oe' i' =
-    agree_end all (ahead left (place_behind m.paths.one.path.place)) code
+    agree_end all (labels_ahead left (place_behind m.paths.one.path.place)) code
     (rw (← (law.wait m.paths.one.path.place code s.first.place (s.first.waits code oe)).1, ← law'.ends m.paths.two.path.place s.second.place (s.second.ends fe')) (s.agree))
 waiting_stuck left right law law' all m s false fe (Some code) oe un i false fe' None oe' i' = absurd cc
 waiting_stuck left right law law' all m s false fe (Some code) oe un i false fe' (Some other) oe' i' = go s.one

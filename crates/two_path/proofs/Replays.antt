@@ -15,7 +15,7 @@ use Rattle.two_path.specs.Joined.{AreAtTheirWaits}
 use Rattle.two_path.specs.Again.{turn_of_entry}
 use Rattle.two_path.proofs.Folds.{fold_push}
 use Rattle.nc_outside.specs.declared.lined_move.LinedMove.{LinedMove}
-use Rattle.two_path.specs.Made.{PathTurn, made_by, moves_in, turns_from}
+use Rattle.two_path.specs.Made.{PathTurn, moves_made_by, moves_in, turns_from}
 
 -- the turn of a record, with whose it was
 abbrev pub turn_at : Tapes → MachineView → Entry → PathTurn
@@ -35,10 +35,10 @@ records_to entries i e within is = take_more entries i e within ∙ ap (λ x. ta
 -- moves so far and those of the records from it on are
 moves_go_on : (tapes : Tapes) (path : Path) (m : MachineView) (made all : List LinedMove) (left rest : List Entry) (e : Entry)
     → left ≡ e ∷ rest → made ++ moves_in path (turns_from tapes m left) ≡ all
-    → (made ++ made_by path (turn_at tapes m e)) ++ moves_in path (turns_from tapes (behind_entry tapes e m) rest) ≡ all
+    → (made ++ moves_made_by path (turn_at tapes m e)) ++ moves_in path (turns_from tapes (behind_entry tapes e m) rest) ≡ all
 unfolding moves_in turns_from
 moves_go_on tapes path m made all left rest e is so_far =
-    append_assoc made (made_by path (turn_at tapes m e)) (moves_in path (turns_from tapes (behind_entry tapes e m) rest))
+    append_assoc made (moves_made_by path (turn_at tapes m e)) (moves_in path (turns_from tapes (behind_entry tapes e m) rest))
     ∙ (ap (λ es. made ++ moves_in path (turns_from tapes m es)) (sym is) ∙ so_far)
 
 -- behind the last record there is no move
@@ -78,7 +78,7 @@ none_waits left right first second = record {
 -- records that are left are all moves
 pub moves_on : (tapes : Tapes) (path : Path) (m after : MachineView) (made more all : List LinedMove) (left rest : List Entry) (e : Entry) (turn : Turn)
     → left ≡ e ∷ rest → after ≡ behind_entry tapes e m → turn ≡ turn_of_entry tapes e m
-    → more ≡ made ++ made_by path (record { path = e.path; turn = turn })
+    → more ≡ made ++ moves_made_by path (record { path = e.path; turn = turn })
     → made ++ moves_in path (turns_from tapes m left) ≡ all → more ++ moves_in path (turns_from tapes after rest) ≡ all
 moves_on tapes path m after made more all left rest e turn is is_after is_turn is_more so_far =
     rw (is_more, is_turn, is_after) (moves_go_on tapes path m made all left rest e is so_far)

@@ -5,7 +5,7 @@ use Rattle.nc_number.specs.declared.path.Path.{Path}
 use Rattle.nc_moves.specs.declared.motion.Move.{Move}
 use Rattle.block_order.specs.declared.control.Control.TheVariants.{Wait}
 use Rattle.block_order.specs.declared.program.ControlProgram.{ControlProgram}
-use Rattle.block_order.specs.Steps.{standing}
+use Rattle.block_order.specs.Steps.{control_of_place}
 use Rattle.run_records.specs.Entries.{Entry}
 use Rattle.run_records.specs.declared.entry.EntryKind.{EntryKind}
 use Rattle.path_state.specs.declared.advance.BlockAnswer.{BlockAnswer}
@@ -62,7 +62,7 @@ asks_now blocks before now v moves taken asks =
 -- a path that came to a wait stands on it
 pub waits_now : (tape : List ControlProgram) (blocks : Blocks) (before now : Part) (code : ℕ) (moves : List Move)
     → HasTaken blocks before now (answer.AtWait code) moves
-    → GoesAsOrdered tape before.path (blocks.effect before.path before.values) → standing tape now.path.place ≡ Some (Wait code)
+    → GoesAsOrdered tape before.path (blocks.effect before.path before.values) → control_of_place tape now.path.place ≡ Some (Wait code)
 waits_now tape blocks before now code moves taken ordered =
-    let here : standing tape before.path.place ≡ Some (Wait code) = subst (GoesAsOrdered tape before.path) (sym taken.effect) ordered in
-    subst (λ (p : PathView). standing tape p.place ≡ Some (Wait code)) (sym taken.stays) here
+    let here : control_of_place tape before.path.place ≡ Some (Wait code) = subst (GoesAsOrdered tape before.path) (sym taken.effect) ordered in
+    subst (λ (p : PathView). control_of_place tape p.place ≡ Some (Wait code)) (sym taken.stays) here

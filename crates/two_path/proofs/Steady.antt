@@ -7,7 +7,7 @@ use Rattle.nc_number.specs.declared.value.Var.{Var}
 use Rattle.nc_moves.specs.declared.alarm.Alarm.{Alarm}
 use Rattle.block_order.specs.declared.control.Control.TheVariants.{Wait}
 use Rattle.block_order.specs.declared.program.ControlProgram.{ControlProgram}
-use Rattle.block_order.specs.Steps.{standing}
+use Rattle.block_order.specs.Steps.{control_of_place}
 use Rattle.path_state.specs.View.{PathView}
 use Rattle.path_state.specs.Effect.{Effect, Need, Done, AtWait, AtEnd}
 use Rattle.path_state.specs.Effect as effect
@@ -64,7 +64,7 @@ none_waits e w = absurd cc
 
 -- after a turn at a wait each waiting path stands on a wait
 wait_waits : (left right : List ControlProgram) (path : Path) (line : ℕ) (m : MachineView) (code : ℕ) → m.paths.one.waiting ≡ None
-    → standing left m.paths.one.path.place ≡ Some (Wait code) → AreAtTheirWaits left right m → (o : Option ℕ)
+    → control_of_place left m.paths.one.path.place ≡ Some (Wait code) → AreAtTheirWaits left right m → (o : Option ℕ)
     → AreAtTheirWaits left right (result_at_wait path line m code o).machine
 wait_waits left right path line m code none is k None = record {
   first = λ c same. is ∙ ap (λ n. Some (Wait n)) (some_is same);

@@ -7,7 +7,7 @@ use Rattle.nc_moves.specs.declared.alarm.Alarm.{Alarm}
 use Rattle.run_records.specs.Entries.{Entry}
 use Rattle.run_records.specs.declared.edit.Edit.{Edit}
 use Rattle.run_records.specs.declared.entry.EntryKind.TheVariants as kind
-use Rattle.path_state.specs.Edits.{edited, shared_write}
+use Rattle.path_state.specs.Edits.{path_with_edit, shared_write}
 use Rattle.two_path.specs.Machine.{MachineView, own_first}
 use Rattle.two_path.specs.Turns.{part_at, with_write}
 
@@ -17,7 +17,7 @@ use Rattle.two_path.specs.Turns.{part_at, with_write}
 abbrev pub behind_edit : Edit → MachineView → MachineView
 behind_edit edit m = record m {
   paths = record {
-    one = part_at (edited edit m.paths.one.path) (m.count + 1) m.paths.one;
+    one = part_at (path_with_edit edit m.paths.one.path) (m.count + 1) m.paths.one;
     two = part_at m.paths.two.path (m.count + 1) m.paths.two;
   };
   writes = with_write (m.count + 1) (shared_write m.paths.one.path.fixed edit) m.writes;

@@ -8,14 +8,14 @@ use Rattle.nc_moves.specs.declared.alarm.Alarm.{Alarm}
 use Rattle.common_vars.specs.Writes.{Writes}
 use Rattle.block_order.specs.declared.control.Control.TheVariants.{Wait}
 use Rattle.block_order.specs.declared.program.ControlProgram.{ControlProgram}
-use Rattle.block_order.specs.Steps.{standing}
+use Rattle.block_order.specs.Steps.{control_of_place}
 use Rattle.nc_moves.specs.declared.motion.Move.{Move}
 use Rattle.motion_track.specs.declared.targets.TheConstants.{LONGEST}
 use Rattle.motion_track.specs.Within.{AreMovesWithin}
 use Rattle.path_state.specs.declared.advance.BlockAnswer.{BlockAnswer}
 use Rattle.path_state.specs.declared.decision.Decision.{Decision}
 use Rattle.path_state.specs.Advances.{effect_told, moves_of, StaysUnlessTold}
-use Rattle.path_state.specs.Decisions.{decided, MayTake}
+use Rattle.path_state.specs.Decisions.{effect_of_decision, MayTake}
 use Rattle.path_state.specs.Fits.{HasFitWords}
 use Rattle.two_path.specs.Machine.{Part, MachineView}
 use Rattle.two_path.specs.Turns.{Blocks}
@@ -69,7 +69,7 @@ pub record IsLasting (before after : JointView) : Type 0 where
 -- what was decided, with these moves, is what the path's block comes to with what it has read, and
 -- it may be done
 pub record IsDecided (blocks : Blocks) (part : Part) (moves : List Move) (decision : Decision) : Type 0 where
-  pub effect : decided part.path decision moves ≡ blocks.effect part.path part.values
+  pub effect : effect_of_decision part.path decision moves ≡ blocks.effect part.path part.values
   pub fit : HasFitWords decision
   pub may : MayTake part.path decision
 
@@ -87,7 +87,7 @@ pub record AreItsMoves (blocks : Blocks) (part : Part) (moves : List Move) : Typ
 
 -- if the path waits, it stands on a wait of its tape
 abbrev pub IsAtItsWait : List ControlProgram → Part → Type 0
-IsAtItsWait tape part = (code : ℕ) → part.waiting ≡ Some code → standing tape part.path.place ≡ Some (Wait code)
+IsAtItsWait tape part = (code : ℕ) → part.waiting ≡ Some code → control_of_place tape part.path.place ≡ Some (Wait code)
 
 -- each path that waits stands on a wait of its tape
 pub record AreAtTheirWaits (left right : List ControlProgram) (m : MachineView) : Type 0 where

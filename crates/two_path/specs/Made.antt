@@ -7,7 +7,7 @@ use Rattle.nc_number.specs.Path.{is_same}
 use Rattle.nc_number.specs.declared.path.Path.{Path}
 use Rattle.nc_moves.specs.declared.motion.Move.{Move}
 use Rattle.nc_outside.specs.declared.lined_move.LinedMove.{LinedMove}
-use Rattle.nc_outside.specs.Lined.{lined}
+use Rattle.nc_outside.specs.Lined.{lined_moves}
 use Rattle.run_records.specs.Entries.{Entry}
 use Rattle.two_path.specs.declared.turn.Turn.{Turn}
 use Rattle.two_path.specs.declared.turn.Turn.TheVariants.{Read, Did, Arrived, Met, Ended, Waiting, Finished, Alarm, Halted, Edited}
@@ -58,17 +58,17 @@ turn_with (answer.Halted alarm) moves = Halted alarm
 turn_with answer.Edited moves = Edited
 
 -- the moves of a turn, each with the line of its block
-abbrev pub made_in : Turn → List LinedMove
-made_in (Did moves) = lined moves
-made_in (Ended moves) = lined moves
-made_in (Read variable stamp) = []
-made_in (Arrived code) = []
-made_in (Met code) = []
-made_in (Waiting code) = []
-made_in Finished = []
-made_in (Alarm alarm) = []
-made_in (Halted alarm) = []
-made_in Edited = []
+abbrev pub moves_made_in : Turn → List LinedMove
+moves_made_in (Did moves) = lined_moves moves
+moves_made_in (Ended moves) = lined_moves moves
+moves_made_in (Read variable stamp) = []
+moves_made_in (Arrived code) = []
+moves_made_in (Met code) = []
+moves_made_in (Waiting code) = []
+moves_made_in Finished = []
+moves_made_in (Alarm alarm) = []
+moves_made_in (Halted alarm) = []
+moves_made_in Edited = []
 
 -- a turn of a history, and whose it was
 pub record PathTurn : Type 0 where
@@ -82,12 +82,12 @@ turns_from tapes m (e ∷ entries) =
     record { path = e.path; turn = turn_of_entry tapes e m } ∷ turns_from tapes (behind_entry tapes e m) entries
 
 -- the moves that a turn adds to those of this path: none if it was the other path's
-abbrev pub made_by : Path → PathTurn → List LinedMove
-made_by path t = if is_same path t.path then made_in t.turn else []
+abbrev pub moves_made_by : Path → PathTurn → List LinedMove
+moves_made_by path t = if is_same path t.path then moves_made_in t.turn else []
 
 -- the moves of a path in these turns, in order
 unfoldable pub moves_in : Path → List PathTurn → List LinedMove
-moves_in path turns = flat_map (made_by path) turns
+moves_in path turns = flat_map (moves_made_by path) turns
 
 -- the moves of a path's records, in order
 abbrev pub moves_of : Tapes → MachineView → Path → List Entry → List LinedMove

@@ -180,7 +180,8 @@ fn take_decided(
     moves: &mut MoveList,
 ) -> Result<BlockAnswer, Illegal>
     requires step { edit_of kind.now ≡ None }
-    ensures taken { IfOk result (λ answer. IsTaken (blocks_of flow.now) kind.now other.now me.old me.new answer moves.new) }
+    ensures taken { IfOk result
+        (λ answer. IsTaken (blocks_of flow.now) kind.now other.now me.old me.new answer moves.new) }
     ensures refused { OnErr result (IsNotDue (blocks_of flow.now) kind.now other.now me.old me.new) }
 {
     let decision = me.decide(flow, moves);
@@ -201,7 +202,8 @@ fn take_at_once(
 ) -> Result<BlockAnswer, Illegal>
     requires step { edit_of kind.now ≡ None }
     requires only { changes_only_by (label_at flow.now.order me.old.path.place) kind.now ≡ true }
-    ensures taken { IfOk result (λ answer. IsTaken (blocks_of flow.now) kind.now other.now me.old me.new answer moves.new) }
+    ensures taken { IfOk result
+        (λ answer. IsTaken (blocks_of flow.now) kind.now other.now me.old me.new answer moves.new) }
     ensures refused { OnErr result (IsNotDue (blocks_of flow.now) kind.now other.now me.old me.new) }
 {
     control_goes_as_the_flow_orders();
@@ -224,7 +226,8 @@ fn take_due(
     moves: &mut MoveList,
 ) -> Result<BlockAnswer, Illegal>
     requires step { edit_of kind.now ≡ None }
-    ensures taken { IfOk result (λ answer. IsTaken (blocks_of flow.now) kind.now other.now me.old me.new answer moves.new) }
+    ensures taken { IfOk result
+        (λ answer. IsTaken (blocks_of flow.now) kind.now other.now me.old me.new answer moves.new) }
     ensures refused { OnErr result (IsNotDue (blocks_of flow.now) kind.now other.now me.old me.new) }
 {
     if changes_only_by(flow.label(me.path().place()), kind) {

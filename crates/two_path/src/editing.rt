@@ -36,7 +36,8 @@ pub(crate) fn set(me: &mut Part, other: &mut Part, joint: &mut Joint, what: &Edi
     requires room { 0 < joint.old.shared.room }
     requires few { joint.old.count ≤ MOST_RECORDS }
     requires shared { AreShared me.old joint.old }
-    ensures machine { machine_of me.new other.new joint.new ≡ behind_edit what.now (machine_of me.old other.old joint.old) }
+    ensures machine { machine_of me.new other.new joint.new
+        ≡ behind_edit what.now (machine_of me.old other.old joint.old) }
     ensures lasting { IsLasting joint.old joint.new }
 {
     joint.add(shared_write(joint, what));

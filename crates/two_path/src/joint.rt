@@ -102,7 +102,8 @@ impl Joint {
         requires room { 0 < self.old.shared.room }
         requires few { self.old.count ≤ MOST_RECORDS }
         requires shared { IfSome write (λ w. IsShared self.old.shared.shared100 self.old.shared.shared500 w.0) }
-        ensures writes { self.new.shared.writes ≡ with_write (self.old.count + 1) (write_seen write) self.old.shared.writes }
+        ensures writes { self.new.shared.writes
+            ≡ with_write (self.old.count + 1) (write_seen write) self.old.shared.writes }
         ensures count { self.new.count ≡ self.old.count + 1 }
         ensures alarm { self.new.alarm ≡ self.old.alarm }
         ensures lasting { IsLasting self.old self.new }

@@ -1,10 +1,11 @@
 //! One path in the machine: its state, what its block has read, and whether it waits or has ended.
 //! For this crate alone: again.rt, editing.rt, machine.rt and turning.rt use it.
 ghost use Rattle.std.specs.Prelude.{◌≡◌, ◌<◌, ℕ, List, [], ◌∷◌, ◌++◌, Some, None, true, length};
+ghost use Rattle.nc_number.specs.declared.limits.TheConstants.{MOST_READS};
 ghost use Rattle.block_order.specs.declared.control.Control.TheVariants.{Wait};
-ghost use Rattle.block_order.specs.Steps.{standing};
-ghost use Rattle.path_state.specs.Decisions.{decided, MayTake};
-ghost use Rattle.path_state.specs.Edits.{edited};
+ghost use Rattle.block_order.specs.Steps.{control_of_place};
+ghost use Rattle.path_state.specs.Decisions.{effect_of_decision, MayTake};
+ghost use Rattle.path_state.specs.Edits.{path_with_edit};
 ghost use Rattle.path_state.specs.Effect.{effect_of};
 ghost use Rattle.path_state.specs.Fits.{HasFitWords};
 ghost use Rattle.run_records.specs.Entries.{edit_of};
@@ -122,7 +123,8 @@ impl Part {
     /// What its block comes to with what it has read; the moves of the block are put into the list.
     /// Nothing of the path changes.
     pub(crate) fn decide(&self, flow: &Flow, moves: &mut MoveList) -> Decision
-        ensures effect { decided self.now.path result moves.new ≡ effect_of flow.now self.now.path self.now.values }
+        ensures effect { effect_of_decision self.now.path result moves.new
+            ≡ effect_of flow.now self.now.path self.now.values }
         ensures fit { HasFitWords result }
         ensures may { MayTake self.now.path result }
         ensures moves { AreItsMoves (blocks_of flow.now) self.now moves.new }
@@ -142,7 +144,7 @@ impl Part {
 
     /// Keeps one read more of its block: the value, and how many records there were.
     pub(crate) fn read(&mut self, value: Var, stamp: u32)
-        requires { length self.old.values < 32 }
+        requires { length self.old.values < MOST_READS }
         ensures { self.new ≡ record self.old {
           values = self.old.values ++ value ∷ [];
           stamps = self.old.stamps ++ stamp ∷ [];
@@ -193,7 +195,7 @@ impl Part {
 
     /// Goes on behind its wait, by the last of so many records.
     pub(crate) fn pass(&mut self, flow: &Flow, since: u32)
-        requires { (code : ℕ) × (standing flow.now.order self.old.path.place ≡ Some (Wait code)) }
+        requires { (code : ℕ) × (control_of_place flow.now.order self.old.path.place ≡ Some (Wait code)) }
         ensures { self.new ≡ part_behind_wait since self.old }
     {
         self.path.pass_wait(flow);
@@ -203,7 +205,7 @@ impl Part {
 
     /// Does an operator's edit of the path, the last of so many records. Its block reads anew.
     pub(crate) fn edit(&mut self, what: &Edit, since: u32)
-        ensures { self.new ≡ part_at (edited what.now self.old.path) since self.old }
+        ensures { self.new ≡ part_at (path_with_edit what.now self.old.path) since self.old }
     {
         self.path.edit(what);
         self.read_anew(since);

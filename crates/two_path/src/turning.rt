@@ -2,10 +2,10 @@
 //! each case of specs/Turns.antt.
 //! For this crate alone: machine.rt calls `take_turn`, again.rt calls `settle`.
 ghost use Rattle.std.specs.Prelude.{◌≡◌, ◌≤◌, ◌<◌, ℕ, List, [], Some, None, length, IfSome};
-ghost use Rattle.nc_number.specs.declared.limits.TheConstants.{MOST_RECORDS};
+ghost use Rattle.nc_number.specs.declared.limits.TheConstants.{MOST_READS, MOST_RECORDS};
 ghost use Rattle.nc_moves.specs.declared.motion.Move.{Move};
 ghost use Rattle.block_order.specs.declared.control.Control.TheVariants.{Wait};
-ghost use Rattle.block_order.specs.Steps.{standing};
+ghost use Rattle.block_order.specs.Steps.{control_of_place};
 ghost use Rattle.common_vars.specs.Writes.{IsShared};
 ghost use Rattle.run_records.specs.declared.entry.EntryKind.TheVariants as Kind;
 ghost use Rattle.path_state.specs.View.{PathView};
@@ -34,7 +34,7 @@ use tape_flow::Flow;
 
 /// The turn in which the path's block reads a shared variable. It makes no record.
 fn read(me: &mut Part, joint: &Joint, variable: u32) -> Answered
-    requires few { length me.old.values < 32 }
+    requires few { length me.old.values < MOST_READS }
     requires shared { IsShared joint.now.shared.shared100 joint.now.shared.shared500 variable }
     ensures answer { (path : Path) (line : ℕ) (other : Machine.Part)
         → result.answer ≡ answer_of (result_by path line (machine_of me.old other joint.now) (Need variable)).turn }
@@ -148,8 +148,8 @@ fn met(
 ) -> Answered
     requires room { 0 < joint.old.shared.room }
     requires few { joint.old.count ≤ MOST_RECORDS }
-    requires here { (c : ℕ) × (standing flow.now.order me.old.path.place ≡ Some (Wait c)) }
-    requires there { (c : ℕ) × (standing other_flow.now.order other.old.path.place ≡ Some (Wait c)) }
+    requires here { (c : ℕ) × (control_of_place flow.now.order me.old.path.place ≡ Some (Wait c)) }
+    requires there { (c : ℕ) × (control_of_place other_flow.now.order other.old.path.place ≡ Some (Wait c)) }
     ensures answer { result.answer ≡ Answer.Met code }
     ensures machine { machine_of me.new other.new joint.new ≡ behind_meeting (machine_of me.old other.old joint.old) }
     ensures entry { result.entry ≡ entry_with path me.old.stamps (Some Kind.Met) }
@@ -179,7 +179,7 @@ fn came_to_wait(
 ) -> Answered
     requires room { 0 < joint.old.shared.room }
     requires few { joint.old.count ≤ MOST_RECORDS }
-    requires here { standing flow.now.order me.old.path.place ≡ Some (Wait code) }
+    requires here { control_of_place flow.now.order me.old.path.place ≡ Some (Wait code) }
     requires there { IsAtItsWait other_flow.now.order other.old }
     ensures answer { result.answer ≡ answer_of (result_at_wait path line
         (machine_of me.old other.old joint.old) code other.old.waiting).turn }
@@ -225,7 +225,8 @@ pub(crate) fn settle(
         × (AreShared before joint.old × HasTaken (blocks_of flow.now) before me.old answer moves)) }
     ensures answer { (before : Machine.Part) (moves : List Move) → line_at flow.now.order before.path.place ≡ line
         → HasTaken (blocks_of flow.now) before me.old answer moves
-        → result.answer ≡ answer_of (block_turn (blocks_of flow.now) path (machine_of before other.old joint.old)).turn }
+        → result.answer ≡ answer_of
+        (block_turn (blocks_of flow.now) path (machine_of before other.old joint.old)).turn }
     ensures machine { (before : Machine.Part) (moves : List Move) → line_at flow.now.order before.path.place ≡ line
         → HasTaken (blocks_of flow.now) before me.old answer moves
         → machine_of me.new other.new joint.new

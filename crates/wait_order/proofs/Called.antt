@@ -11,7 +11,7 @@ use Rattle.block_order.specs.Order.{blocks, main_number, control_at}
 use Rattle.block_order.specs.Loud.{loud}
 use Rattle.block_order.specs.Faults.{IsReachedBy}
 use Rattle.wait_order.specs.Depth.{IsLoudCall, HasLoudCallBelow, HasLoudCall, IsCalledBelow, IsCalledFrom, AreReached}
-use Rattle.block_order.specs.ProgramPlaces.{place_of, flag_at, flagged}
+use Rattle.block_order.specs.ProgramPlaces.{place_of, flag_at, is_flagged}
 use Rattle.wait_order.specs.TapeFaults.{AreProgramsOf}
 use Rattle.block_order.proofs.Flags.{flag_set}
 use Rattle.wait_order.proofs.Counted.{on_tape}
@@ -23,7 +23,7 @@ use Rattle.block_order.proofs.Opened.{within_control}
 -- To set the flag of the program that a block calls adds exactly the loud program of that call.
 pub flag_loud : (tape : List ControlProgram) (flags : List Bool) (control : Control) (number repeats place : ℕ)
     → control ≡ Call number repeats → loud tape number ≡ true → place_of tape number ≡ Some place → place < length flags
-    → (q : ℕ) → (flagged tape (slice_set flags place true) q ≡ true) ↔ ((flagged tape flags q ≡ true) ⊎ IsLoudCall tape control q)
+    → (q : ℕ) → (is_flagged tape (slice_set flags place true) q ≡ true) ↔ ((is_flagged tape flags q ≡ true) ⊎ IsLoudCall tape control q)
 flag_loud tape flags control number repeats place called is_loud is within q = (
   λ t. elim ((flag_set tape flags number place is within q).0 t) [
     | inl h ↦ inl h
@@ -80,7 +80,7 @@ flags_more tape bs i q d first now new within before step =
 -- flagged as reached.
 pub called_more : (tape : List ControlProgram) (reached : List Bool) (i q : ℕ) (p : ControlProgram) (first now new : Bool)
     → slice_get tape i ≡ Some p → (now ≡ true) ↔ ((first ≡ true) ⊎ IsCalledBelow tape reached i q)
-    → (new ≡ true) ↔ ((now ≡ true) ⊎ ((flagged tape reached p.number ≡ true) × HasLoudCall tape p.blocks q))
+    → (new ≡ true) ↔ ((now ≡ true) ⊎ ((is_flagged tape reached p.number ≡ true) × HasLoudCall tape p.blocks q))
     → (new ≡ true) ↔ ((first ≡ true) ⊎ IsCalledBelow tape reached (i + 1) q)
 called_more tape reached i q p first now new is before step = (λ t. there (step.0 t), λ h. back h)
   where
@@ -90,7 +90,7 @@ called_more tape reached i q p first now new is before step = (λ t. there (step
     wider : IsCalledBelow tape reached i q → IsCalledBelow tape reached (i + 1) q
     wider (k, r, below, at, f, h) = (k, r, omega arith, at, f, h)
 
-    there : (now ≡ true) ⊎ ((flagged tape reached p.number ≡ true) × HasLoudCall tape p.blocks q)
+    there : (now ≡ true) ⊎ ((is_flagged tape reached p.number ≡ true) × HasLoudCall tape p.blocks q)
         → (first ≡ true) ⊎ IsCalledBelow tape reached (i + 1) q
     there (inl n) = elim (before.0 n) [ inl f ↦ inl f | inr h ↦ inr (wider h) ]
     there (inr (f, h)) = inr (i, p, omega arith, is, f, h)
@@ -99,23 +99,23 @@ called_more tape reached i q p first now new is before step = (λ t. there (step
     back (inl f) = step.1 (inl (before.1 (inl f)))
     back (inr (k, r, below, at, f, h)) = elim (last k below) [
       | inl e ↦ step.1 (inr (let both : Some r ≡ Some p = sym at ∙ (ap (λ j. slice_get tape j) e ∙ is) in let same : r ≡ p = cc in
-          (subst (λ x. flagged tape reached x.number ≡ true) same f, subst (λ x. HasLoudCall tape x.blocks q) same h)))
+          (subst (λ x. is_flagged tape reached x.number ≡ true) same f, subst (λ x. HasLoudCall tape x.blocks q) same h)))
       | inr less ↦ step.1 (inl (before.1 (inr (k, r, less, at, f, h))))
     ]
 
 -- The flags after all programs are those of the programs that one call more reaches.
 called_all : (tape : List ControlProgram) (reached next : List Bool) → AreProgramsOf tape → length next ≡ length tape
-    → ((q : ℕ) → (flagged tape next q ≡ true) ↔ IsCalledBelow tape reached (length tape) q) → IsCalledFrom tape reached next
+    → ((q : ℕ) → (is_flagged tape next q ≡ true) ↔ IsCalledBelow tape reached (length tape) q) → IsCalledFrom tape reached next
 called_all tape reached next own count each = record {
   count = count;
   each = λ q. (λ t. there q ((each q).0 t), λ h. (each q).1 (back q h));
 }
   where
     there : (q : ℕ) → IsCalledBelow tape reached (length tape) q
-        → (caller : ℕ) × (flagged tape reached caller ≡ true) × HasLoudCall tape (blocks tape caller) q
+        → (caller : ℕ) × (is_flagged tape reached caller ≡ true) × HasLoudCall tape (blocks tape caller) q
     there q (k, p, below, at, f, h) = (p.number, f, subst (λ bs. HasLoudCall tape bs q) (sym (own k p at).own) h)
 
-    back : (q : ℕ) → (caller : ℕ) × (flagged tape reached caller ≡ true) × HasLoudCall tape (blocks tape caller) q
+    back : (q : ℕ) → (caller : ℕ) × (is_flagged tape reached caller ≡ true) × HasLoudCall tape (blocks tape caller) q
         → IsCalledBelow tape reached (length tape) q
     back q (caller, f, (k, r, below, at, l)) =
         let b = block_of_control (blocks tape caller) k (Call q r) at in
@@ -126,7 +126,7 @@ called_all tape reached next own count each = record {
           on.program,
           on.within,
           on.at,
-          subst (λ n. flagged tape reached n ≡ true) (sym on.number) f,
+          subst (λ n. is_flagged tape reached n ≡ true) (sym on.number) f,
           subst (λ bs. HasLoudCall tape bs q) e (k, r, below, at, l),
         )
 
@@ -136,16 +136,16 @@ pub reached_more : (tape : List ControlProgram) (reached next : List Bool) (n : 
 reached_more tape reached next n before called = record {
   count = called.count;
   each = λ q. (let e : n + 1 ≡ suc n = omega arith in
-      subst (λ m. (flagged tape next q ≡ true) ↔ IsReachedBy tape m (main_number tape) q) (sym e)
+      subst (λ m. (is_flagged tape next q ≡ true) ↔ IsReachedBy tape m (main_number tape) q) (sym e)
       (λ t. there q ((called.each q).0 t), λ h. (called.each q).1 (back q h)));
 }
   where
-    there : (q : ℕ) → (caller : ℕ) × (flagged tape reached caller ≡ true) × HasLoudCall tape (blocks tape caller) q
+    there : (q : ℕ) → (caller : ℕ) × (is_flagged tape reached caller ≡ true) × HasLoudCall tape (blocks tape caller) q
         → IsReachedBy tape (suc n) (main_number tape) q
     there q (caller, f, (k, r, below, at, l)) = (caller, k, r, (before.each caller).0 f, at, l)
 
     back : (q : ℕ) → IsReachedBy tape (suc n) (main_number tape) q
-        → (caller : ℕ) × (flagged tape reached caller ≡ true) × HasLoudCall tape (blocks tape caller) q
+        → (caller : ℕ) × (is_flagged tape reached caller ≡ true) × HasLoudCall tape (blocks tape caller) q
     back q (caller, k, r, before', at, l) =
         (caller, (before.each caller).1 before', (k, r, within_control (blocks tape caller) k (Call q r) at, at, l))
 
@@ -168,19 +168,19 @@ length_none (suc n) = let e = length_none n in omega arith
 -- If the list had no flag before, it flags exactly the programs that one call more reaches.
 pub called_new : (tape : List ControlProgram) (reached old new next : List Bool) → AreProgramsOf tape → old ≡ replicate (length tape) false
     → length next ≡ length tape → next ≡ new
-    → ((q : ℕ) → (flagged tape new q ≡ true) ↔ ((flagged tape old q ≡ true) ⊎ IsCalledBelow tape reached (length tape) q))
+    → ((q : ℕ) → (is_flagged tape new q ≡ true) ↔ ((is_flagged tape old q ≡ true) ⊎ IsCalledBelow tape reached (length tape) q))
     → IsCalledFrom tape reached next
 called_new tape reached old new next own none count same each = called_all tape reached next own count (λ q. pair q)
   where
-    never : (q : ℕ) → flagged tape old q ≡ true → ⊥
+    never : (q : ℕ) → is_flagged tape old q ≡ true → ⊥
     never q t =
-        let f : flagged tape old q ≡ false = ap (λ fs. flag_at fs (place_of tape q)) none ∙ no_flag (length tape) (place_of tape q) in
+        let f : is_flagged tape old q ≡ false = ap (λ fs. flag_at fs (place_of tape q)) none ∙ no_flag (length tape) (place_of tape q) in
         absurd cc
 
-    pair : (q : ℕ) → (flagged tape next q ≡ true) ↔ IsCalledBelow tape reached (length tape) q
+    pair : (q : ℕ) → (is_flagged tape next q ≡ true) ↔ IsCalledBelow tape reached (length tape) q
     pair q = (
-      λ t. elim ((each q).0 (subst (λ fs. flagged tape fs q ≡ true) same t)) [ inl o ↦ absurd (never q o) | inr h ↦ h ],
-      λ h. subst (λ fs. flagged tape fs q ≡ true) (sym same) ((each q).1 (inr h)),
+      λ t. elim ((each q).0 (subst (λ fs. is_flagged tape fs q ≡ true) same t)) [ inl o ↦ absurd (never q o) | inr h ↦ h ],
+      λ h. subst (λ fs. is_flagged tape fs q ≡ true) (sym same) ((each q).1 (inr h)),
     )
 
 -- A list that was lent as a whole slice is afterwards what the slice became.
@@ -222,13 +222,13 @@ main_flagged tape flags some none count = record {
   );
 }
   where
-    never : (q : ℕ) → flagged tape flags q ≡ true → ⊥
+    never : (q : ℕ) → is_flagged tape flags q ≡ true → ⊥
     never q t =
-        let f : flagged tape flags q ≡ false = ap (λ fs. flag_at fs (place_of tape q)) none ∙ no_flag (length tape) (place_of tape q) in
+        let f : is_flagged tape flags q ≡ false = ap (λ fs. flag_at fs (place_of tape q)) none ∙ no_flag (length tape) (place_of tape q) in
         absurd cc
 
     within : 0 < length flags
     within = let e = ap length none in let f = length_none (length tape) in omega arith
 
-    set : (q : ℕ) → (flagged tape (slice_set flags 0 true) q ≡ true) ↔ ((flagged tape flags q ≡ true) ⊎ (q ≡ main_number tape))
+    set : (q : ℕ) → (is_flagged tape (slice_set flags 0 true) q ≡ true) ↔ ((is_flagged tape flags q ≡ true) ⊎ (q ≡ main_number tape))
     set q = flag_set tape flags (main_number tape) 0 (main_place tape some) within q

@@ -7,7 +7,7 @@ use Rattle.block_order.specs.declared.program.ControlProgram.{ControlProgram}
 use Rattle.block_order.specs.Order.{blocks}
 use Rattle.wait_order.specs.Deep.{IsCallLine, IsReachedLine, IsDeepBelow, IsDeepLine}
 use Rattle.wait_order.specs.Depth.{IsLoudCall, AreReached}
-use Rattle.block_order.specs.ProgramPlaces.{flagged}
+use Rattle.block_order.specs.ProgramPlaces.{is_flagged}
 use Rattle.wait_order.specs.TapeFaults.{AreProgramsOf}
 use Rattle.wait_order.specs.Waiting.{HasRisingLines, IsLeast}
 use Rattle.nc_number.specs.Options.{lesser}
@@ -106,7 +106,7 @@ deep_all tape reached n a all own are l = least_same {R = IsDeepLine tape} a l t
           omega arith,
           on.at,
           (
-            subst (λ x. flagged tape reached x ≡ true) (sym on.number) ((are.each q).1 by),
+            subst (λ x. is_flagged tape reached x ≡ true) (sym on.number) ((are.each q).1 by),
             subst (λ bs. IsCallLine tape bs m) same (k, b, called, at, l, e),
           ),
         )

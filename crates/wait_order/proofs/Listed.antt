@@ -8,7 +8,7 @@ use Rattle.block_order.specs.declared.program.ControlBlock.{ControlBlock}
 use Rattle.block_order.specs.declared.program.ControlProgram.{ControlProgram}
 use Rattle.block_order.specs.Order.{blocks}
 use Rattle.block_order.specs.Loops.{IsMismatch}
-use Rattle.block_order.specs.Shape.{IsListed}
+use Rattle.block_order.specs.Shape.{IsReadTape}
 use Rattle.block_order.specs.Faults.{Fitting, IsClear, mismatch}
 use Rattle.wait_order.specs.TapeFaults.{AreProgramsOf}
 use Rattle.wait_order.proofs.Leading.{stands_at}
@@ -24,7 +24,7 @@ among (x ∷ xs) (suc i) p e = let r = among xs i p e in let within = r.1 in (su
 
 -- Each program of a listed tape whose programs and loops fit is the first of its number, with few
 -- blocks, fitting loops and rising lines.
-pub programs_are : (tape : List ControlProgram) → IsListed tape → IsClear tape Fitting → AreProgramsOf tape
+pub programs_are : (tape : List ControlProgram) → IsReadTape tape → IsClear tape Fitting → AreProgramsOf tape
 programs_are tape listed clear i p at = record {
   own = own_blocks tape i p clear at;
   few = (let few = listed.few in omega (arith, blocks-few tape i p at));

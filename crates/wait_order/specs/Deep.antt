@@ -7,7 +7,7 @@ use Rattle.block_order.specs.declared.program.ControlProgram.{ControlProgram}
 use Rattle.block_order.specs.Order.{blocks, main_number}
 use Rattle.block_order.specs.Faults.{IsReachedBy}
 use Rattle.wait_order.specs.Depth.{IsLoudCall}
-use Rattle.block_order.specs.ProgramPlaces.{flagged}
+use Rattle.block_order.specs.ProgramPlaces.{is_flagged}
 
 -- One of these blocks calls a loud program, and this is its line.
 abbrev pub IsCallLine : List ControlProgram → List ControlBlock → ℕ → Type 0
@@ -17,7 +17,7 @@ IsCallLine tape bs line =
 
 -- This is the line of a call of a loud program in a program that is flagged as reached.
 abbrev pub IsReachedLine : List ControlProgram → List Bool → ControlProgram → ℕ → Type 0
-IsReachedLine tape reached program line = (flagged tape reached program.number ≡ true) × IsCallLine tape program.blocks line
+IsReachedLine tape reached program line = (is_flagged tape reached program.number ≡ true) × IsCallLine tape program.blocks line
 
 -- This is the line of a call of a loud program in one of the first n programs of the tape that is
 -- flagged as reached.

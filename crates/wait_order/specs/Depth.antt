@@ -9,7 +9,7 @@ use Rattle.block_order.specs.declared.program.ControlProgram.{ControlProgram}
 use Rattle.block_order.specs.Order.{blocks, main_number, control_at}
 use Rattle.block_order.specs.Loud.{loud}
 use Rattle.block_order.specs.Faults.{IsReachedBy}
-use Rattle.block_order.specs.ProgramPlaces.{flagged}
+use Rattle.block_order.specs.ProgramPlaces.{is_flagged}
 
 -- The control is a call of the program, which is loud.
 abbrev pub IsLoudCall : List ControlProgram → Control → ℕ → Type 0
@@ -29,18 +29,18 @@ pub record IsCalledFrom (tape : List ControlProgram) (reached next : List Bool) 
   -- There is a flag for each program.
   pub count : length next ≡ length tape
   -- A program is flagged exactly if a program flagged in `reached` calls it, and it is loud.
-  pub each : (program : ℕ) → (flagged tape next program ≡ true)
-      ↔ ((caller : ℕ) × (flagged tape reached caller ≡ true) × HasLoudCall tape (blocks tape caller) program)
+  pub each : (program : ℕ) → (is_flagged tape next program ≡ true)
+      ↔ ((caller : ℕ) × (is_flagged tape reached caller ≡ true) × HasLoudCall tape (blocks tape caller) program)
 
 -- The flags are those of the programs that n calls of loud programs reach from the main one.
 pub record AreReached (tape : List ControlProgram) (n : ℕ) (flags : List Bool) : Type 0 where
   -- There is a flag for each program.
   pub count : length flags ≡ length tape
   -- A program is flagged exactly if n calls of loud programs lead to it from the main one.
-  pub each : (program : ℕ) → (flagged tape flags program ≡ true) ↔ IsReachedBy tape n (main_number tape) program
+  pub each : (program : ℕ) → (is_flagged tape flags program ≡ true) ↔ IsReachedBy tape n (main_number tape) program
 
 -- One of the first n programs is flagged as reached and calls the program, which is loud.
 abbrev pub IsCalledBelow : List ControlProgram → List Bool → ℕ → ℕ → Type 0
 IsCalledBelow tape reached n program =
     (place : ℕ) × (caller : ControlProgram) × (place < n) × (slice_get tape place ≡ Some caller)
-    × (flagged tape reached caller.number ≡ true) × HasLoudCall tape caller.blocks program
+    × (is_flagged tape reached caller.number ≡ true) × HasLoudCall tape caller.blocks program

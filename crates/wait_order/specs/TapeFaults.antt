@@ -2,6 +2,7 @@
 -- the fault 65. For this crate alone: src/waiting.rt asks for these; src/deep.rt, src/depth.rt and
 -- src/searches.rt lean on what is known of each program.
 use Rattle.std.specs.Prelude.{◌≡◌, ℕ, ◌<◌, ◌≤◌, List, length, Some, slice_get}
+use Rattle.nc_number.specs.declared.limits.TheConstants.{MOST_BLOCKS}
 use Rattle.block_order.specs.declared.program.ControlProgram.{ControlProgram}
 use Rattle.block_order.specs.Order.{blocks}
 use Rattle.block_order.specs.Fitting.{Fits}
@@ -13,7 +14,7 @@ pub record IsProgramOf (tape : List ControlProgram) (program : ControlProgram) :
   -- The blocks that its number finds are its own, as of the first program of that number.
   pub own : blocks tape program.number ≡ program.blocks
   -- It has at most 20,000 blocks.
-  pub few : length program.blocks ≤ 20000
+  pub few : length program.blocks ≤ MOST_BLOCKS
   -- Its loops fit together.
   pub fits : Fits program.blocks
   -- Its lines rise.

@@ -7,7 +7,7 @@ use Rattle.wait_order.specs.declared.view.ProgramView.{ProgramView}
 use Rattle.block_order.specs.Order.{blocks, main_number}
 use Rattle.block_order.specs.Loud.{loud}
 use Rattle.block_order.specs.Numbers.{KnowsPlaces}
-use Rattle.block_order.specs.Heard.{heard}
+use Rattle.block_order.specs.Heard.{is_kept_loud}
 use Rattle.wait_order.specs.Ways.{AreWays}
 
 -- The view has the programs' places, the loud programs, the main program's number, and of its own
@@ -16,7 +16,7 @@ pub record IsView (view : ProgramView) : Type 0 where
   -- The places of the O numbers are those of the programs.
   pub places : KnowsPlaces view.programs.now view.loud.now.numbers
   -- The flags are those of the loud programs.
-  pub heard_loud : heard view.loud.now ≡ loud view.programs.now
+  pub heard_loud : is_kept_loud view.loud.now ≡ loud view.programs.now
   -- The main program's number is that of the first one.
   pub main : view.main ≡ main_number view.programs.now
   -- The blocks are those of the program's number.

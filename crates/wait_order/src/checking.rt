@@ -5,7 +5,7 @@ ghost use Rattle.std.specs.Prelude.{◌≡◌, IfOk, IfErr};
 ghost use Rattle.block_order.specs.Answers.{IfFault};
 ghost use Rattle.block_order.specs.Faults.{Fitting, Finding, Waiting, IsClear, IsSound, IsFirst};
 ghost use Rattle.block_order.specs.First.{IsFirstOf};
-ghost use Rattle.block_order.specs.Shape.{IsListed};
+ghost use Rattle.block_order.specs.Shape.{IsReadTape};
 
 use crate::waiting::waiting_fault;
 use block_order::{BlockOrder, ControlProgram, DraftOrder, OrderFault};
@@ -32,7 +32,7 @@ pub fn check_order(
     alloc: Global,
     programs: Vec<ControlProgram>,
 ) -> Result<BlockOrder, Failing<OrderFault>>
-    requires listed { IsListed programs.items }
+    requires listed { IsReadTape programs.items }
     ensures same { IfOk result (λ order. order ≡ programs.items) }
     ensures sound { IfOk result (λ _. IsSound programs.items) }
     ensures first { IfErr result (λ error. IfFault error

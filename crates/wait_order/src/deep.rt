@@ -4,7 +4,7 @@
 ghost use Rattle.std.specs.Prelude.{◌↔◌, ℕ, IsTrue, List};
 ghost use Rattle.wait_order.specs.Deep.{IsCallLine, IsReachedLine, IsDeepLine};
 ghost use Rattle.wait_order.specs.Depth.{IsLoudCall, AreReached};
-ghost use Rattle.block_order.specs.Heard.{IsKnown};
+ghost use Rattle.block_order.specs.Heard.{AreFlagsOf};
 ghost use Rattle.wait_order.specs.TapeFaults.{AreProgramsOf};
 ghost use Rattle.wait_order.specs.Waiting.{HasRisingLines, IsLeast};
 ghost use Rattle.block_order.specs.declared.program.ControlProgram.{ControlProgram};
@@ -14,7 +14,7 @@ use nc_number::lesser;
 
 /// Whether the control is a call of a loud program.
 fn is_loud_call(loud: &LoudPrograms, control: &Control) -> bool
-    ensures { (tape : List ControlProgram) → IsKnown tape loud.now
+    ensures { (tape : List ControlProgram) → AreFlagsOf tape loud.now
         → IsTrue result ↔ ((q : ℕ) × IsLoudCall tape control.now q) }
 {
     match control {
@@ -28,7 +28,7 @@ fn is_loud_call(loud: &LoudPrograms, control: &Control) -> bool
 
 /// The line of the first of these blocks that calls a loud program, if one does.
 fn first_call_line(loud: &LoudPrograms, blocks: &[ControlBlock]) -> Option<u32>
-    ensures { (tape : List ControlProgram) → IsKnown tape loud.now → HasRisingLines blocks.now
+    ensures { (tape : List ControlProgram) → AreFlagsOf tape loud.now → HasRisingLines blocks.now
         → IsLeast (IsCallLine tape blocks.now) result }
 {
     for block in blocks {
@@ -41,7 +41,7 @@ fn first_call_line(loud: &LoudPrograms, blocks: &[ControlBlock]) -> Option<u32>
 
 /// The line of the first call of a loud program in this one, if it is flagged as reached.
 fn reached_line(loud: &LoudPrograms, reached: &[bool], program: &ControlProgram) -> Option<u32>
-    ensures { (tape : List ControlProgram) → IsKnown tape loud.now → HasRisingLines program.now.blocks
+    ensures { (tape : List ControlProgram) → AreFlagsOf tape loud.now → HasRisingLines program.now.blocks
         → IsLeast (IsReachedLine tape reached.now program.now) result }
 {
     if loud.flag_of(reached, program.number) {
@@ -58,7 +58,7 @@ pub(crate) fn deep_line(
     loud: &LoudPrograms,
     reached: &[bool],
 ) -> Option<u32>
-    requires known { IsKnown programs.now loud.now }
+    requires known { AreFlagsOf programs.now loud.now }
     requires own { AreProgramsOf programs.now }
     requires reached { AreReached programs.now 8 reached.now }
     ensures { IsLeast (IsDeepLine programs.now) result }

@@ -3,8 +3,8 @@
 //! an end, itself or by its calls; the others are quiet. waiting.rt calls `reached_by_eight`.
 ghost use Rattle.std.specs.Prelude.{◌≡◌, ◌↔◌, ◌⊎◌, ◌<◌, ℕ, true, List, IfOk, length};
 ghost use Rattle.wait_order.specs.Depth.{IsLoudCall, HasLoudCall, IsCalledBelow, IsCalledFrom, AreReached};
-ghost use Rattle.block_order.specs.ProgramPlaces.{flagged};
-ghost use Rattle.block_order.specs.Heard.{IsKnown};
+ghost use Rattle.block_order.specs.ProgramPlaces.{is_flagged};
+ghost use Rattle.block_order.specs.Heard.{AreFlagsOf};
 ghost use Rattle.wait_order.specs.TapeFaults.{AreProgramsOf};
 ghost use Rattle.block_order.specs.declared.program.ControlProgram.{ControlProgram};
 
@@ -14,8 +14,9 @@ use std::alloc::Global;
 
 /// Flags the program that a block of this control calls, if that is loud.
 fn flag_called(flags: &mut [bool], loud: &LoudPrograms, control: &Control)
-    ensures { (tape : List ControlProgram) → IsKnown tape loud.now → length flags.old ≡ length tape
-        → (q : ℕ) → (flagged tape flags.new q ≡ true) ↔ ((flagged tape flags.old q ≡ true) ⊎ IsLoudCall tape control.now q) }
+    ensures { (tape : List ControlProgram) → AreFlagsOf tape loud.now → length flags.old ≡ length tape
+        → (q : ℕ) → (is_flagged tape flags.new q ≡ true)
+        ↔ ((is_flagged tape flags.old q ≡ true) ⊎ IsLoudCall tape control.now q) }
 {
     if let Control::Call {
         program,
@@ -34,9 +35,10 @@ fn flag_called(flags: &mut [bool], loud: &LoudPrograms, control: &Control)
 
 /// Flags the loud programs that these blocks call. Other flags stay.
 fn flag_calls(flags: &mut [bool], loud: &LoudPrograms, blocks: &[ControlBlock])
-    ensures { (tape : List ControlProgram) → IsKnown tape loud.now → length flags.old ≡ length tape
+    ensures { (tape : List ControlProgram) → AreFlagsOf tape loud.now → length flags.old ≡ length tape
         → (q : ℕ)
-        → (flagged tape flags.new q ≡ true) ↔ ((flagged tape flags.old q ≡ true) ⊎ HasLoudCall tape blocks.now q) }
+        → (is_flagged tape flags.new q ≡ true)
+        ↔ ((is_flagged tape flags.old q ≡ true) ⊎ HasLoudCall tape blocks.now q) }
 {
     for block in blocks {
         flag_called(flags, loud, &block.control);
@@ -45,9 +47,9 @@ fn flag_calls(flags: &mut [bool], loud: &LoudPrograms, blocks: &[ControlBlock])
 
 /// Flags the loud programs that this one calls, if it is flagged as reached. Other flags stay.
 fn flag_from(next: &mut [bool], loud: &LoudPrograms, reached: &[bool], program: &ControlProgram)
-    ensures { (tape : List ControlProgram) → IsKnown tape loud.now → length next.old ≡ length tape
-        → (q : ℕ) → (flagged tape next.new q ≡ true) ↔ ((flagged tape next.old q ≡ true)
-        ⊎ ((flagged tape reached.now program.now.number ≡ true) × HasLoudCall tape program.now.blocks q)) }
+    ensures { (tape : List ControlProgram) → AreFlagsOf tape loud.now → length next.old ≡ length tape
+        → (q : ℕ) → (is_flagged tape next.new q ≡ true) ↔ ((is_flagged tape next.old q ≡ true)
+        ⊎ ((is_flagged tape reached.now program.now.number ≡ true) × HasLoudCall tape program.now.blocks q)) }
 {
     if loud.flag_of(reached, program.number) {
         flag_calls(next, loud, program.blocks.as_slice());
@@ -56,9 +58,9 @@ fn flag_from(next: &mut [bool], loud: &LoudPrograms, reached: &[bool], program: 
 
 /// Flags the loud programs that the reached programs call. Other flags stay.
 fn flag_all(next: &mut [bool], loud: &LoudPrograms, reached: &[bool], programs: &[ControlProgram])
-    requires known { IsKnown programs.now loud.now }
+    requires known { AreFlagsOf programs.now loud.now }
     requires count { length next.old ≡ length programs.now }
-    ensures { (q : ℕ) → (flagged programs.now next.new q ≡ true) ↔ ((flagged programs.now next.old q ≡ true)
+    ensures { (q : ℕ) → (is_flagged programs.now next.new q ≡ true) ↔ ((is_flagged programs.now next.old q ≡ true)
         ⊎ IsCalledBelow programs.now reached.now (length programs.now) q) }
 {
     for program in programs {
@@ -73,7 +75,7 @@ fn called_from(
     loud: &LoudPrograms,
     reached: &[bool],
 ) -> Result<Vec<bool>, NoMemory>
-    requires known { IsKnown programs.now loud.now }
+    requires known { AreFlagsOf programs.now loud.now }
     requires own { AreProgramsOf programs.now }
     ensures { IfOk result (λ next. IsCalledFrom programs.now reached.now next.items) }
 {
@@ -100,7 +102,7 @@ pub(crate) fn reached_by_eight(
     loud: &LoudPrograms,
 ) -> Result<Vec<bool>, NoMemory>
     requires some { 0 < length programs.now }
-    requires known { IsKnown programs.now loud.now }
+    requires known { AreFlagsOf programs.now loud.now }
     requires own { AreProgramsOf programs.now }
     ensures { IfOk result (λ reached. AreReached programs.now 8 reached.items) }
 {

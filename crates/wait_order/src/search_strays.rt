@@ -3,6 +3,7 @@
 //! that leads to a wait or an end. Places are indices of blocks. view.rt calls `first_search_stray`
 //! for each search of the tape.
 ghost use Rattle.std.specs.Prelude.{◌≡◌, ◌↔◌, Some, ◌<◌, ◌≤◌, ℕ, Bool, length};
+ghost use Rattle.nc_number.specs.declared.limits.TheConstants.{MOST_BLOCKS};
 ghost use Rattle.wait_order.specs.Ahead.{AreAhead};
 ghost use Rattle.block_order.specs.Places.{IsNumbered};
 ghost use Rattle.wait_order.specs.Searchers.{is_sought};
@@ -26,7 +27,7 @@ fn first_in(
     reach: Reach,
     target: u32,
 ) -> Option<u32>
-    requires { length ways.now.blocks.now ≤ 20000 }
+    requires { length ways.now.blocks.now ≤ MOST_BLOCKS }
     ensures { (loud : ℕ → Bool) (searches : Control → Bool) → AreWays loud ways.now
         → AreAhead loud searches ways.now.blocks.now ahead.now → target < length ways.now.blocks.now
         → IsLeast (IsOtherIn loud searches ways.now.blocks.now low high reach target) result }
@@ -47,7 +48,7 @@ fn first_in(
 /// The first block that searches and that a search for this number leads to the target, which lies
 /// in another stretch. A search begins after its block and goes on at the program's start.
 fn first_to(ways: &ProgramWays, ahead: &SearchersAhead, number: u32, target: u32) -> Option<u32>
-    requires { length ways.now.blocks.now ≤ 20000 }
+    requires { length ways.now.blocks.now ≤ MOST_BLOCKS }
     ensures { (loud : ℕ → Bool) (searches : Control → Bool) → AreWays loud ways.now
         → AreAhead loud searches ways.now.blocks.now ahead.now → target < length ways.now.blocks.now
         → IsNumbered ways.now.blocks.now target number
@@ -74,7 +75,7 @@ fn first_of_block(
     sequence: Option<u32>,
     target: u32,
 ) -> Option<u32>
-    requires { length ways.now.blocks.now ≤ 20000 }
+    requires { length ways.now.blocks.now ≤ MOST_BLOCKS }
     ensures { (loud : ℕ → Bool) (searches : Control → Bool) → AreWays loud ways.now
         → AreAhead loud searches ways.now.blocks.now ahead.now → target < length ways.now.blocks.now
         → ((n : ℕ) → IsNumbered ways.now.blocks.now target n ↔ (sequence ≡ Some n))
@@ -98,7 +99,7 @@ pub(crate) fn first_search_stray(
     ahead: &SearchersAhead,
     search: &Search,
 ) -> Option<u32>
-    requires { length ways.now.blocks.now ≤ 20000 }
+    requires { length ways.now.blocks.now ≤ MOST_BLOCKS }
     ensures { (loud : ℕ → Bool) (searches : Control → Bool) → AreWays loud ways.now
         → AreAhead loud searches ways.now.blocks.now ahead.now
         → IsLeast (IsSearchStray loud searches (is_sought search.now) ways.now.blocks.now) result }

@@ -3,9 +3,10 @@
 //! or a loud call. A loud program comes to a wait or an end, itself or by its calls; the others are
 //! quiet. view.rt makes these lists, search_strays.rt asks them.
 ghost use Rattle.std.specs.Prelude.{◌≡◌, ◌+◌, ◌<◌, ◌≤◌, ℕ, Bool, List, IfOk, length, slice_index};
+ghost use Rattle.nc_number.specs.declared.limits.TheConstants.{MOST_BLOCKS};
 ghost use Rattle.block_order.specs.declared.control.Control.{Control};
 ghost use Rattle.wait_order.specs.Searchers.{is_searcher, behind_marks, AreNext, AreLater};
-ghost use Rattle.block_order.specs.Heard.{heard};
+ghost use Rattle.block_order.specs.Heard.{is_kept_loud};
 
 use crate::search::Search;
 use crate::stretch::mark_count;
@@ -16,7 +17,7 @@ use std::alloc::{AllocError, Global};
 /// A list of `len + 1` entries, all of them `len`: the place after the last block. The only error
 /// is out of memory.
 fn places_behind(alloc: Global, len: usize) -> Result<Vec<usize>, NoMemory>
-    requires { len ≤ 20000 }
+    requires { len ≤ MOST_BLOCKS }
     ensures { IfOk result (λ places. (length places.items ≡ len + 1) × (slice_index places.items len ≡ len)) }
 {
     let places = vec![in alloc; len; len + 1]?;
@@ -30,7 +31,7 @@ fn next_searchers(
     blocks: &[ControlBlock],
     search: &Search,
 ) -> Result<Vec<usize>, NoMemory>
-    requires { length blocks.now ≤ 20000 }
+    requires { length blocks.now ≤ MOST_BLOCKS }
     ensures { IfOk result (λ next. AreNext (is_searcher search.now) blocks.now 0 next.items) }
 {
     let len = blocks.len();
@@ -61,10 +62,10 @@ fn later_searchers(
     blocks: &[ControlBlock],
     next: &[usize],
 ) -> Result<Vec<usize>, NoMemory>
-    requires few { length blocks.now ≤ 20000 }
+    requires few { length blocks.now ≤ MOST_BLOCKS }
     requires count { length next.now ≡ length blocks.now + 1 }
     ensures { (searches : Control → Bool) → AreNext searches blocks.now 0 next.now
-        → IfOk result (λ later. AreLater (heard loud.now) searches blocks.now 0 later.items) }
+        → IfOk result (λ later. AreLater (is_kept_loud loud.now) searches blocks.now 0 later.items) }
 {
     let len = blocks.len();
     let mut later = places_behind(alloc, len)?;
@@ -106,8 +107,8 @@ impl SearchersAhead {
         blocks: &[ControlBlock],
         search: &Search,
     ) -> Result<Self, NoMemory>
-        requires { length blocks.now ≤ 20000 }
-        ensures { IfOk result (AreAhead (heard loud.now) (is_searcher search.now) blocks.now) }
+        requires { length blocks.now ≤ MOST_BLOCKS }
+        ensures { IfOk result (AreAhead (is_kept_loud loud.now) (is_searcher search.now) blocks.now) }
     {
         let next = next_searchers(alloc, blocks, search)?;
         let later = later_searchers(alloc, loud, blocks, &next)?;

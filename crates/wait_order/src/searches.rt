@@ -4,7 +4,7 @@
 ghost use Rattle.std.specs.Prelude.{◌≡◌, ◌↔◌, ◌+◌, ℕ, List, Some, IsTrue, IfOk, OnOk, slice_get};
 ghost use Rattle.wait_order.specs.Waiting.{IsShort};
 ghost use Rattle.wait_order.specs.Searches.{IsLongQuiet, AreSearches, AreSearchesBelow};
-ghost use Rattle.block_order.specs.Heard.{IsKnown};
+ghost use Rattle.block_order.specs.Heard.{AreFlagsOf};
 ghost use Rattle.wait_order.specs.TapeFaults.{IsProgramOf, AreProgramsOf};
 ghost use Rattle.block_order.specs.declared.program.ControlProgram.{ControlProgram};
 
@@ -27,7 +27,7 @@ pub(crate) fn is_short(blocks: &[ControlBlock]) -> bool
 
 /// Whether the program comes to no wait and no end and has more than 64 blocks.
 fn is_long_quiet(loud: &LoudPrograms, program: &ControlProgram) -> bool
-    ensures { (tape : List ControlProgram) → IsKnown tape loud.now → IsProgramOf tape program.now
+    ensures { (tape : List ControlProgram) → AreFlagsOf tape loud.now → IsProgramOf tape program.now
         → IsTrue result ↔ IsLongQuiet tape program.now.number }
 {
     !is_short(program.blocks.as_slice()) && !loud.is_loud(program.number)
@@ -41,7 +41,7 @@ fn note_calls(
     program: &ControlProgram,
     searches: &mut Vec<Search>,
 ) -> Result<(), NoMemory>
-    ensures { (tape : List ControlProgram) (n : ℕ) → IsKnown tape loud.now → IsProgramOf tape program.now
+    ensures { (tape : List ControlProgram) (n : ℕ) → AreFlagsOf tape loud.now → IsProgramOf tape program.now
         → slice_get tape n ≡ Some program.now → AreSearchesBelow tape n searches.old.items
         → OnOk result (AreSearchesBelow tape (n + 1) searches.new.items) }
 {
@@ -69,7 +69,7 @@ pub(crate) fn searches(
     programs: &[ControlProgram],
     loud: &LoudPrograms,
 ) -> Result<Vec<Search>, NoMemory>
-    requires known { IsKnown programs.now loud.now }
+    requires known { AreFlagsOf programs.now loud.now }
     requires own { AreProgramsOf programs.now }
     ensures { IfOk result (λ searches. AreSearches programs.now searches.items) }
 {

@@ -3,7 +3,7 @@
 //! of a program's stretches, searchers.rt counts marks.
 ghost use Rattle.std.specs.Prelude.{◌≡◌, ◌≤◌, length, IfOk};
 ghost use Rattle.block_order.specs.Loud.{mark_of};
-ghost use Rattle.block_order.specs.Heard.{heard};
+ghost use Rattle.block_order.specs.Heard.{is_kept_loud};
 ghost use Rattle.wait_order.specs.Stretches.{stretches_from};
 
 use block_order::{Control, ControlBlock, LoudPrograms};
@@ -12,7 +12,7 @@ use std::alloc::Global;
 
 /// How many marks a block of this control is: 1 or 0.
 pub(crate) fn mark_count(loud: &LoudPrograms, control: &Control) -> usize
-    ensures is { result ≡ length (mark_of (heard loud.now) control.now) }
+    ensures is { result ≡ length (mark_of (is_kept_loud loud.now) control.now) }
     ensures few { result ≤ 1 }
 {
     match control {
@@ -32,7 +32,7 @@ pub(crate) fn stretches(
     loud: &LoudPrograms,
     blocks: &[ControlBlock],
 ) -> Result<Vec<usize>, NoMemory>
-    ensures { IfOk result (λ found. found.items ≡ stretches_from (heard loud.now) 0 blocks.now) }
+    ensures { IfOk result (λ found. found.items ≡ stretches_from (is_kept_loud loud.now) 0 blocks.now) }
 {
     let mut found = Vec::new(alloc);
     let mut marks = 0;

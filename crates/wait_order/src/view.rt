@@ -3,6 +3,7 @@
 //! run of blocks up to a mark: a wait, an end, an M99 without a number, or a loud call. A loud
 //! program comes to a wait or an end, itself or by its calls; the others are quiet.
 ghost use Rattle.std.specs.Prelude.{◌↔◌, ◌<◌, ℕ, Bool, IsTrue, length};
+ghost use Rattle.nc_number.specs.declared.limits.TheConstants.{MOST_BLOCKS};
 ghost use Rattle.block_order.specs.Order.{blocks};
 ghost use Rattle.wait_order.specs.Waiting.{ReturnsElsewhere};
 ghost use Rattle.wait_order.specs.Ways.{AreWays};
@@ -98,7 +99,7 @@ impl ProgramView<'_> {
     /// The place of the first block that may pass a wait without a search for several numbers.
     fn first_fixed_stray(&self) -> Option<u32>
         requires view { IsView self.now }
-        requires few { length self.now.ways.blocks.now ≤ 20000 }
+        requires few { length self.now.ways.blocks.now ≤ MOST_BLOCKS }
         ensures { IsLeast (IsFixedStrayAt self.now.programs.now self.now.number) result }
     {
         let mut place: u32 = 0;
@@ -115,7 +116,7 @@ impl ProgramView<'_> {
     /// is out of memory.
     fn first_of_search(&self, alloc: Global, search: &Search) -> Result<Option<u32>, NoMemory>
         requires view { IsView self.now }
-        requires few { length self.now.ways.blocks.now ≤ 20000 }
+        requires few { length self.now.ways.blocks.now ≤ MOST_BLOCKS }
         ensures { IfOk result (IsLeast (IsSearchStray (loud self.now.programs.now)
             (is_searcher search.now) (is_sought search.now) self.now.ways.blocks.now)) }
     {
@@ -134,7 +135,7 @@ impl ProgramView<'_> {
     /// only error is out of memory.
     fn first_of_searches(&self, alloc: Global, searches: &[Search]) -> Result<Option<u32>, NoMemory>
         requires view { IsView self.now }
-        requires few { length self.now.ways.blocks.now ≤ 20000 }
+        requires few { length self.now.ways.blocks.now ≤ MOST_BLOCKS }
         ensures { IfOk result (IsLeast (IsSearchStrayBelow (loud self.now.programs.now) searches.now
             (length searches.now) self.now.ways.blocks.now)) }
     {
@@ -149,7 +150,7 @@ impl ProgramView<'_> {
     /// The place of the first block that may pass a wait. The only error is out of memory.
     fn first_stray(&self, alloc: Global, searches: &[Search]) -> Result<Option<u32>, NoMemory>
         requires view { IsView self.now }
-        requires few { length self.now.ways.blocks.now ≤ 20000 }
+        requires few { length self.now.ways.blocks.now ≤ MOST_BLOCKS }
         requires searches { AreSearches self.now.programs.now searches.now }
         requires counts { Counts self.now.programs.now self.now.number }
         ensures { IfOk result (IsLeast (IsStray self.now.programs.now self.now.number)) }
@@ -184,7 +185,7 @@ impl ProgramView<'_> {
         searches: &[Search],
     ) -> Result<Option<u32>, NoMemory>
         requires view { IsView self.now }
-        requires few { length self.now.ways.blocks.now ≤ 20000 }
+        requires few { length self.now.ways.blocks.now ≤ MOST_BLOCKS }
         requires searches { AreSearches self.now.programs.now searches.now }
         requires counts { Counts self.now.programs.now self.now.number }
         requires rising { HasRisingLines self.now.ways.blocks.now }

@@ -6,12 +6,12 @@ ghost use Rattle.std.specs.Prelude.{◌≡◌, ◌<◌, IfOk, List};
 ghost use Rattle.block_order.specs.Labels.{Counts};
 ghost use Rattle.block_order.specs.Loud.{loud};
 ghost use Rattle.block_order.specs.Order.{main_number};
-ghost use Rattle.block_order.specs.Heard.{IsKnown};
+ghost use Rattle.block_order.specs.Heard.{AreFlagsOf};
 ghost use Rattle.wait_order.specs.TapeFaults.{IsProgramOf, AreProgramsOf, IsTapeStrayLine};
 ghost use Rattle.wait_order.specs.Deep.{IsDeepLine};
 ghost use Rattle.block_order.specs.Faults.{Fitting, Waiting, IsClear};
 ghost use Rattle.block_order.specs.First.{IsFirstOf};
-ghost use Rattle.block_order.specs.Shape.{IsListed};
+ghost use Rattle.block_order.specs.Shape.{IsReadTape};
 ghost use Rattle.wait_order.specs.Searches.{AreSearches};
 ghost use Rattle.block_order.specs.TapeTable.{IsProgramTables, IsTapeTables};
 ghost use Rattle.wait_order.specs.Waiting.{IsLeast, IsStrayLine};
@@ -49,7 +49,7 @@ fn program_line<'a>(
     own: &'a ProgramTables,
     program: &'a ControlProgram,
 ) -> Result<Option<u32>, NoMemory>
-    requires known { IsKnown programs.now loud.now }
+    requires known { AreFlagsOf programs.now loud.now }
     requires searches { AreSearches programs.now searches.now }
     requires tables { IsProgramTables program.now.blocks own.now }
     requires own { IsProgramOf programs.now program.now }
@@ -84,7 +84,7 @@ fn counted_line<'a>(
     own: &'a ProgramTables,
     program: &'a ControlProgram,
 ) -> Result<Option<u32>, NoMemory>
-    requires known { IsKnown programs.now loud.now }
+    requires known { AreFlagsOf programs.now loud.now }
     requires searches { AreSearches programs.now searches.now }
     requires tables { IsProgramTables program.now.blocks own.now }
     requires own { IsProgramOf programs.now program.now }
@@ -104,7 +104,7 @@ fn stray_line(
     tables: &[ProgramTables],
     loud: &LoudPrograms,
 ) -> Result<Option<u32>, NoMemory>
-    requires known { IsKnown programs.now loud.now }
+    requires known { AreFlagsOf programs.now loud.now }
     requires tables { IsTapeTables programs.now tables.now }
     requires own { AreProgramsOf programs.now }
     ensures { IfOk result (IsLeast (IsTapeStrayLine programs.now)) }
@@ -160,7 +160,8 @@ fn first_fault(stray: Option<u32>, deep: Option<u32>) -> Option<OrderFault>
     }
 }
 
-/// The first fault of waits on a tape, whose O numbers are given once and whose loops fit together:
+/// The first fault of waits on a tape that was read, whose O numbers are given once and whose loops
+/// fit together:
 /// of the least line, and on one line the one with the lesser number; `None` exactly if there is
 /// none. The only error is out of memory.
 pub(crate) fn waiting_fault(
@@ -169,10 +170,10 @@ pub(crate) fn waiting_fault(
     tables: &[ProgramTables],
     loud: &LoudPrograms,
 ) -> Result<Option<OrderFault>, NoMemory>
-    requires listed { IsListed programs.now }
+    requires listed { IsReadTape programs.now }
     requires fits { IsClear programs.now Fitting }
     requires tables { IsTapeTables programs.now tables.now }
-    requires known { IsKnown programs.now loud.now }
+    requires known { AreFlagsOf programs.now loud.now }
     ensures { IfOk result (IsFirstOf programs.now Waiting) }
 {
     let stray = stray_line(alloc, programs, tables, loud)?;

@@ -16,7 +16,7 @@ use Rattle.nc_verify.specs.Verdict.{skips_of, IsPairRefusal}
 use Rattle.nc_verify.proofs.NotBoth.{one_cell, one_tape, not_both_pair}
 use Rattle.nc_verify.proofs.SomeAnswer.{ByLists}
 use Rattle.open_order.specs.declared.premises.Premises.{Premises}
-use Rattle.wait_verify.specs.Asked.{Asked, opened}
+use Rattle.wait_verify.specs.Asked.{Asked, text_without_commas}
 use Rattle.open_order.specs.Contours.{contour_fault}
 use Rattle.open_order.specs.Exact.{refusal, IsOrdered, IsRefused}
 use Rattle.open_order.specs.Exact.IsRefused.{block, order, contour}
@@ -47,7 +47,7 @@ not_both_order premises programs own line number x (contour other reads sound fa
 -- A text reads as one tape at most.
 pub same_programs : (premises : Premises) (skips : ℕ) (text : List ℕ) (a b : List Program) (oa ob : List ControlProgram)
     → IsOrderOf premises skips text a oa → IsOrderOf premises skips text b ob → a ≡ b
-same_programs premises skips text a b oa ob x y = one_tape a b (tape_of skips (opened text)) x.reads y.reads
+same_programs premises skips text a b oa ob x y = one_tape a b (tape_of skips (text_without_commas text)) x.reads y.reads
 
 -- A text has one order of its blocks at most.
 pub same_order : (premises : Premises) (skips : ℕ) (text : List ℕ) (a b : List Program) (oa ob : List ControlProgram)
@@ -63,7 +63,7 @@ pub not_both_tape : (premises : Premises) (skips : ℕ) (path : Path) (text : Li
 not_both_tape premises skips path text programs own told x (tape_reading fault refused is) =
     absurd (let e : ◌≡◌ {A = Result (List Program) TextFault} (Ok programs) (Err fault) = sym x.reads ∙ refused in cc)
 not_both_tape premises skips path text programs own told x (tape_order other line number reads refused is) =
-    let same : programs ≡ other = one_tape programs other (tape_of skips (opened text)) x.reads reads in
+    let same : programs ≡ other = one_tape programs other (tape_of skips (text_without_commas text)) x.reads reads in
     not_both_order premises other own line number (subst (λ t. IsOrdered premises t own) same x.ordered) refused
 
 -- No pair is both accepted and refused, by the law that a pair is accepted exactly by its lists of

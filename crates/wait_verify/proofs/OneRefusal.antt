@@ -20,7 +20,7 @@ use Rattle.nc_verify.specs.Verdict.{skips_of, IsPairRefusal}
 use Rattle.nc_verify.proofs.NotBoth.{one_cell, one_tape}
 use Rattle.nc_verify.proofs.OneRefusal.{one_of_settings, one_of_pair, not_both_read, not_both_settings}
 use Rattle.open_order.specs.declared.premises.Premises.{Premises}
-use Rattle.wait_verify.specs.Asked.{Asked, opened}
+use Rattle.wait_verify.specs.Asked.{Asked, text_without_commas}
 use Rattle.open_order.specs.Contours.{contour_fault}
 use Rattle.open_order.specs.Exact.{refusal, IsRefused}
 use Rattle.open_order.specs.Exact.IsRefused.{block, order, contour}
@@ -100,11 +100,11 @@ one_of_tape law premises skips path text a b (tape_reading fault e is) (tape_rea
     let same : fault ≡ other = cc in
     is ∙ ap (λ (x : TextFault). at_line path x.line x.number) same ∙ sym own
 one_of_tape law premises skips path text a b (tape_reading fault e is) (tape_order programs line number read refused own) =
-    absurd (not_both_read (opened text) skips programs fault read e)
+    absurd (not_both_read (text_without_commas text) skips programs fault read e)
 one_of_tape law premises skips path text a b (tape_order programs line number read refused is) (tape_reading fault e own) =
-    absurd (not_both_read (opened text) skips programs fault read e)
+    absurd (not_both_read (text_without_commas text) skips programs fault read e)
 one_of_tape law premises skips path text a b (tape_order programs line number read refused is) (tape_order other other_line n other_read other_refused own) =
-    let same : programs ≡ other = one_tape programs other (tape_of skips (opened text)) read other_read in
+    let same : programs ≡ other = one_tape programs other (tape_of skips (text_without_commas text)) read other_read in
     let here : IsRefused premises other line number = subst (λ t. IsRefused premises t line number) same refused in
     let at = one_of_refused law premises other line number other_line n here other_refused in
     is ∙ ap (λ k. at_line path k number) at.0 ∙ ap (λ k. at_line path other_line k) at.1 ∙ sym own

@@ -18,7 +18,7 @@ use Rattle.nc_verify.specs.Refusals.{at_setting, at_line}
 use Rattle.nc_verify.specs.Verdict.{skips_of}
 use Rattle.nc_verify.proofs.SomeAnswer.{ByLists, OneList, pair_answer}
 use Rattle.open_order.specs.declared.premises.Premises.{Premises}
-use Rattle.wait_verify.specs.Asked.{Asked, opened}
+use Rattle.wait_verify.specs.Asked.{Asked, text_without_commas}
 use Rattle.open_order.specs.Contours.{contour_fault}
 use Rattle.open_order.specs.Exact.{IsOrdered, IsRefused}
 use Rattle.open_order.specs.Exact.IsRefused.{block, order, contour}
@@ -56,9 +56,9 @@ order_answer law premises programs unordered unrefused = go (programs_read premi
 tape_answer : HasSomeFirst → (premises : Premises) (skips : ℕ) (path : Path) (text : List ℕ)
     → CantBothFail ((programs : List Program) × (own : List ControlProgram) × IsOrderOf premises skips text programs own)
     ((told : Refusal) × IsTapeRefusal premises skips path text told)
-tape_answer law premises skips path text unordered unrefused = go (tape_of skips (opened text)) refl
+tape_answer law premises skips path text unordered unrefused = go (tape_of skips (text_without_commas text)) refl
   where
-    go : (read : Result (List Program) TextFault) → tape_of skips (opened text) ≡ read → ⊥
+    go : (read : Result (List Program) TextFault) → tape_of skips (text_without_commas text) ≡ read → ⊥
     go (Err fault) is = unrefused (at_line path fault.line fault.number, tape_reading fault is refl)
     go (Ok programs) is =
         order_answer law premises programs

@@ -35,14 +35,14 @@ use Rattle.block_forms.specs.Refusals as closed
 use Rattle.block_words.specs.Words as read
 use Rattle.block_words.specs.Words.{is_one_of}
 use Rattle.open_forms.specs.Codes.{is_macro}
-use Rattle.open_forms.specs.Words.{words_of, written}
+use Rattle.open_forms.specs.Words.{words_of, written_micro}
 use Rattle.open_forms.proofs.Accepts.{IsAccepted, accepted}
 use Rattle.nc_number.proofs.Bools.{neither}
 use Rattle.open_forms.proofs.AmongLetters.{fewer_computed, one_among}
 use Rattle.open_forms.proofs.ReadWords.{AreSaid, are_said, same_words_of}
 use Rattle.open_forms.proofs.Widened.{judged_words}
 use Rattle.open_forms.proofs.TableRows.{in_each, macro_is, no_such_g, same_kind}
-use Rattle.open_forms.specs.Controls.{open_control, numbered}
+use Rattle.open_forms.specs.Controls.{open_control, control_or_number}
 use Rattle.open_forms.specs.Widening.{AreClean, IsClean, IsCleanTape, IsWidened as IsWidenedBlock}
 use Rattle.tape_flow.specs.declared.fault.FlowFault.{FlowFault}
 use Rattle.tape_flow.specs.Controls.{control_block, control_program, controls}
@@ -53,7 +53,7 @@ use Rattle.nc_verify.specs.Verdict.{IsFlowOf, Texts, skips_of, dialect_in}
 use Rattle.open_order.specs.Contours.{blocks_fault, contour_fault, contour_in, has_code, is_cycle_code, is_macro_code}
 use Rattle.wait_verify.specs.Verdict.{IsOrderOf}
 use Rattle.wait_verify.specs.Widening.{ArePlain, IsPlainBlock, IsPlainText, IsWidened}
-use Rattle.open_order.specs.Reading.{Basis, settled, at_line, block_read, blocks_from, program_read, programs_from}
+use Rattle.open_order.specs.Reading.{Basis, settled_control, at_line, block_read, blocks_from, program_read, programs_from}
 
 -- The law of open_forms on blocks: one that reads in full leads where it leads for its waits.
 abbrev pub BlockLaw : Type 0
@@ -74,7 +74,7 @@ form_is block (Ok own) form e =
     (sym (ap (λ (f : BlockForm). f.line) same), sym (ap (λ (f : BlockForm). f.sequence) same))
 
 -- If the tape may lack no program, the control of a block stays as it is.
-none_gone : (c : Control) → settled (λ _. false) c ≡ c
+none_gone : (c : Control) → settled_control (λ _. false) c ≡ c
 none_gone control.Next = refl
 none_gone (control.Goto n) = refl
 none_gone (control.While m) = refl
@@ -103,7 +103,7 @@ block_widened law dialect tape block form plain clean reads = go (block_or_refus
         let accepted : block_or_refusal dialect block ≡ Ok form = is ∙ ap (λ f. Ok f) same in
         let leads : open_control dialect block.body ≡ Ok form.control = law dialect block form accepted plain clean in
         let at = form_is block (form_or_refusal dialect block.body) form accepted in
-        ap (λ read. at_line (λ _. false) block (numbered read)) leads
+        ap (λ read. at_line (λ _. false) block (control_or_number read)) leads
         ∙ ap (λ c. Ok (record { line = block.line; sequence = block.sequence; control = c })) (none_gone form.control)
         ∙ ap (λ line. Ok (record { line = line; sequence = block.sequence; control = form.control })) (sym at.0)
         ∙ ap (λ sequence. Ok (record { line = form.line; sequence = sequence; control = form.control })) (sym at.1)
@@ -184,14 +184,14 @@ programs_widened law dialect tape (program ∷ rest) done forms plain clean e =
 -- If a computed code does not pass a test, a G word has a code that passes exactly if one of the
 -- codes that are written out passes.
 any_of_g : (is_it : Option ℤ → Bool) → is_it None ≡ false → (words : List Word)
-    → has_code is_it words ≡ list_any (λ z. is_it (Some z)) (filter_map written (words_of (codes "G") words))
+    → has_code is_it words ≡ list_any (λ z. is_it (Some z)) (filter_map written_micro (words_of (codes "G") words))
 any_of_g is_it none [] = refl
-any_of_g is_it none (word ∷ words) = go (is_one_of (codes "G") word.letter) (written word) refl (any_of_g is_it none words)
+any_of_g is_it none (word ∷ words) = go (is_one_of (codes "G") word.letter) (written_micro word) refl (any_of_g is_it none words)
   where
-    go : (own : Bool) (micro : Option ℤ) → written word ≡ micro
-        → has_code is_it words ≡ list_any (λ z. is_it (Some z)) (filter_map written (words_of (codes "G") words))
+    go : (own : Bool) (micro : Option ℤ) → written_micro word ≡ micro
+        → has_code is_it words ≡ list_any (λ z. is_it (Some z)) (filter_map written_micro (words_of (codes "G") words))
         → ((own && is_it micro) || has_code is_it words)
-        ≡ list_any (λ z. is_it (Some z)) (filter_map written (cond own (word ∷ words_of (codes "G") words) (words_of (codes "G") words)))
+        ≡ list_any (λ z. is_it (Some z)) (filter_map written_micro (cond own (word ∷ words_of (codes "G") words) (words_of (codes "G") words)))
     go false micro is rest = rest
     go true None is rest = rw (is, none) rest
     go true (Some z) is rest = rw is (ap (λ b. is_it (Some z) || b) rest)

@@ -18,10 +18,10 @@ abbrev pub without_comma : ℕ → ℕ
 without_comma b = if b == 44 then 32 else b
 
 -- The text of a tape with a blank for each comma, which the reader of tapes does not know.
-abbrev pub opened : List ℕ → List ℕ
-opened text = map without_comma text
+abbrev pub text_without_commas : List ℕ → List ℕ
+text_without_commas text = map without_comma text
 
 -- The question with these texts and these programs that the tapes may lack.
-abbrev pub asked : List ℕ → List ℕ → List ℕ → Option Outside → Asked
-asked left right settings outside =
+abbrev pub question_of : List ℕ → List ℕ → List ℕ → Option Outside → Asked
+question_of left right settings outside =
     record { texts = record { left = left; right = right; settings = settings }; outside = outside }

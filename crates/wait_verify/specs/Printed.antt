@@ -2,16 +2,17 @@
 -- meeting and for the end, and what was taken on trust. src/printing.rt makes it.
 -- lathe_calls and lathe_top take `waits_text`.
 use Rattle.std.specs.Prelude.{ℕ, ◌-◌, nat_le, pos, List, [], ◌∷◌, ◌++◌, length, codes, decimal, if◌then◌else◌}
+use Rattle.nc_number.specs.declared.limits.TheConstants.{LARGEST_MICRO}
 use Rattle.nc_number.specs.Printed.{value_text}
 use Rattle.block_order.specs.declared.label.Label.{Label}
 use Rattle.block_order.specs.declared.label.Label.TheVariants.{Wait, End, Again, Off}
 use Rattle.label_list.specs.declared.labelled.Labelled.{Labelled}
-use Rattle.text_pieces.specs.Pieces.{numbered}
+use Rattle.text_pieces.specs.Pieces.{text_with_number}
 use Rattle.open_order.specs.Trusted.{TrustView, is_nothing}
 
 -- A label as it is printed: a wait by its M code, or how the path ends.
 abbrev pub label_text : Label → List ℕ
-label_text (Wait code) = numbered (codes "M") code
+label_text (Wait code) = text_with_number (codes "M") code
 label_text End = codes "end"
 label_text Again = codes "again"
 label_text Off = codes "off"
@@ -19,7 +20,7 @@ label_text Off = codes "off"
 -- The line of a label that both paths come to: `M100 path 1 line 3 path 2 line 5`.
 unfoldable pub meeting_text : Labelled → Labelled → List ℕ
 meeting_text one two =
-    label_text one.label ++ numbered (codes " path 1 line ") one.line ++ numbered (codes " path 2 line ") two.line ++ codes "\n"
+    label_text one.label ++ text_with_number (codes " path 1 line ") one.line ++ text_with_number (codes " path 2 line ") two.line ++ codes "\n"
 
 -- A line for each label of both lists, as far as both go.
 abbrev pub meetings_text : List Labelled → List Labelled → List ℕ
@@ -30,7 +31,7 @@ meetings_text (one ∷ left) (two ∷ right) = meeting_text one two ++ meetings_
 -- A G code after a blank, from its value in 0.000001. A value above 99999999.999999, which no code
 -- has, prints nothing.
 abbrev pub geometry_text : ℕ → List ℕ
-geometry_text micro = if nat_le micro 99999999999999 then codes " G" ++ value_text (pos micro) else []
+geometry_text micro = if nat_le micro LARGEST_MICRO then codes " G" ++ value_text (pos micro) else []
 
 -- These G codes, each after a blank.
 abbrev pub geometries_text : List ℕ → List ℕ
@@ -53,7 +54,7 @@ trust_text trust = if is_nothing trust then [] else codes "goes on" ++ codes_tex
 
 -- The line `waits 4`: how often the paths meet. Each label but the last is a wait.
 abbrev pub head_text : List Labelled → List ℕ
-head_text left = numbered (codes "waits ") (length left - 1) ++ codes "\n"
+head_text left = text_with_number (codes "waits ") (length left - 1) ++ codes "\n"
 
 -- The text of an accepted pair.
 unfoldable pub waits_text : List Labelled → List Labelled → TrustView → List ℕ

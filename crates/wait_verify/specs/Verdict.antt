@@ -16,7 +16,7 @@ use Rattle.nc_verify.specs.declared.refusal.Refusal.{Refusal}
 use Rattle.nc_verify.specs.Refusals.{at_line}
 use Rattle.nc_verify.specs.Verdict.{skips_of, dialect_in, AreRefusedSettings, IsPairRefusal}
 use Rattle.open_order.specs.declared.premises.Premises.{Premises}
-use Rattle.wait_verify.specs.Asked.{Asked, opened}
+use Rattle.wait_verify.specs.Asked.{Asked, text_without_commas}
 use Rattle.open_order.specs.Exact.{IsOrdered, IsRefused}
 use Rattle.open_order.specs.Trusted.{TrustView, no_trust, with_tape}
 
@@ -29,17 +29,17 @@ premises_of asked cell = record { dialect = dialect_in cell; outside = asked.out
 -- order. `skips` says which block-skip switches are on.
 pub record IsOrderOf (premises : Premises) (skips : ℕ) (text : List ℕ) (tape : List Program) (order : List ControlProgram) : Type 0 where
   -- the text reads as this tape
-  pub reads : tape_of skips (opened text) ≡ Ok tape
+  pub reads : tape_of skips (text_without_commas text) ≡ Ok tape
   -- the blocks of the tape have this order, in which nothing is wrong
   pub ordered : IsOrdered premises tape order
 
 -- The refusal of a path's tape: of its reading, or else of the order of its blocks.
 pub data IsTapeRefusal (premises : Premises) (skips : ℕ) (path : Path) (text : List ℕ) (refusal : Refusal) : Type 0 where
   -- A line can't be read.
-  reading : (fault : TextFault) → tape_of skips (opened text) ≡ Err fault → refusal ≡ at_line path fault.line fault.number
+  reading : (fault : TextFault) → tape_of skips (text_without_commas text) ≡ Err fault → refusal ≡ at_line path fault.line fault.number
       → IsTapeRefusal premises skips path text refusal
   -- The tape reads, but a block, the order of its blocks or a contour of a cycle is refused.
-  order : (tape : List Program) (line number : ℕ) → tape_of skips (opened text) ≡ Ok tape
+  order : (tape : List Program) (line number : ℕ) → tape_of skips (text_without_commas text) ≡ Ok tape
       → IsRefused premises tape line number → refusal ≡ at_line path line number
       → IsTapeRefusal premises skips path text refusal
 

@@ -15,7 +15,7 @@ use Rattle.tape_flow.specs.Controls.{controls}
 use Rattle.tape_flow.specs.Forms.{ProgramForm}
 use Rattle.nc_verify.specs.Verdict as run
 use Rattle.nc_verify.specs.Verdict.{Texts, skips_of, dialect_in}
-use Rattle.wait_verify.specs.Asked.{opened, asked}
+use Rattle.wait_verify.specs.Asked.{text_without_commas, question_of}
 use Rattle.wait_verify.specs.Verdict.{Judged, AreAccepted}
 
 -- The block is plain: it has no M96, M97 or M198, unless as a wait or an argument of a macro call.
@@ -24,7 +24,7 @@ IsPlainBlock dialect block = has_interrupt dialect block.body ≡ false
 
 -- The text of a tape is plain: it has no comma, and each of its blocks is plain.
 pub record IsPlainText (dialect : Dialect) (skips : ℕ) (text : List ℕ) : Type 0 where
-  pub no_comma : opened text ≡ text
+  pub no_comma : text_without_commas text ≡ text
   pub plain : (tape : List Program) → tape_of skips text ≡ Ok tape → All (IsPlainBlock dialect) (blocks_in tape)
 
 -- The texts of both tapes of a pair are plain.
@@ -42,4 +42,4 @@ pub record IsWidened (texts : Texts) (cell : Cell) (left right : List ProgramFor
   pub left_same : judged.left ≡ controls left
   pub right_same : judged.right ≡ controls right
   -- it is accepted, also if its tapes may lack no program
-  pub accepted : AreAccepted (asked texts.left texts.right texts.settings None) judged
+  pub accepted : AreAccepted (question_of texts.left texts.right texts.settings None) judged

@@ -2,7 +2,7 @@
 //! commas, which say nothing of waits and which the reader of tapes refuses.
 //! tape.rt opens each text so before it is read.
 ghost use Rattle.std.specs.Prelude.{◌≡◌, IfOk};
-ghost use Rattle.wait_verify.specs.Asked.{without_comma, opened};
+ghost use Rattle.wait_verify.specs.Asked.{without_comma, text_without_commas};
 
 use nc_number::NoMemory;
 use std::alloc::Global;
@@ -18,7 +18,7 @@ fn without_comma(byte: u8) -> u8
 /// `,R1.`, and the reader of tapes knows no comma. Each line keeps its number. The only error is
 /// that memory ran out.
 pub(crate) fn opened(alloc: Global, text: &[u8]) -> Result<Vec<u8>, NoMemory>
-    ensures { IfOk result (λ bytes. bytes.items ≡ opened text.now) }
+    ensures { IfOk result (λ bytes. bytes.items ≡ text_without_commas text.now) }
 {
     let mut bytes = Vec::with_capacity(alloc, text.len())?;
     for byte in text {

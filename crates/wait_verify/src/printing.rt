@@ -2,22 +2,23 @@
 //! meeting and for the end, and what was taken on trust. Its definition is in specs/Printed.antt.
 //! lathe_calls calls `push_waits`.
 ghost use Rattle.std.specs.Prelude.{◌≡◌, ◌+◌, ◌≤◌, ◌++◌, OnOk, codes, length};
+ghost use Rattle.text_pieces.specs.declared.piece.TheConstants.{MOST_BYTES};
 ghost use Rattle.nc_number.specs.Printed.{value_text};
-ghost use Rattle.text_pieces.specs.Pieces.{numbered};
-ghost use Rattle.open_order.specs.Basis.{seen};
+ghost use Rattle.text_pieces.specs.Pieces.{text_with_number};
+ghost use Rattle.open_order.specs.Basis.{trust_view};
 ghost use Rattle.wait_verify.specs.Printed.{label_text, meeting_text, meetings_text, geometry_text, geometries_text, numbers_text, codes_text, trust_text, head_text, waits_text};
 
 use crate::pair::WaitPair;
 use block_order::Label;
 use label_list::Labelled;
-use nc_number::{NoMemory, Value};
+use nc_number::{LARGEST_MICRO, NoMemory, Value};
 use open_order::Trust;
 use std::collections::BTreeSet;
 use text_pieces::{Piece, push_numbered, push_piece};
 
 /// Adds a label: a wait by its M code, or how the path ends; at most 21 bytes.
 fn add_label(piece: &mut Piece, label: Label)
-    requires { length piece.old + 21 ≤ 512 }
+    requires { length piece.old + 21 ≤ MOST_BYTES }
     ensures text { piece.new ≡ piece.old ++ label_text label }
     ensures size { length piece.new ≤ length piece.old + 21 }
 {
@@ -74,7 +75,7 @@ fn code_piece(value: Value) -> Piece
 fn geometry_piece(micro: u64) -> Piece
     ensures { result ≡ geometry_text micro }
 {
-    if micro > 99_999_999_999_999 {
+    if micro > LARGEST_MICRO {
         return Piece::empty();
     }
     match Value::of(micro as i64) {
@@ -123,7 +124,7 @@ fn push_programs(text: &mut Vec<u8>, numbers: &BTreeSet<u16>) -> Result<(), NoMe
 /// Adds the codes and programs that were taken on trust, each after a blank. The only error is out
 /// of memory.
 fn push_codes(text: &mut Vec<u8>, trust: &Trust) -> Result<(), NoMemory>
-    ensures { OnOk result (text.new.items ≡ text.old.items ++ codes_text (seen trust.now)) }
+    ensures { OnOk result (text.new.items ≡ text.old.items ++ codes_text (trust_view trust.now)) }
 {
     push_geometries(text, &trust.geometry)?;
     push_auxiliaries(text, &trust.auxiliary)?;
@@ -132,7 +133,7 @@ fn push_codes(text: &mut Vec<u8>, trust: &Trust) -> Result<(), NoMemory>
 
 /// Adds the line of what was taken on trust, if anything was. The only error is out of memory.
 fn push_trust(text: &mut Vec<u8>, trust: &Trust) -> Result<(), NoMemory>
-    ensures { OnOk result (text.new.items ≡ text.old.items ++ trust_text (seen trust.now)) }
+    ensures { OnOk result (text.new.items ≡ text.old.items ++ trust_text (trust_view trust.now)) }
 {
     if trust.is_empty() {
         return Ok(());
@@ -165,7 +166,8 @@ fn push_head(text: &mut Vec<u8>, left: &[Labelled]) -> Result<(), NoMemory>
 /// main programs, or `off` past their last blocks; and the codes and programs that were taken on
 /// trust. The only error is out of memory.
 pub fn push_waits(text: &mut Vec<u8>, pair: &WaitPair) -> Result<(), NoMemory>
-    ensures { OnOk result (text.new.items ≡ text.old.items ++ waits_text pair.now.labels.one pair.now.labels.two (seen pair.now.trust)) }
+    ensures { OnOk result (text.new.items
+        ≡ text.old.items ++ waits_text pair.now.labels.one pair.now.labels.two (trust_view pair.now.trust)) }
 {
     let left = pair.labels.one.as_slice();
     push_head(text, left)?;

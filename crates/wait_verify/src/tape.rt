@@ -6,7 +6,7 @@ ghost use Rattle.block_order.specs.Answers.{IfFault};
 ghost use Rattle.nc_number.specs.Answers.{Gives};
 ghost use Rattle.nc_text.specs.Tape.{tape_of};
 ghost use Rattle.open_order.specs.declared.premises.Premises.{Premises};
-ghost use Rattle.wait_verify.specs.Asked.{opened};
+ghost use Rattle.wait_verify.specs.Asked.{text_without_commas};
 ghost use Rattle.open_order.specs.Exact.{IsOrdered, IsRefused};
 ghost use Rattle.wait_verify.specs.Verdict.{IsOrderOf, IsTapeRefusal};
 
@@ -30,7 +30,7 @@ pub(crate) struct OrderedTape {
 /// The tape of a text with a blank for each comma. Blocks of these switches are skipped.
 /// Errors: the first bad line, or out of memory.
 fn read_text(alloc: Global, skips: u16, text: &[u8]) -> Result<Tape, Failing<TextFault>>
-    ensures { Gives (λ tape. tape) result (tape_of skips (opened text.now)) }
+    ensures { Gives (λ tape. tape) result (tape_of skips (text_without_commas text.now)) }
 {
     let bytes = opened(alloc, text)?;
     read_tape(alloc, skips, bytes.as_slice())
@@ -43,8 +43,9 @@ fn tape_of_path(
     path: Path,
     text: &[u8],
 ) -> Result<Tape, Failing<Refusal>>
-    ensures reads { IfOk result (λ tape. tape_of skips (opened text.now) ≡ Ok tape) }
-    ensures refused { (premises : Premises) → IfErr result (λ error. IfFault error (IsTapeRefusal premises skips path text.now)) }
+    ensures reads { IfOk result (λ tape. tape_of skips (text_without_commas text.now) ≡ Ok tape) }
+    ensures refused { (premises : Premises)
+        → IfErr result (λ error. IfFault error (IsTapeRefusal premises skips path text.now)) }
 {
     match read_text(alloc, skips, text) {
         Ok(tape) => Ok(tape),
@@ -65,7 +66,7 @@ fn order_of_path(
     tape: &Tape,
 ) -> Result<BlockOrder, Failing<Refusal>>
     ensures ordered { IfOk result (IsOrdered premises tape.now) }
-    ensures refused { (skips : ℕ) (text : List ℕ) → tape_of skips (opened text) ≡ Ok tape.now
+    ensures refused { (skips : ℕ) (text : List ℕ) → tape_of skips (text_without_commas text) ≡ Ok tape.now
         → IfErr result (λ error. IfFault error (IsTapeRefusal premises skips path text)) }
 {
     match open_order(alloc, premises, tape.as_slice()) {

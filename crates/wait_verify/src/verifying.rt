@@ -7,8 +7,8 @@ ghost use Rattle.cell_settings.specs.View.{view};
 ghost use Rattle.label_list.specs.Accepted.{IsAcceptedPair};
 ghost use Rattle.label_list.specs.Lists.{path_labels};
 ghost use Rattle.nc_verify.specs.Verdict.{IsPairRefusal, dialect_in};
-ghost use Rattle.wait_verify.specs.Asked.{asked};
-ghost use Rattle.open_order.specs.Basis.{seen};
+ghost use Rattle.wait_verify.specs.Asked.{question_of};
+ghost use Rattle.open_order.specs.Basis.{trust_view};
 ghost use Rattle.open_order.specs.Trusted.{no_trust, with_tape};
 ghost use Rattle.wait_verify.specs.Verdict.{Judged, IsTold, IsRefusalOf};
 
@@ -36,7 +36,8 @@ fn premises_of(settings: &Settings, outside: Option<Outside>) -> Premises
 /// The codes and calls of two tapes that are taken to go on to the next block. The only error is
 /// out of memory.
 fn trust_in(alloc: Global, premises: Premises, left: &Tape, right: &Tape) -> Result<Trust, NoMemory>
-    ensures { IfOk result (λ trust. seen trust ≡ with_tape premises (with_tape premises no_trust left.now) right.now) }
+    ensures { IfOk result (λ trust. trust_view trust
+        ≡ with_tape premises (with_tape premises no_trust left.now) right.now) }
 {
     let mut trust = no_trust(alloc);
     add_tape(&mut trust, premises, left.as_slice())?;
@@ -55,7 +56,7 @@ fn tell(
     ensures accepted { IfOk result (λ _. IsAcceptedPair left.now.order right.now.order) }
     ensures left { IfOk result (λ pair. pair.labels.one ≡ path_labels left.now.order) }
     ensures right { IfOk result (λ pair. pair.labels.two ≡ path_labels right.now.order) }
-    ensures trust { IfOk result (λ pair. seen pair.trust
+    ensures trust { IfOk result (λ pair. trust_view pair.trust
         ≡ with_tape premises (with_tape premises no_trust left.now.tape) right.now.tape) }
     ensures refused { IfErr result (λ error. IfFault error (IsPairRefusal left.now.order right.now.order)) }
 {
@@ -83,10 +84,10 @@ pub fn verdict(
     outside: Option<Outside>,
 ) -> Result<WaitPair, Failing<Refusal>>
     requires { length settings.now < 2 ^ 32 }
-    ensures told { IfOk result (λ pair. (judged : Judged) × IsTold (asked left.now right.now settings.now outside)
-        judged pair.labels.one pair.labels.two (seen pair.trust)) }
+    ensures told { IfOk result (λ pair. (judged : Judged) × IsTold (question_of left.now right.now settings.now outside)
+        judged pair.labels.one pair.labels.two (trust_view pair.trust)) }
     ensures refused { IfErr result (λ error. IfFault error
-        (IsRefusalOf (asked left.now right.now settings.now outside))) }
+        (IsRefusalOf (question_of left.now right.now settings.now outside))) }
 {
     let settings = match settings_of(alloc, settings) {
         Ok(settings) => settings,

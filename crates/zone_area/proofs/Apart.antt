@@ -9,7 +9,7 @@ use Rattle.zone_area.specs.declared.area.Area.{Area}
 use Rattle.zone_area.specs.declared.frame.Frame.{Frame}
 use Rattle.nc_number.specs.Distances.{distance}
 use Rattle.nc_number.proofs.Integers.{lt_is}
-use Rattle.nc_number.specs.Signs.{signed}
+use Rattle.nc_number.specs.Signs.{signed_number}
 use Rattle.zone_area.specs.Passing.{MayPassSome, IsInside, AreApart, point_in_cell}
 use Rattle.zone_area.specs.Area.{area_of, area_in_cell, is_beyond, is_clear}
 use Rattle.zone_area.proofs.Scaled.{scaled_lt, scaled_add, scaled_neg}
@@ -28,8 +28,8 @@ shifted d low high shift q l h =
 
 -- along an axis that may be mirrored, what lies between two lengths lies between them after a shift
 across : (d : ℕ) (mirror : Bool) (low high shift q : ℤ) → (pos d *ℤ low) ≤ℤ q → q ≤ℤ (pos d *ℤ high)
-    → ((pos d *ℤ (signed mirror (if mirror then high else low) +ℤ shift)) ≤ℤ (signed mirror q +ℤ pos d *ℤ shift))
-    × ((signed mirror q +ℤ pos d *ℤ shift) ≤ℤ (pos d *ℤ (signed mirror (if mirror then low else high) +ℤ shift)))
+    → ((pos d *ℤ (signed_number mirror (if mirror then high else low) +ℤ shift)) ≤ℤ (signed_number mirror q +ℤ pos d *ℤ shift))
+    × ((signed_number mirror q +ℤ pos d *ℤ shift) ≤ℤ (pos d *ℤ (signed_number mirror (if mirror then low else high) +ℤ shift)))
 across d false low high shift q l h = shifted d low high shift q l h
 across d true low high shift q l h =
     let low_is = scaled_neg d low in

@@ -10,7 +10,7 @@ use Rattle.nc_moves.specs.declared.motion.Centre.TheVariants.{Offset}
 use Rattle.motion_track.specs.Circle.{place_of, centre_from, square_between}
 use Rattle.nc_number.proofs.Points.{same_point}
 use Rattle.zone_area.specs.Roots.{least_root}
-use Rattle.nc_number.specs.Signs.{signed}
+use Rattle.nc_number.specs.Signs.{signed_number}
 use Rattle.zone_area.specs.Passing.{middle_of}
 use Rattle.zone_area.specs.Area.{reach_of, lie_apart}
 use Rattle.zone_area.specs.Range.{far_apart, far_square, far_in_cell}
@@ -30,11 +30,11 @@ stored : (r z : ℤ) → r ≡ z → unsigned_abs r ≤ far_in_cell → to_z w64
 stored r z is near = to_z-of_z w64 r (fits_signed_from_abs w64 r (omega arith)) ∙ is
 
 -- an edge in the cell, from lengths as they are stored
-pub edge_stored : (mirror : Bool) (r e o s e' o' s' : ℤ) → r ≡ (signed mirror (if mirror then o' else e') +ℤ s')
+pub edge_stored : (mirror : Bool) (r e o s e' o' s' : ℤ) → r ≡ (signed_number mirror (if mirror then o' else e') +ℤ s')
     → e' ≡ e → o' ≡ o → s' ≡ s → unsigned_abs r ≤ far_in_cell
-    → to_z w64 (of_z w64 r) ≡ (signed mirror (if mirror then o else e) +ℤ s)
+    → to_z w64 (of_z w64 r) ≡ (signed_number mirror (if mirror then o else e) +ℤ s)
 edge_stored mirror r e o s e' o' s' is e_is o_is s_is near =
-    stored r (signed mirror (if mirror then o else e) +ℤ s) (is ∙ rw (e_is, o_is, s_is) refl) near
+    stored r (signed_number mirror (if mirror then o else e) +ℤ s) (is ∙ rw (e_is, o_is, s_is) refl) near
 
 -- whether two spans lie apart, from lengths as they are stored
 pub apart_stored : (r : Bool) (g l h k i : ℤ)

@@ -11,7 +11,7 @@ use Rattle.motion_track.specs.Within.{centre_in}
 use Rattle.zone_area.specs.declared.area.Area.{Area}
 use Rattle.zone_area.specs.declared.frame.Frame.{Frame}
 use Rattle.zone_area.specs.Roots.{least_root}
-use Rattle.nc_number.specs.Signs.{signed}
+use Rattle.nc_number.specs.Signs.{signed_number}
 use Rattle.zone_area.specs.Passing.{middle_of, square_of, place_after}
 
 -- how far an arc may reach from its middle, in 0.0005 mm
@@ -121,18 +121,18 @@ area_of at moves = (swept_along (swept_at at) moves).area
 abbrev pub area_in_cell : Frame → Area → Area
 area_in_cell frame area = record {
   low = record {
-    x = signed frame.mirror (if frame.mirror then area.high.x else area.low.x) +ℤ frame.shift.x;
+    x = signed_number frame.mirror (if frame.mirror then area.high.x else area.low.x) +ℤ frame.shift.x;
     z = area.low.z +ℤ frame.shift.z;
   };
   high = record {
-    x = signed frame.mirror (if frame.mirror then area.low.x else area.high.x) +ℤ frame.shift.x;
+    x = signed_number frame.mirror (if frame.mirror then area.low.x else area.high.x) +ℤ frame.shift.x;
     z = area.high.z +ℤ frame.shift.z;
   };
 }
 
--- the length `low` is greater than `high` by more than the gap
+-- a span that begins at `first` lies beyond one that ends at `last` by more than the gap
 abbrev pub is_beyond : ℤ → ℤ → ℤ → Bool
-is_beyond gap high low = int_lt (high +ℤ gap) low
+is_beyond gap last first = int_lt (last +ℤ gap) first
 
 -- of two spans of lengths one lies beyond the other by more than the gap
 abbrev pub lie_apart : ℤ → ℤ → ℤ → ℤ → ℤ → Bool

@@ -4,7 +4,7 @@
 use Rattle.std.specs.Prelude.{◌≡◌, ℕ, ◌*◌, ◌≤◌, max, List, [], ◌∷◌, ◌⊎◌, Option, Some, None, unwrap_or, ℤ, pos, ◌+ℤ◌, ◌*ℤ◌, ◌≤ℤ◌, ◌<ℤ◌, unsigned_abs}
 use Rattle.nc_number.specs.declared.point.Point.{Point}
 use Rattle.nc_number.specs.Distances.{distance, IsBetween}
-use Rattle.nc_number.specs.Signs.{signed}
+use Rattle.nc_number.specs.Signs.{signed_number}
 use Rattle.nc_moves.specs.declared.motion.Centre.{Centre}
 use Rattle.nc_moves.specs.declared.motion.Centre.TheVariants.{Offset, Radius}
 use Rattle.nc_moves.specs.declared.motion.Move.{Move}
@@ -70,7 +70,7 @@ pub record IsInside (d : ℕ) (area : Area) (q : Point) : Type 0 where
 -- a point in parts, as it lies in the cell: X is negated under `mirror`
 abbrev pub point_in_cell : ℕ → Frame → Point → Point
 point_in_cell d frame q = record {
-  x = signed frame.mirror q.x +ℤ (in_parts d frame.shift).x;
+  x = signed_number frame.mirror q.x +ℤ (in_parts d frame.shift).x;
   z = q.z +ℤ (in_parts d frame.shift).z;
 }
 

@@ -29,11 +29,11 @@ fn lie_apart(gap: i64, low: i64, high: i64, other_low: i64, other_high: i64) -> 
     is_beyond(gap, high, other_low) || is_beyond(gap, other_high, low)
 }
 
-/// Whether the length `low` is greater than `high` by more than the gap.
-fn is_beyond(gap: i64, high: i64, low: i64) -> bool
+/// Whether a span that begins at `first` lies beyond one that ends at `last` by more than the gap.
+fn is_beyond(gap: i64, last: i64, first: i64) -> bool
     requires gap { unsigned_abs gap ≤ travel }
-    requires high { unsigned_abs high ≤ far_in_cell }
-    ensures { result ≡ is_beyond gap high low }
+    requires last { unsigned_abs last ≤ far_in_cell }
+    ensures { result ≡ is_beyond gap last first }
 {
-    high + gap < low
+    last + gap < first
 }

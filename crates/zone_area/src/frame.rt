@@ -2,7 +2,7 @@
 //! in X or not, and shifted. zone_cell has a frame of each path.
 ghost use Rattle.std.specs.Prelude.{◌≡◌, ◌≤◌, ◌+ℤ◌, unsigned_abs, if◌then◌else◌};
 ghost use Rattle.nc_number.specs.Position.{travel, IsPosition};
-ghost use Rattle.nc_number.specs.Signs.{signed};
+ghost use Rattle.nc_number.specs.Signs.{signed_number};
 ghost use Rattle.zone_area.specs.Area.{area_in_cell};
 ghost use Rattle.zone_area.specs.Range.{far_corner, far_in_cell, IsNearArea, IsInCell};
 
@@ -45,7 +45,7 @@ fn edge(mirror: bool, edge: i64, other: i64, shift: i64) -> i64
     requires edge { unsigned_abs edge ≤ far_corner }
     requires other { unsigned_abs other ≤ far_corner }
     requires shift { unsigned_abs shift ≤ travel }
-    ensures edge { result ≡ signed mirror (if mirror then other else edge) +ℤ shift }
+    ensures edge { result ≡ signed_number mirror (if mirror then other else edge) +ℤ shift }
     ensures near { unsigned_abs result ≤ far_in_cell }
 {
     if mirror { shift - other } else { edge + shift }

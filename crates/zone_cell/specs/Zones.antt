@@ -45,8 +45,8 @@ abbrev pub shifted_to : Point → Frame → Frame
 shifted_to to frame = record { mirror = frame.mirror; shift = to }
 
 -- the frame of a path that sees X from the other side
-abbrev pub facing : Frame → Frame
-facing frame = record { mirror = true; shift = frame.shift }
+abbrev pub facing_frame : Frame → Frame
+facing_frame frame = record { mirror = true; shift = frame.shift }
 
 -- the frames with that of one path changed
 abbrev pub with_frame : Both Frame → Path → (Frame → Frame) → Both Frame
@@ -58,7 +58,7 @@ with_frame frames Two change = record frames { two = change frames.two }
 abbrev pub with_entry : ZonesView → Entry → ZonesView
 with_entry zones says.Nothing = zones
 with_entry zones (says.Frame path to) = record zones { frames = with_frame zones.frames path (shifted_to to) }
-with_entry zones (says.Mirror path) = record zones { frames = with_frame zones.frames path facing }
+with_entry zones (says.Mirror path) = record zones { frames = with_frame zones.frames path facing_frame }
 with_entry zones (says.Gap gap) = record zones { gap = gap }
 
 -- what all lines say together

@@ -1,5 +1,6 @@
 //! The lines of a list of zones, each as a piece. zone_check puts them together.
 ghost use Rattle.std.specs.Prelude.{◌≡◌, ◌+◌, ◌≤◌, ◌++◌, length};
+ghost use Rattle.text_pieces.specs.declared.piece.TheConstants.{MOST_BYTES};
 ghost use Rattle.zone_cell.specs.Lines.{across_text, along_text, area_text, state_text, zone_text, head_text, end_text};
 
 use crate::cell::Zone;
@@ -10,7 +11,7 @@ use zone_area::Area;
 /// Adds the edges of an area along X, which are those of its corners.
 #[tactic(auto, unfolding(crate::specs::Lines::across_text))]
 fn add_across(piece: &mut Piece, low: Point, high: Point)
-    requires { length piece.old + 52 ≤ 512 }
+    requires { length piece.old + 52 ≤ MOST_BYTES }
     ensures text { piece.new ≡ piece.old ++ across_text low high }
     ensures size { length piece.new ≤ length piece.old + 52 }
 {
@@ -23,7 +24,7 @@ fn add_across(piece: &mut Piece, low: Point, high: Point)
 /// Adds the edges of an area along Z, which are those of its corners.
 #[tactic(auto, unfolding(crate::specs::Lines::along_text))]
 fn add_along(piece: &mut Piece, low: Point, high: Point)
-    requires { length piece.old + 52 ≤ 512 }
+    requires { length piece.old + 52 ≤ MOST_BYTES }
     ensures text { piece.new ≡ piece.old ++ along_text low high }
     ensures size { length piece.new ≤ length piece.old + 52 }
 {
@@ -36,7 +37,7 @@ fn add_along(piece: &mut Piece, low: Point, high: Point)
 /// Adds the edges of an area: those along X, and then those along Z.
 #[tactic(auto, unfolding(crate::specs::Lines::area_text))]
 fn add_area(piece: &mut Piece, area: Area)
-    requires { length piece.old + 104 ≤ 512 }
+    requires { length piece.old + 104 ≤ MOST_BYTES }
     ensures text { piece.new ≡ piece.old ++ area_text area }
     ensures size { length piece.new ≤ length piece.old + 104 }
 {
@@ -46,7 +47,7 @@ fn add_area(piece: &mut Piece, area: Area)
 
 /// Adds whether the areas are clear.
 fn add_state(piece: &mut Piece, clear: bool)
-    requires { length piece.old + 7 ≤ 512 }
+    requires { length piece.old + 7 ≤ MOST_BYTES }
     ensures { piece.new ≡ piece.old ++ state_text clear }
 {
     if clear {

@@ -15,7 +15,7 @@ use Rattle.two_path.specs.Machine.{MachineView}
 use Rattle.two_path.specs.Turns.{Tapes}
 use Rattle.two_path.specs.Histories.{behind_entry, fold}
 use Rattle.two_path.specs.Again.{turn_of_entry}
-use Rattle.two_path.specs.Made.{moves_of_turn, made_in, made_by, moves_in, turns_from, moves_of}
+use Rattle.two_path.specs.Made.{moves_of_turn, moves_made_in, moves_made_by, moves_in, turns_from, moves_of}
 use Rattle.two_path.proofs.Replays.{turn_at, fold_more}
 use Rattle.zone_area.specs.Area.{SweptView, swept_at, swept_with, swept_along}
 use Rattle.zone_cell.specs.declared.cell.Zone.{Zone}
@@ -29,7 +29,7 @@ what_lined line [] = refl
 what_lined line (move ∷ moves) = ap (λ rest. move ∷ rest) (what_lined line moves)
 
 -- the moves of a turn, without their lines, are those that it answers
-what_made : (turn : Turn) → map (λ (made : LinedMove). made.what) (made_in turn) ≡ moves_of_turn turn
+what_made : (turn : Turn) → map (λ (made : LinedMove). made.what) (moves_made_in turn) ≡ moves_of_turn turn
 what_made (Did moves) = what_lined moves.line moves.list
 what_made (Ended moves) = what_lined moves.line moves.list
 what_made (Read variable stamp) = refl
@@ -42,7 +42,7 @@ what_made (Halted alarm) = refl
 what_made Edited = refl
 
 -- the moves of `path` in a turn of the path `of`, without their lines, are `moves_by`
-pub what_by : (path of : Path) (turn : Turn) → map (λ (made : LinedMove). made.what) (made_by path (record { path = of; turn = turn })) ≡ moves_by path of turn
+pub what_by : (path of : Path) (turn : Turn) → map (λ (made : LinedMove). made.what) (moves_made_by path (record { path = of; turn = turn })) ≡ moves_by path of turn
 what_by One One turn = what_made turn
 what_by One Two turn = refl
 what_by Two One turn = refl
@@ -50,12 +50,12 @@ what_by Two Two turn = what_made turn
 
 -- one record more adds the moves of its turn, with their lines, to its path
 moves_more : (tapes : Tapes) (m : MachineView) (path : Path) (front : List Entry) (e : Entry)
-    → moves_of tapes m path (front ++ e ∷ []) ≡ moves_of tapes m path front ++ made_by path (turn_at tapes (fold tapes m front) e)
+    → moves_of tapes m path (front ++ e ∷ []) ≡ moves_of tapes m path front ++ moves_made_by path (turn_at tapes (fold tapes m front) e)
 unfolding moves_in turns_from
-moves_more tapes m path [] e = append-nil (made_by path (turn_at tapes m e))
+moves_more tapes m path [] e = append-nil (moves_made_by path (turn_at tapes m e))
 moves_more tapes m path (x ∷ front) e =
-    ap (λ (ms : List LinedMove). made_by path (turn_at tapes m x) ++ ms) (moves_more tapes (behind_entry tapes x m) path front e)
-    ∙ sym (append_assoc (made_by path (turn_at tapes m x)) (moves_of tapes (behind_entry tapes x m) path front) (made_by path (turn_at tapes (fold tapes (behind_entry tapes x m) front) e)))
+    ap (λ (ms : List LinedMove). moves_made_by path (turn_at tapes m x) ++ ms) (moves_more tapes (behind_entry tapes x m) path front e)
+    ∙ sym (append_assoc (moves_made_by path (turn_at tapes m x)) (moves_of tapes (behind_entry tapes x m) path front) (moves_made_by path (turn_at tapes (fold tapes (behind_entry tapes x m) front) e)))
 
 -- one record more adds the moves of its turn, without their lines, to its path
 path_more : (tapes : Tapes) (m : MachineView) (path : Path) (front : List Entry) (e : Entry)
@@ -63,7 +63,7 @@ path_more : (tapes : Tapes) (m : MachineView) (path : Path) (front : List Entry)
     ≡ path_moves tapes m path front ++ moves_by path e.path (turn_of_entry tapes e (fold tapes m front))
 path_more tapes m path front e =
     ap (map (λ (made : LinedMove). made.what)) (moves_more tapes m path front e)
-    ∙ map-append (λ (made : LinedMove). made.what) (moves_of tapes m path front) (made_by path (turn_at tapes (fold tapes m front) e))
+    ∙ map-append (λ (made : LinedMove). made.what) (moves_of tapes m path front) (moves_made_by path (turn_at tapes (fold tapes m front) e))
     ∙ ap (λ (ms : List Move). path_moves tapes m path front ++ ms) (what_by path e.path (turn_of_entry tapes e (fold tapes m front)))
 
 -- sweeping moves and then others sweeps all of them

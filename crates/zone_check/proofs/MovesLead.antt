@@ -27,7 +27,7 @@ use Rattle.block_order.specs.declared.frame.Frame.{Frame}
 use Rattle.block_order.specs.Moves.{place_of_jump, place_behind_loop, place_of_head}
 use Rattle.path_state.specs.View.{Fixed, PathView}
 use Rattle.block_values.specs.Outcomes.{Outcome, Gives, Needs, Alarms, ◌>>=◌}
-use Rattle.path_state.specs.Said.{evaluated}
+use Rattle.path_state.specs.Said.{value_of_tree}
 use Rattle.block_values.specs.Values.{Values, nothing_said}
 use Rattle.path_state.specs.Said.{sense_of, words_taken}
 use Rattle.path_state.specs.Said.{arguments_taken}
@@ -36,9 +36,9 @@ use Rattle.block_values.specs.Motion.{Motion}
 use Rattle.block_values.specs.Moves.{last_end}
 use Rattle.path_state.specs.Standing.{Standing, standing_of, standing_behind}
 use Rattle.block_values.specs.Operands.{length_of}
-use Rattle.path_state.specs.Statements.{After, along, with_offset, written_path, with_common, written, named, assigned, tested, aimed, move_effect, jump_effect, next_effect, then_next, assigned_next, statement_effect}
+use Rattle.path_state.specs.Statements.{After, point_along, with_offset, written_path, with_common, outcome_of_write, variable_named, outcome_of_assignment, outcome_of_test, outcome_of_aim, move_effect, jump_effect, next_effect, then_next, assigned_next, statement_effect}
 use Rattle.block_values.specs.InForce.{modal_after}
-use Rattle.path_state.specs.Effect.{Effect, Moved, after_motion, motion_with, acted, done_by, controlled, of_moved, of_values, of_arguments, of_purpose, block_of_words, of_after, effect_of_body, effect_of_block, block_at, effect_of}
+use Rattle.path_state.specs.Effect.{Effect, Moved, after_motion, motion_with, effect_of_words, done_by, effect_of_control, of_moved, of_values, of_arguments, of_purpose, block_of_words, of_after, effect_of_body, effect_of_block, block_at, effect_of}
 use Rattle.path_state.specs.Effect as effect
 use Rattle.two_path.proofs.NoCrossing.{either}
 
@@ -74,22 +74,22 @@ module _ (fixed : Fixed) (path : PathView) where
   common_stays false v value = refl
 
   -- writing any variable leaves the path where it stands
-  written_stays : (v : Variable) (value : Var) (left : List Var) → StaysAt path (written fixed path v value left)
+  written_stays : (v : Variable) (value : Var) (left : List Var) → StaysAt path (outcome_of_write fixed path v value left)
   written_stays (variable.Local i) value left = refl
   written_stays (variable.Common v) value left = common_stays (is_shared fixed v) v value
   written_stays (variable.Work n axis) value left =
-      offset_stays (Work n) (in_range (along axis (length_of value) (point_at path.offsets (Work n)))) left
+      offset_stays (Work n) (in_range (point_along axis (length_of value) (point_at path.offsets (Work n)))) left
   written_stays _ value left = tt
 
   -- an assignment leaves the path where it stands
-  assigned_stays : (name : Named) (tree : Tree) (reads : List Var) → StaysAt path (assigned fixed path name tree reads)
+  assigned_stays : (name : Named) (tree : Tree) (reads : List Var) → StaysAt path (outcome_of_assignment fixed path name tree reads)
   assigned_stays name tree reads =
-      stays_behind path (named fixed path name reads) _
-      (λ v behind_name. stays_behind path (evaluated fixed path tree behind_name) _ (λ value left. written_stays v value left))
+      stays_behind path (variable_named fixed path name reads) _
+      (λ v behind_name. stays_behind path (value_of_tree fixed path tree behind_name) _ (λ value left. written_stays v value left))
 
   -- an assignment that goes on to the next block leaves the path where it stands
   assigned_next_stays : (name : Named) (tree : Tree) (reads : List Var) → StaysAt path (assigned_next fixed path name tree reads)
-  assigned_next_stays name tree reads = stays_on path (assigned fixed path name tree reads) (assigned_stays name tree reads)
+  assigned_next_stays name tree reads = stays_on path (outcome_of_assignment fixed path name tree reads) (assigned_stays name tree reads)
 
   -- going to another block leaves the turret of the path where it stands
   move_stays : (to : Result (List Frame) Cause) (left : List Var) → StaysAt path (move_effect path to left)
@@ -99,20 +99,20 @@ module _ (fixed : Fixed) (path : PathView) where
   -- a GOTO leaves the turret of the path where it stands
   jump_stays : (tape : List ControlProgram) (aim : Aim) (reads : List Var) → StaysAt path (jump_effect tape fixed path aim reads)
   jump_stays tape aim reads =
-      stays_behind path (aimed fixed path aim reads) _ (λ n left. move_stays (place_of_jump tape n path.place) left)
+      stays_behind path (outcome_of_aim fixed path aim reads) _ (λ n left. move_stays (place_of_jump tape n path.place) left)
 
   -- each statement leaves the turret of the path where it stands
   statement_stays : (tape : List ControlProgram) (sentence : Sentence) (reads : List Var) → StaysAt path (statement_effect tape fixed path sentence reads)
   statement_stays tape (Assign name tree) reads = assigned_next_stays name tree reads
   statement_stays tape (Goto aim) reads = jump_stays tape aim reads
   statement_stays tape (IfGoto test aim) reads =
-      stays_behind path (tested fixed path test reads) _
+      stays_behind path (outcome_of_test fixed path test reads) _
       (λ holds left. either (λ (o : Outcome After). StaysAt path o) holds (jump_effect tape fixed path aim left) (next_effect path left) (jump_stays tape aim left) refl)
   statement_stays tape (IfThen test name tree) reads =
-      stays_behind path (tested fixed path test reads) _
+      stays_behind path (outcome_of_test fixed path test reads) _
       (λ holds left. either (λ (o : Outcome After). StaysAt path o) holds (assigned_next fixed path name tree left) (next_effect path left) (assigned_next_stays name tree left) refl)
   statement_stays tape (WhileDo test name) reads =
-      stays_behind path (tested fixed path test reads) _
+      stays_behind path (outcome_of_test fixed path test reads) _
       (λ holds left. either (λ (o : Outcome After). StaysAt path o) holds (next_effect path left) (move_effect path (place_behind_loop tape path.place) left) refl
       (move_stays (place_behind_loop tape path.place) left))
   statement_stays tape (DoOnly name) reads = refl
@@ -158,7 +158,7 @@ done_leads at moved (Err cause) is = tt
 module _ (tape : List ControlProgram) where
   -- a block that was moved leads its path there, whatever its control
   controlled_leads : (at : Point) (moved : Moved) (arguments : Option (List Var)) (c : Control) → IsMovedFrom at moved
-      → LeadsOn at (controlled tape moved arguments c)
+      → LeadsOn at (effect_of_control tape moved arguments c)
   controlled_leads at moved arguments control.End is = is
   controlled_leads at moved arguments c is = done_leads at moved (standing_behind tape (standing_of moved.path) arguments c) is
 
@@ -171,7 +171,7 @@ module _ (tape : List ControlProgram) where
   values_lead : (fixed : Fixed) (path : PathView) (system : System) (words : List FlowWord) (c : Control) (values : Outcome Values)
       → LeadsOn path.position (of_values tape fixed path system words c values)
   values_lead fixed path system words c (Gives values left) =
-      moved_leads path.position c (acted fixed path system words values) (modal_leads fixed path system words values (modal_after path.modal system words values))
+      moved_leads path.position c (effect_of_words fixed path system words values) (modal_leads fixed path system words values (modal_after path.modal system words values))
   values_lead fixed path system words c (Needs variable) = tt
   values_lead fixed path system words c (Alarms number value) = tt
 

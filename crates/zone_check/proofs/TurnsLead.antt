@@ -21,7 +21,7 @@ use Rattle.two_path.specs.Turns.{TurnResult, Tapes, blocks_of, tapes_of, result_
 use Rattle.two_path.specs.declared.turn.Turn.TheVariants as turn
 use Rattle.two_path.specs.Histories.{with_reads, behind_step, behind_own, behind_entry, fold}
 use Rattle.two_path.specs.Again.{turn_by, turn_of_entry}
-use Rattle.two_path.specs.Made.{moves_of_turn, made_by, moves_in, turns_from, moves_of}
+use Rattle.two_path.specs.Made.{moves_of_turn, moves_made_by, moves_in, turns_from, moves_of}
 use Rattle.two_path.proofs.NoCrossing.{either}
 use Rattle.two_path.proofs.Replays.{turn_at}
 use Rattle.zone_check.specs.Segments.{path_moves}
@@ -94,7 +94,7 @@ path_first : (tapes : Tapes) (m : MachineView) (path : Path) (e : Entry) (entrie
     → path_moves tapes m path (e ∷ entries) ≡ moves_by path e.path (turn_of_entry tapes e m) ++ path_moves tapes (behind_entry tapes e m) path entries
 unfolding moves_in turns_from
 path_first tapes m path e entries =
-    map-append (λ (made : LinedMove). made.what) (made_by path (turn_at tapes m e)) (moves_of tapes (behind_entry tapes e m) path entries)
+    map-append (λ (made : LinedMove). made.what) (moves_made_by path (turn_at tapes m e)) (moves_of tapes (behind_entry tapes e m) path entries)
     ∙ ap (λ (ms : List Move). ms ++ path_moves tapes (behind_entry tapes e m) path entries) (what_by path e.path (turn_of_entry tapes e m))
 
 -- behind any records a path stands where its moves led it

@@ -5,7 +5,7 @@
 ghost use Rattle.std.specs.Prelude.{◌≡◌, ◌≢◌, map, [], ◌∷◌};
 ghost use Rattle.nc_outside.specs.declared.halt.Next.TheVariants.{Drain};
 ghost use Rattle.nc_moves.specs.declared.motion.Move.TheVariants.{Aux};
-ghost use Rattle.nc_outside.specs.Lined.{lined, lined_move};
+ghost use Rattle.nc_outside.specs.Lined.{lined_moves, lined_move};
 ghost use Rattle.seat_table.specs.Turning.{Answers};
 
 use nc_moves::{Move, MoveList, Moves};
@@ -62,7 +62,7 @@ impl<'a> CodeTable<'a> {
 
 /// The moves of a block with this auxiliary code.
 fn block(m: u16) -> Moves
-    ensures { lined result ≡ lined_move 1 (Aux m) ∷ [] }
+    ensures { lined_moves result ≡ lined_move 1 (Aux m) ∷ [] }
 {
     let mut list = MoveList::empty();
     list.push(Move::Aux { m });

@@ -3,7 +3,7 @@
 -- other (src/listing.rt).
 use Rattle.std.proofs.Common.{◌+◌, ◌<◌, [], ◌∷◌, get_or, drop, arith}
 use Rattle.block_order.specs.declared.label.Label.TheVariants.{Off}
-use Rattle.label_list.specs.Lists.{at}
+use Rattle.label_list.specs.Lists.{label_with_line}
 use Rattle.loud_calls.specs.Known.{piece_known}
 use Rattle.loud_calls.proofs.Calls.{ready_by, short_some}
 use Rattle.label_list.specs.Pieces.{IsTooLong, FailsAt, FailsInCall, FailsLong}
@@ -96,6 +96,6 @@ piece_of-returns-in-Err-push_at-clause-many t c =
     let number = c.args.number in
     let so = so_far_past order number c.loop-block.labels.items c.blocks-block-items.result.now c.loop-block.block-index
     c.loop-block-test.false c.loop-block.invariant.so_far in
-    by_fault (IsTooLong c.loop-block.labels.items (at Off c.off_line.result ∷ [])) (FailsLong order number) c.in-Err-push_at.error
+    by_fault (IsTooLong c.loop-block.labels.items (label_with_line Off c.off_line.result ∷ [])) (FailsLong order number) c.in-Err-push_at.error
     (λ fault long. fails_off order number c.off_line.result c.loop-block.labels.items fault so long)
     c.in-Err-push_at.ensures.many

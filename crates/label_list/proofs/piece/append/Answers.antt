@@ -2,7 +2,7 @@
 -- `append` (src/piece.rt).
 use Rattle.std.proofs.Common.{[], ◌∷◌, get_or}
 use Rattle.block_order.specs.declared.label.Label.TheVariants.{Wait}
-use Rattle.label_list.specs.Lists.{at}
+use Rattle.label_list.specs.Lists.{label_with_line}
 use Rattle.label_list.specs.Pieces.{IsTooLong}
 use Rattle.label_list.proofs.Joined.{appended_one}
 use Rattle.label_list.proofs.Pieces.{by_fault}
@@ -14,6 +14,6 @@ returns-in-Err-clause-many c =
     let now = c.loop-label.labels.items in
     let more = c.args.more.now in
     let i = c.loop-label.label-index in
-    let one = get_or more i (at (Wait 0) 0) in
+    let one = get_or more i (label_with_line (Wait 0) 0) in
     by_fault (IsTooLong now (one ∷ [])) (IsTooLong old more) c.in-Err.error
     (λ fault long. appended_one old now more i one fault c.loop-label-test.true c.loop-label.invariant.are long) c.in-Err.ensures.many

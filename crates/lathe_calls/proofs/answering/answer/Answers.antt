@@ -4,7 +4,7 @@ use Rattle.std.proofs.Common.{List, ℕ, sym, subst, ◌∙◌}
 use Rattle.lathe_calls.specs.Answers.{Ends}
 use Rattle.lathe_calls.specs.Due.{IsDueTo}
 use Rattle.lathe_calls.specs.Said.{IsHanded}
-use Rattle.lathe_calls.specs.Texts.{texts_of, written}
+use Rattle.lathe_calls.specs.Texts.{texts_of, sink_with}
 use Rattle.lathe_calls.proofs.FitTexts.{settings_fit}
 use Rattle.lathe_calls.proofs.Handed.{said_of}
 use Rattle.lathe_calls.proofs.answering.answer.Goals as goal
@@ -15,6 +15,6 @@ tell-status-requires c = settings_fit (texts_of c.args.texts.now) (sym c.are_fit
 pub returns : goal.returns
 returns c =
     said_of c.tell-status.result (sym c.are_fit.ensures ∙ c.if-not-are_fit.false)
-    (subst (λ (t : List ℕ). Ends (IsDueTo c.args.question (texts_of c.args.texts.now)) (written t) (written c.tell-status.new.out) c.tell-status.result)
+    (subst (λ (t : List ℕ). Ends (IsDueTo c.args.question (texts_of c.args.texts.now)) (sink_with t) (sink_with c.tell-status.new.out) c.tell-status.result)
     c.empty-text.ensures c.tell-status.ensures)
     (subst (λ (t : List ℕ). IsHanded c.tell-status.result t c.args.room.now c.hand_text.new.room c.hand_text.result) c.as_slice.ensures c.hand_text.ensures)

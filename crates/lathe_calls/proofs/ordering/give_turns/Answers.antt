@@ -5,7 +5,7 @@ use Rattle.std.proofs.lemmas.List.{at_drop_all, drop_more}
 use Rattle.nc_number.specs.declared.path.Path.{Path}
 use Rattle.two_path.specs.Turns.{tapes_of, turn_of}
 use Rattle.lathe_calls.specs.Events.{stamp_of, turn_events}
-use Rattle.lathe_calls.specs.Order.{given, path_at}
+use Rattle.lathe_calls.specs.Order.{turns_given, path_at}
 use Rattle.lathe_calls.proofs.TurnByTurn.{events_at_end, events_go_on, given_full, run_at_end, run_goes_on}
 use Rattle.lathe_calls.proofs.ordering.give_turns.Goals as goal
 
@@ -53,7 +53,7 @@ pub returns-clause-list : goal.returns-clause-list
 returns-clause-list c =
     let tapes = tapes_of c.args.left.now c.args.right.now in
     events_at_end tapes c.args.most c.loop-byte.machine.machine _ _ _
-    (at_drop_all (λ order. given tapes c.args.most c.loop-byte.machine.machine (map path_at order)) c.args.order.now c.loop-byte.byte-index
+    (at_drop_all (λ order. turns_given tapes c.args.most c.loop-byte.machine.machine (map path_at order)) c.args.order.now c.loop-byte.byte-index
     (omega (arith, c.loop-byte-test.false)))
     c.loop-byte.invariant.list
 
@@ -61,6 +61,6 @@ pub returns-clause-machine : goal.returns-clause-machine
 returns-clause-machine c =
     let tapes = tapes_of c.args.left.now c.args.right.now in
     run_at_end tapes c.args.most c.loop-byte.machine.machine _ _
-    (at_drop_all (λ order. given tapes c.args.most c.loop-byte.machine.machine (map path_at order)) c.args.order.now c.loop-byte.byte-index
+    (at_drop_all (λ order. turns_given tapes c.args.most c.loop-byte.machine.machine (map path_at order)) c.args.order.now c.loop-byte.byte-index
     (omega (arith, c.loop-byte-test.false)))
     c.loop-byte.invariant.machine

@@ -4,7 +4,7 @@ use Rattle.std.proofs.Common.{sym, subst}
 use Rattle.lathe_calls.specs.Answers.{tells}
 use Rattle.lathe_calls.specs.Statuses as exit
 use Rattle.lathe_calls.proofs.Ended.{ends_just}
-use Rattle.lathe_top.specs.Branched.{IsBranched, branched_text, unbranched}
+use Rattle.lathe_top.specs.Branched.{IsBranched, branched_text, unbranched_answer}
 use Rattle.lathe_top.proofs.BranchesMade.{made_due, unmade_due}
 use Rattle.lathe_top.proofs.branching.branch_found.Goals as goal
 
@@ -31,7 +31,7 @@ returns g c = λ before recovers.
     let refused = c.in_Err-second in
     ends_just _ _
     (subst
-    (λ (d : g.row.D.Denot). IsBranched second c.args.meetings (state before) (state d) c.args.second refused.second (unbranched refused.fault))
+    (λ (d : g.row.D.Denot). IsBranched second c.args.meetings (state before) (state d) c.args.second refused.second (unbranched_answer refused.fault))
     (sym c.into_disk-in_Err-second.ensures)
     (unmade_due state second c.an_image_of_a_run_is_never_bad.ensures (state before) found.header found.verified found.machine.machine found.entries.items
     found.journal c.requires.run recovers c.args.meetings c.args.second refused.second refused.fault refused.ensures))

@@ -9,7 +9,7 @@ use Rattle.lathe_calls.specs.Reported.{report_of}
 use Rattle.lathe_looks.specs.Standing.{is_over}
 use Rattle.lathe_calls.proofs.Ended.{ends_just}
 use Rattle.nc_number.specs.Both.{both_of}
-use Rattle.lathe_top.specs.Going.{IsReport, report, standing}
+use Rattle.lathe_top.specs.Going.{IsReport, report, standing_run}
 use Rattle.lathe_top.specs.Held.{lathe_left}
 use Rattle.lathe_top.specs.Lathe.{LatheState, lathe_with}
 use Rattle.lathe_top.proofs.RunsFound.{none_or_alarm, keeps_there, over_there, stays_there}
@@ -20,7 +20,7 @@ returns-then-is_over g c =
     let state = g.D.Disk.state in
     let turret = g.T.Turret.state in
     let found = c.args.found in
-    let run = standing found.header found.verified found.entries.items in
+    let run = standing_run found.header found.verified found.entries.items in
     let turrets = both_of turret c.args.turrets in
     let d : LatheState = lathe_with (state found.journal.file.disk) turrets in
     let leaves = c.a_held_journal_leaves_its_records.ensures in
@@ -63,7 +63,7 @@ returns g c =
     let turrets = both_of turret c.args.turrets in
     let after : LatheState = lathe_left state turret c.go_on.result in
     subst
-    (λ (t : TableView g.row.D.Denot). Ends (IsReport c.args.limit report_of (standing header t.verified t.recording.history)
+    (λ (t : TableView g.row.D.Denot). Ends (IsReport c.args.limit report_of (standing_run header t.verified t.recording.history)
     (lathe_with (state t.recording.log.file.disk) turrets) after) (g.K.Sink.state c.args.out.now) (g.K.Sink.state c.go_on.new.out)
     c.go_on.result.status)
     c.from_recovered.ensures.table (c.go_on.ensures header (c.from_recovered.ensures.journal header c.requires.holds))

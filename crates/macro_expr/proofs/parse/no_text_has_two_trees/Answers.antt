@@ -2,7 +2,7 @@
 -- (`no_text_has_two_trees`, src/parse.rt).
 use Rattle.std.proofs.Common.{◌≡◌, ℕ, List, Result, Ok}
 use Rattle.macro_expr.specs.declared.stop.Stop.{Stop}
-use Rattle.macro_expr.specs.Statements.{expression_at, statement_at, whole}
+use Rattle.macro_expr.specs.Statements.{expression_at, statement_at, whole_reading}
 use Rattle.macro_expr.proofs.StatementsComplete.{whole_expression_read, whole_statement_read}
 use Rattle.macro_expr.proofs.parse.no_text_has_two_trees.Goals as goal
 
@@ -16,6 +16,6 @@ one_tree read reads t a b is_a is_b =
 
 pub returns : goal.returns
 returns c = record {
-  expressions = one_tree (λ t. whole (expression_at t)) whole_expression_read;
-  statements = one_tree (λ t. whole (statement_at t)) whole_statement_read;
+  expressions = one_tree (λ t. whole_reading (expression_at t)) whole_expression_read;
+  statements = one_tree (λ t. whole_reading (statement_at t)) whole_statement_read;
 }

@@ -2,21 +2,21 @@
 -- gets it, right operands stand at most 12 deep, and no more variables are named than in the text.
 use Rattle.std.proofs.Common.{◌≤◌, false}
 use Rattle.macro_expr.specs.Tree.{tree_of, right_depth, variables}
-use Rattle.macro_expr.specs.Statements.{expression_at, whole}
-use Rattle.macro_expr.specs.Limits.{cleaned, variable_signs}
+use Rattle.macro_expr.specs.Statements.{expression_at, whole_reading}
+use Rattle.macro_expr.specs.Limits.{clean_text, variable_signs}
 use Rattle.macro_expr.specs.Answers.{HasTree}
 use Rattle.macro_expr.proofs.Kept.{expression_kept}
 use Rattle.macro_expr.proofs.StatementsComplete.{whole_expression_read}
-use Rattle.macro_expr.proofs.StatementsSound.{whole-expression-sound}
+use Rattle.macro_expr.proofs.StatementsSound.{whole_reading-expression-sound}
 use Rattle.macro_expr.proofs.Trees.{has, only}
 use Rattle.macro_expr.proofs.parse.parse_expr.Goals as goal
 
 pub returns : goal.returns
 returns c =
-    let text = cleaned false c.args.text.now in
-    let read = whole (expression_at text) in
+    let text = clean_text false c.args.text.now in
+    let read = whole_reading (expression_at text) in
     let call = c.answer_expression in
-    let is = whole-expression-sound text in
+    let is = whole_reading-expression-sound text in
     record {
       found = has tree_of text read call.result call.ensures (HasTree c.args.text.now) (λ e was few. (is e was, few));
       only = λ e has. only tree_of text read call.result call.ensures e (whole_expression_read text e has.0) has.1;

@@ -6,7 +6,7 @@ use Rattle.macro_expr.specs.declared.words.Rank.{Rank}
 use Rattle.macro_expr.specs.declared.words.Rank.TheVariants.{Product, Sum}
 use Rattle.macro_expr.specs.Tree.{tree_of}
 use Rattle.macro_expr.specs.Words.{operator}
-use Rattle.macro_expr.specs.Reading.{chain, operand_at, chain_at, inside}
+use Rattle.macro_expr.specs.Reading.{chain, operand_at, chain_at, expression_inside}
 use Rattle.macro_expr.proofs.reading.+reading.Given as goal
 
 -- The measures of the functions: fewer levels, or as many and nearer to the brackets.
@@ -49,5 +49,5 @@ decreases-sum_at l = 10 * l.levels + 9
 -- what is left to read, joined to what was read, is the whole
 abbrev pub invariant-chain_at-loop-round : goal.invariant-chain_at-loop-round
 invariant-chain_at-loop-round l =
-    chain (operator l.rank) (operand_at l.rank (inside l.levels)) (l._round-end - l._round) (tree_of l.left) l.rest
-    ≡ chain_at l.rank (inside l.levels) (tree_of l.fn.first) l.text
+    chain (operator l.rank) (operand_at l.rank (expression_inside l.levels)) (l._round-end - l._round) (tree_of l.left) l.rest
+    ≡ chain_at l.rank (expression_inside l.levels) (tree_of l.fn.first) l.text

@@ -8,7 +8,7 @@ use Rattle.two_path.specs.Machine.{MachineView, without_reads}
 use Rattle.two_path.specs.Turns.{tapes_of}
 use Rattle.two_path.specs.Histories.{IsLegal, fold}
 use Rattle.two_path.specs.Joined.{AreAtTheirWaits}
-use Rattle.two_path.specs.Made.{made_by}
+use Rattle.two_path.specs.Made.{moves_made_by}
 use Rattle.run_records.specs.Entries.{Entry}
 use Rattle.two_path.specs.Start.{machine_at_start}
 use Rattle.two_path.proofs.Replays.{records_from, records_to, moves_on, moves_at_end, next_is_legal, fold_more, counted, none_waits}
@@ -48,8 +48,8 @@ loop-index-preserved c =
       no_reads = c.done_again-turn.ensures.no_reads;
       waits = c.done_again-turn.ensures.waits;
       room = omega (arith, c.done_again-turn.ensures.room, c.loop-index.invariant.room);
-      one = moves_on tapes One m _ c.loop-index.made.one.items _ _ (drop i entries) (drop (i + 1) entries) e c.done_again-turn.result from done.machine done.answer (c.in_ok-add_turn_of.ensures.one ∙ ap (λ (x : Entry). c.loop-index.made.one.items ++ made_by One (record { path = x.path; turn = c.done_again-turn.result })) c.entry.view_is) c.loop-index.invariant.one;
-      two = moves_on tapes Two m _ c.loop-index.made.two.items _ _ (drop i entries) (drop (i + 1) entries) e c.done_again-turn.result from done.machine done.answer (c.in_ok-add_turn_of.ensures.two ∙ ap (λ (x : Entry). c.loop-index.made.two.items ++ made_by Two (record { path = x.path; turn = c.done_again-turn.result })) c.entry.view_is) c.loop-index.invariant.two;
+      one = moves_on tapes One m _ c.loop-index.made.one.items _ _ (drop i entries) (drop (i + 1) entries) e c.done_again-turn.result from done.machine done.answer (c.in_ok-add_turn_of.ensures.one ∙ ap (λ (x : Entry). c.loop-index.made.one.items ++ moves_made_by One (record { path = x.path; turn = c.done_again-turn.result })) c.entry.view_is) c.loop-index.invariant.one;
+      two = moves_on tapes Two m _ c.loop-index.made.two.items _ _ (drop i entries) (drop (i + 1) entries) e c.done_again-turn.result from done.machine done.answer (c.in_ok-add_turn_of.ensures.two ∙ ap (λ (x : Entry). c.loop-index.made.two.items ++ moves_made_by Two (record { path = x.path; turn = c.done_again-turn.result })) c.entry.view_is) c.loop-index.invariant.two;
     }
 
 pub done_again-turn-requires-clause-legal : goal.done_again-turn-requires-clause-legal

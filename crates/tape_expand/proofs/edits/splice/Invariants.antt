@@ -1,11 +1,11 @@
 -- What is written so far, with what the edits make of the rest, is the text with its edits (loop
 -- of `splice`, src/edits.rt).
 use Rattle.std.proofs.Common.{◌≡◌, ◌++◌, ◌≤◌, ◌+◌, drop}
-use Rattle.tape_expand.specs.Splice.{spliced}
+use Rattle.tape_expand.specs.Splice.{spliced_text}
 use Rattle.tape_expand.proofs.edits.splice.Given as goal
 
 abbrev pub invariant-loop-b : goal.invariant-loop-b
 invariant-loop-b l = record {
-  rest : l.out.items ++ spliced l.line l.rest (drop l.b-index l.text) ≡ spliced 1 l.edits l.text;
+  rest : l.out.items ++ spliced_text l.line l.rest (drop l.b-index l.text) ≡ spliced_text 1 l.edits l.text;
   lines : l.line ≤ l.b-index + 1;
 }

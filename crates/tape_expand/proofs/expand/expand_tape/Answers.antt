@@ -3,9 +3,9 @@
 use Rattle.std.proofs.Common.{Ok, ap, sym, ◌∙◌}
 use Rattle.std.specs.List.{flat_map}
 use Rattle.nc_text.specs.Lines.{lines_of}
-use Rattle.tape_expand.specs.Expansion.{parts_in, written_out}
+use Rattle.tape_expand.specs.Expansion.{parts_in, expanded_lines}
 use Rattle.tape_expand.specs.Replaced.{edits_of}
-use Rattle.tape_expand.specs.Splice.{edited}
+use Rattle.tape_expand.specs.Splice.{edited_lines}
 use Rattle.tape_expand.proofs.Answered.{nothing_written, clear_parts}
 use Rattle.tape_expand.proofs.expand.expand_tape.Goals as goal
 
@@ -14,8 +14,8 @@ returns-in-Err-clause-exact c = nothing_written c.args.text.now (parts_in c.args
 
 pub returns-clause-exact : goal.returns-clause-exact
 returns-clause-exact c =
-    ap (written_out c.args.text.now) c.in-Ok.ensures.exact
-    ∙ ap Ok (sym (c.in_ok-bytes.ensures ∙ ap (λ l. edited 1 (flat_map edits_of l) (lines_of c.args.text.now)) c.deref.ensures.value))
+    ap (expanded_lines c.args.text.now) c.in-Ok.ensures.exact
+    ∙ ap Ok (sym (c.in_ok-bytes.ensures ∙ ap (λ l. edited_lines 1 (flat_map edits_of l) (lines_of c.args.text.now)) c.deref.ensures.value))
 
 pub returns-clause-clear : goal.returns-clause-clear
 returns-clause-clear c = clear_parts (parts_in c.args.text.now) _ c.in-Ok.ensures.exact c.a_sound_part_is_clear.ensures c.in-Ok.ensures.sound

@@ -2,7 +2,7 @@
 -- blocks read, the first fault of their order (src/flow.rt).
 use Rattle.std.proofs.Common.{map, subst, sym}
 use Rattle.nc_text.specs.Shape.{IsTapeShape}
-use Rattle.block_order.specs.Shape.{IsListed}
+use Rattle.block_order.specs.Shape.{IsReadTape}
 use Rattle.block_order.specs.Answers.{IfFault}
 use Rattle.tape_flow.specs.Forms.{program_form}
 use Rattle.tape_flow.specs.Controls.{controls}
@@ -21,7 +21,7 @@ returns-in-Err-clause-refused c =
 pub order_of-requires : goal.order_of-requires
 order_of-requires c =
     let shape = subst (λ tape. IsTapeShape tape) (sym c.as_slice-tape.ensures.value) c.as_slice-tape.ensures.shape in
-    subst (λ programs. IsListed (controls (map program_form programs))) (sym c.as_slice.ensures)
+    subst (λ programs. IsReadTape (controls (map program_form programs))) (sym c.as_slice.ensures)
     (read_listed (dialect_of c.args.settings.now) c.as_slice-tape.result.now (map program_form c.in-Ok.programs) shape
     c.in-Ok.ensures)
 

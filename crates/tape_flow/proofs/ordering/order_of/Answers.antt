@@ -3,7 +3,7 @@
 use Rattle.std.proofs.Common.{sym, ◌∙◌, subst}
 use Rattle.std.proofs.lemmas.Simd.{map-map}
 use Rattle.block_order.specs.Faults.{IsSound, IsFirst}
-use Rattle.block_order.specs.Shape.{IsListed}
+use Rattle.block_order.specs.Shape.{IsReadTape}
 use Rattle.tape_flow.specs.Forms.{program_form}
 use Rattle.tape_flow.specs.Controls.{control_program}
 use Rattle.tape_flow.proofs.ordering.order_of.Goals as goal
@@ -11,7 +11,7 @@ use Rattle.tape_flow.proofs.ordering.order_of.Goals as goal
 pub check_order-requires : goal.check_order-requires
 check_order-requires c =
     let is = c.in_ok-controls.ensures ∙ sym (map-map control_program program_form c.args.programs.now) in
-    record { listed = subst (λ order. IsListed order) (sym is) c.requires }
+    record { listed = subst (λ order. IsReadTape order) (sym is) c.requires }
 
 pub returns-in-Ok-clause-same : goal.returns-in-Ok-clause-same
 returns-in-Ok-clause-same c =

@@ -5,7 +5,7 @@ use Rattle.std.proofs.lemmas.Bool.Decides.{nat_tests}
 use Rattle.std.proofs.lemmas.List.{length-map}
 use Rattle.block_order.specs.declared.program.ControlProgram.{ControlProgram}
 use Rattle.nc_number.specs.Rising.{RiseFrom}
-use Rattle.block_order.specs.Shape.{IsListed, lines_of_program, lines_in, blocks_in}
+use Rattle.block_order.specs.Shape.{IsReadTape, lines_of_program, lines_in, blocks_in}
 use Rattle.tape_vectors.proofs.orders.is_listed.Goals as goal
 
 -- A tape has no more blocks than lines of O numbers and blocks.
@@ -22,7 +22,7 @@ few_blocks (p ∷ ps) =
 
 -- A tape with a program, rising lines and at most 20,000 of them is listed.
 listed_is : (tape : List ControlProgram) (lines : List ℕ) → lines ≡ lines_in tape → 0 < length tape → length lines ≤ 20000
-    → RiseFrom 0 lines → IsListed tape
+    → RiseFrom 0 lines → IsReadTape tape
 listed_is tape lines e some few rise = record {
   some = some;
   lines = subst (λ l. RiseFrom 0 l) e rise;

@@ -7,7 +7,7 @@ use Rattle.two_path.specs.Histories.{IsLegal, fold}
 use Rattle.two_path.specs.Joined.{AreAtTheirWaits}
 use Rattle.move_list.specs.EndText.{end_text}
 use Rattle.two_path.specs.Start.{machine_at_start}
-use Rattle.trace_list.specs.Trace.{trace_text, traced}
+use Rattle.trace_list.specs.Trace.{trace_text, traced_lines}
 use Rattle.trace_list.specs.TraceText.{lines_text}
 use Rattle.trace_list.proofs.InParts.{HasPut}
 use Rattle.trace_list.proofs.tracing.put_from.Given as goal
@@ -21,6 +21,6 @@ invariant-loop-index g l = record {
   waits : AreAtTheirWaits l.left.order l.right.order l.machine.machine;
   met : l.met ≤ l.index;
   put : HasPut (g.K.Sink.state l.fn.sink) (g.K.Sink.state l.sink)
-      (lines_text (traced (tapes_of l.left l.right) l.met l.machine.machine (drop l.index l.entries.items)) ++ end_text (length l.entries.items) l.reason)
+      (lines_text (traced_lines (tapes_of l.left l.right) l.met l.machine.machine (drop l.index l.entries.items)) ++ end_text (length l.entries.items) l.reason)
       (trace_text (tapes_of l.left l.right) (machine_at_start l.left l.right l.settings) l.entries.items l.reason);
 }

@@ -8,7 +8,7 @@ use Rattle.nc_number.specs.Both.{both_of, of_path}
 use Rattle.nc_outside.specs.Received.{TurretState}
 use Rattle.run_table.specs.Holding.{MayHold, without_turret}
 use Rattle.turret_run.specs.Rests.{ArePlaced, who_failed}
-use Rattle.turret_run.specs.Runs.{due}
+use Rattle.turret_run.specs.Runs.{due_to_turret}
 use Rattle.turret_run.proofs.TurretsGet.{GotBy}
 use Rattle.turret_run.proofs.TurretsRun.{for_each, none_since, taken_since, got, run_ends, placed_only, calm_is_no_disk, calm_stays}
 use Rattle.turret_run.proofs.run.run_opened.Goals as goal
@@ -33,8 +33,8 @@ returns-in-Ok g c =
     let since = taken_since state opened t out.result held is out.ensures.of out.ensures.shown in
     let gets = got state opened t out.result held is out.ensures.of out.ensures.shown in
     let gots : (start : Both TurretState) → ArePlaced t.machine start (both_of turret c.args.turrets)
-    → (path : Path) → GotBy (of_path (who_failed now) path) (of_path (both_of (λ d. d.missed) now) path) (due path t out.result) (of_path start path) (of_path (both_of (λ d. d.state) now) path) =
-    λ start placed. for_each (λ path. GotBy (of_path (who_failed now) path) (of_path (both_of (λ d. d.missed) now) path) (due path t out.result) (of_path start path) (of_path (both_of (λ d. d.state) now) path))
+    → (path : Path) → GotBy (of_path (who_failed now) path) (of_path (both_of (λ d. d.missed) now) path) (due_to_turret path t out.result) (of_path start path) (of_path (both_of (λ d. d.state) now) path) =
+    λ start placed. for_each (λ path. GotBy (of_path (who_failed now) path) (of_path (both_of (λ d. d.missed) now) path) (due_to_turret path t out.result) (of_path start path) (of_path (both_of (λ d. d.state) now) path))
     (gets One start.one (turret c.args.turrets.one) now.one (placed One) (rest.ensures.one (turret c.args.turrets.one) c.in-Ok.ensures.one))
     (gets Two start.two (turret c.args.turrets.two) now.two (placed Two) (rest.ensures.two (turret c.args.turrets.two) c.in-Ok.ensures.two)) in
     record {

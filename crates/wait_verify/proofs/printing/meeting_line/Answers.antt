@@ -1,7 +1,7 @@
 -- `meeting_line`: the label and the line of each tape, piece by piece, are the line of the meeting
 -- (src/printing.rt).
 use Rattle.std.proofs.Common.{List, ℕ, ◌++◌, ap, codes, ◌∙◌}
-use Rattle.text_pieces.specs.Pieces.{numbered}
+use Rattle.text_pieces.specs.Pieces.{text_with_number}
 use Rattle.wait_verify.specs.Printed.{label_text, meeting_text}
 use Rattle.wait_verify.proofs.printing.meeting_line.Goals as goal
 
@@ -9,8 +9,8 @@ pub returns : goal.returns
 unfolding meeting_text
 returns c =
     let label = label_text c.args.one.now.label in
-    let one = numbered (codes " path 1 line ") c.args.one.now.line in
-    let two = numbered (codes " path 2 line ") c.args.two.now.line in
+    let one = text_with_number (codes " path 1 line ") c.args.one.now.line in
+    let two = text_with_number (codes " path 2 line ") c.args.two.now.line in
     c.add.ensures.text
     ∙ ap (λ (t : List ℕ). t ++ codes "\n")
     ((rw c.from-2.ensures at c.add_numbered-2.ensures.text)

@@ -3,7 +3,7 @@
 use Rattle.std.proofs.Common.{◌≡◌, ℕ, Some, None, sym, ◌∙◌, subst}
 use Rattle.block_order.specs.Order.{IsLoop}
 use Rattle.block_order.proofs.Items.{eq-some, eq-not}
-use Rattle.block_order.proofs.Opened.{close_within, closed-head}
+use Rattle.block_order.proofs.Opened.{close_within, open_after_end-head}
 use Rattle.block_order.proofs.loops.LoopTable.head_of.Goals as goal
 
 pub returns-in_err-head : goal.returns-in_err-head
@@ -12,7 +12,7 @@ returns-in_err-head c = λ bs table head. (
   λ (loop : IsLoop bs head c.args.close).
       let within = close_within bs head c.args.close loop in
       c.from_residual.ensures ∙ sym c.in_err-head.was ∙ c.head_around.ensures bs table within
-      ∙ closed-head bs head c.args.close table.fits loop,
+      ∙ open_after_end-head bs head c.args.close table.fits loop,
 )
 
 pub returns-then-eq : goal.returns-then-eq
@@ -23,7 +23,7 @@ returns-then-eq c = λ bs table head.
           subst (λ (h : ℕ). IsLoop bs h c.args.close) k (sym (c.end_of.ensures bs table) ∙ is),
       λ (loop : IsLoop bs head c.args.close).
           let within = close_within bs head c.args.close loop in
-          sym c.in_ok-head.was ∙ c.head_around.ensures bs table within ∙ closed-head bs head c.args.close table.fits loop,
+          sym c.in_ok-head.was ∙ c.head_around.ensures bs table within ∙ open_after_end-head bs head c.args.close table.fits loop,
     )
 
 pub returns-else-eq : goal.returns-else-eq
@@ -32,7 +32,7 @@ returns-else-eq c = λ bs table head. (
   λ (loop : IsLoop bs head c.args.close).
       let within = close_within bs head c.args.close loop in
       let same : Some c.in_ok-head.head ≡ Some head =
-      sym c.in_ok-head.was ∙ c.head_around.ensures bs table within ∙ closed-head bs head c.args.close table.fits loop in
+      sym c.in_ok-head.was ∙ c.head_around.ensures bs table within ∙ open_after_end-head bs head c.args.close table.fits loop in
       let k : c.in_ok-head.head ≡ head = cc in
       let is : c.end_of.result ≡ Some c.args.close =
       c.end_of.ensures bs table ∙ subst (λ (h : ℕ). IsLoop bs h c.args.close) (sym k) loop in

@@ -2,7 +2,7 @@
 -- (`BodyList::body`, src/body_list.rt).
 use Rattle.std.proofs.Common.{rules, ◌≡◌, ◌+◌, ◌<◌, ◌^◌, ◌∷◌, [], List, ℕ, length, get_or, sym, ◌∙◌, ap, arith, vec_len}
 use Rattle.std.proofs.lemmas.List.{get_or_read}
-use Rattle.gate_file.specs.Bodies.{between}
+use Rattle.gate_file.specs.Bodies.{bytes_between}
 use Rattle.gate_file.proofs.Bodies.{length_bodies, body_within, body_of}
 use Rattle.gate_file.proofs.body_list.BodyList.body.Goals as goal
 
@@ -46,5 +46,5 @@ returns c =
     let within : i < length l.ends.items = omega (arith, c.requires, ap length c.self.view_is, length_bodies 0 l.ends.items l.bytes.items) in
     let start : c.start_of-gate.result ≡ get_or (0 ∷ l.ends.items) i 0 = c.start_of-gate.ensures ∙ ap (λ (e : List ℕ). get_or (0 ∷ e) i 0) c.deref.ensures.value in
     let end : c.index-end.result.now ≡ get_or l.ends.items i 0 = get_or_read l.ends.items i c.index-end.result.now within c.index-end.ensures 0 in
-    c.stretch.ensures ∙ ap (between (c.start_of-gate.result + 5) c.index-end.result.now) c.deref-2.ensures.value ∙ ap (λ (n : ℕ). between (n + 5) c.index-end.result.now l.bytes.items) start ∙ ap (λ (n : ℕ). between (get_or (0 ∷ l.ends.items) i 0 + 5) n l.bytes.items) end
+    c.stretch.ensures ∙ ap (bytes_between (c.start_of-gate.result + 5) c.index-end.result.now) c.deref-2.ensures.value ∙ ap (λ (n : ℕ). bytes_between (n + 5) c.index-end.result.now l.bytes.items) start ∙ ap (λ (n : ℕ). bytes_between (get_or (0 ∷ l.ends.items) i 0 + 5) n l.bytes.items) end
     ∙ sym (body_of 0 l.ends.items l.bytes.items i within) ∙ ap (λ (b : List (List ℕ)). get_or b i []) c.self.view_is

@@ -6,7 +6,7 @@ use Rattle.block_values.specs.Operands.{variable_with}
 use Rattle.block_values.specs.Outcomes.{Gives}
 use Rattle.path_state.specs.Effect.{of_after}
 use Rattle.path_state.specs.Looks.{look_of}
-use Rattle.path_state.specs.Statements.{named}
+use Rattle.path_state.specs.Statements.{variable_named}
 use Rattle.path_state.proofs.AssignedNext.{assigned_by}
 use Rattle.path_state.proofs.path.PathState.assigned.Goals as goal
 
@@ -14,7 +14,7 @@ pub returns-in-Ok : goal.returns-in-Ok
 returns-in-Ok c =
     let path = c.args.self.now in
     let left = c.variable_taken-named.result.1.now in
-    let is : named path.fixed path (variable_of c.args.name.now) c.args.reads.now ≡ Gives c.in-Ok.variable left =
+    let is : variable_named path.fixed path (variable_of c.args.name.now) c.args.reads.now ≡ Gives c.in-Ok.variable left =
     ap (λ p. variable_with (look_of path.fixed path) p.modal (variable_of c.args.name.now) c.args.reads.now) (sym c.self.view_is)
     ∙ sym (rw c.in-Ok.is at c.variable_taken-named.ensures.named) in
     c.takes.ensures

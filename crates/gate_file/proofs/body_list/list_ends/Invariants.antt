@@ -1,9 +1,9 @@
 -- The ends noted so far are those of the entries seen, and the rest of the bytes is unread (loop of
--- `mark_entries`, src/body_list.rt).
+-- `list_ends`, src/body_list.rt).
 use Rattle.std.proofs.Common.{◌≡◌, ◌+◌, ◌-◌, ◌*◌, ◌<◌, ◌≤◌, ◌++◌, List, ℕ, length, take, drop, vec_capacity}
 use Rattle.gate_file.specs.Bodies.{bodies_from, AreEnds}
 use Rattle.gate_file.specs.Chain.{Opens}
-use Rattle.gate_file.proofs.body_list.mark_entries.Given as goal
+use Rattle.gate_file.proofs.body_list.list_ends.Given as goal
 
 abbrev pub invariant-loop-body : goal.invariant-loop-body
 invariant-loop-body l = record {

@@ -1,9 +1,9 @@
 -- With one entry more noted, the ends are still those of the entries that lie whole in the bytes
--- (loop of `mark_entries`, src/body_list.rt).
+-- (loop of `list_ends`, src/body_list.rt).
 use Rattle.std.proofs.Common.{◌≡◌, ◌+◌, ◌-◌, [], ◌∷◌, ◌++◌, List, ℕ, length, take, sym, ap, subst, ◌∙◌, arith, length-append}
 use Rattle.gate_file.specs.Bodies.{bodies_from, AreEnds}
 use Rattle.gate_file.proofs.Windows.{taken_more, behind_entry, marked_ends, marked_bodies}
-use Rattle.gate_file.proofs.body_list.mark_entries.Goals as goal
+use Rattle.gate_file.proofs.body_list.list_ends.Goals as goal
 
 pub loop-body-preserved : goal.loop-body-preserved
 loop-body-preserved c =
