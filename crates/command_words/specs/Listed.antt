@@ -11,6 +11,8 @@ use Rattle.command_words.specs.declared.command.Command.TheVariants as command
 use Rattle.command_words.specs.declared.command.ProgramRange.{ProgramRange}
 use Rattle.command_words.specs.declared.command.TurretFiles.{TurretFiles}
 use Rattle.command_words.specs.declared.making.Limits.{Limits}
+use Rattle.command_words.specs.declared.making.PairNames.{PairNames}
+use Rattle.command_words.specs.declared.making.TheConstants.{DEFAULT_BLOCKS, LAST_MADE, LAST_PROGRAM, MOST_TO_RUN}
 use Rattle.command_words.specs.declared.table.Task.{Task}
 use Rattle.command_words.specs.declared.table.Task.TheVariants as task
 
@@ -113,8 +115,8 @@ pub record OptionTextsView : Type 0 where
 
 -- the most blocks to run: a number from 1 to 1,000,000, and 100,000 if no text is given
 abbrev pub limit_of : Option Text → Option ℕ
-limit_of None = Some 100000
-limit_of (Some text) = number_of 1 1000000 text
+limit_of None = Some DEFAULT_BLOCKS
+limit_of (Some text) = number_of 1 MOST_TO_RUN text
 
 -- the file that an option names, if it was given; an empty name is refused
 abbrev pub file_of : Option Text → Option (Option Text)
@@ -145,30 +147,47 @@ range_by (Some greatest) (Some least) =
 -- the range that a text writes: two numbers from 1 to 9,999 with `-` between them, the second not
 -- below the first
 abbrev pub range_of : Text → Option ProgramRange
-range_of text = range_by (number_of 1 9999 (after_first is_dash text)) (number_of 1 9999 (before_first is_dash text))
+range_of text =
+    range_by (number_of 1 LAST_PROGRAM (after_first is_dash text)) (number_of 1 LAST_PROGRAM (before_first is_dash text))
 
 -- the programs that the tapes may lack: none if no text is given, else the range that it writes
 abbrev pub outside_of : Option Text → Option (Option ProgramRange)
 outside_of None = Some None
 outside_of (Some text) = option_map Some (range_of text)
 
--- the command that a task makes of its words, of what the options of numbers say, and of the files
--- of the turrets
+-- the command of a task that has no word, by what the options of numbers say and by the files of the
+-- turrets
+abbrev pub plain_command : Task → Limits → TurretFiles → Option Command
+plain_command task.Resume limits files = Some (command.Resume limits.blocks files)
+plain_command task.Moves limits files = Some command.Moves
+plain_command task.State limits files = Some command.State
+plain_command _ limits files = None
+
+-- the command of a task that has one word
+abbrev pub word_command : Task → Text → TurretFiles → Option Command
+word_command task.Edit edits files = Some (command.Edit edits)
+word_command task.Zones zones files = Some (command.Zones zones)
+word_command task.Expand tape files = Some (command.Expand tape)
+word_command task.Branch meetings files = option_map command.Branch (number_of 0 MOST_RECORDS meetings)
+word_command task.Make number files = option_map (λ n. command.Make n files) (number_of 0 LAST_MADE number)
+word_command _ word files = None
+
+-- the command of a task that has the three names of a pair
+abbrev pub pair_command : Task → PairNames → Limits → TurretFiles → Option Command
+pair_command task.Verify pair limits files = Some (command.Verify pair.left pair.right pair.settings)
+pair_command task.Trace pair limits files = Some (command.Trace pair.left pair.right pair.settings limits.blocks)
+pair_command task.Waits pair limits files = Some (command.Waits pair.left pair.right pair.settings limits.outside)
+pair_command task.Races pair limits files = Some (command.Races pair.left pair.right pair.settings)
+pair_command task.Run pair limits files = Some (command.Run pair.left pair.right pair.settings limits.blocks files)
+pair_command _ pair limits files = None
+
+-- the command that a task makes of its words, by how many there are
 abbrev pub command_with : Task → List Text → Limits → TurretFiles → Option Command
-command_with task.Verify (left ∷ right ∷ settings ∷ []) limits files = Some (command.Verify left right settings)
-command_with task.Waits (left ∷ right ∷ settings ∷ []) limits files = Some (command.Waits left right settings limits.outside)
-command_with task.Races (left ∷ right ∷ settings ∷ []) limits files = Some (command.Races left right settings)
-command_with task.Trace (left ∷ right ∷ settings ∷ []) limits files = Some (command.Trace left right settings limits.blocks)
-command_with task.Run (left ∷ right ∷ settings ∷ []) limits files = Some (command.Run left right settings limits.blocks files)
-command_with task.Resume [] limits files = Some (command.Resume limits.blocks files)
-command_with task.Edit (edits ∷ []) limits files = Some (command.Edit edits)
-command_with task.Moves [] limits files = Some command.Moves
-command_with task.State [] limits files = Some command.State
-command_with task.Zones (zones ∷ []) limits files = Some (command.Zones zones)
-command_with task.Branch (meetings ∷ []) limits files = option_map command.Branch (number_of 0 MOST_RECORDS meetings)
-command_with task.Make (number ∷ []) limits files = option_map (λ n. command.Make n files) (number_of 0 999999 number)
-command_with task.Expand (tape ∷ []) limits files = Some (command.Expand tape)
-command_with _ _ _ _ = None
+command_with what [] limits files = plain_command what limits files
+command_with what (word ∷ []) limits files = word_command what word files
+command_with what (left ∷ right ∷ settings ∷ []) limits files =
+    pair_command what (record { left = left; right = right; settings = settings }) limits files
+command_with what words limits files = None
 
 -- the command that a task makes of its words and of the texts of the options
 abbrev pub command_of : Task → List Text → OptionTextsView → Option Command

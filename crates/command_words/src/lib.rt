@@ -16,7 +16,7 @@ mod table;
 
 pub use command::{Command, Name, ProgramRange, TurretFiles};
 pub use fault::WordsFault;
-pub use making::command_of;
+pub use making::{DEFAULT_BLOCKS, LAST_MADE, LAST_PROGRAM, MOST_TO_RUN, command_of};
 pub use option_texts::OptionTexts;
 pub use table::{Journal, Row, Task, journal_of, row_named, rows, takes_option};
 

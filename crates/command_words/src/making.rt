@@ -1,9 +1,10 @@
 //! The command that a row's task makes of the words and options that were given. specs/Listed.antt
-//! defines it, mostly by functions of the same names, and has the same least and greatest numbers;
-//! clap_reading calls [`command_of`]. A further command is an arm of `command_with` in both.
+//! defines it, mostly by functions of the same names; clap_reading calls [`command_of`]. A further
+//! command is an arm of `plain_command`, `word_command` or `pair_command` in both.
 ghost use Rattle.std.specs.Prelude.{◌≡◌, ◌≤◌, IfSome, map, option_map};
 ghost use Rattle.nc_number.specs.declared.limits.TheConstants.{MOST_RECORDS};
-ghost use Rattle.command_words.specs.Listed.{command_of, command_with, file_of, files_of, limit_of, outside_of, range_by, range_of};
+ghost use Rattle.command_words.specs.declared.making.TheConstants.{LAST_MADE, LAST_PROGRAM};
+ghost use Rattle.command_words.specs.Listed.{command_of, command_with, file_of, files_of, limit_of, outside_of, pair_command, plain_command, range_by, range_of, word_command};
 ghost use Rattle.command_words.specs.Making.{Answers, texts_seen};
 ghost use Rattle.command_words.specs.Number.{number_of};
 
@@ -16,14 +17,16 @@ use nc_number::MOST_RECORDS;
 use std::alloc::Global;
 
 /// How many blocks a call may run if the words do not say.
-const DEFAULT_BLOCKS: u32 = 100_000;
+pub const DEFAULT_BLOCKS: u32 = 100_000;
 
 /// The most blocks that the words may let a call run.
-const MOST_BLOCKS: u32 = 1_000_000;
-/// The greatest O number.
-const MOST_PROGRAMS: u32 = 9_999;
+pub const MOST_TO_RUN: u32 = 1_000_000;
+
+/// The last O number.
+pub const LAST_PROGRAM: u32 = 9_999;
+
 /// The greatest number of a made pair.
-const MOST_MADE: u32 = 999_999;
+pub const LAST_MADE: u32 = 999_999;
 
 /// What the options `--blocks` and `--outside` say.
 #[derive(Clone, Copy)]
@@ -32,6 +35,17 @@ pub(crate) struct Limits {
     pub(crate) blocks: u32,
     /// The programs that the tapes may lack.
     pub(crate) outside: Option<ProgramRange>,
+}
+
+/// The three names of a pair, as its command has them.
+#[derive(Drop)]
+pub(crate) struct PairNames {
+    /// The tape of path 1.
+    pub(crate) left: Name,
+    /// The tape of path 2.
+    pub(crate) right: Name,
+    /// The settings.
+    pub(crate) settings: Name,
 }
 
 /// The command that a task makes of its words and of the texts of the options.
@@ -76,8 +90,8 @@ fn range_of(text: &str) -> Option<ProgramRange>
 {
     match text.split_once('-') {
         Some((least, greatest)) => range_by(
-            read_number(greatest, 1, MOST_PROGRAMS),
-            read_number(least, 1, MOST_PROGRAMS),
+            read_number(greatest, 1, LAST_PROGRAM),
+            read_number(least, 1, LAST_PROGRAM),
         ),
         None => None,
     }
@@ -85,7 +99,7 @@ fn range_of(text: &str) -> Option<ProgramRange>
 
 /// The range between two O numbers, if both are there and the least is not above the greatest.
 fn range_by(greatest: Option<u32>, least: Option<u32>) -> Option<ProgramRange>
-    requires greatest { IfSome greatest (λ n. n ≤ 9999) }
+    requires greatest { IfSome greatest (λ n. n ≤ LAST_PROGRAM) }
     ensures { result ≡ range_by greatest least }
 {
     match greatest {
@@ -112,7 +126,7 @@ fn limit_of(limit: Option<&str>) -> Option<u32>
 {
     match limit {
         None => Some(DEFAULT_BLOCKS),
-        Some(text) => read_number(text, 1, MOST_BLOCKS),
+        Some(text) => read_number(text, 1, MOST_TO_RUN),
     }
 }
 
@@ -140,8 +154,8 @@ fn file_of(alloc: Global, text: Option<&str>) -> Result<Option<Name>, WordsFault
     }
 }
 
-/// The command that a task makes of its words. Errors: `Usage` if their number or a number among
-/// them is wrong, or memory.
+/// The command that a task makes of its words, by how many there are. Errors: `Usage` if their
+/// number or a number among them is wrong, or memory.
 fn command_with(
     alloc: Global,
     task: Task,
@@ -151,83 +165,74 @@ fn command_with(
 ) -> Result<Command, WordsFault>
     ensures { Answers (command_with task (map (λ s. s.now) words.now) limits files) result }
 {
+    match words.len() {
+        0 => plain_command(task, limits, files),
+        1 => word_command(alloc, task, words[0], files),
+        3 => {
+            let pair = PairNames {
+                left: Name::new(alloc, words[0])?,
+                right: Name::new(alloc, words[1])?,
+                settings: Name::new(alloc, words[2])?,
+            };
+            pair_command(task, pair, limits, files)
+        }
+        _ => Err(WordsFault::Usage),
+    }
+}
+
+/// The command of a task that has no word. `Usage` if it has one.
+fn plain_command(task: Task, limits: Limits, files: TurretFiles) -> Result<Command, WordsFault>
+    ensures { Answers (plain_command task limits files) result }
+{
     match task {
-        Task::Verify => match words {
-            [left, right, settings] => Ok(Command::Verify(
-                Name::new(alloc, left)?,
-                Name::new(alloc, right)?,
-                Name::new(alloc, settings)?,
-            )),
-            _ => Err(WordsFault::Usage),
-        },
-        Task::Trace => match words {
-            [left, right, settings] => Ok(Command::Trace(
-                Name::new(alloc, left)?,
-                Name::new(alloc, right)?,
-                Name::new(alloc, settings)?,
-                limits.blocks,
-            )),
-            _ => Err(WordsFault::Usage),
-        },
-        Task::Waits => match words {
-            [left, right, settings] => Ok(Command::Waits(
-                Name::new(alloc, left)?,
-                Name::new(alloc, right)?,
-                Name::new(alloc, settings)?,
-                limits.outside,
-            )),
-            _ => Err(WordsFault::Usage),
-        },
-        Task::Races => match words {
-            [left, right, settings] => Ok(Command::Races(
-                Name::new(alloc, left)?,
-                Name::new(alloc, right)?,
-                Name::new(alloc, settings)?,
-            )),
-            _ => Err(WordsFault::Usage),
-        },
-        Task::Run => match words {
-            [left, right, settings] => Ok(Command::Run(
-                Name::new(alloc, left)?,
-                Name::new(alloc, right)?,
-                Name::new(alloc, settings)?,
-                limits.blocks,
-                files,
-            )),
-            _ => Err(WordsFault::Usage),
-        },
-        Task::Resume => match words {
-            [] => Ok(Command::Resume(limits.blocks, files)),
-            _ => Err(WordsFault::Usage),
-        },
-        Task::Edit => match words {
-            [edits] => Ok(Command::Edit(Name::new(alloc, edits)?)),
-            _ => Err(WordsFault::Usage),
-        },
-        Task::Moves => match words {
-            [] => Ok(Command::Moves),
-            _ => Err(WordsFault::Usage),
-        },
-        Task::State => match words {
-            [] => Ok(Command::State),
-            _ => Err(WordsFault::Usage),
-        },
-        Task::Zones => match words {
-            [zones] => Ok(Command::Zones(Name::new(alloc, zones)?)),
-            _ => Err(WordsFault::Usage),
-        },
-        Task::Branch => match words {
-            [meetings] => branched(meetings),
-            _ => Err(WordsFault::Usage),
-        },
-        Task::Make => match words {
-            [number] => made(number, files),
-            _ => Err(WordsFault::Usage),
-        },
-        Task::Expand => match words {
-            [tape] => Ok(Command::Expand(Name::new(alloc, tape)?)),
-            _ => Err(WordsFault::Usage),
-        },
+        Task::Resume => Ok(Command::Resume(limits.blocks, files)),
+        Task::Moves => Ok(Command::Moves),
+        Task::State => Ok(Command::State),
+        _ => Err(WordsFault::Usage),
+    }
+}
+
+/// The command of a task that has one word. Errors: `Usage` if it has none or more, or if the word
+/// is no number where one is asked for; or memory.
+fn word_command(
+    alloc: Global,
+    task: Task,
+    word: &str,
+    files: TurretFiles,
+) -> Result<Command, WordsFault>
+    ensures { Answers (word_command task word.now files) result }
+{
+    match task {
+        Task::Edit => Ok(Command::Edit(Name::new(alloc, word)?)),
+        Task::Zones => Ok(Command::Zones(Name::new(alloc, word)?)),
+        Task::Expand => Ok(Command::Expand(Name::new(alloc, word)?)),
+        Task::Branch => branched(word),
+        Task::Make => made(word, files),
+        _ => Err(WordsFault::Usage),
+    }
+}
+
+/// The command of a task that has the three names of a pair. `Usage` if it has other words.
+fn pair_command(
+    task: Task,
+    pair: PairNames,
+    limits: Limits,
+    files: TurretFiles,
+) -> Result<Command, WordsFault>
+    ensures { Answers (pair_command task pair limits files) result }
+{
+    let PairNames {
+        left,
+        right,
+        settings,
+    } = pair;
+    match task {
+        Task::Verify => Ok(Command::Verify(left, right, settings)),
+        Task::Trace => Ok(Command::Trace(left, right, settings, limits.blocks)),
+        Task::Waits => Ok(Command::Waits(left, right, settings, limits.outside)),
+        Task::Races => Ok(Command::Races(left, right, settings)),
+        Task::Run => Ok(Command::Run(left, right, settings, limits.blocks, files)),
+        _ => Err(WordsFault::Usage),
     }
 }
 
@@ -242,11 +247,11 @@ fn branched(meetings: &str) -> Result<Command, WordsFault>
     }
 }
 
-/// The command that makes the pair of this number, 0 to 999,999. Else `Usage`.
+/// The command that makes the pair of this number, 0 to [`LAST_MADE`]. Else `Usage`.
 fn made(number: &str, files: TurretFiles) -> Result<Command, WordsFault>
-    ensures { Answers (option_map (λ n. Command.Make n files) (number_of 0 999999 number.now)) result }
+    ensures { Answers (option_map (λ n. Command.Make n files) (number_of 0 LAST_MADE number.now)) result }
 {
-    match read_number(number, 0, MOST_MADE) {
+    match read_number(number, 0, LAST_MADE) {
         Some(number) => Ok(Command::Make(number, files)),
         None => Err(WordsFault::Usage),
     }

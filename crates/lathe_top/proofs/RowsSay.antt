@@ -13,7 +13,7 @@ use Rattle.command_words.specs.declared.table.Journal.{Journal}
 use Rattle.command_words.specs.declared.table.Journal.TheVariants as journal
 use Rattle.command_words.specs.declared.table.Task.{Task}
 use Rattle.command_words.specs.declared.table.Task.TheVariants as task
-use Rattle.command_words.specs.Listed.{Given, OptionTextsView, command_behind, command_given, command_of, command_with, files_of, given, limit_of, listed_command, outside_of, stand_once, texts_for}
+use Rattle.command_words.specs.Listed.{Given, OptionTextsView, command_behind, command_given, command_of, command_with, files_of, pair_command, plain_command, word_command, given, limit_of, listed_command, outside_of, stand_once, texts_for}
 use Rattle.command_words.specs.Number.{number_of}
 use Rattle.command_words.specs.Table.{Listing, Text, journal_in, journal_of, listings, row_in, row_of}
 use Rattle.lathe_top.specs.Kinds.{kind_of, journal_for}
@@ -51,61 +51,76 @@ branch_number None asked is = absurd cc
 branch_number (Some n) asked is =
     let same : command.Branch n ≡ asked = cc in subst (λ c. Does c journal.Look) same refl
 
+-- the command of a task that has no word does with the journal what the task does
+plain_does : (what : Task) (blocks : ℕ) (outside : Option ProgramRange) (files : TurretFiles) (asked : Command)
+    → plain_command what (record { blocks = blocks; outside = outside }) files ≡ Some asked → Does asked (journal_by what)
+plain_does task.Verify blocks outside files asked is = absurd cc
+plain_does task.Trace blocks outside files asked is = absurd cc
+plain_does task.Waits blocks outside files asked is = absurd cc
+plain_does task.Races blocks outside files asked is = absurd cc
+plain_does task.Run blocks outside files asked is = absurd cc
+plain_does task.Resume blocks outside files asked is =
+    let same : command.Resume blocks files ≡ asked = cc in subst (λ x. Does x journal.Write) same refl
+plain_does task.Edit blocks outside files asked is = absurd cc
+plain_does task.Moves blocks outside files asked is =
+    let same : command.Moves ≡ asked = cc in subst (λ x. Does x journal.Look) same refl
+plain_does task.State blocks outside files asked is =
+    let same : command.State ≡ asked = cc in subst (λ x. Does x journal.Look) same refl
+plain_does task.Zones blocks outside files asked is = absurd cc
+plain_does task.Branch blocks outside files asked is = absurd cc
+plain_does task.Make blocks outside files asked is = absurd cc
+plain_does task.Expand blocks outside files asked is = absurd cc
+
+-- so does the command of a task that has one word
+word_does : (what : Task) (a : Text) (files : TurretFiles) (asked : Command) → word_command what a files ≡ Some asked → Does asked (journal_by what)
+word_does task.Verify a files asked is = absurd cc
+word_does task.Trace a files asked is = absurd cc
+word_does task.Waits a files asked is = absurd cc
+word_does task.Races a files asked is = absurd cc
+word_does task.Run a files asked is = absurd cc
+word_does task.Resume a files asked is = absurd cc
+word_does task.Edit a files asked is =
+    let same : command.Edit a ≡ asked = cc in subst (λ x. Does x journal.Write) same refl
+word_does task.Moves a files asked is = absurd cc
+word_does task.State a files asked is = absurd cc
+word_does task.Zones a files asked is =
+    let same : command.Zones a ≡ asked = cc in subst (λ x. Does x journal.Look) same refl
+word_does task.Branch a files asked is = branch_number (number_of 0 4000000 a) asked is
+word_does task.Make a files asked is = made_number files (number_of 0 999999 a) asked is
+word_does task.Expand a files asked is =
+    let same : command.Expand a ≡ asked = cc in subst (λ x. Does x journal.None) same refl
+
+-- so does the command of a task that has the three names of a pair
+pair_does : (what : Task) (a b c : Text) (blocks : ℕ) (outside : Option ProgramRange) (files : TurretFiles) (asked : Command)
+    → pair_command what (record { left = a; right = b; settings = c }) (record { blocks = blocks; outside = outside }) files ≡ Some asked
+    → Does asked (journal_by what)
+pair_does task.Verify a b c blocks outside files asked is =
+    let same : command.Verify a b c ≡ asked = cc in subst (λ x. Does x journal.None) same refl
+pair_does task.Trace a b c blocks outside files asked is =
+    let same : command.Trace a b c blocks ≡ asked = cc in subst (λ x. Does x journal.None) same refl
+pair_does task.Waits a b c blocks outside files asked is =
+    let same : command.Waits a b c outside ≡ asked = cc in subst (λ x. Does x journal.None) same refl
+pair_does task.Races a b c blocks outside files asked is =
+    let same : command.Races a b c ≡ asked = cc in subst (λ x. Does x journal.None) same refl
+pair_does task.Run a b c blocks outside files asked is =
+    let same : command.Run a b c blocks files ≡ asked = cc in subst (λ x. Does x journal.Write) same refl
+pair_does task.Resume a b c blocks outside files asked is = absurd cc
+pair_does task.Edit a b c blocks outside files asked is = absurd cc
+pair_does task.Moves a b c blocks outside files asked is = absurd cc
+pair_does task.State a b c blocks outside files asked is = absurd cc
+pair_does task.Zones a b c blocks outside files asked is = absurd cc
+pair_does task.Branch a b c blocks outside files asked is = absurd cc
+pair_does task.Make a b c blocks outside files asked is = absurd cc
+pair_does task.Expand a b c blocks outside files asked is = absurd cc
+
 -- the command that a task makes does with the journal what the task does
 does_as : (what : Task) (names : List Text) (blocks : ℕ) (outside : Option ProgramRange) (files : TurretFiles) (asked : Command)
     → command_with what names (record { blocks = blocks; outside = outside }) files ≡ Some asked → Does asked (journal_by what)
-does_as task.Verify [] blocks outside files asked is = absurd cc
-does_as task.Verify (a ∷ []) blocks outside files asked is = absurd cc
-does_as task.Verify (a ∷ b ∷ []) blocks outside files asked is = absurd cc
-does_as task.Verify (a ∷ b ∷ c ∷ []) blocks outside files asked is =
-    let same : command.Verify a b c ≡ asked = cc in subst (λ x. Does x journal.None) same refl
-does_as task.Verify (a ∷ b ∷ c ∷ d ∷ rest) blocks outside files asked is = absurd cc
-does_as task.Trace [] blocks outside files asked is = absurd cc
-does_as task.Trace (a ∷ []) blocks outside files asked is = absurd cc
-does_as task.Trace (a ∷ b ∷ []) blocks outside files asked is = absurd cc
-does_as task.Trace (a ∷ b ∷ c ∷ []) blocks outside files asked is =
-    let same : command.Trace a b c blocks ≡ asked = cc in subst (λ x. Does x journal.None) same refl
-does_as task.Trace (a ∷ b ∷ c ∷ d ∷ rest) blocks outside files asked is = absurd cc
-does_as task.Waits [] blocks outside files asked is = absurd cc
-does_as task.Waits (a ∷ []) blocks outside files asked is = absurd cc
-does_as task.Waits (a ∷ b ∷ []) blocks outside files asked is = absurd cc
-does_as task.Waits (a ∷ b ∷ c ∷ []) blocks outside files asked is =
-    let same : command.Waits a b c outside ≡ asked = cc in subst (λ x. Does x journal.None) same refl
-does_as task.Waits (a ∷ b ∷ c ∷ d ∷ rest) blocks outside files asked is = absurd cc
-does_as task.Races [] blocks outside files asked is = absurd cc
-does_as task.Races (a ∷ []) blocks outside files asked is = absurd cc
-does_as task.Races (a ∷ b ∷ []) blocks outside files asked is = absurd cc
-does_as task.Races (a ∷ b ∷ c ∷ []) blocks outside files asked is =
-    let same : command.Races a b c ≡ asked = cc in subst (λ x. Does x journal.None) same refl
-does_as task.Races (a ∷ b ∷ c ∷ d ∷ rest) blocks outside files asked is = absurd cc
-does_as task.Run [] blocks outside files asked is = absurd cc
-does_as task.Run (a ∷ []) blocks outside files asked is = absurd cc
-does_as task.Run (a ∷ b ∷ []) blocks outside files asked is = absurd cc
-does_as task.Run (a ∷ b ∷ c ∷ []) blocks outside files asked is =
-    let same : command.Run a b c blocks files ≡ asked = cc in subst (λ x. Does x journal.Write) same refl
-does_as task.Run (a ∷ b ∷ c ∷ d ∷ rest) blocks outside files asked is = absurd cc
-does_as task.Resume [] blocks outside files asked is =
-    let same : command.Resume blocks files ≡ asked = cc in subst (λ x. Does x journal.Write) same refl
-does_as task.Resume (a ∷ rest) blocks outside files asked is = absurd cc
-does_as task.Moves [] blocks outside files asked is = let same : command.Moves ≡ asked = cc in subst (λ x. Does x journal.Look) same refl
-does_as task.Moves (a ∷ rest) blocks outside files asked is = absurd cc
-does_as task.State [] blocks outside files asked is = let same : command.State ≡ asked = cc in subst (λ x. Does x journal.Look) same refl
-does_as task.State (a ∷ rest) blocks outside files asked is = absurd cc
-does_as task.Edit [] blocks outside files asked is = absurd cc
-does_as task.Edit (a ∷ []) blocks outside files asked is = let same : command.Edit a ≡ asked = cc in subst (λ x. Does x journal.Write) same refl
-does_as task.Edit (a ∷ b ∷ rest) blocks outside files asked is = absurd cc
-does_as task.Zones [] blocks outside files asked is = absurd cc
-does_as task.Zones (a ∷ []) blocks outside files asked is = let same : command.Zones a ≡ asked = cc in subst (λ x. Does x journal.Look) same refl
-does_as task.Zones (a ∷ b ∷ rest) blocks outside files asked is = absurd cc
-does_as task.Branch [] blocks outside files asked is = absurd cc
-does_as task.Branch (a ∷ []) blocks outside files asked is = branch_number (number_of 0 4000000 a) asked is
-does_as task.Branch (a ∷ b ∷ rest) blocks outside files asked is = absurd cc
-does_as task.Make [] blocks outside files asked is = absurd cc
-does_as task.Make (a ∷ []) blocks outside files asked is = made_number files (number_of 0 999999 a) asked is
-does_as task.Make (a ∷ b ∷ rest) blocks outside files asked is = absurd cc
-does_as task.Expand [] blocks outside files asked is = absurd cc
-does_as task.Expand (a ∷ []) blocks outside files asked is = let same : command.Expand a ≡ asked = cc in subst (λ x. Does x journal.None) same refl
-does_as task.Expand (a ∷ b ∷ rest) blocks outside files asked is = absurd cc
+does_as what [] blocks outside files asked is = plain_does what blocks outside files asked is
+does_as what (a ∷ []) blocks outside files asked is = word_does what a files asked is
+does_as what (a ∷ b ∷ []) blocks outside files asked is = absurd cc
+does_as what (a ∷ b ∷ c ∷ []) blocks outside files asked is = pair_does what a b c blocks outside files asked is
+does_as what (a ∷ b ∷ c ∷ d ∷ rest) blocks outside files asked is = absurd cc
 
 -- a command that a task makes of any words does with the journal what the task does
 of_texts : (what : Task) (names : List Text) (texts : OptionTextsView) (asked : Command) → command_of what names texts ≡ Some asked
