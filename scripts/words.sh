@@ -91,12 +91,16 @@ fault_of_words() {
     judge_words
 }
 
+# So many words, in words.
+count_words() { if (($1 == 1)); then printf '1 word'; else printf '%d words' "$1"; fi; }
+
 # The same, of the words that fault_of_words has sorted: `names` and `given` options of the command `name`.
 judge_words() {
     local wanted option text seen=' '
     read -ra wanted <<<"$(words_of "$name")"
     if ((${#names[@]} != ${#wanted[@]})); then
-        printf '%s takes %d words%s, and %d are given\n' "$name" "${#wanted[@]}" "${wanted[*]:+ (${wanted[*]})}" "${#names[@]}"
+        printf '%s takes %s%s, and %d %s given\n' "$name" "$(count_words "${#wanted[@]}")" "${wanted[*]:+ (${wanted[*]})}" \
+            "${#names[@]}" "$( ((${#names[@]} == 1)) && printf is || printf are)"
         return
     fi
     for option in ${given[@]+"${given[@]}"}; do
