@@ -43,7 +43,7 @@ contour_point from body = do
   target_of from (behind_line words)
 
 -- The points read so far and those of these blocks, up to the first block with the number `last`;
--- none if a block before it leads nowhere, or no block has it.
+-- none if one of them leads nowhere, or no block has it.
 unfoldable pub points_behind : List Point → Point → ℕ → List Block → Option (List Point)
 points_behind done from last [] = None
 points_behind done from last (block ∷ blocks) = do

@@ -73,8 +73,8 @@ pub(crate) fn is_numbered(number: u32, sequence: Option<u32>) -> bool
     }
 }
 
-/// The points of the blocks up to the first with the number `last`; none if a block before it leads
-/// nowhere, or no block has it. The only error is out of memory.
+/// The points of the blocks up to the first with the number `last`; none if one of these blocks
+/// leads nowhere, or no block has that number. The only error is out of memory.
 pub(crate) fn points_of(
     alloc: Global,
     from: &Point,

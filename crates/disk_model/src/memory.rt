@@ -20,12 +20,12 @@ const SPARE_ROOM: usize = 1_048_576;
 /// The least length that no disk has.
 const LENGTH_LIMIT: usize = 1 << 62;
 
-/// What was on the disk at a sync, and where it was written since.
+/// What was on the disk at a sync, and where it was written from then to the next sync, or to now.
 #[derive(Drop)]
 struct Epoch {
     /// The bytes that were on the disk at the sync.
     synced: Vec<u8>,
-    /// The stretches that were written since that sync.
+    /// The stretches that were written since that sync, up to the next one.
     written: Vec<Stretch>,
 }
 
@@ -236,7 +236,7 @@ impl MemoryDisk {
         Ok(())
     }
 
-    /// Puts on the disk all that was written. Only what was written since the sync before is
+    /// Puts on the disk all that was written. Only what was written since the last sync but one is
     /// copied.
     fn settle(&mut self)
         ensures { self.new ≡ after_settling self.old }
@@ -282,8 +282,9 @@ fn copy_stretch(content: &mut [u8], from: &[u8], at: usize, len: usize)
 impl MemoryDisk {
     ghost use Rattle.disk_model.specs.Memory.{IsKept, next_fails, refuses_write, after_request, with_fault, with_mark};
 
-    /// Counts a write up to this end, and says whether it writes nothing, and whether the call
-    /// fails by its number.
+    /// Counts a write up to this end. Says whether it is refused and not even noted (the record is
+    /// full, or the end lies past the room), and whether the call fails by its number or for a full
+    /// record.
     fn count_write(&mut self, end: u128) -> (bool, bool)
         ensures refused { result.0 ≡ refuses_write self.old end }
         ensures fails { result.1 ≡ next_fails self.old }

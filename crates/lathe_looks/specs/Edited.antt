@@ -1,5 +1,5 @@
--- What `edit` answers if its file or the text of edits is no good, and which edits a file has. What
--- edits do to a run is in run_edits.
+-- What `edit` answers if the text of edits is no good, and which edits a file has. A file that can't
+-- be read is in Fetched; what edits do to a run is in run_edits.
 -- lathe_top cites it.
 use Rattle.std.specs.Prelude.{◌≡◌, ℕ, List, ◌++◌, codes, decimal, Ok, Err}
 use Rattle.edit_texts.specs.declared.edit_list.PathEdit.{PathEdit}

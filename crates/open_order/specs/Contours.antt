@@ -100,7 +100,7 @@ abbrev pub fault_at : ℕ → Option Cause → Option FlowFault
 fault_at line None = None
 fault_at line (Some cause) = Some (record { number = cause_number cause; line = line })
 
--- the fault of the contour that a block at a place of a program begins, told at the block's line
+-- the fault of the contour that a block at a place of a program names, told at the block's line
 abbrev pub block_fault : (ℕ → Bool) → List ControlBlock → ℕ → Block → Option FlowFault
 block_fault loud bs place block = fault_at block.line (contour_cause loud bs place (contour_in block.body))
 

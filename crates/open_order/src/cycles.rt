@@ -107,7 +107,7 @@ fn fault_from(
     }
 }
 
-/// What is wrong with the contour that the block at a place of a program begins, if it begins one.
+/// What is wrong with the contour that the block at a place of a program names, if it names one.
 fn contour_cause(
     order: &BlockOrder,
     program: u16,
@@ -138,7 +138,7 @@ fn fault_at(line: u32, cause: Option<Cause>) -> Option<FlowFault>
     }
 }
 
-/// The fault of the contour that the block at a place of a program begins, if it begins one.
+/// The fault of the contour that the block at a place of a program names, if it names one.
 fn block_fault(order: &BlockOrder, program: u16, place: u32, block: &Block) -> Option<FlowFault>
     ensures { result ≡ block_fault (loud order.now) (blocks order.now program) place block.now }
 {

@@ -106,8 +106,8 @@ fn stand_by<C: Turns, R: Wait>(
     }
 }
 
-/// Counts that a wait is over, and wakes the seats that sleep until then. Most often none does, and
-/// a wake is a call of the system.
+/// Counts that a wait is over, and wakes the seats that sleep until then. A wake is a call of the
+/// system, so it is made only if a seat is counted as asleep.
 fn count_change<C: Turns>(shared: &Shared<Option<C>, Knows, (), Law>, place: &mut Place<C>)
     requires { IsAt place.old.table_id shared.now.table_id }
     ensures { (place.new.table_id ≡ place.old.table_id) × (place.new.id ≡ place.old.id)

@@ -9,8 +9,8 @@ use Rattle.part_lines.proofs.listing.+calls.Given as goal
 abbrev pub decreases-learn_call : goal.decreases-learn_call
 decreases-learn_call g l = 2 * l.left + 1
 
--- The measure of `piece_of`: twice the calls that may follow in the program. It calls `learn_call`
--- with one call less.
+-- The measure of `piece_of`: twice `left`; fewer than `left` calls may follow in the program, one in
+-- another. It calls `learn_call` with one call less.
 abbrev pub decreases-piece_of : goal.decreases-piece_of
 decreases-piece_of g l = 2 * l.left
 
