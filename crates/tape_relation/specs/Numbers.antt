@@ -7,7 +7,6 @@ use Rattle.std.specs.Prelude.{◌≡◌, ℕ, ◌+◌, ◌<◌, ◌≤◌, ◌==
 use Rattle.std.specs.Char.{is_ascii_digit}
 use Rattle.std.specs.List.{list_all}
 use Rattle.std.specs.Str.Parse.{digits_value}
-use Rattle.nc_number.specs.declared.limits.TheConstants.{LAST_SEQUENCE}
 
 -- the text is a plus, a minus or nothing
 abbrev pub IsSign : List ℕ → Type 0
@@ -58,7 +57,7 @@ pub record Writes (text : List ℕ) (n : ℕ) : Type 0 where
 
 -- the literal writes this sequence number, which is from 0 to 99,999
 abbrev pub IsSequenceNumber : List ℕ → ℕ → Type 0
-IsSequenceNumber text n = Writes text n × (n ≤ LAST_SEQUENCE)
+IsSequenceNumber text n = Writes text n × (n ≤ 99999)
 
 -- the literal writes this O number, which is from 1 to 9,999
 abbrev pub IsProgramNumber : List ℕ → ℕ → Type 0
