@@ -17,20 +17,25 @@ branch|MEETINGS||writes that run up to a meeting to a second journal, branch.jou
 make|N|turret1 turret2|runs a generated test job of some 10,000 blocks (N: 0 to 999999)|make 7
 expand|TAPE||writes a tape with its G71 and G70 over contours of lines as plain blocks|expand examples/roughing.nc'
 
-# The row of the command $1.
+# The row of the command $1. (The shell would read lines byte by byte, so the row is cut out.)
 row_of() {
-    local row
-    while IFS= read -r row; do
-        [[ ${row%%|*} != "$1" ]] || { printf '%s\n' "$row"; return 0; }
-    done <<<"$commands"
-    return 1
+    local all=$'\n'$commands$'\n' row
+    [[ $1 != *[$'\n|']* && $all == *$'\n'"$1|"* ]] || return
+    row=${all#*$'\n'"$1|"}
+    printf '%s|%s\n' "$1" "${row%%$'\n'*}"
 }
 
 # The words of the command $1.
-words_of() { row_of "$1" | cut -d '|' -f 2; }
+words_of() {
+    local row
+    row=$(row_of "$1") && row=${row#*|} && printf '%s' "${row%%|*}"
+}
 
 # The options of the command $1.
-options_of() { row_of "$1" | cut -d '|' -f 3; }
+options_of() {
+    local row
+    row=$(row_of "$1") && row=${row#*|*|} && printf '%s' "${row%%|*}"
+}
 
 # The text of an option, as it is written in the help.
 text_of_option() {
@@ -133,8 +138,8 @@ list_commands() {
         printf '  %-47s %s\n' "twin_lathe $name${words:+ $words}${options:+ [OPTIONS]}" "$what"
     done <<<"$commands"
     printf '  %-47s %s\n' \
-        'twin_lathe try COMMAND ..' 'any of these, by a program that is not proved: ready in a minute or two' \
-        'twin_lathe build' 'proves and builds the program, and runs nothing' \
+        'twin_lathe try COMMAND ..' 'any of these, by a program that is not proved, also if one is' \
+        'twin_lathe prove' 'proves and builds the program, and runs nothing' \
         'twin_lathe help [COMMAND], --version' 'this text, the help of one command, what this is'
 }
 
@@ -151,9 +156,9 @@ records; --turret1 FILE and --turret2 FILE write what each turret gets to a file
 `run` and `make` begin the journal twin.journal in the current folder; `resume`, `edit`, `moves`, `state`, `zones` and `branch` read it
 there. `branch` alone writes branch.journal.
 
-  twin_lathe try waits examples/upper.nc examples/lower.nc examples/cell.txt
+  twin_lathe waits examples/upper.nc examples/lower.nc examples/cell.txt
 
-The first call of a command without `try` proves and builds the program. Only the program's text goes to standard output.
+Until `prove` has run, the program is compiled without its proofs, once. Only the program's text goes to standard output.
 At a terminal, or with TWIN_LATHE_EXPLAIN=1, standard error says what a refusal means and what to do (docs/ERRORS.md has every
 number; TWIN_LATHE_EXPLAIN=0 turns it off). README.md has the exit statuses.
 END
