@@ -64,12 +64,12 @@ prove() {
         say "the program and all below it is proved and built, which takes $first_time; later calls use what was proved"
     fi
     rm -f "$program.built"
-    copy_sources "$work/copy" || { say "the sources could not be copied to $work"; exit 70; }
+    copy_sources "$work/copy" || { complain "the sources could not be copied to $work"; exit 70; }
     RT_JOBS=${RT_JOBS:-$(side_by_side)} run_tool "$work/copy" "$tool" ci 2>&1 | tee "$log" | show_progress "$(wc -l <"$work/copy/crates.txt")"
     status=${PIPESTATUS[0]}
     made=$work/copy/crates/twin_lathe/out/twin_lathe
     if [[ $status != 0 || ! -x $made ]]; then
-        say "the program was not proved or not built; what the tool says is in $log"
+        complain "the program was not proved or not built; what the tool says is in $log"
         exit 70
     fi
     cp -- "$made" "$program.new" && mv -- "$program.new" "$program" || exit 70
@@ -133,7 +133,7 @@ compile_anew() {
     if [[ -z $found || ! -x $unproved ]]; then
         wait
         tail -n 5 "$log" >&2
-        say "the program was not compiled; what the tool says is in $log"
+        complain "the program was not compiled; what the tool says is in $log"
         exit 70
     fi
     note_built "$work/start" "$unproved"

@@ -155,7 +155,11 @@ note_built() {
 commit_here() { git -C "$root" describe --always --dirty --abbrev=12 --exclude '*' 2>/dev/null || echo 'none (no git repository)'; }
 
 # The version number: VERSION has it, and nothing else.
-version_number() { local number; read -r number <"$root/VERSION" && printf '%s' "$number"; }
+version_number() {
+    local number
+    { read -r number <"$root/VERSION"; } 2>/dev/null || number='of no version'
+    printf '%s' "$number"
+}
 
 # The crates of the repository below the library for C.
 crates_below_library() { lines_below lathe_c | sed -n 's/^\([a-z0-9_]*\).*/\1/p' | grep -vx lathe_c; }

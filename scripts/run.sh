@@ -80,3 +80,15 @@ run_and_explain() {
     [[ $status == 5 && -p /dev/stdout ]] || "$root/scripts/explain" "$program" "$status" "$@" >&2
     exit "$status"
 }
+
+# Runs the program and prints its answer as JSON.
+run_as_json() {
+    local status answer proved=true
+    [[ $program != "$unproved" ]] || proved=false
+    answer=$(mktemp) || exit 12
+    run_below "$@" >"$answer"
+    if [[ -n $handed && $status -gt 128 ]]; then rm -f -- "$answer"; kill "-$handed" "$$"; fi
+    "$root/scripts/verdict_json" "$program" "$status" "$answer" "$proved" "$@" || status=5
+    rm -f -- "$answer"
+    exit "$status"
+}
