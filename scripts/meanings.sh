@@ -64,6 +64,9 @@ codes='
 # The waits by the settings: "FIRST LAST LINE", with line 0 if the settings do not say.
 waits_of_settings() { awk '$1 == "wait" && NF == 3 { first = $2; last = $3; line = NR } END { print line ? first : 100, line ? last : 197, line + 0 }' "$settings"; }
 
+# The system of the codes by the settings.
+system_of_settings() { awk '$1 == "codes" && NF == 2 { last = $2 } END { print last == "B" ? "B" : "A" }' "$settings"; }
+
 # The paragraph `$2: ..` of the section of ERRORS.md whose heading is $1, as one line. After `waits` it does not advise to call `waits`.
 entry() {
     awk -v heading="## $1" -v field="$2: " '
@@ -197,6 +200,8 @@ hint_of() {
         printf '%s has the letter O in its number: write %s%s' "$3" "${word:0:1}" "$(tr O 0 <<<"${word:1}")"
     elif [[ $1 == 1[01] && $bare =~ (^|[^A-Z])([A-Z]{3,}) && ! ${BASH_REMATCH[2]} =~ ^(THEN|GOTO|WHILE|END|AND|XOR|MOD|SQRT|ABS|FIX|FUP|ROUND|SIN|COS|TAN|ATAN|ASIN|ACOS|BIN|BCD)$ ]]; then
         printf 'a text that is no code must stand in ( )'
+    elif [[ $1 == 56 && $word =~ ^G(91|95|7[789]|33)$ && $(system_of_settings) != B ]]; then
+        printf '%s is a code of G-code system B; if the tape is of that system, write `codes B` into the settings' "$word"
     elif [[ $1 == 20 && ${bare//[[:blank:]]/} =~ THEN[^#] ]]; then
         printf 'after THEN only an assignment #.. = .. may stand; a wait or a move must not depend on a condition: use IF .. GOTO'
     fi
