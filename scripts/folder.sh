@@ -36,7 +36,7 @@ pairs_of() {
 judge_pair() {
     local left=$1 right=$2 answer proved=true
     shift 2
-    [[ $program != "$unproved" ]] || proved=false
+    is_proved_program || proved=false
     answer=$(mktemp) || exit 12
     run_below "$@" >"$answer"
     if [[ -n $handed ]]; then rm -f -- "$answer"; kill "-$handed" "$$"; fi

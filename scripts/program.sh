@@ -14,6 +14,14 @@ library_proofs=$root/crates/lathe_c/out/proofs
 # changes nothing of what was proved.) The proved program and the module have one only if they were proved and built whole. A file with `.toolchain` after its name has the identity of the toolchain that built it, and one with `.commit` the commit
 # and the time. A file with `.same` or `.other` keeps by its own time since when all of that was found unchanged, or changed.
 
+# A release (scripts/release) has no sources: its program stands in `program`, and its file PROOF says what was proved of it.
+proof=$root/PROOF
+is_release() { [[ -f $proof ]]; }
+if is_release; then
+    program=$root/program/twin_lathe
+    unproved=$program
+fi
+
 # The folder of the toolchain is the one that RATTLE names, or else `rt` is on the PATH.
 find_tool() {
     local tool=${RATTLE:+$RATTLE/bin/rt}
@@ -139,8 +147,11 @@ is_summed() {
 }
 
 # Whether the proved program is built, the one without proofs is compiled, and the library's module is kept, from the sources as they are.
-is_built() { [[ -x $program ]] && is_current "$program" twin_lathe sum_program; }
-is_compiled() { [[ -x $unproved ]] && is_current "$unproved" twin_lathe sum_program; }
+# (In a release there is one program, which was either.)
+is_built() {
+    if is_release; then grep -q '^proved' "$proof"; else [[ -x $program ]] && is_current "$program" twin_lathe sum_program; fi
+}
+is_compiled() { is_release || { [[ -x $unproved ]] && is_current "$unproved" twin_lathe sum_program; }; }
 is_module_kept() { is_current "$library_module" lathe_c sum_proved lathe_c; }
 
 # Notes that a file was built (the proved program, if $2 names no other) of the crate $3 or twin_lathe, by the toolchain that is here and
@@ -149,6 +160,22 @@ note_built() {
     local built=${2:-$program}
     tool_version >"$built.toolchain" && mark_text "$built" "${3:-twin_lathe}" "$(<"$1")" >"$built.built" || return
     printf '%s\n' "$(commit_here)" "$(date -u '+%Y-%m-%d %H:%M UTC')" >"$built.commit"
+}
+
+# What was proved of the program that is built: that it was, or not, and when, of which commit and sources, by which toolchain.
+proof_text() {
+    local commit=none when='' tool
+    if is_release; then
+        cat -- "$proof"
+    elif is_built; then
+        [[ ! -f $program.commit ]] || { read -r commit && read -r when; } <"$program.commit"
+        printf 'proved%s\ncommit %s\nsources %s\ntoolchain %s\n' "${when:+ on $when}" "$commit" "$(sed -n '$s/ .*//p' "$program.built")" \
+            "$(<"$program.toolchain")"
+    else
+        tool=$(tool_version) || tool='none here'
+        printf 'not proved here%s: `twin_lathe prove` does it\ncommit %s\ntoolchain %s\n' \
+            "$([[ ! -e $program.built ]] || echo ' as the sources are now')" "$(commit_here)" "$tool"
+    fi
 }
 
 # The commit of the sources as they are, with `-dirty` after it if a file differs from it.

@@ -81,10 +81,13 @@ run_and_explain() {
     exit "$status"
 }
 
+# Whether the program that was chosen is the proved one.
+is_proved_program() { if is_release; then is_built; else [[ $program != "$unproved" ]]; fi; }
+
 # Runs the program and prints its answer as JSON.
 run_as_json() {
     local status answer proved=true
-    [[ $program != "$unproved" ]] || proved=false
+    is_proved_program || proved=false
     answer=$(mktemp) || exit 12
     run_below "$@" >"$answer"
     if [[ -n $handed && $status -gt 128 ]]; then rm -f -- "$answer"; kill "-$handed" "$$"; fi
