@@ -115,7 +115,7 @@ refusals_of() {
     local path=$1 first=$2 copy=$room/further.nc answer last='' gaps=0 line pair
     cp -- "$(tape_of "$path")" "$copy" && chmod 600 "$copy" || return
     if [[ $path == 1 ]]; then pair=("$copy" "$room/end.nc"); else pair=("$room/end.nc" "$copy"); fi
-    while ((calls++ < 20 && SECONDS - begun < 20)); do
+    while ((calls++ < 20 && SECONDS - begun < 10)); do
         answer=$(look "$command" ${again[@]+"${again[@]}"} -- "${pair[@]}" "$settings")
         [[ $answer =~ ^refused\ ([0-9]+)\ [A-Za-z]+\ path\ $path(\ line\ ([0-9]+))?$ && $answer != "$last" ]] || return
         line=${BASH_REMATCH[3]}
