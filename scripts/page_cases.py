@@ -32,7 +32,7 @@ def with_races(trace, *races):
     return trace.replace("races 0\n", "\n".join((f"races {len(races)}", *races)) + "\n")
 
 
-FLANGE = [("flange_upper.nc", text("flange_upper.nc")), ("flange_lower.nc", text("flange_lower.nc"))]
+FLANGE = [(name, text(name, EXAMPLES)) for name in ("flange_upper.nc", "flange_lower.nc")]
 
 
 class Hand:
