@@ -118,7 +118,7 @@ def judge(call, at):
         row(call.place, False, f"it was not run: {call.text}")
         return
     said, complained, status = (open(at + end, encoding="utf-8", errors="replace").read() for end in (".out", ".err", ".status"))
-    complained = re.sub(r"^twin_lathe: not proved.*\n", "", complained, flags=re.M)
+    complained = re.sub(r"^twin_lathe: .*not proved.*\n", "", complained, flags=re.M)
     if call.is_explained():
         said, complained = said + complained, ""
     lines = said.split("\n")[:-1]
@@ -133,6 +133,10 @@ def look_at_readme():
     row("README.md", words <= 1000, f"{words} words outside of code")
     wide = [number for number, line in enumerate(lines, 1) if len(line) > 100]
     row("README.md", not wide, f"lines of more than 100 columns: {wide}")
+    if os.path.exists(os.path.join(ROOT, "VERSION")):
+        version = read("VERSION")[0]
+        row("README.md", f"Version {version} " in " ".join(lines), f"it does not name the version {version}")
+        row("CHANGELOG.md", f"## {version}" in read("CHANGELOG.md"), f"it has no section {version}")
 
 
 def anchors_of(name):
