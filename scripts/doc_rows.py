@@ -7,6 +7,7 @@ import subprocess
 import sys
 
 ROOT, CALLED, WORK = sys.argv[1:]
+HAS_LAUNCHER = os.path.samefile(CALLED, os.path.join(ROOT, "twin_lathe"))
 DOCUMENTS = ("README.md", "docs/TUTORIAL.md", "docs/COMMANDS.md")
 
 # Lines that are not run here, and why.
@@ -17,6 +18,9 @@ NOT_RUN = {
     "scripts/build_library": "it proves the library; library_rows calls it",
     "scripts/build_page": "it compiles the library for a browser; judge_rows calls it",
 }
+
+# Options of the launcher alone: with a named program in its place, calls that have them are left out.
+OF_LAUNCHER = re.compile(r"--(all|format|quiet|explain)\b")
 
 # What a command line is if it has no `$ ` before it.
 BARE = re.compile(r"(\./|\.\./|scripts/|\.ci/)*(twin_lathe|picture|run|build_\w+|release) ")
@@ -96,7 +100,7 @@ def run_session(name, calls, folder):
     make_clone(folder)
     if name == "docs/TUTORIAL.md":
         shutil.rmtree(os.path.join(folder, "job"))
-    calls = [call for call in calls if call.text not in NOT_RUN]
+    calls = [call for call in calls if call.text not in NOT_RUN and (HAS_LAUNCHER or not OF_LAUNCHER.search(call.text))]
     start = os.path.join(folder, "job") if name == "docs/COMMANDS.md" else folder
     lines = [f"cd '{start}' || exit 1"]
     if name == "docs/COMMANDS.md":
