@@ -48,7 +48,8 @@ class Call:
         return any(line.startswith("twin_lathe: ") for line in self.shown)
 
     def status(self):
-        ends = [number for line in self.shown for front, number in STATUSES if line.startswith(front)]
+        lines = [line.rpartition(": ")[2] for line in self.shown if not line.startswith("twin_lathe: ")]
+        ends = [number for line in lines for front, number in STATUSES if line.startswith(front)]
         return ends[-1] if ends and not re.search(r"[|;&]", self.text) else 0
 
 
