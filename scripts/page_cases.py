@@ -32,7 +32,7 @@ def with_races(trace, *races):
     return trace.replace("races 0\n", "\n".join((f"races {len(races)}", *races)) + "\n")
 
 
-FLANGE = [("flange_upper.nc", text("flange_upper.nc")), ("flange_lower.nc", text("flange_lower.nc"))]
+FLANGE = [(name, text(name, EXAMPLES)) for name in ("flange_upper.nc", "flange_lower.nc")]
 
 
 class Hand:
@@ -257,7 +257,7 @@ def rows_of_tapes(row, hand, browser):
     names = lambda: [hand.shown("#tape-name-1"), hand.shown("#tape-name-2")]
     problems = lambda: [hand.shown("#tape-problem-1"), hand.shown("#tape-problem-2")]
     now = lambda p: hand.shown(f"#tape-{p} .row.now .text")
-    browser.drop([("flange_cell.txt", text("flange_cell.txt"))] + list(reversed(FLANGE)) + trace("flange"))
+    browser.drop([("flange_cell.txt", text("flange_cell.txt", EXAMPLES))] + list(reversed(FLANGE)) + trace("flange"))
     row.equal("dropped tapes find their paths, beside the settings", names(), ["flange_upper.nc", "flange_lower.nc"])
     row.equal("tapes that go with the trace make no complaint", problems(), ["", ""])
     browser.run("Moving.goTo(Look.trace.meetings[0].time + 3)")
