@@ -195,7 +195,7 @@ def rows_of_hands(row, page, room):
     row.equal("files can be chosen", line_of(seen["answers"]["verdict"]), MISMATCH)
     seen = page.choose("file", [os.path.join(examples, file) for file in GOOD])
     row.equal("several at once too", line_of(seen["answers"]["verdict"]), ACCEPTED)
-    strange = bytes(byte for byte in range(256) if byte != 13)
+    strange = bytes(range(256))
     page.give(b"%\nO1\n(" + strange.replace(b")", b"").replace(b"\n", b"") + b")\nM30\n%\n", b"%\nO2\nM30\n%\n", b"")
     page.select(0, 4, 0, 0)
     page.type(" ")
@@ -212,6 +212,66 @@ def rows_of_hands(row, page, room):
     page.wait()
     row.has("keys of the picture are letters in a text", page.run("Judge.texts[1].field.value"), "%\n 0+-")
     row.equal("two tapes that are typed letter by letter are judged", (line_of(seen["answers"]["waits"])[1].splitlines()[0], seen["state"]), ("waits 1", "drawn"))
+
+
+NAMES = "Judge.texts.map(text => text.title.textContent)"
+CAME = "$('judge-came').hidden ? '' : $('judge-came-said').textContent"
+
+
+def rows_of_files(row, page, room):
+    """Files that come together find their places, or the page asks; what it does not take it says, and no byte is changed on the way."""
+    upper, lower, cell = zip(GOOD, pair(*GOOD))
+    seen = page.drop("document.body", [lower, upper, cell])
+    row.equal("lower.nc is path 2, though it comes first", page.run(NAMES), list(GOOD))
+    row.equal("and it is judged so", line_of(seen["answers"].get("verdict")), ACCEPTED)
+    row.has("by which sign is told", page.run(CAME), "Path 1: upper.nc, Path 2: lower.nc, Settings: cell.txt (the paths by their names)")
+    page.drop("document.body", [("O12.nc", lower[1]), ("O11.nc", b"%\nO11 (HEAD 1)\nM30\n%\n")])
+    row.has("or by their comments", page.run(CAME), "Path 1: O11.nc, Path 2: O12.nc (the paths by their comments)")
+    cell_of_two = cell[1].replace(b"place 1 X200.", b"place 1 X222.")
+    mute = [text[1].replace(b"(UPPER TURRET)", b"").replace(b"(LOWER TURRET)", b"") for text in (upper, lower)]
+    seen = page.drop("document.body", [("b.nc", mute[1]), ("a.nc", mute[0]), ("cell.txt", cell_of_two)])
+    row.has("where nothing says it, it is asked", page.run(CAME), "Path 1: b.nc, Path 2: a.nc, Settings: cell.txt. Nothing says which path is whose. Is it so?")
+    seen = page.do("$('judge-came-exchange').click()")
+    row.equal("one click exchanges them", page.run(NAMES), ["a.nc", "b.nc", "cell.txt"])
+    row("and the settings stay those of their paths", "\n1 0 at X222.000 Z150.000\n" in seen["answers"]["trace"]["text"] if "trace" in seen["answers"] else False,
+        seen["said"])
+    page.drop("$('judge-left')", [lower])
+    page.drop("$('judge-right')", [upper])
+    row.has("a file that was put to the other path is asked about", page.run(CAME), "By their names the tapes are the other way round. Is it so?")
+    page.run("$('judge-came-right').click()")
+    row.equal("and a yes is enough", page.run(CAME), "")
+    seen = page.drop("document.body", [("b.txt", b"O1\nG00 X1.\nM30\n"), ("a.txt", b"O2\n#100=1\nIF[#100 EQ 0]GOTO 5\nM30\n")])
+    row.equal("a tape without a percent sign is a tape", page.run(NAMES), ["b.txt", "a.txt", "cell.txt"])
+    row("and what it lacks is told", seen["answers"]["verdict"]["status"] == 1 and "Do: " in seen["said"]["verdict"], seen["said"])
+    page.drop("document.body", [upper, lower, ("third.nc", lower[1]), cell, ("more.txt", b"home 1 X3.\n"), ("part.pdf", b"%PDF-1.7\n\0\n"), ("note.txt", b"Dear all\n")])
+    for part in ("third.nc (there are two paths)", "more.txt (there is one text of settings)", "part.pdf (it looks neither like", "note.txt (it looks neither like"):
+        row.has(f"what was not taken is told: {part}", page.run(CAME), part)
+    row.equal("and the others have their places", page.run(NAMES), list(GOOD))
+    page.drop("document.body", [("lower.nc", read("deadlock_lower.nc"))])
+    row.equal("a tape that comes again goes where it was", page.run(NAMES + ".concat(Judge.texts[1].line(4))"), [*GOOD, "M101"])
+    rows_of_returns(row, page)
+
+
+def rows_of_returns(row, page):
+    """A carriage return by itself stays one, and line ends of Windows stay so."""
+    alone = b"%\nO1\nG00 X1.\nN20\rG28\nM30\n%\n"
+    due = (1, "refused 10 BadCharacter path 1 line 4\n")
+    seen = page.give(alone, b"%\nO2\nM30\n%\n", b"")
+    row.equal("a carriage return by itself is refused at its line", line_of(seen["answers"]["verdict"]), due)
+    row.equal("and the editor has as many lines as the control", page.run("Judge.texts[0].lines"), 7)
+    page.select(0, 5, 0, 0)
+    seen = page.type(" ")
+    row.equal("it stays what it is when another line is changed", page.run("[...Judge.texts[0].bytes()]"), list(alone.replace(b"M30", b" M30")))
+    row.equal("and is refused still", line_of(seen["answers"]["verdict"]), due)
+    page.run("""(field => { const data = new DataTransfer(); data.setData("text/plain", "\\r(A)\\r\\n");
+        field.dispatchEvent(new ClipboardEvent("paste", { clipboardData: data, bubbles: true, cancelable: true })); })(Judge.texts[0].field)""")
+    page.wait()
+    row("one that is pasted stays too", b" \r(A)\nM30" in bytes(page.run("[...Judge.texts[0].bytes()]")), page.run("Judge.texts[0].field.value"))
+    windows = b"%\r\nO1\r\nM30\r\n%\r\n"
+    page.give(windows, b"%\nO2\nM30\n%\n", b"")
+    page.select(0, 3, 0, 0)
+    page.type("M101\n")
+    row.equal("line ends of Windows stay so", page.run("[...Judge.texts[0].bytes()]"), list(windows.replace(b"M30", b"M101\r\nM30")))
 
 
 def rows_of_typing(row, page, room):
@@ -318,4 +378,4 @@ def rows_of_length(row, page, room):
 
 
 GROUPS = {group.__name__.removeprefix("rows_of_"): group for group in (
-    rows_of_answers, rows_of_hands, rows_of_typing, rows_of_faults, rows_of_requests, rows_of_length)}
+    rows_of_answers, rows_of_hands, rows_of_files, rows_of_typing, rows_of_faults, rows_of_requests, rows_of_length)}

@@ -103,7 +103,7 @@ const Judge = (() => {
 
   /** Gives the trace and both tapes to the picture. */
   function draw(trace) {
-    const tapes = [left, right].map(text => ({ name: text.title.textContent || "typed", text: text.field.value }));
+    const tapes = [left, right].map(text => ({ name: text.fileName || "typed", text: text.field.value }));
     Page.take([{ name: [left, right].map(text => text.fileName).filter(Boolean).join(", "), text: trace }, ...tapes]);
   }
 
@@ -124,21 +124,39 @@ const Judge = (() => {
     }
   }
 
-  const isTape = ({ bytes }) => Tapes.isTape(textOf(bytes.subarray(0, 65536)));
-
-  /** Several files: tapes to path 1 and path 2 in their order, or to the one that has no text yet; any other text is the settings. */
+  /** Several files: what they are says where they go. It is told, and what is left out. */
   function share(files) {
-    const tapes = files.filter(isTape), others = files.filter(file => !isTape(file));
-    const isSecond = tapes.length === 1 && !left.isEmpty() && right.isEmpty();
-    tapes.slice(0, 2).forEach(({ name, bytes }, k) => (isSecond || k ? right : left).set(name, bytes));
-    if (others.length) cell.set(others[0].name, others[0].bytes);
+    const shared = Files.share(files, [left, right].map(text => text.fileName), [left, right].map(text => text.isEmpty()));
+    const { given } = shared;
+    for (const [file, text] of [[given[1], left], [given[2], right], [given.settings, cell]]) if (file) text.set(file.name, file.bytes);
+    sayCame(Files.tell(shared));
   }
 
-  /** Gives each path the tape of the other, and asks. */
+  /** A single file, for this text. */
+  function give(text, { name, bytes }) {
+    text.set(name, bytes);
+    sayCame({ said: [], isAsked: false });
+  }
+
+  /** Says what came and what was left out, and asks if the paths are right where nothing says so. */
+  function sayCame({ said, isAsked }) {
+    const isDoubtful = Files.areExchanged(left.fileName, right.fileName);
+    if (isDoubtful) said.push("By their names the tapes are the other way round. Is it so?");
+    $("judge-came-said").textContent = said.join(" ");
+    $("judge-came").hidden = !said.length;
+    $("judge-came").classList.toggle("asks", isAsked || isDoubtful);
+    for (const name of ["exchange", "right"]) $(`judge-came-${name}`).hidden = !(isAsked || isDoubtful);
+    $("judge-came-close").hidden = isAsked || isDoubtful;
+  }
+
+  const sayNothing = () => { $("judge-came").hidden = true; };
+
+  /** Gives each path the tape of the other, and asks. The settings stay as they are: they are the paths', and not the tapes'. */
   function exchange() {
-    const [one, two] = [left, right].map(text => [text.fileName, text.bytes()]);
+    const [one, two] = [left, right].map(text => [text.fileName, text.bytes(), text.isChanged]);
     left.set(...two);
     right.set(...one);
+    sayCame({ said: [`Exchanged: path 1 has ${left.fileName || "the other text"}, path 2 has ${right.fileName || "the other text"}.`], isAsked: false });
     ask();
   }
 
@@ -156,21 +174,22 @@ const Judge = (() => {
     text.field.addEventListener("dragover", () => text.field.classList.add("over"));
     for (const kind of ["dragleave", "drop"]) text.field.addEventListener(kind, () => text.field.classList.remove("over"));
     $(`${names[k]}-file`).addEventListener("change", event => {
-      take([...event.target.files], ([file]) => text.set(file.name, file.bytes));
+      take([...event.target.files], ([file]) => give(text, file));
       event.target.value = "";
     });
   });
   addEventListener("drop", event => {
     const text = texts.find(some => some.field === event.target);
     if (text) text.field.classList.remove("over");
-    takeDropped(event, files => text && files.length === 1 ? text.set(files[0].name, files[0].bytes) : share(files));
+    takeDropped(event, files => text && files.length === 1 ? give(text, files[0]) : share(files));
   }, true);
   $("file").addEventListener("change", event => {
     event.stopImmediatePropagation();
     take([...event.target.files], share);
     event.target.value = "";
   }, true);
-  $("judge-exchange").addEventListener("click", exchange);
+  for (const name of ["judge-exchange", "judge-came-exchange"]) $(name).addEventListener("click", exchange);
+  for (const name of ["right", "close"]) $(`judge-came-${name}`).addEventListener("click", sayNothing);
   $("judge-outside").addEventListener("input", askSoon);
   $("judge-outside").addEventListener("keydown", event => event.stopPropagation());
 
