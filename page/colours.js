@@ -6,6 +6,10 @@ const Colours = (() => {
   const INK = { text: "#1c2430", soft: "#5b6675", grid: "#e9edf3", axis: "#39424f", rapid: "#8a94a3", red: "#c4252d", blue: "#0b5cad",
                 glow: "#ffd34d", paper: "#ffffff", plate: "#ffffffe0", veil: "#ffffffc4", lane: "#f5f7fa", noTool: "#4b5563" };
   const tools = new Map();
+  let mode = "light";
+
+  /** Takes the colours of a mode: light or dark. */
+  function take(which) { mode = which; }
 
   const keyOf = segment => `${segment.path} T${segment.tool.slice(1, 3) || "00"}`;
 
@@ -22,5 +26,5 @@ const Colours = (() => {
 
   const of = segment => tools.get(keyOf(segment)) || INK.noTool;
 
-  return { INK, giveTo, of, tools };
+  return { INK, take, giveTo, of, tools, get mode() { return mode; } };
 })();

@@ -84,6 +84,12 @@ const Page = (() => {
     tellState("refused");
   }
 
+  /** Takes the picture away: nothing is open any more. */
+  function clear() {
+    refuse("", "");
+    tellState("empty");
+  }
+
   /** Says a text as the fault or as the hint; the other one says nothing then. */
   function say(name, text) {
     for (const some of ["fault", "hint"]) $(some).textContent = some === name ? text : "";
@@ -223,5 +229,5 @@ const Page = (() => {
   tellState("empty");
   takeOwn();
 
-  return { take };
+  return { take, clear };
 })();

@@ -3,7 +3,9 @@ what they ask of the page, and the room in which pages and texts are made. Used 
 import base64
 import os
 import re
+import shutil
 import socket
+import time
 
 import wasm_binary
 from library_texts import EXAMPLES, read
@@ -48,7 +50,9 @@ class Page:
     def open(self, path):
         """Opens a page, from a file."""
         self.path = path
+        self.run("typeof Keep === 'undefined' || (Keep.want(false), 0)")        # what this one keeps is not for the next
         self.browser.open(path)
+        self.run("Keep.want(true)")
         self.run("document.documentElement.dataset.judged = ''")
 
     def give(self, *texts):
@@ -86,6 +90,15 @@ class Page:
           for (const [name, text] of {given})
             data.items.add(new File([Uint8Array.from(atob(text), letter => letter.charCodeAt(0))], name));
           {target}.dispatchEvent(new DragEvent("drop", {{ dataTransfer: data, bubbles: true, cancelable: true }}))""")
+
+    def start_drop(self, target, files):
+        """Drops files, and waits until the page asks whether what is there may go."""
+        given = [[name, base64.b64encode(data).decode()] for name, data in files]
+        self.run(f"""(async () => {{ const data = new DataTransfer();
+          for (const [name, text] of {given})
+            data.items.add(new File([Uint8Array.from(atob(text), letter => letter.charCodeAt(0))], name));
+          {target}.dispatchEvent(new DragEvent("drop", {{ dataTransfer: data, bubbles: true, cancelable: true }}));
+          for (let turn = 0; turn < 400 && !{OPEN}; turn++) await new Promise(done => setTimeout(done, 10)); }})()""")
 
     def choose(self, name, files):
         """Chooses files by the button of an element."""
@@ -274,6 +287,100 @@ def rows_of_returns(row, page):
     row.equal("line ends of Windows stay so", page.run("[...Judge.texts[0].bytes()]"), list(windows.replace(b"M30", b"M101\r\nM30")))
 
 
+def saved(page, room, name, script):
+    """The bytes of the file that a script of the page saves under a name; None if none comes."""
+    folder = os.path.join(room, "saved")
+    shutil.rmtree(folder, ignore_errors=True)
+    os.mkdir(folder)
+    page.browser.save_to(folder)
+    page.run(script + "; 0")
+    for _ in range(400):
+        if os.path.exists(os.path.join(folder, name)):
+            with open(os.path.join(folder, name), "rb") as file:
+                return file.read()
+        time.sleep(0.025)
+    return None
+
+
+def rows_of_saving(row, page, room):
+    """What was changed, the picture and the report become files; nothing goes without a question; what was open comes back."""
+    upper, lower, cell = zip(GOOD, pair(*GOOD))
+    page.drop("document.body", [upper, lower, cell])
+    page.select(0, 2, 0, 0)
+    page.browser.key(" ")
+    page.wait()
+    changed = upper[1].replace(b"O0001", b" O0001")
+    row.equal("a change is told", page.run(NAMES), ["upper.nc, changed", "lower.nc", "cell.txt"])
+    row.equal("the changed tape is saved under its name", saved(page, room, "upper.nc", "$('judge-left-save').click()"), changed)
+    row.equal("and has no changes then", page.run(NAMES), list(GOOD))
+    row.equal("the settings are saved", saved(page, room, "cell.txt", "$('judge-cell-save').click()"), cell[1])
+    picture = saved(page, room, "upper.png", "$('save-picture').click()") or b""
+    wide = page.run("Plane.sheet.width")
+    row("the picture is saved", picture[:8] == b"\x89PNG\r\n\x1a\n" and int.from_bytes(picture[16:20], "big") >= 2 * wide > 0, picture[:24])
+    row("and what is shown stays", page.run("Plane.sheet.under.width === Math.round(Plane.sheet.width * devicePixelRatio)"))
+    report = (saved(page, room, "twin_lathe report.txt", "$('save-report').click()") or b"").decode()
+    for part in (f"path 1: upper.nc, {len(changed)} bytes\n", "== verify\naccepted\n", "== waits\nwaits 2\n", "\nraces 0\n", "\npath 1 moves 19\n", "\nend done\n"):
+        row.has(f"the report has {part.strip()!r}", report, part)
+    strange = b"%\nO1\n(" + bytes(range(256)).replace(b")", b"").replace(b"\n", b"") + b")\nM30\n%\n"
+    page.give(strange, b"%\nO2\nM30\n%\n", b"")
+    row.equal("a text is saved byte by byte", saved(page, room, "path1.nc", "$('judge-left-save').click()"), strange)
+    rows_of_loss(row, page, room)
+
+
+OPEN = "$('judge-unsaved').open"
+
+
+def answer(page, value):
+    """Presses a button of the question, and waits until all is done that hangs on it."""
+    page.run(f"""new Promise(done => {{
+        $("judge-unsaved").addEventListener("close", () => setTimeout(done, 50), {{ once: true }});
+        document.querySelector("#judge-unsaved button[value={value}]").click(); }})""")
+    return page.wait()
+
+
+def rows_of_loss(row, page, room):
+    """What is not saved is asked for before it goes, and comes back after a reload."""
+    upper, lower, cell = zip(GOOD, pair(*GOOD))
+    other = ("other.nc", read("deadlock_upper.nc"))
+    page.drop("document.body", [upper, lower, cell])
+    page.run("Judge.texts[0].field.focus()")
+    page.select(0, 2, 0, 0)
+    page.browser.key(" ")
+    page.wait()
+    page.start_drop("$('judge-left')", [other])
+    row("a tape with changes is asked for before another takes its place", page.run(OPEN))
+    answer(page, "stay")
+    row.equal("it stays", page.run(NAMES)[0], "upper.nc, changed")
+    page.start_drop("$('judge-left')", [other])
+    kept = saved(page, room, "upper.nc", "document.querySelector('#judge-unsaved button[value=save]').click()")
+    row.equal("or is saved first", (kept, page.wait() and page.run(NAMES)[0]), (upper[1].replace(b"O0001", b" O0001"), "other.nc"))
+    page.drop("document.body", [upper, lower, cell])
+    row("without changes nothing is asked", not page.run(OPEN))
+    page.run("Judge.texts[1].field.focus()")
+    page.select(1, 2, 0, 0)
+    page.browser.key(" ")
+    page.do("$('judge-outside').value = '9000-9999'; Judge.ask()")
+    due = page.run("[Judge.texts.map(text => [text.title.textContent, [...text.bytes()]]), $('judge-outside').value]")
+    page.browser.asked.clear()
+    page.browser.reload()
+    seen = page.wait()
+    row.equal("the browser asks before a page with changes goes", page.browser.asked, ["beforeunload"])
+    row.equal("after a reload all is there, with its changes", page.run("[Judge.texts.map(text => [text.title.textContent, [...text.bytes()]]), $('judge-outside').value]"), due)
+    row.equal("and it is judged", line_of(seen["answers"].get("verdict")), ACCEPTED)
+    row.has("the page says where they were", page.run(CAME), "This browser kept them")
+    page.run("$('judge-clear').click()")
+    row("what is to be cleared is asked for", page.run(OPEN))
+    answer(page, "go")
+    row.equal("and all of it goes", page.run("[Judge.texts.map(text => text.bytes().length), Keep.read()]"), [[0, 0, 0], None])
+    page.browser.reload()
+    row.equal("for good", page.run("Judge.texts.map(text => text.bytes().length)"), [0, 0, 0])
+    page.run("$('judge-keep').click()")
+    page.drop("document.body", [upper, lower])
+    page.browser.reload()
+    row.equal("who wants nothing kept has nothing kept", page.run("[Judge.texts.map(text => text.bytes().length), Keep.read(), $('judge-keep').checked]"), [[0, 0, 0], None, False])
+    page.run("$('judge-keep').click()")
+
+
 def rows_of_typing(row, page, room):
     """A change is judged again, and its line is marked; the page stays alive meanwhile."""
     left = read("upper.nc").decode().splitlines()
@@ -378,4 +485,4 @@ def rows_of_length(row, page, room):
 
 
 GROUPS = {group.__name__.removeprefix("rows_of_"): group for group in (
-    rows_of_answers, rows_of_hands, rows_of_files, rows_of_typing, rows_of_faults, rows_of_requests, rows_of_length)}
+    rows_of_answers, rows_of_hands, rows_of_files, rows_of_saving, rows_of_typing, rows_of_faults, rows_of_requests, rows_of_length)}

@@ -23,10 +23,10 @@ class Hung(Exception):
 
 class Browser:
     """A browser with one page. `problems` gathers exceptions of the page, and requests for what is neither a file of this computer nor
-    the page's own; `workers` gathers its workers, if they are watched."""
+    the page's own; `workers` gathers its workers, if they are watched; `asked` the questions before it goes, to which it says yes."""
 
     def __init__(self, width=1400, height=900, ratio=1):
-        self.problems, self.workers = [], []
+        self.problems, self.workers, self.asked = [], [], []
         try:
             self._start([])
         except Hung:
@@ -124,6 +124,9 @@ class Browser:
             self.workers.append(got["params"]["sessionId"])
             for method in ("Runtime.enable", "Network.enable", "Runtime.runIfWaitingForDebugger"):
                 self._order(method, self.workers[-1], {})
+        if got.get("method") == "Page.javascriptDialogOpening":
+            self.asked.append(got["params"]["type"])
+            self._order("Page.handleJavaScriptDialog", self.session, {"accept": True})
         if got.get("method") == "Runtime.exceptionThrown":
             details = got["params"]["exceptionDetails"]
             self.problems.append(details.get("exception", {}).get("description", details.get("text", "?")))
@@ -148,6 +151,23 @@ class Browser:
                 return
             time.sleep(0.025)
         raise Hung("the page did not come up")
+
+    def reload(self):
+        """Loads the page anew, as a user does, and waits until it says what state it is in."""
+        self.run("window.isOld = true")
+        self.call("Page.reload")
+        for _ in range(400):
+            try:
+                if self.run("!window.isOld && document.readyState === 'complete' && Boolean(document.documentElement.dataset.state)"):
+                    return
+            except RuntimeError:
+                pass                # the old page goes just now
+            time.sleep(0.025)
+        raise Hung("the page did not come up again")
+
+    def save_to(self, folder):
+        """From now on files are saved to a folder."""
+        self.call("Browser.setDownloadBehavior", behavior="allow", downloadPath=folder)
 
     def size(self, width, height, ratio=1, mobile=False):
         """The size of the window in points of the page, and how many pixels a point has."""

@@ -50,6 +50,7 @@ class Editor {
     this.isChanged = isChanged;
     const told = this.isShown ? this.fileName : `${this.fileName} is too long to be shown`;
     this.title.textContent = isChanged ? `${told || "typed"}, changed` : told;
+    $(`${this.field.id}-save`).classList.toggle("unsaved", isChanged);
   }
 
   /** A text as the field can show it. If each line ends with a return and a line feed, the line feeds stand for both. */

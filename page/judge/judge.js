@@ -10,7 +10,8 @@ const Judge = (() => {
   const [left, right, cell] = texts;
   const module = Uint8Array.from(atob($("module").textContent.trim()), letter => letter.charCodeAt(0));
   const answers = {};                   // the answers to the newest question, for tests
-  let worker = null, isReady = false, isBroken = false, asked = 0, waiting = 0, workers = 0;
+  const reports = new Map();            // who waits for a report, by its number
+  let worker = null, isReady = false, isBroken = false, asked = 0, waiting = 0, workers = 0, keeping = 0;
 
   Object.assign(Answers.editors, { 1: left, 2: right, settings: cell });
 
@@ -26,6 +27,9 @@ const Judge = (() => {
       if (data.isReady) {
         isReady = true;
         URL.revokeObjectURL(script);
+      } else if (data.report) {
+        reports.get(data.report)(data.answer);
+        reports.delete(data.report);
       } else if (data.number === asked) show(data);
     };
     worker.onerror = event => stopped(event.message);
@@ -62,11 +66,21 @@ const Judge = (() => {
     clearTimeout(waiting);
     if (isBroken) return setState("stopped");
     asked += 1;
+    keepSoon();
     for (const part of Object.keys(answers)) delete answers[part];
     const lacking = [left, right].findIndex(text => text.isEmpty());
     if (lacking >= 0) return sayLacking(lacking + 1);
     setState("asked");
     worker.postMessage({ number: asked, texts: texts.map(text => text.bytes()), outside: outside() });
+  }
+
+  /** The report of the run, of the texts as they are now. */
+  function report() {
+    return new Promise(done => {
+      const number = reports.size + asked * 1000 + 1;
+      reports.set(number, done);
+      worker.postMessage({ report: number, texts: texts.map(text => text.bytes()) });
+    });
   }
 
   /** The least and the greatest number of the programs that are in the control and on no tape; 1 and 0 if there are none. */
@@ -116,26 +130,29 @@ const Judge = (() => {
     const long = files.find(file => file.size > MOST_BYTES);
     if (long) return Answers.sayInstead(`${long.name} is far too long for a tape.`, false);
     try {
-      taker(await Promise.all(files.map(read)));
-      ask();
+      if (await taker(await Promise.all(files.map(read)))) ask();
     } catch (fault) {
       if (!(fault instanceof DOMException)) throw fault;
       Answers.sayInstead("A file can't be read. Is it a folder?", false);
     }
   }
 
-  /** Several files: what they are says where they go. It is told, and what is left out. */
-  function share(files) {
+  /** Several files: what they are says where they go. It is told, and what is left out. It answers whether they were taken. */
+  async function share(files) {
     const shared = Files.share(files, [left, right].map(text => text.fileName), [left, right].map(text => text.isEmpty()));
-    const { given } = shared;
-    for (const [file, text] of [[given[1], left], [given[2], right], [given.settings, cell]]) if (file) text.set(file.name, file.bytes);
+    const places = [[shared.given[1], left], [shared.given[2], right], [shared.given.settings, cell]].filter(([file]) => file);
+    if (!await Saving.mayGo(places.map(([, text]) => text))) return false;
+    for (const [file, text] of places) text.set(file.name, file.bytes);
     sayCame(Files.tell(shared));
+    return true;
   }
 
   /** A single file, for this text. */
-  function give(text, { name, bytes }) {
+  async function give(text, { name, bytes }) {
+    if (!await Saving.mayGo([text])) return false;
     text.set(name, bytes);
     sayCame({ said: [], isAsked: false });
+    return true;
   }
 
   /** Says what came and what was left out, and asks if the paths are right where nothing says so. */
@@ -200,7 +217,58 @@ const Judge = (() => {
     for (const part of Object.keys(first)) $(`judge-${part}`).textContent = first[part];
   }
 
+  // ---- what is kept and saved ----
+
+  /** Keeps the texts when nothing changes for a moment. */
+  function keepSoon() {
+    clearTimeout(keeping);
+    keeping = setTimeout(keep, 3 * PAUSE);
+  }
+
+  /** Keeps the texts in this browser, and says so, or why not. */
+  function keep() {
+    clearTimeout(keeping);
+    keeping = 0;
+    if (texts.every(text => text.isEmpty())) return tellKept("");
+    const isKept = Keep.write(texts, $("judge-outside").value);
+    tellKept(isKept ? "Kept in this browser, for after a reload. Nothing is sent." : Keep.isWanted() ? "This browser can't keep these texts: save them." : "");
+  }
+
+  function tellKept(text) { $("judge-kept").textContent = text; }
+
+  /** Brings back what was open before. */
+  function restore() {
+    const kept = Keep.read();
+    if (!kept) return;
+    texts.forEach((text, k) => text.set(kept.texts[k].name, bytesOf(kept.texts[k].text), kept.texts[k].isChanged));
+    $("judge-outside").value = kept.outside;
+    sayCame({ said: ["These texts were open before. This browser kept them."], isAsked: false });
+    ask();
+  }
+
+  /** Takes all texts away, the picture, and what is kept. */
+  async function clear() {
+    if (!await Saving.mayGo(texts)) return;
+    for (const text of texts) text.set("", new Uint8Array());
+    $("judge-outside").value = "";
+    Keep.forget();
+    tellKept("");
+    sayNothing();
+    ask();
+    sayFirst();
+    Page.clear();
+  }
+
+  texts.forEach((text, k) => $(`${names[k]}-save`).addEventListener("click", () => Saving.saveText(text)));
+  $("save-report").addEventListener("click", () => Saving.saveReport(texts));
+  $("judge-clear").addEventListener("click", clear);
+  $("judge-keep").checked = Keep.isWanted();
+  $("judge-keep").addEventListener("change", () => { Keep.want($("judge-keep").checked); keep(); });
+  addEventListener("pagehide", () => { if (keeping) keep(); });
+  addEventListener("beforeunload", event => { if (texts.some(Saving.isUnsaved)) event.preventDefault(); });
+
   sayFirst();
   makeWorker();
-  return { ask, texts, answers, get workers() { return workers; } };
+  restore();
+  return { ask, texts, answers, report, keepSoon, get workers() { return workers; } };
 })();

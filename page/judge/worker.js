@@ -71,11 +71,13 @@ async function judge(question) {
   tell("trace", answer("lathe_trace", texts, [MOST_RECORDS], TRACE_ROOM), true);
 }
 
-/** Takes the module, once, and then questions. */
+/** Takes the module, once, and then questions, and those for a report of the run. */
 onmessage = ({ data }) => {
   if (data.module) {
     module = new WebAssembly.Module(data.module);
     postMessage({ isReady: true });
+  } else if (data.report) {
+    postMessage({ report: data.report, answer: answer("lathe_run", data.texts, [MOST_RECORDS], TRACE_ROOM) });
   } else {
     newest = data;
     judge(data);
