@@ -146,6 +146,18 @@ const Page = (() => {
   }
   watchScreen();
 
+  /** Takes the colours that the browser asks for, now and after each change. */
+  function watchMode() {
+    const dark = matchMedia("(prefers-color-scheme: dark)"), take = () => {
+      Colours.take(dark.matches ? "dark" : "light");
+      if (Look.trace) Tables.fillLegend();
+      Look.ask("plane", "times", "over");
+    };
+    dark.addEventListener("change", take);
+    take();
+  }
+  watchMode();
+
   // ---- buttons and fields ----
 
   /** Makes each button with this attribute do something with its value. */

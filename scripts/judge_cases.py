@@ -381,6 +381,117 @@ def rows_of_loss(row, page, room):
     page.run("$('judge-keep').click()")
 
 
+# The parts of the page whose letters are too near to what lies behind them, by the contrast of WCAG 2: 4.5 is the least for plain text.
+CONTRAST = """(() => {
+  const numbers = colour => colour.match(/[\\d.]+/g).map(Number);
+  const light = colour => numbers(colour).slice(0, 3).reduce((sum, value, k) => {
+    const part = value / 255;
+    return sum + [0.2126, 0.7152, 0.0722][k] * (part <= 0.03928 ? part / 12.92 : ((part + 0.055) / 1.055) ** 2.4); }, 0);
+  const behind = part => { const { backgroundColor } = getComputedStyle(part); return (numbers(backgroundColor)[3] ?? 1) > 0.8 ? backgroundColor : behind(part.parentElement); };
+  const hasText = part => [...part.childNodes].some(node => node.nodeType === 3 && node.data.trim());
+  const poor = [...document.body.querySelectorAll("*")].filter(part => hasText(part) && part.checkVisibility() && !part.closest("script")).filter(part => {
+    const [one, two] = [light(getComputedStyle(part).color), light(behind(part))];
+    return (Math.max(one, two) + 0.05) / (Math.min(one, two) + 0.05) < 4.5; });
+  return poor.map(part => `${part.tagName} ${part.className} ${part.textContent.slice(0, 20)}`); })()"""
+
+
+def rows_of_habits(row, page, room):
+    """Search, go to line, the place of the mouse, dark mode and paper."""
+    upper, lower, cell = zip(GOOD, pair(*GOOD))
+    browser, run = page.browser, page.run
+    page.drop("document.body", [upper, lower, cell])
+    run("Judge.texts[0].field.focus()")
+    browser.key("g", control=True)
+    for letter in "12":
+        browser.key(letter)
+    browser.key("Enter")
+    row.equal("Ctrl+G goes to a line", run("(field => [document.activeElement === field, field.value.slice(0, field.selectionStart).split('\\n').length])(Judge.texts[0].field)"), [True, 12])
+    browser.key("f", control=True)
+    for letter in "g00":
+        browser.key(letter)
+    count = "$('judge-find-count').textContent"
+    row.equal("Ctrl+F finds, in capitals or not", (run(count), run("Judge.texts[0].found")), ("2 of 2", 12))
+    seen = []
+    for key, shift in (("Enter", False), ("F3", False), ("F3", True)):
+        browser.key(key, shift=shift)
+        seen.append((run(count), run("Judge.texts[0].found")))
+    row.equal("Enter and F3 go on, with Shift back", seen, [("1 of 2", 8), ("2 of 2", 12), ("1 of 2", 8)])
+    browser.key("Escape")
+    row.equal("Escape closes the search", run("[$('judge-find').hidden, document.activeElement === Judge.texts[0].field]"), [True, True])
+    row.equal("the text is as it was", run("[...Judge.texts[0].bytes()]"), list(upper[1]))
+    browser.key(" ")
+    page.wait()
+    row("Ctrl+S saves", saved(page, room, "upper.nc", "dispatchEvent(new KeyboardEvent('keydown', { key: 's', ctrlKey: true, bubbles: true }))"))
+    page.drop("document.body", [upper])
+    run("$('page').scrollIntoView()")
+    browser.settle()
+    browser.hover(*run("(box => [box.left + Math.round(Camera.xOf(-20)), box.top + Math.round(Camera.yOf(15))])($('plane').getBoundingClientRect())"))
+    found = re.fullmatch(r"Z \u2212(\d+\.\d+)  \u2300 (\d+\.\d+)  \(path 1\)", run("$('pointer').textContent"))
+    row("the place of the mouse is told", found and abs(float(found[1]) - 20) < 0.5 and abs(float(found[2]) - 30) < 0.5, run("$('pointer').textContent"))
+    run("scrollTo(0, 0)")
+    for mode in ("dark", "light"):
+        browser.call("Emulation.setEmulatedMedia", features=[{"name": "prefers-color-scheme", "value": mode}])
+        browser.settle()
+        row.equal(f"{mode}: no letters are hard to read", run(CONTRAST), [])
+        corner = run("[...$('plane').getContext('2d').getImageData(3, 3, 1, 1).data].length && Colours.INK.paper")
+        row.equal(f"{mode}: the picture has its colours", corner, {"dark": "#1c222a", "light": "#ffffff"}[mode])
+    rows_of_paper(row, page)
+
+
+def rows_of_paper(row, page):
+    """What is printed: all lines of both tapes, the picture and the verdict."""
+    browser, run = page.browser, page.run
+    page.give(*LONG[:2], b"")
+    run("dispatchEvent(new Event('beforeprint'))")
+    paper = run("(paper => [paper.textContent, paper.querySelectorAll('canvas').length])($('paper'))")
+    for tape in LONG[:2]:
+        lines = tape.decode().splitlines()
+        row("all lines of a tape are printed", all(f"{k}  {lines[k - 1]}" in paper[0] for k in (1, 2, 777, 20002, len(lines))), paper[0][:200])
+    row("with the verdict and the picture", "accepted" in paper[0] and paper[1] == 1, paper[0][:200])
+    run("dispatchEvent(new Event('afterprint'))")
+    row("and nothing of it stays", not run("Boolean($('paper'))"))
+    page.give(*pair(*GOOD))
+    pages = base64.b64decode(browser.call("Page.printToPDF", printBackground=True)["data"])
+    row("a browser prints it", pages.startswith(b"%PDF-") and pages.count(b"/Type /Page\n") >= 2, len(pages))
+
+
+ERRORS = os.path.join(os.path.dirname(EXAMPLES.rstrip("/")), "docs", "ERRORS.md")
+
+
+def rows_of_refusals(row, page, room):
+    """All that is refused is named at once, each beside its line and with what docs/ERRORS.md says of it."""
+    left, right, cell = (read(name).decode().splitlines() for name in GOOD)
+    left[6], left[10], right[8] = "N50 G01 X Z5.", "N90 G00 X10. (ROUGH", "N70 G01 X123456789. F0.1"
+    cell[3], cell[-1] = "wiat 100 197", "place 3 X1. Z1."
+    seen = page.give(*(("\n".join(text) + "\n").encode() for text in (left, right, cell)))
+    due = [f"refused 90 BadSetting line {line}" for line in (4, len(cell))] + ["refused 11 NoNumber path 1 line 7", "refused 12 OpenComment path 1 line 11",
+                                                                               "refused 5 TooManyDigits path 2 line 9"]
+    row.equal("the first refusal is the program's", line_of(seen["answers"]["verdict"]), (1, due[0] + "\n"))
+    summaries = page.run("[...document.querySelectorAll('#judge-further summary')].map(part => `refused ${part.textContent}`)")
+    row.equal("all further ones are named too", summaries, due[1:])
+    row.has("as what they are", page.run("$('judge-further-box').textContent"), "judged again with the refused lines left empty")
+    row.equal("each has a note beside its line", page.run("Judge.texts.map(text => [...text.notes.keys()])"), [[7, 11], [9], [4, len(cell)]])
+    with open(ERRORS, encoding="utf-8") as file:
+        part = re.search(r"^## 12 OpenComment\n(.*?)^## ", file.read(), flags=re.M | re.S)[1]
+    meant = [" ".join(text.replace("`", "").split()) for text in re.findall(r"^(?:Meaning|Do): .*?(?=\n\n)", part, flags=re.M | re.S)]
+    row.equal("with what it means and what to do", page.run("[...Judge.texts[0].notes.get(11).querySelectorAll('.judge-why p')].map(part => part.textContent)"), meant)
+    page.run("Judge.texts[0].field.focus()")
+    stops = []
+    for shift in (False, False, False, False, True):
+        page.browser.key("F8", shift=shift)
+        stops.append(page.run("[Judge.texts.findIndex(text => text.field === document.activeElement), (field => field.value.slice(0, field.selectionStart).split('\\n').length)(document.activeElement)]"))
+    row.equal("F8 goes from one to the next, and back with Shift", stops, [[2, 4], [2, len(cell)], [0, 7], [0, 11], [0, 7]])
+    many = "\n".join(["%", "O1", *["G01 X Z5."] * 30, "M30", "%", ""]).encode()
+    page.give(many, many, b"")
+    row("of many some are named, of both tapes, and that there may be more", page.run("""(box => box.textContent.endsWith("There may be more.")
+        && [...box.querySelectorAll("summary")].map(part => part.textContent).filter(text => text.includes("path 2")).length === 8)($('judge-further'))"""),
+        page.run("$('judge-further').textContent"))
+    page.give(*pair(*DEADLOCK))
+    row("a deadlock stands alone", page.run("$('judge-further-box').hidden && Judge.texts[0].notes.size === 1"))
+    page.give(*pair(*GOOD))
+    row("and a good pair has no note", page.run("Judge.texts.every(text => text.notes.size === 0)"))
+
+
 def rows_of_typing(row, page, room):
     """A change is judged again, and its line is marked; the page stays alive meanwhile."""
     left = read("upper.nc").decode().splitlines()
@@ -485,4 +596,4 @@ def rows_of_length(row, page, room):
 
 
 GROUPS = {group.__name__.removeprefix("rows_of_"): group for group in (
-    rows_of_answers, rows_of_hands, rows_of_files, rows_of_saving, rows_of_typing, rows_of_faults, rows_of_requests, rows_of_length)}
+    rows_of_answers, rows_of_hands, rows_of_files, rows_of_saving, rows_of_habits, rows_of_refusals, rows_of_typing, rows_of_faults, rows_of_requests, rows_of_length)}

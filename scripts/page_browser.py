@@ -232,13 +232,13 @@ class Browser:
         self.touch("touchEnd")
         self.settle()
 
-    def key(self, key, shift=False):
-        """Presses a key, by its name; a text of one character is typed."""
+    def key(self, key, shift=False, control=False):
+        """Presses a key, by its name; a text of one character is typed, but not with the control key."""
         codes = {"Enter": 13, "Tab": 9, "Escape": 27, " ": 32, "PageUp": 33, "PageDown": 34, "End": 35, "Home": 36, "ArrowLeft": 37,
-                 "ArrowUp": 38, "ArrowRight": 39, "ArrowDown": 40}
-        text = {"text": "\r" if key == "Enter" else key} if len(key) == 1 or key == "Enter" else {}
+                 "ArrowUp": 38, "ArrowRight": 39, "ArrowDown": 40, "F3": 114, "F8": 119}
+        text = {"text": "\r" if key == "Enter" else key} if not control and (len(key) == 1 or key == "Enter") else {}
         params = {"key": key, "code": "Space" if key == " " else key, "windowsVirtualKeyCode": codes.get(key, ord(key[0].upper())),
-                  "modifiers": 8 if shift else 0}
+                  "modifiers": (8 if shift else 0) | (2 if control else 0)}
         self.call("Input.dispatchKeyEvent", type="keyDown" if text else "rawKeyDown", **params, **text)
         self.call("Input.dispatchKeyEvent", type="keyUp", **params)
         self.settle()

@@ -116,7 +116,7 @@ def assemble(page_folder, errors, module):
         f'<script type="text/plain" id="module">{base64.b64encode(module).decode()}</script>\n',
         f'<script type="text/plain" id="worker">{in_script(read(f"{judge}/worker.js"))}</script>\n',
         f'<script type="application/json" id="meanings">{means}</script>\n',
-        *[f"<script>\n{in_script(read(f'{judge}/{name}.js'))}</script>\n" for name in ("editor", "files", "keep", "saving", "answers", "judge")]]))
+        *[f"<script>\n{in_script(read(f'{judge}/{name}.js'))}</script>\n" for name in ("editor", "files", "keep", "saving", "answers", "seeking", "judge")]]))
     if re.search(r'\b(src|href)="', page):
         stop("the page still names another file")
     return page

@@ -93,9 +93,10 @@ class Editor {
     if (lines.length && document.activeElement !== this.field) this.bringIntoSight(lines[0]);
   }
 
-  /** Puts notes beside lines: of each line its text and what a click on it does. */
+  /** Puts notes beside lines: of each line an element. */
   note(notes) {
     this.notes = notes;
+    this.beside.replaceChildren(...notes.values());
     this.draw();
   }
 
@@ -109,26 +110,19 @@ class Editor {
     this.draw();
   }
 
-  /** Draws the numbers of the lines in sight, and the notes beside them. */
+  /** Draws the numbers of the lines in sight, and puts the notes beside theirs. */
   draw() {
     const { scrollTop, clientHeight } = this.field, first = Math.floor(scrollTop / LINE) + 1;
-    const last = Math.min(this.lines, first + Math.ceil(clientHeight / LINE)), rows = [], notes = [];
-    for (let line = first; line <= last; line++) {
-      rows.push(element("div", this.marked.has(line) ? "marked" : this.notes.has(line) ? "noted" : "", line));
-      if (this.notes.has(line)) notes.push(this.noteAt(line, (line - 1) * LINE - scrollTop));
-    }
+    const last = Math.min(this.lines, first + Math.ceil(clientHeight / LINE)), rows = [];
+    for (let line = first; line <= last; line++) rows.push(element("div", this.marked.has(line) ? "marked" : this.notes.has(line) ? "noted" : "", line));
     this.numbers.replaceChildren(...rows);
     this.numbers.style.transform = `translateY(${-(scrollTop % LINE)}px)`;
-    this.beside.replaceChildren(...notes);
-  }
-
-  /** The note of a line, so many points under the top of the field. */
-  noteAt(line, top) {
-    const { text, does } = this.notes.get(line), note = element("button", "judge-note", text);
-    note.style.top = `${top}px`;
-    note.title = "What it means, and what to do";
-    note.addEventListener("click", does);
-    return note;
+    for (const [line, note] of this.notes) {
+      const top = (line - 1) * LINE - scrollTop;
+      note.style.top = `${top}px`;
+      note.hidden = line < first || line > last;
+      note.classList.toggle("up", top > clientHeight / 2);
+    }
   }
 
   // ---- places ----

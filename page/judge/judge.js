@@ -106,12 +106,20 @@ const Judge = (() => {
 
   /** Shows a part of the answer; the last part ends the question. */
   function show({ part, answer, isLast }) {
+    if (part === "further") return showFurther(answer);
     answers[part] = answer;
     Answers.show(part, answer);
     if (part === "verdict") document.body.classList.toggle("stale", answer.status !== 0);
     if (part === "trace" && /^trace /.test(answer.text)) draw(answer.text);
     if (!isLast) return;
     if (Object.values(answers).some(some => some.kind === "broken off")) makeAnew();
+    setState("done");
+  }
+
+  /** Shows what else is refused, which ends the question. */
+  function showFurther(answer) {
+    Answers.showFurther(answer);
+    if (answer.isBroken) makeAnew();
     setState("done");
   }
 
@@ -260,6 +268,12 @@ const Judge = (() => {
   }
 
   texts.forEach((text, k) => $(`${names[k]}-save`).addEventListener("click", () => Saving.saveText(text)));
+  Seeking.watch(texts);
+  Paper.sources.texts = () => [[left, "path 1"], [right, "path 2"], [cell, "settings"]].filter(([text]) => !text.isEmpty())
+    .map(([text, what]) => ({ name: `${what}: ${text.title.textContent || "typed"}`, text: text.field.value }));
+  Paper.sources.said = () => ["verdict", "further", "waits", "run", "races"].map(part => $(`judge-${part}`)).filter(part => part.textContent)
+    .map(part => { const copy = part.cloneNode(true); for (const more of copy.querySelectorAll("details")) more.open = true; return copy; });
+  Paper.sources.hasPicture = () => Boolean(Look.trace) && !document.body.classList.contains("stale");
   $("save-report").addEventListener("click", () => Saving.saveReport(texts));
   $("judge-clear").addEventListener("click", clear);
   $("judge-keep").checked = Keep.isWanted();
