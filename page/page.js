@@ -61,6 +61,7 @@ const Page = (() => {
     Tables.fillMeetings();
     $("meetings-box").scrollTop = 0;
     Races.fill();
+    Idle.fill();
     Tables.fillLegend();
     TapeTexts.clear();
     if (tapes.length) TapeTexts.take(tapes);
@@ -186,6 +187,7 @@ const Page = (() => {
     Tables.forget();
     Tables.tellHead();
     Tables.fillMeetings();
+    Idle.fill();
     TimeLine.fit();
     Look.ask("times", "over");
     tellState("drawn");

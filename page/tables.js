@@ -186,7 +186,7 @@ const Tables = (() => {
     const lines = [["rapid", { stroke: Colours.INK.rapid, "stroke-dasharray": "4 3" }], ["feed", { stroke: ink, "stroke-width": 1.7 }],
                    ["arc", { stroke: ink, "stroke-width": 2.6 }],
                    ["thread", { stroke: ink, "stroke-width": 3, "stroke-dasharray": "0.1 4.5", "stroke-linecap": "round" }]];
-    const tools = [...Colours.tools].slice(0, 16).map(([key, stroke]) => [`path ${key}`, { stroke, "stroke-width": 4 }]);
+    const tools = [...Colours.tools].slice(0, 16).map(([key, stroke]) => [`path ${key.replace(" T00", ", no tool")}`, { stroke, "stroke-width": 4 }]);
     const shown = [...lines.filter(([kind]) => kinds.has(kind)), ...tools];
     $("legend").replaceChildren(...shown.map(([text, style]) => element("span", "", sample(style), text)));
   }

@@ -107,6 +107,7 @@ const TimeLine = (() => {
     const { segments } = path, y = LANES[path.number];
     pen.fillStyle = INK.lane;
     pen.fillRect(LEFT, y, sheet.width - LEFT, HIGH);
+    drawEnd(pen, path, y);
     let filled = -1;
     for (let at = Math.max(0, Times.lastBegun(segments, shown.from)); at < segments.length && segments[at].begin <= shown.to; at++) {
       const segment = segments[at], x = xOf(segment.begin), width = xOf(segment.end) - x;
@@ -115,6 +116,17 @@ const TimeLine = (() => {
       filled = Math.floor(x);
       drawBar(pen, segment, x, Math.max(width, 0.7), y);
     }
+  }
+
+  /** Draws how a path stands idle from its end on, while the other one goes on. */
+  function drawEnd(pen, path, y) {
+    const begin = Look.trace.last[path.number], seconds = Look.trace.total - begin, x = xOf(begin), width = xOf(Look.trace.total) - x;
+    if (!path.ended || width < 1 || Look.trace.total < shown.from || begin > shown.to) return;
+    pen.fillStyle = INK.idle;
+    pen.fillRect(x, y + 8, width, HIGH - 16);
+    pen.font = FONT.plain;
+    const text = [`has ended, idle \u2248 ${secondsText(seconds)}`, "ended"].find(some => pen.measureText(some).width + 16 < Math.min(width, sheet.width - LEFT));
+    if (text) plateText(pen, text, middleOf(x, width), y + 26, "center", INK.soft);
   }
 
   /** Draws the bar of a segment, from x on, so wide, with its name. The bar of a rapid is narrower, that of a wait hatched. */
@@ -157,7 +169,8 @@ const TimeLine = (() => {
 
   /** Writes the code and the line of a wait into its bar, or the code alone, if there is room. */
   function nameWait(pen, segment, x, width, y) {
-    const texts = [`waits at M${segment.code}, line ${segment.line}${segment.met ? "" : ", to the end"}`, `M${segment.code}`];
+    const place = `waits at M${segment.code}, line ${segment.line}${segment.met ? "" : ", to the end"}`;
+    const texts = [`${place}, \u2248 ${secondsText(segment.end - segment.begin)}`, place, `M${segment.code}`];
     pen.font = FONT.plain;
     const text = texts.find(some => pen.measureText(some).width + 16 < Math.min(width, sheet.width - LEFT));
     if (text) plateText(pen, text, middleOf(x, width), y + 26, "center", INK.red);
