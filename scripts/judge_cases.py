@@ -12,6 +12,7 @@ from library_texts import EXAMPLES, read
 
 LIMIT = 50000                   # records of a picture, as page/judge/worker.js has it
 PARTS = ("waits", "verdict", "trace")
+WORKERS = len(PARTS)            # one for each part
 PATIENCE = 300                  # seconds for one question, on a machine that does much else
 MODULE = re.compile(r'(<script type="text/plain" id="module">)([^<]*)(</script>)')
 
@@ -58,6 +59,10 @@ class Page:
     def give(self, *texts):
         """Gives it three texts at once, and waits for all answers."""
         return self.run(GIVE % (SETTLED, [base64.b64encode(text).decode() for text in texts]), seconds=PATIENCE)
+
+    def clear(self):
+        """Takes all texts away, with their changes."""
+        self.run("Judge.texts.forEach(text => text.set('', new Uint8Array()))")
 
     def do(self, script):
         """Does something that asks again, and waits for all answers."""
@@ -234,6 +239,7 @@ CAME = "$('judge-came').hidden ? '' : $('judge-came-said').textContent"
 def rows_of_files(row, page, room):
     """Files that come together find their places, or the page asks; what it does not take it says, and no byte is changed on the way."""
     upper, lower, cell = zip(GOOD, pair(*GOOD))
+    page.clear()
     seen = page.drop("document.body", [lower, upper, cell])
     row.equal("lower.nc is path 2, though it comes first", page.run(NAMES), list(GOOD))
     row.equal("and it is judged so", line_of(seen["answers"].get("verdict")), ACCEPTED)
@@ -305,6 +311,7 @@ def saved(page, room, name, script):
 def rows_of_saving(row, page, room):
     """What was changed, the picture and the report become files; nothing goes without a question; what was open comes back."""
     upper, lower, cell = zip(GOOD, pair(*GOOD))
+    page.clear()
     page.drop("document.body", [upper, lower, cell])
     page.select(0, 2, 0, 0)
     page.browser.key(" ")
@@ -399,6 +406,7 @@ def rows_of_habits(row, page, room):
     """Search, go to line, the place of the mouse, dark mode and paper."""
     upper, lower, cell = zip(GOOD, pair(*GOOD))
     browser, run = page.browser, page.run
+    page.clear()
     page.drop("document.body", [upper, lower, cell])
     run("Judge.texts[0].field.focus()")
     browser.key("g", control=True)
@@ -532,12 +540,12 @@ def rows_of_faults(row, page, room):
     own = page.path
     page.open(spoilt(own, room, lambda module: wasm_binary.with_trap(module, "lathe_trace")))
     seen = page.give(*pair(*GOOD))
-    row.equal("a call that breaks off gives no answer", (seen["answers"]["trace"]["kind"], seen["workers"]), ("broken off", 2))
+    row.equal("a call that breaks off gives no answer", (seen["answers"]["trace"]["kind"], seen["workers"]), ("broken off", WORKERS + 1))
     row.has("the page says so", seen["said"]["run"], "broke off")
     row.has("and that the judge was made anew", seen["said"]["run"], "was made anew")
     row.equal("the other answers are right", {part: line_of(seen["answers"][part]) for part in PARTS[:2]}, {part: due[part] for part in PARTS[:2]})
     seen = page.give(*pair(*DEADLOCK))
-    row.equal("the next pair is judged as ever", (line_of(seen["answers"]["verdict"]), seen["workers"]), (MISMATCH, 2))
+    row.equal("the next pair is judged as ever", line_of(seen["answers"]["verdict"]), MISMATCH)
     for what, spoil, kind, words, sizes in (
             ("a stack", wasm_binary.with_short_stack, "broken off", "broke off", [1 << k for k in range(8, 21)]),
             ("a memory", wasm_binary.with_little_memory, "no memory", "no memory for this", [0, *(1 << k for k in range(13))])):
@@ -554,7 +562,7 @@ def rows_of_faults(row, page, room):
     page.open(spoilt(own, room, lambda module: module[:200]))
     page.run("new Promise(done => setTimeout(done, 300))")
     row.has("a browser that does not know the module is told", page.run("$('judge-verdict').textContent"), "can't judge")
-    row.equal("once", page.run("Judge.workers"), 1)
+    row.equal("and no worker is made", page.run("Judge.workers"), 0)
     page.open(own)
 
 
@@ -562,6 +570,14 @@ HELD = """new Promise(done => {
     addEventListener("securitypolicyviolation", event => done(event.effectiveDirective), { once: true });
     fetch("%s").catch(() => 0);
     setTimeout(() => done("asked for"), 2000); })"""
+
+
+INJECTED = """new Promise(done => {
+    addEventListener("securitypolicyviolation", event => done(event.effectiveDirective), { once: true });
+    const made = %s;
+    made.textContent = "window.wasInjected = 1";
+    document.body.append(made);
+    setTimeout(() => done("came in"), 2000); })"""
 
 
 def rows_of_requests(row, page, room):
@@ -575,6 +591,11 @@ def rows_of_requests(row, page, room):
         far = f"http://127.0.0.1:{server.getsockname()[1]}/"
         for name, session in (("the page's", None), ("the worker's", browser.workers[-1])):
             row.equal(f"{name} policy lets no request out", browser.run(HELD % far, session), "connect-src")
+        row.equal("no script may come in later", browser.run(INJECTED % "document.createElement('script')"), "script-src-elem")
+        row.equal("and no style", browser.run(INJECTED % "document.createElement('style')"), "style-src-elem")
+        made = browser.call("Runtime.evaluate", expression="(() => { try { return new Function('return 1')(); } catch (fault) { return fault.name; } })()",
+                            returnByValue=True, allowUnsafeEvalBlockedByCSP=False)
+        row.equal("and no text becomes a script", made["result"]["value"], "EvalError")
         server.settimeout(0.3)
         try:
             server.accept()

@@ -8,48 +8,61 @@ const Judge = (() => {
   const names = ["judge-left", "judge-right", "judge-cell"];
   const texts = names.map(name => new Editor(name, askSoon));
   const [left, right, cell] = texts;
-  const module = Uint8Array.from(atob($("module").textContent.trim()), letter => letter.charCodeAt(0));
+  const PARTS = ["waits", "verdict", "trace"];
   const answers = {};                   // the answers to the newest question, for tests
+  const came = {};                      // those of its parts that are not shown yet, since one before them is still to come
   const reports = new Map();            // who waits for a report, by its number
-  let worker = null, isReady = false, isBroken = false, asked = 0, waiting = 0, workers = 0, keeping = 0;
+  const lanes = new Map();              // the worker of each part
+  let module = null, isBroken = false, asked = 0, waiting = 0, workers = 0, keeping = 0;
 
   Object.assign(Answers.editors, { 1: left, 2: right, settings: cell });
 
-  // ---- the worker ----
+  // ---- the workers ----
 
-  /** Makes a worker, and gives it the module. What it answers is shown if it is of the newest question. */
-  function makeWorker() {
-    workers += 1;
-    isReady = false;
-    const script = URL.createObjectURL(new Blob([$("worker").textContent], { type: "text/javascript" }));
-    worker = new Worker(script);
-    worker.onmessage = ({ data }) => {
-      if (data.isReady) {
-        isReady = true;
-        URL.revokeObjectURL(script);
-      } else if (data.report) {
-        reports.get(data.report)(data.answer);
-        reports.delete(data.report);
-      } else if (data.number === asked) show(data);
-    };
-    worker.onerror = event => stopped(event.message);
-    worker.postMessage({ module });
-  }
-
-  /** Takes a new worker, with the module made anew, in place of one that may be spoilt. */
-  function makeAnew() {
-    worker.terminate();
-    makeWorker();
-  }
-
-  /** The worker itself ended. Before it was ready this browser can't run the module, and a new worker would end too. */
-  function stopped(why) {
-    isBroken = !isReady;
-    if (isBroken) Answers.sayInstead(`This browser can't judge (${why}). It has to know WebAssembly of 64 bits: try a newer Chrome or Edge.`, false);
-    else {
-      makeAnew();
-      Answers.sayInstead(`The judge stopped (${why}), and was made anew. Nothing is said about these texts. Change one to ask again.`, false);
+  /** Makes the module and its workers, one for each part of an answer, and asks what was asked meanwhile. */
+  async function start() {
+    const bytes = Uint8Array.from(atob($("module").textContent.trim()), letter => letter.charCodeAt(0));
+    try {
+      module = await WebAssembly.compile(bytes);
+    } catch (fault) {
+      return sayUnable(fault.message);
     }
+    PARTS.forEach(makeWorker);
+    if (document.documentElement.dataset.judged === "asked") ask();
+  }
+
+  /** This browser can't run the module. */
+  function sayUnable(why) {
+    isBroken = true;
+    Answers.sayInstead(`This browser can't judge (${why}). It has to know WebAssembly of 64 bits: try a newer Chrome, Edge or Firefox.`, false);
+    setState("stopped");
+  }
+
+  /** Makes the worker of a part, and gives it the module. What it answers is taken if it is of the newest question. */
+  function makeWorker(part) {
+    workers += 1;
+    const script = URL.createObjectURL(new Blob([$("worker").textContent], { type: "text/javascript" })), worker = new Worker(script);
+    worker.onmessage = ({ data }) => {
+      URL.revokeObjectURL(script);
+      if (data.part === "report") takeReport(data);
+      else if (data.number === asked) takePart(data);
+    };
+    worker.onerror = event => stopped(part, event.message);
+    worker.postMessage({ module });
+    lanes.set(part, worker);
+  }
+
+  /** Takes a new worker in place of one that may be spoilt. */
+  function makeAnew(part) {
+    lanes.get(part).terminate();
+    makeWorker(part);
+  }
+
+  /** A worker itself ended. */
+  function stopped(part, why) {
+    makeAnew(part);
+    asked += 1;
+    Answers.sayInstead(`The judge stopped (${why}), and was made anew. Nothing is said about these texts. Change one to ask again.`, false);
     setState("stopped");
   }
 
@@ -67,20 +80,27 @@ const Judge = (() => {
     if (isBroken) return setState("stopped");
     asked += 1;
     keepSoon();
-    for (const part of Object.keys(answers)) delete answers[part];
+    for (const list of [answers, came]) for (const part of Object.keys(list)) delete list[part];
     const lacking = [left, right].findIndex(text => text.isEmpty());
     if (lacking >= 0) return sayLacking(lacking + 1);
     setState("asked");
-    worker.postMessage({ number: asked, texts: texts.map(text => text.bytes()), outside: outside() });
+    const bytes = texts.map(text => text.bytes());
+    for (const [part, worker] of lanes) worker.postMessage({ number: asked, part, texts: bytes, outside: outside() });
   }
 
   /** The report of the run, of the texts as they are now. */
   function report() {
     return new Promise(done => {
-      const number = reports.size + asked * 1000 + 1;
+      const number = asked * 1000 + reports.size;
       reports.set(number, done);
-      worker.postMessage({ report: number, texts: texts.map(text => text.bytes()) });
+      lanes.get("trace").postMessage({ number, part: "report", texts: texts.map(text => text.bytes()) });
     });
+  }
+
+  /** Gives a report to who waits for it. */
+  function takeReport({ number, answer }) {
+    reports.get(number)?.(answer);
+    reports.delete(number);
   }
 
   /** The least and the greatest number of the programs that are in the control and on no tape; 1 and 0 if there are none. */
@@ -104,23 +124,29 @@ const Judge = (() => {
     waiting = setTimeout(ask, PAUSE);
   }
 
-  /** Shows a part of the answer; the last part ends the question. */
-  function show({ part, answer, isLast }) {
-    if (part === "further") return showFurther(answer);
+  /** Takes a part of the answer. The parts are shown in their order: waits, verdict, and the trace or what is refused besides. */
+  function takePart({ part, answer }) {
+    if (answer.kind === "broken off") makeAnew(part);
+    came[part] = answer;
+    const isAccepted = came.verdict?.kind === "said" && came.verdict.status === 0;
+    const due = ["waits", "verdict", ...isAccepted ? ["trace"] : came.verdict?.kind === "said" ? ["further"] : []];
+    for (const next of due) {
+      if (!came[next]) return;
+      if (!shownParts.has(came[next])) show(next, came[next]);
+    }
+    if (came.verdict) setState("done");
+  }
+
+  const shownParts = new WeakSet();     // answers that are shown already
+
+  /** Shows a part of the answer. */
+  function show(part, answer) {
+    shownParts.add(answer);
+    if (part === "further") return Answers.showFurther(answer);
     answers[part] = answer;
     Answers.show(part, answer);
     if (part === "verdict") document.body.classList.toggle("stale", answer.status !== 0);
     if (part === "trace" && /^trace /.test(answer.text)) draw(answer.text);
-    if (!isLast) return;
-    if (Object.values(answers).some(some => some.kind === "broken off")) makeAnew();
-    setState("done");
-  }
-
-  /** Shows what else is refused, which ends the question. */
-  function showFurther(answer) {
-    Answers.showFurther(answer);
-    if (answer.isBroken) makeAnew();
-    setState("done");
   }
 
   /** Gives the trace and both tapes to the picture. */
@@ -282,7 +308,7 @@ const Judge = (() => {
   addEventListener("beforeunload", event => { if (texts.some(Saving.isUnsaved)) event.preventDefault(); });
 
   sayFirst();
-  makeWorker();
   restore();
+  start();
   return { ask, texts, answers, report, keepSoon, get workers() { return workers; } };
 })();

@@ -1,6 +1,6 @@
 "use strict";
-// The judge: the calls of include/lathe.h over the library's module, in a worker, so that the page stays alive while they run. Each call
-// has an instance of its own, with a memory of its own: a call that breaks off leaves nothing behind for the next one.
+// The judge: the calls of include/lathe.h over the library's module, in workers, so that the page stays alive while they run and the calls
+// run beside each other. Each call has an instance of its own, with a memory of its own: one that breaks off leaves nothing behind.
 
 const TEXT_ROOM = 1 << 16, TRACE_ROOM = 1 << 24;      // bytes for an answer; a longer one is asked for again with its whole length
 const MOST_RECORDS = 50000;                           // a picture ends there
@@ -105,33 +105,30 @@ async function furtherOf(question, known) {
   return { lines: lines.filter(line => line !== known.text.trimEnd()), isWhole };
 }
 
-/**
- * Answers a question in parts: the waits, the verdict and, if the pair is accepted, the trace, or else what is refused besides. A newer
- * question ends it.
- */
+// ---- questions ----
+
+/** The call that each part of an answer takes. */
+const CALLS = {
+  waits: ({ texts, outside }) => answer("lathe_waits", texts, outside, TEXT_ROOM),
+  verdict: ({ texts }) => answer("lathe_verify", texts, [], TEXT_ROOM),
+  trace: ({ texts }) => answer("lathe_trace", texts, [MOST_RECORDS], TRACE_ROOM),
+  report: ({ texts }) => answer("lathe_run", texts, [MOST_RECORDS], TRACE_ROOM),
+};
+
+/** Answers its part of a question, unless a newer one has come. Behind a verdict that refuses comes what is refused besides. */
 async function judge(question) {
-  const { number, texts, outside } = question;
-  const tell = (part, said, isLast) => postMessage({ number, part, answer: said, isLast });
-  tell("waits", answer("lathe_waits", texts, outside, TEXT_ROOM), false);
+  newest = question;
   await pause();
   if (question !== newest) return;
-  const verdict = answer("lathe_verify", texts, [], TEXT_ROOM), isAccepted = verdict.kind === "said" && verdict.status === 0;
-  tell("verdict", verdict, verdict.kind !== "said");
-  await pause();
-  if (verdict.kind !== "said" || question !== newest) return;
-  if (!isAccepted) return tell("further", await furtherOf(question, verdict), true);
-  tell("trace", answer("lathe_trace", texts, [MOST_RECORDS], TRACE_ROOM), true);
+  const { number, part } = question, said = CALLS[part](question);
+  postMessage({ number, part, answer: said });
+  if (part === "verdict" && said.kind === "said" && said.status !== 0)
+    postMessage({ number, part: "further", answer: await furtherOf(question, said) });
 }
 
-/** Takes the module, once, and then questions, and those for a report of the run. */
+/** Takes the module, once, and then questions. A report ends no other question. */
 onmessage = ({ data }) => {
-  if (data.module) {
-    module = new WebAssembly.Module(data.module);
-    postMessage({ isReady: true });
-  } else if (data.report) {
-    postMessage({ report: data.report, answer: answer("lathe_run", data.texts, [MOST_RECORDS], TRACE_ROOM) });
-  } else {
-    newest = data;
-    judge(data);
-  }
+  if (data.module) module = data.module;
+  else if (data.part === "report") postMessage({ number: data.number, part: data.part, answer: CALLS.report(data) });
+  else judge(data);
 };
