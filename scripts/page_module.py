@@ -108,6 +108,7 @@ def assemble(page_folder, errors, module):
     page = replaced(page, "<title>[^<]*</title>", "<title>twin_lathe</title>")
     page = replaced(page, "<body>", '<body class="judging">')
     page = replaced(page, "(?=<main )", read(f"{judge}/panel.html") + "\n")
+    page = replaced(page, "(?=    <h2>Mouse and fingers</h2>)", read(f"{judge}/keys.html"))
     page = replaced(page, r'<div id="empty".*?</div>\n', read(f"{judge}/empty.html"))
     means = json.dumps(meanings(errors)).replace("<", "\\u003c")
     page = replaced(page, "(?=</body>)", "".join([
