@@ -100,6 +100,7 @@ const Page = (() => {
   function tellState(state) {
     const { trace } = Look, { dataset } = document.documentElement;
     dataset.state = state;
+    $("save-picture").disabled = !trace;
     if (!trace) return;
     Object.assign(dataset, { moves: PATHS.map(p => trace.paths[p].moves).join(" "), meetings: trace.meetings.length,
                              records: trace.records, end: trace.end, races: trace.races.length, total: trace.total.toFixed(1) });

@@ -112,9 +112,15 @@ const Judge = (() => {
 
   /** Says that a path has no tape; the picture is of other texts then. */
   function sayLacking(path) {
-    document.body.classList.add("stale");
+    setStale(true);
     Answers.sayInstead(`Path ${path} has no tape yet.`, false);
     setState("done");
+  }
+
+  /** Notes whether the picture is of other texts than those that stand here. Such a picture is not saved. */
+  function setStale(isStale) {
+    document.body.classList.toggle("stale", isStale);
+    $("save-picture").disabled = isStale || !Look.trace;
   }
 
   /** Asks when no change comes for a moment. What is shown until then is of the text before. */
@@ -145,7 +151,7 @@ const Judge = (() => {
     if (part === "further") return Answers.showFurther(answer);
     answers[part] = answer;
     Answers.show(part, answer);
-    if (part === "verdict") document.body.classList.toggle("stale", answer.status !== 0);
+    if (part === "verdict") setStale(answer.status !== 0);
     if (part === "trace" && /^trace /.test(answer.text)) draw(answer.text);
   }
 

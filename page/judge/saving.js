@@ -48,8 +48,9 @@ const Saving = (() => {
   /** Saves all that was said of the texts, and the report of the run. */
   async function saveReport(texts) {
     const { answers } = Judge, run = answers.trace ? await Judge.report() : null;
+    const further = [...$("judge-further").querySelectorAll("summary")].map(line => line.textContent).join("\n");
     const races = (answers.trace?.text ?? "").match(/^races \d+\n[^]*/m);
-    const lines = [...headOf(texts), ...part("verify", saidOf("verdict")), ...part("waits", answers.waits?.text || saidOf("waits")),
+    const lines = [...headOf(texts), ...part("verify", saidOf("verdict")), ...further ? part("further refusals", further) : [], ...part("waits", answers.waits?.text || saidOf("waits")),
                    ...races ? part("races", races[0]) : [], ...run ? part("run, the paths take turns", run.text) : []];
     download("twin_lathe report.txt", `${lines.join("\n")}\n`, "text/plain");
   }
