@@ -4,7 +4,7 @@
 
 const Answers = (() => {
   const MOST_ROWS = 2000;               // meetings that are listed
-  const FULL = 14;                      // the status of a run whose journal is full
+  const FULL = 14, JOURNAL_FULL = "The run ends there too: its journal is full. The line records of the settings can allow more.";
   const meanings = JSON.parse($("meanings").textContent);
   const editors = { 1: null, 2: null, settings: null };
   let marks = new Map();                // what is marked for the waits, the verdict and the run, and for a race that was clicked
@@ -129,7 +129,8 @@ const Answers = (() => {
 
   /** A further refusal, whose meaning opens by a click. */
   function furtherRow(line) {
-    const means = element("details", "", element("summary", "", line.replace(/^refused /, "")), ...placesOf(line).map(quote), ...meaningOf(numberOf(line)));
+    const head = element("summary", "", line.replace(/^refused /, "")), parts = [...placesOf(line).map(quote), ...meaningOf(numberOf(line))];
+    const means = element("details", "", head, ...parts);
     means.addEventListener("toggle", () => { if (means.open) goTo(placesOf(line)); });
     return means;
   }
@@ -139,7 +140,8 @@ const Answers = (() => {
   /** Puts a note beside each line that is refused: what it is, and under the hand what it means and what to do. */
   function noteAll() {
     const notes = { 1: new Map(), 2: new Map(), settings: new Map() };
-    for (const line of refused) for (const place of placesOf(line)) if (!notes[place.of].has(place.line)) notes[place.of].set(place.line, noteOf(line));
+    for (const line of refused) for (const place of placesOf(line))
+      if (!notes[place.of].has(place.line)) notes[place.of].set(place.line, noteOf(line));
     for (const of of Object.keys(editors)) editors[of].note(notes[of]);
   }
 
@@ -170,7 +172,7 @@ const Answers = (() => {
     marks.set("run", placesOf(line));
     if (alarm) tell("run", false, element("p", "answer", line), ...placesOf(line).map(quote), ...meaningOf(alarm[1]));
     else if (answer.status === 0) tell("run", true, element("p", "answer", line), sentence("Both programs ran to their ends."));
-    else tell("run", true, element("p", "answer", line), sentence(answer.status === FULL ? "The journal is full there: `records` in the settings can be more." : "The picture ends there, and the run does not."));
+    else tell("run", true, element("p", "answer", line), sentence(answer.status === FULL ? JOURNAL_FULL : "The picture ends there, and the run does not."));
   }
 
   /** Shows the races of the pair, and what to do about them. */

@@ -114,7 +114,8 @@ class Editor {
   draw() {
     const { scrollTop, clientHeight } = this.field, first = Math.floor(scrollTop / LINE) + 1;
     const last = Math.min(this.lines, first + Math.ceil(clientHeight / LINE)), rows = [];
-    for (let line = first; line <= last; line++) rows.push(element("div", this.marked.has(line) ? "marked" : this.notes.has(line) ? "noted" : "", line));
+    const kindOf = line => (this.marked.has(line) ? "marked" : this.notes.has(line) ? "noted" : "");
+    for (let line = first; line <= last; line++) rows.push(element("div", kindOf(line), line));
     this.numbers.replaceChildren(...rows);
     this.numbers.style.transform = `translateY(${-(scrollTop % LINE)}px)`;
     for (const [line, note] of this.notes) {

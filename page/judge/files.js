@@ -77,7 +77,8 @@ const Files = (() => {
       Object.assign(given, { [place.path]: two[0], sign: place.sign });
     }
     const left = [[tapes.filter(file => !two.includes(file)), "there are two paths"], [settings.slice(1), "there is one text of settings"],
-                  [all("trace"), "it is a trace, and this page makes its own"], [all("nothing"), "it looks neither like a tape nor like settings: drop it on its place"]];
+                  [all("trace"), "it is a trace, and this page makes its own"],
+                  [all("nothing"), "it looks neither like a tape nor like settings: drop it on its place"]];
     return { given, left: left.flatMap(([some, why]) => some.map(({ name }) => ({ name, why }))) };
   }
 
@@ -87,7 +88,8 @@ const Files = (() => {
 
   /** What was taken and what was not, in sentences; and whether nothing but the order of the files said which path is whose. */
   function tell({ given, left }) {
-    const took = [[given[1], "Path 1"], [given[2], "Path 2"], [given.settings, "Settings"]].filter(([file]) => file).map(([file, where]) => `${where}: ${file.name}`);
+    const places = [[given[1], "Path 1"], [given[2], "Path 2"], [given.settings, "Settings"]].filter(([file]) => file);
+    const took = places.map(([file, where]) => `${where}: ${file.name}`);
     const areTwo = Boolean(given[1] && given[2]), sign = areTwo && SIGNS[given.sign] ? ` (the paths ${SIGNS[given.sign]})` : "";
     const said = took.length ? [`${took.join(", ")}${sign}.`] : [];
     const isAsked = areTwo && given.sign === "order";

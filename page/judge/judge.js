@@ -213,7 +213,8 @@ const Judge = (() => {
     const [one, two] = [left, right].map(text => [text.fileName, text.bytes(), text.isChanged]);
     left.set(...two);
     right.set(...one);
-    sayCame({ said: [`Exchanged: path 1 has ${left.fileName || "the other text"}, path 2 has ${right.fileName || "the other text"}.`], isAsked: false });
+    const [first, second] = [left, right].map(text => text.fileName || "the other text");
+    sayCame({ said: [`Exchanged: path 1 has ${first}, path 2 has ${second}.`], isAsked: false });
     ask();
   }
 
@@ -270,8 +271,8 @@ const Judge = (() => {
     clearTimeout(keeping);
     keeping = 0;
     if (texts.every(text => text.isEmpty())) return tellKept("");
-    const isKept = Keep.write(texts, $("judge-outside").value);
-    tellKept(isKept ? "Kept in this browser, for after a reload. Nothing is sent." : Keep.isWanted() ? "This browser can't keep these texts: save them." : "");
+    if (Keep.write(texts, $("judge-outside").value)) tellKept("Kept in this browser, for after a reload. Nothing is sent.");
+    else tellKept(Keep.isWanted() ? "This browser can't keep these texts: save them." : "");
   }
 
   function tellKept(text) { $("judge-kept").textContent = text; }
@@ -300,11 +301,18 @@ const Judge = (() => {
   }
 
   texts.forEach((text, k) => $(`${names[k]}-save`).addEventListener("click", () => Saving.saveText(text)));
+  /** A copy of a part of the panel, in which nothing is folded. */
+  function unfolded(part) {
+    const copy = part.cloneNode(true);
+    for (const more of copy.querySelectorAll("details")) more.open = true;
+    return copy;
+  }
+
   Seeking.watch(texts);
   Paper.sources.texts = () => [[left, "path 1"], [right, "path 2"], [cell, "settings"]].filter(([text]) => !text.isEmpty())
     .map(([text, what]) => ({ name: `${what}: ${text.title.textContent || "typed"}`, text: text.field.value }));
   Paper.sources.said = () => ["verdict", "further", "waits", "run", "races"].map(part => $(`judge-${part}`)).filter(part => part.textContent)
-    .map(part => { const copy = part.cloneNode(true); for (const more of copy.querySelectorAll("details")) more.open = true; return copy; });
+    .map(unfolded);
   Paper.sources.hasPicture = () => Boolean(Look.trace) && !document.body.classList.contains("stale");
   $("save-report").addEventListener("click", () => Saving.saveReport(texts));
   $("judge-clear").addEventListener("click", clear);

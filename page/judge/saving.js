@@ -35,8 +35,9 @@ const Saving = (() => {
 
   /** The head of the report: which texts it is of. */
   function headOf(texts) {
+    const now = new Date().toISOString().slice(0, 16).replace("T", " ");
     const [left, right, cell] = texts.map(text => `${text.fileName || "typed"}${text.isChanged ? ", changed" : ""}, ${text.bytes().length} bytes`);
-    return [`twin_lathe, report of ${new Date().toISOString().slice(0, 16).replace("T", " ")} UTC`, `path 1: ${left}`, `path 2: ${right}`, `settings: ${cell}`];
+    return [`twin_lathe, report of ${now} UTC`, `path 1: ${left}`, `path 2: ${right}`, `settings: ${cell}`];
   }
 
   /** A part of the report: what it is, and the lines that the judge said. */
@@ -50,8 +51,9 @@ const Saving = (() => {
     const { answers } = Judge, run = answers.trace ? await Judge.report() : null;
     const further = [...$("judge-further").querySelectorAll("summary")].map(line => line.textContent).join("\n");
     const races = (answers.trace?.text ?? "").match(/^races \d+\n[^]*/m);
-    const lines = [...headOf(texts), ...part("verify", saidOf("verdict")), ...further ? part("further refusals", further) : [], ...part("waits", answers.waits?.text || saidOf("waits")),
-                   ...races ? part("races", races[0]) : [], ...run ? part("run, the paths take turns", run.text) : []];
+    const lines = [...headOf(texts), ...part("verify", saidOf("verdict")), ...further ? part("further refusals", further) : [],
+                   ...part("waits", answers.waits?.text || saidOf("waits")), ...races ? part("races", races[0]) : [],
+                   ...run ? part("run, the paths take turns", run.text) : []];
     download("twin_lathe report.txt", `${lines.join("\n")}\n`, "text/plain");
   }
 
