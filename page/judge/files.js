@@ -11,18 +11,16 @@ const Files = (() => {
 
   /** What a file is: a tape, settings, a trace, or nothing that this page takes. A tape may lack its percent sign. */
   function kindOf({ bytes }) {
-    const text = textOf(bytes.subarray(0, BEGIN));
+    const text = textOf(bytes.subarray(0, BEGIN)), mark = /^[ \t]*%/m.exec(text);
     if (/^trace \d/.test(text)) return "trace";
-    if (/^%PDF-/.test(text)) return "nothing";
-    return /^[ \t]*%/m.test(text) ? "tape" : kindByLines(text.split("\n").filter(line => /^[ \t]*[^ \t\r(]/.test(line)));
+    const lines = linesWithWords(mark ? text.slice(mark.index + mark[0].length) : text), blocks = lines.filter(line => BLOCK.test(line)).length;
+    if (mark && !lines.length || blocks && 2 * blocks >= lines.length) return "tape";
+    const settings = lines.filter(line => SETTING.test(line)).length;
+    return !mark && 2 * settings >= lines.length ? "settings" : "nothing";
   }
 
-  /** What a text without a percent sign is, by its lines that are neither empty nor a comment. One that has none sets nothing. */
-  function kindByLines(lines) {
-    const blocks = lines.filter(line => BLOCK.test(line)).length, settings = lines.filter(line => !BLOCK.test(line) && SETTING.test(line)).length;
-    if (blocks > settings) return "tape";
-    return settings || !lines.length ? "settings" : "nothing";
-  }
+  /** The lines of a text that have more than blanks, percent signs and comments. */
+  const linesWithWords = text => text.split("\n").filter(line => /^[ \t]*[^ \t\r(%]/.test(line));
 
   // ---- whose tape it is ----
 
@@ -30,7 +28,7 @@ const Files = (() => {
   function pathIn(text) {
     const words = new Set([...text.matchAll(/upper|lower/gi)].map(([word]) => (word.toLowerCase() === "upper" ? 1 : 2)));
     if (words.size === 1) return [...words][0];
-    const numbers = new Set([...text.matchAll(/(?:path|turret|head|[-_. ]p?)[-_ ]?([12])(?![\d])/gi)].map(found => Number(found[1])));
+    const numbers = new Set([...text.matchAll(/(?:path|turret|head|(?:^|[-_. ])p|[-_. ])[-_ ]?([12])(?!\d)/gi)].map(found => Number(found[1])));
     return !words.size && numbers.size === 1 ? [...numbers][0] : 0;
   }
 
