@@ -79,6 +79,12 @@ class Editor {
   /** The bytes of the text. A file goes in byte by byte, as long as nobody changes the text. */
   bytes() { return this.file ?? bytesOf(this.meant()); }
 
+  /** The text with a letter for each byte. */
+  letters() { return this.file ? textOf(this.file) : this.meant(); }
+
+  /** How many letters it has, or about so many. */
+  get length() { return this.file ? this.file.length : this.field.value.length; }
+
   isEmpty() { return this.file ? this.file.length === 0 : this.field.value === ""; }
 
   /** The text of a line, from 1. */

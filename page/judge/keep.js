@@ -3,6 +3,7 @@
 
 const Keep = (() => {
   const TEXTS = "twin_lathe texts", WISH = "twin_lathe keep";
+  const MOST_LETTERS = 5000000;         // more than that no browser keeps
 
   /** Does something with the browser's store. Some browsers have none for this page, and some have too little: then nothing is given. */
   function withStore(does) {
@@ -23,11 +24,12 @@ const Keep = (() => {
 
   const forget = () => withStore(store => store.removeItem(TEXTS));
 
-  /** Keeps texts, each with its name, its bytes and whether they are saved as a file; says whether they are kept. */
+  /** Keeps texts, each with its name, its letters and whether it is saved as a file; says whether they are kept. */
   function write(texts, outside) {
     if (!isWanted()) return false;
-    const kept = texts.map(text => ({ name: text.fileName, text: textOf(text.bytes()), isChanged: text.isChanged }));
-    const isKept = withStore(store => { store.setItem(TEXTS, JSON.stringify({ texts: kept, outside })); return true; });
+    const isShort = texts.reduce((sum, text) => sum + text.length, 0) <= MOST_LETTERS;
+    const kept = isShort ? texts.map(text => ({ name: text.fileName, text: text.letters(), isChanged: text.isChanged })) : [];
+    const isKept = isShort && withStore(store => { store.setItem(TEXTS, JSON.stringify({ texts: kept, outside })); return true; });
     if (!isKept) forget();
     return Boolean(isKept);
   }
@@ -35,7 +37,8 @@ const Keep = (() => {
   /** What was kept, or nothing. */
   function read() {
     const kept = withStore(store => JSON.parse(store.getItem(TEXTS)));
-    return isWanted() && kept?.texts?.length === 3 && kept.texts.some(({ text }) => text) ? kept : null;
+    const isWhole = kept?.texts?.length === 3 && kept.texts.every(({ name, text }) => typeof name === "string" && typeof text === "string");
+    return isWanted() && isWhole && kept.texts.some(({ text }) => text) ? kept : null;
   }
 
   return { isWanted, want, forget, write, read };
