@@ -1,16 +1,16 @@
 -- A printed line spells its words.
-use Rattle.std.proofs.Common.{◌≡◌, ◌≢◌, ℕ, zero, suc, ◌+◌, ◌<◌, ◌≤◌, ◌==◌, inl, inr, Bool, true, false, ◌||◌, ◌&&◌, List, [], ◌∷◌, ◌++◌, length, map, Option, None, refl, ap, sym, subst, ◌∙◌, arith}
+use Rattle.std.proofs.Common.{◌≡◌, ◌≢◌, ℕ, ◌+◌, ◌<◌, ◌==◌, Bool, true, false, List, [], ◌∷◌, ◌++◌, length, None, refl, ap, sym, subst, arith}
 use Rattle.std.proofs.lemmas.Bool.{eqb-true}
 use Rattle.std.proofs.lemmas.Bool.Decides.{nat_tests}
-use Rattle.std.specs.Char.{is_ascii_uppercase, to_ascii_uppercase}
+use Rattle.std.specs.Char.{to_ascii_uppercase}
 use Rattle.std.specs.List.{list_any, list_all}
 use Rattle.tape_relation.specs.Value.{IsValue}
 use Rattle.line_text.specs.declared.sign.Sign.{Sign}
 use Rattle.line_text.specs.declared.piece.Piece.{Piece}
-use Rattle.tape_relation.specs.Characters.{is_space, is_return, are_spaces, is_ignored, AreSigns, nothing, ignored, counted, remark, IsRemark, is_comment, bytes_of, sign_at}
-use Rattle.tape_relation.specs.LineGrammar.{IsLine, IsSentence, block, IsBlock, worded, IsSkip, WordBlock, has_program_word}
+use Rattle.tape_relation.specs.Characters.{is_ignored, AreSigns, nothing, ignored, counted, remark, IsRemark, is_comment, bytes_of, sign_at}
+use Rattle.tape_relation.specs.LineGrammar.{IsLine, block, worded, WordBlock, has_program_word}
 use Rattle.tape_relation.specs.LineGrammar as grammar
-use Rattle.tape_relation.specs.Words.{word_at, IsWord, AreWords}
+use Rattle.tape_relation.specs.Words.{word_at, AreWords}
 use Rattle.printed_lines.specs.Printed.{PrintedWord, IsPlainByte, ArePlainBytes, IsPrintedWord, ArePrintedWords, behind_text, line_text, IsTail, words_told}
 
 -- numbers that differ test as different
