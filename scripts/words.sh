@@ -186,7 +186,7 @@ END
 
 It judges the pair as `verify` does. A race is a shared variable that one path may write while the other may read or write it, between the
 same two meetings. For each such variable it prints after how many meetings, which path may write it, and at which line of each tape.
-`races 0`: all runs that end make the same moves, whichever path is first. Else put a wait into both tapes, between the two lines.
+`races 0`: all runs that both paths finish make the same moves, whichever path is first. Else put a wait into both tapes, between the two lines.
 END
     fi
     if [[ $name == edit ]]; then
