@@ -1,13 +1,13 @@
 # The command line as the launcher knows it: the list of the commands, the help, and what is wrong with words that are no command.
 # Sourced. The program reads its words itself, and by a proved grammar; this list only saves a build and says more.
 
-# Each command: its name, its words, its options, what it does, and an example. LEFT RIGHT SETTINGS are the files that it judges, so
-# what is said about their lines (scripts/explain) is said for each command whose words begin with these three.
-commands='verify|LEFT RIGHT SETTINGS||judges the two tapes: can they deadlock at a wait?|verify examples/upper.nc examples/lower.nc examples/cell.txt
-waits|LEFT RIGHT SETTINGS|outside|judges the waits of any two tapes, and lists where the paths meet|waits examples/shaft_upper.nc examples/shaft_lower.nc examples/plain.txt --outside 9000-9999
-races|LEFT RIGHT SETTINGS||lists the shared variables whose value depends on which path is first|races examples/race_upper.nc examples/race_lower.nc examples/plain.txt
-trace|LEFT RIGHT SETTINGS|blocks|prints each move, wait and meeting of a run in its place, without a journal|trace examples/upper.nc examples/lower.nc examples/cell.txt
-run|LEFT RIGHT SETTINGS|blocks turret1 turret2|judges the tapes, runs both, and prints the moves of each turret|run examples/upper.nc examples/lower.nc examples/cell.txt
+# Each command: its name, its words, its options, what it does, and an example. A word in brackets may be left out. LEFT RIGHT
+# [SETTINGS] are the files that it judges, so what is said about their lines (scripts/explain) is said for each such command.
+commands='verify|LEFT RIGHT [SETTINGS]||judges the two tapes: can they deadlock at a wait?|verify examples/upper.nc examples/lower.nc examples/cell.txt
+waits|LEFT RIGHT [SETTINGS]|outside|judges the waits of any two tapes, and lists where the paths meet|waits examples/shaft_upper.nc examples/shaft_lower.nc examples/plain.txt --outside 9000-9999
+races|LEFT RIGHT [SETTINGS]||lists the shared variables whose value depends on which path is first|races examples/race_upper.nc examples/race_lower.nc examples/plain.txt
+trace|LEFT RIGHT [SETTINGS]|blocks|prints each move, wait and meeting of a run in its place, without a journal|trace examples/upper.nc examples/lower.nc examples/cell.txt
+run|LEFT RIGHT [SETTINGS]|blocks turret1 turret2|judges the tapes, runs both, and prints the moves of each turret|run examples/upper.nc examples/lower.nc examples/cell.txt
 resume||blocks turret1 turret2|continues the run of the journal after a stop or a crash|resume
 edit|EDITS||corrects offsets and variables of the run in the journal, before it goes on|edit edits.txt
 moves|||prints the moves that the journal has|moves
@@ -50,7 +50,7 @@ usage_of() {
 }
 
 # Whether the command $1 judges two tapes and the settings.
-judges_files() { [[ $(words_of "$1") == 'LEFT RIGHT SETTINGS'* ]]; }
+judges_files() { [[ $(words_of "$1") == 'LEFT RIGHT [SETTINGS]'* ]]; }
 
 # Whether $3 is a whole number from $1 to $2, in at most seven digits.
 is_between() { [[ $3 =~ ^[0-9]{1,7}$ ]] && ((10#$3 >= $1 && 10#$3 <= $2)); }
@@ -91,15 +91,18 @@ fault_of_words() {
     judge_words
 }
 
-# So many words, in words.
-count_words() { if (($1 == 1)); then printf '1 word'; else printf '%d words' "$1"; fi; }
+# So many words, in words: from $1 to $2.
+count_words() {
+    if (($1 != $2)); then printf '%d or %d words' "$1" "$2"; elif (($1 == 1)); then printf '1 word'; else printf '%d words' "$1"; fi
+}
 
 # The same, of the words that fault_of_words has sorted: `names` and `given` options of the command `name`.
 judge_words() {
-    local wanted option text seen=' '
+    local wanted least=0 word option text seen=' '
     read -ra wanted <<<"$(words_of "$name")"
-    if ((${#names[@]} != ${#wanted[@]})); then
-        printf '%s takes %s%s, and %d %s given\n' "$name" "$(count_words "${#wanted[@]}")" "${wanted[*]:+ (${wanted[*]})}" \
+    for word in ${wanted[@]+"${wanted[@]}"}; do [[ $word == \[* ]] || least=$((least + 1)); done
+    if ((${#names[@]} < least || ${#names[@]} > ${#wanted[@]})); then
+        printf '%s takes %s%s, and %d %s given\n' "$name" "$(count_words "$least" "${#wanted[@]}")" "${wanted[*]:+ (${wanted[*]})}" \
             "${#names[@]}" "$( ((${#names[@]} == 1)) && printf is || printf are)"
         return
     fi
@@ -130,9 +133,9 @@ judge_words() {
 list_commands() {
     local name words options what
     while IFS='|' read -r name words options what _; do
-        printf '  %-47s %s\n' "twin_lathe $name${words:+ $words}${options:+ [OPTIONS]}" "$what"
+        printf '  %-49s %s\n' "twin_lathe $name${words:+ $words}${options:+ [OPTIONS]}" "$what"
     done <<<"$commands"
-    printf '  %-47s %s\n' \
+    printf '  %-49s %s\n' \
         'twin_lathe try COMMAND ..' 'any of these, by a program that is not proved: ready in a minute or two' \
         'twin_lathe build' 'proves and builds the program, and runs nothing' \
         'twin_lathe help [COMMAND], --version' 'this text, the help of one command, what this is'
@@ -145,8 +148,8 @@ help_of_all() {
     cat <<'END'
 
 LEFT is the tape of path 1, RIGHT the tape of path 2. SETTINGS describes the machine: which M codes are waits, start and home
-positions, offsets (examples/cell.txt explains each line; an empty file takes the defaults). Options: --blocks N stops after N
-records; --turret1 FILE and --turret2 FILE write what each turret gets to a file or a named pipe, a line a call, during the run;
+positions, offsets (examples/cell.txt explains each line; without SETTINGS, or with an empty file, the defaults count).
+Options: --blocks N stops after N records; --turret1 FILE and --turret2 FILE write what each turret gets to a file or a named pipe, a line a call, during the run;
 --outside A-B: the tapes may lack the programs O A to O B. `waits` assumes something of the machine: see `help waits`.
 `run` and `make` begin the journal twin.journal in the current folder; `resume`, `edit`, `moves`, `state`, `zones` and `branch` read it
 there. `branch` alone writes branch.journal.
@@ -167,6 +170,7 @@ help_of() {
     printf 'twin_lathe %s%s\n\n  %s\n\n  twin_lathe %s\n' "$name" "${shown:+ $shown}" "$what" "$example"
     if judges_files "$name"; then
         printf '\nLEFT is the tape of path 1, RIGHT the tape of path 2, SETTINGS the file that describes the machine.\n'
+        printf 'Without SETTINGS the defaults count, as with an empty file.\n'
     fi
     if [[ $name == waits ]]; then
         cat <<'END'
