@@ -39,7 +39,7 @@ use Rattle.lathe_looks.specs.declared.fetching.FileFault.{FileFault}
 use Rattle.lathe_looks.specs.declared.fetching.FileFault.TheVariants.{Failed, Absent, TooLong}
 use Rattle.lathe_looks.specs.Fetched.{IsOfFiles, not_had, unread, answers, fault_status}
 use Rattle.lathe_looks.specs.Shown.{unfound_answer}
-use Rattle.lathe_looks.specs.Named.{Named, text_list}
+use Rattle.lathe_looks.specs.Named.{Named, pair_texts}
 use Rattle.lathe_looks.specs.Standing.{is_over}
 use Rattle.lathe_top.specs.Done as done
 use Rattle.lathe_top.specs.Done.{Call, command_of, IsDone, IsDue, IsDueTo}
@@ -238,12 +238,12 @@ module _ {D E : Type 0} (state : D → DiskState) (second : E → DiskState) (ca
   -- `run` over its files, with the status of a run that was not cut off, wrote the stream of each
   -- path
   files_streams : (limit : ℕ) (text_of : TextOf) (files : List Named) (answer : Answer)
-      → IsOfFiles text_list files (RestsWhole call.before.lathe call.after.lathe)
+      → IsOfFiles pair_texts files (RestsWhole call.before.lathe call.after.lathe)
       (λ texts. IsRun state limit text_of texts call.before.lathe call.after.lathe) call.before.shelf call.after.shelf answer
       → IsUncut (answer_status answer) → HasStreams state call (answer_status answer)
   files_streams limit text_of files answer (not_had {fault = fault} missing rests) uncut = absurd (missing_status fault uncut)
   files_streams limit text_of files answer (unread some rests) uncut = absurd (no_high 12 (omega arith) (omega arith) uncut)
-  files_streams limit text_of files answer (answers texts are run) uncut = run_streams limit text_of texts answer run uncut
+  files_streams limit text_of files answer (answers texts are run) uncut = run_streams limit text_of (pair_texts texts) answer run uncut
 
   -- `resume`, with the status of a run that was not cut off, wrote the stream of each path
   resumed_streams : (limit : ℕ) (answer : Answer) → IsResumed state limit call.before.lathe call.after.lathe answer → IsUncut (answer_status answer)
