@@ -12,7 +12,7 @@ use ending::Ending;
 use lathe_top::{Outcome, top};
 use nc_number::Path;
 use nc_outside::Turret;
-use real_outside::{Access, FileDisk, FileShelf, LineFile, StdSink, SystemFolder, Trouble};
+use real_outside::{Access, FileDisk, FileShelf, Folder, LineFile, StdSink, SystemFolder};
 use std::alloc::AllocError;
 use std::env;
 use std::io::ErrorKind;
@@ -38,7 +38,7 @@ fn main(rt: HostRuntime) -> Ending {
     let names = names_for_turrets(&command);
     let mut shelf = FileShelf::new(&rt);
     let mut out = StdSink::new(&rt);
-    let access = access_of(words.as_slice());
+    let access = access_of(&command, words.as_slice());
     let outcome = top(
         &rt,
         rt.alloc(),
@@ -52,8 +52,8 @@ fn main(rt: HostRuntime) -> Ending {
     );
     let end = Ending::behind(&outcome);
     tell_missed(&rt, &outcome);
-    complain(&rt, JOURNAL, outcome.disk.trouble());
-    complain(&rt, BRANCH, outcome.second.trouble());
+    complain(&rt, JOURNAL, &outcome.disk);
+    complain(&rt, BRANCH, &outcome.second);
     end
 }
 
@@ -92,8 +92,11 @@ fn text_of(name: &Option<Name>) -> Option<&str> {
     }
 }
 
-/// Whether the command of these words writes the journal, or only looks at it.
-fn access_of(words: &[String]) -> Access {
+/// Whether the command of these words writes the journal, goes on with it, or only looks at it.
+fn access_of(command: &Option<Command>, words: &[String]) -> Access {
+    if let Some(Command::Resume(_, _)) = command {
+        return Access::Continue;
+    }
     match journal_of(words) {
         Journal::Write => Access::Write,
         Journal::None | Journal::Look => Access::Look,
@@ -112,12 +115,14 @@ fn tell_missed<R: Eprint, D: Disk, E: Disk, T: Turret>(rt: &R, outcome: &Outcome
     }
 }
 
-/// Says on standard error why the file of a journal can't be used, if there is a reason. If that
+/// Says on standard error why the file of a journal can't be used, if a call of it failed. If that
 /// can't be said, the status still tells of it.
-fn complain<R: Eprint>(rt: &R, journal: &str, trouble: Option<Trouble>) {
-    if let Some(trouble) = trouble {
-        let _ = eprintln!(rt; "{journal} {trouble}");
-    }
+fn complain<R: Eprint, D: Folder + Drop>(rt: &R, journal: &str, disk: &FileDisk<'_, D>) {
+    let _ = match (disk.trouble(), disk.cause()) {
+        (Some(trouble), _) => eprintln!(rt; "{journal} {trouble}"),
+        (None, Some(error)) => eprintln!(rt; "{journal}: {error}"),
+        (None, None) => Ok(()),
+    };
 }
 
 /// The words after the program's name. If one of them is no text they are no command, and none is
