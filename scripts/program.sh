@@ -10,8 +10,17 @@ library_module=$root/crates/lathe_c/out/lathe_c.bc
 # Once a gate has passed here: of which sources it proved the library and all below it, whose libraries it left in out/rlib of each crate.
 library_proofs=$root/crates/lathe_c/out/proofs
 # Beside each of these stands its mark, a file with `.built` after its name: its checksum, the lines of crates.txt that it stands on,
-# and the checksum of their sources when its building began. The proved program and the module have one only if they were proved and
-# built whole. A file with `.toolchain` after its name has the identity of the toolchain that built it.
+# and the checksum of their sources when its building began. (Of a program that is `src` and `specs`: a proof that is written anew later
+# changes nothing of what was proved.) The proved program and the module have one only if they were proved and built whole. A file with `.toolchain` after its name has the identity of the toolchain that built it, and one with `.commit` the commit
+# and the time. A file with `.same` or `.other` keeps by its own time since when all of that was found unchanged, or changed.
+
+# A release (scripts/release) has no sources: its program stands in `program`, and its file PROOF says what was proved of it.
+proof=$root/PROOF
+is_release() { [[ -f $proof ]]; }
+if is_release; then
+    program=$root/program/twin_lathe
+    unproved=$program
+fi
 
 # The folder of the toolchain is the one that RATTLE names, or else `rt` is on the PATH.
 find_tool() {
@@ -83,9 +92,9 @@ sum_sources() {
     ((${#folders[@]})) && (cd "$root/crates" && find "${folders[@]}" ! -type d -print0 | LC_ALL=C sort -z | xargs -0 sha256sum -- | sha256sum)
 }
 
-# The same of all that is proved, and of all that is compiled without proofs.
+# The same of all with its proofs, and of what the program is compiled of.
 sum_proved() { sum_sources "${1:-twin_lathe}" src specs proofs; }
-sum_unproved() { sum_sources twin_lathe src specs; }
+sum_program() { sum_sources twin_lathe src specs; }
 
 # What the mark of the file $1, which is built of the crate $2 from sources with the checksum $3, has to say.
 mark_text() {
@@ -101,24 +110,82 @@ is_of_toolchain() {
     [[ -f $1.toolchain && $(<"$1.toolchain") == "$here" ]]
 }
 
+# Whether nothing has changed since the time of the file $2: the file $1, its mark, and all whose checksum the command $3 gives. The system
+# notes each change of a file, and each new, lost or renamed name in a folder, by its own clock. (`find` ends at the first that is newer.)
+is_unchanged_since() {
+    local newer others=(-name out -o -name must-fail)
+    [[ -f $2 ]] || return
+    [[ $3 != sum_program ]] || others+=(-o -name proofs)
+    newer=$(find "$1" "$1.built" "$root/crates.txt" "$root/crates" \( "${others[@]}" \) -prune -o -cnewer "$2" -print -quit 2>&1) &&
+        [[ -z $newer ]]
+}
+
 # Whether the file $1 is built of the crate $2, by this toolchain, and neither that nor the sources, whose checksum the words $3 .. give,
-# have changed since.
+# have changed since. All of it is summed only if something there is newer than the last look.
 is_current() {
     local built=$1 top=$2
     shift 2
-    [[ -f $built && -f $built.built ]] && is_of_toolchain "$built" && [[ $(<"$built.built") == "$(mark_text "$built" "$top" "$("$@")")" ]]
+    [[ -f $built && -f $built.built ]] && is_of_toolchain "$built" || return
+    if is_unchanged_since "$built" "$built.same" "$1"; then return 0; fi
+    if is_unchanged_since "$built" "$built.other" "$1"; then return 1; fi
+    is_summed "$built" "$top" "$@"
+}
+
+# The same by the checksums of all that it is built of. Beside it stands what was found, with a time before they were taken: what has
+# changed since then is looked at again. (The system's times have steps of up to 10 ms, so it waits for two of them before it sums. In a
+# folder that may not be written nothing is kept, and each call sums.)
+is_summed() {
+    local built=$1 top=$2 look found=same
+    shift 2
+    look=$(mktemp -- "$built.look.XXXXXX" 2>/dev/null) && sleep 0.02
+    [[ $(<"$built.built") == "$(mark_text "$built" "$top" "$("$@")")" ]] || found=other
+    if [[ -n $look ]]; then
+        rm -f -- "$built.same" "$built.other"
+        mv -f -- "$look" "$built.$found"
+    fi
+    [[ $found == same ]]
 }
 
 # Whether the proved program is built, the one without proofs is compiled, and the library's module is kept, from the sources as they are.
-is_built() { [[ -x $program ]] && is_current "$program" twin_lathe sum_proved; }
-is_compiled() { [[ -x $unproved ]] && is_current "$unproved" twin_lathe sum_unproved; }
+# (In a release there is one program, which was either.)
+is_built() {
+    if is_release; then grep -q '^proved' "$proof"; else [[ -x $program ]] && is_current "$program" twin_lathe sum_program; fi
+}
+is_compiled() { is_release || { [[ -x $unproved ]] && is_current "$unproved" twin_lathe sum_program; }; }
 is_module_kept() { is_current "$library_module" lathe_c sum_proved lathe_c; }
 
 # Notes that a file was built (the proved program, if $2 names no other) of the crate $3 or twin_lathe, by the toolchain that is here and
 # from sources whose checksum stands in the file $1.
 note_built() {
     local built=${2:-$program}
-    tool_version >"$built.toolchain" && mark_text "$built" "${3:-twin_lathe}" "$(<"$1")" >"$built.built"
+    tool_version >"$built.toolchain" && mark_text "$built" "${3:-twin_lathe}" "$(<"$1")" >"$built.built" || return
+    printf '%s\n' "$(commit_here)" "$(date -u '+%Y-%m-%d %H:%M UTC')" >"$built.commit"
+}
+
+# What was proved of the program that is built: that it was, or not, and when, of which commit and sources, by which toolchain.
+proof_text() {
+    local commit=none when='' tool
+    if is_release; then
+        cat -- "$proof"
+    elif is_built; then
+        [[ ! -f $program.commit ]] || { read -r commit && read -r when; } <"$program.commit"
+        printf 'proved%s\ncommit %s\nsources %s\ntoolchain %s\n' "${when:+ on $when}" "$commit" "$(sed -n '$s/ .*//p' "$program.built")" \
+            "$(<"$program.toolchain")"
+    else
+        tool=$(tool_version) || tool='none here'
+        printf 'not proved here%s: `twin_lathe prove` does it\ncommit %s\ntoolchain %s\n' \
+            "$([[ ! -e $program.built ]] || echo ' as the sources are now')" "$(commit_here)" "$tool"
+    fi
+}
+
+# The commit of the sources as they are, with `-dirty` after it if a file differs from it.
+commit_here() { git -C "$root" describe --always --dirty --abbrev=12 --exclude '*' 2>/dev/null || echo 'none (no git repository)'; }
+
+# The version number: VERSION has it, and nothing else.
+version_number() {
+    local number
+    { read -r number <"$root/VERSION"; } 2>/dev/null || number='of no version'
+    printf '%s' "$number"
 }
 
 # The crates of the repository below the library for C.
@@ -159,6 +226,7 @@ are_libraries_here() { [[ -f $library_proofs && $(<"$library_proofs") == "$(proo
 tool_version() {
     local tool kit
     tool=$(find_tool) || return
-    kit=${RATTLE:-$(dirname -- "$(dirname -- "$(readlink -f -- "$tool")")")}
-    if [[ -s $kit/KIT-ID ]]; then cat -- "$kit/KIT-ID"; else "$tool" version; fi
+    kit=${RATTLE-}
+    [[ -n $kit ]] || { kit=$(readlink -f -- "$tool"); kit=${kit%/*/*}; }
+    if [[ -s $kit/KIT-ID ]]; then printf '%s\n' "$(<"$kit/KIT-ID")"; else "$tool" version; fi
 }

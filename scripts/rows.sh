@@ -174,7 +174,7 @@ find_program() {
         program=$(readlink -f -- "$1")
         [[ -f $program && -x $program ]] || end_at 'the program' "$1 is none"
     else
-        "$root/twin_lathe" build >/dev/null || end_at 'the program' 'it was not proved or not built'
+        "$root/twin_lathe" prove >/dev/null || end_at 'the program' 'it was not proved or not built'
     fi
     begun=$SECONDS
 }

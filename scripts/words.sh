@@ -1,7 +1,7 @@
 # The command line as the launcher knows it: the list of the commands, the help, and what is wrong with words that are no command.
 # Sourced. The program reads its words itself, and by a proved grammar; this list only saves a build and says more.
 
-# Each command: its name, its words, its options, what it does, and an example. LEFT RIGHT SETTINGS are the files that it judges, so
+# Each command: its name, its words, its options, what it does (in at most 76 characters), and an example. LEFT RIGHT SETTINGS are the files that it judges, so
 # what is said about their lines (scripts/explain) is said for each command whose words begin with these three.
 commands='verify|LEFT RIGHT SETTINGS||judges the two tapes: can they deadlock at a wait?|verify examples/upper.nc examples/lower.nc examples/cell.txt
 waits|LEFT RIGHT SETTINGS|outside|judges the waits of any two tapes, and lists where the paths meet|waits examples/shaft_upper.nc examples/shaft_lower.nc examples/plain.txt --outside 9000-9999
@@ -17,20 +17,25 @@ branch|MEETINGS||writes that run up to a meeting to a second journal, branch.jou
 make|N|turret1 turret2|runs a generated test job of some 10,000 blocks (N: 0 to 999999)|make 7
 expand|TAPE||writes a tape with its G71 and G70 over contours of lines as plain blocks|expand examples/roughing.nc'
 
-# The row of the command $1.
+# The row of the command $1. (The shell would read lines byte by byte, so the row is cut out.)
 row_of() {
-    local row
-    while IFS= read -r row; do
-        [[ ${row%%|*} != "$1" ]] || { printf '%s\n' "$row"; return 0; }
-    done <<<"$commands"
-    return 1
+    local all=$'\n'$commands$'\n' row
+    [[ $1 != *[$'\n|']* && $all == *$'\n'"$1|"* ]] || return
+    row=${all#*$'\n'"$1|"}
+    printf '%s|%s\n' "$1" "${row%%$'\n'*}"
 }
 
 # The words of the command $1.
-words_of() { row_of "$1" | cut -d '|' -f 2; }
+words_of() {
+    local row
+    row=$(row_of "$1") && row=${row#*|} && printf '%s' "${row%%|*}"
+}
 
 # The options of the command $1.
-options_of() { row_of "$1" | cut -d '|' -f 3; }
+options_of() {
+    local row
+    row=$(row_of "$1") && row=${row#*|*|} && printf '%s' "${row%%|*}"
+}
 
 # The text of an option, as it is written in the help.
 text_of_option() {
@@ -126,16 +131,31 @@ judge_words() {
     fi
 }
 
-# A line for each command.
+# The launcher's own commands, in the same form.
+own_commands='try|COMMAND ..||runs any of these by a program that is not proved, also if one is|try verify examples/upper.nc examples/lower.nc examples/cell.txt
+prove|||proves and builds the program, and runs nothing|prove
+help|[COMMAND]||prints this text, or the help of one command|help waits
+version|||prints what this is, and what was proved here|version'
+
+# The commands and their words, each with what it does.
 list_commands() {
     local name words options what
     while IFS='|' read -r name words options what _; do
-        printf '  %-47s %s\n' "twin_lathe $name${words:+ $words}${options:+ [OPTIONS]}" "$what"
-    done <<<"$commands"
-    printf '  %-47s %s\n' \
-        'twin_lathe try COMMAND ..' 'any of these, by a program that is not proved: ready in a minute or two' \
-        'twin_lathe build' 'proves and builds the program, and runs nothing' \
-        'twin_lathe help [COMMAND], --version' 'this text, the help of one command, what this is'
+        printf '  twin_lathe %s\n    %s\n' "$name${words:+ $words}${options:+ [OPTIONS]}" "$what"
+    done <<<"$commands"$'\n'"$own_commands"
+}
+
+# The launcher's own options, which no program sees.
+launcher_options() {
+    cat <<'END'
+--explain       says on standard error what the answer means, also elsewhere
+                than at a terminal
+--quiet         says nothing but the program's answer
+--format json   prints the verdict of verify, waits or races as JSON, an
+                object a line
+--all FOLDER    in place of LEFT and RIGHT: judges each pair of the folder,
+                by verify, waits or races
+END
 }
 
 # The help of all commands.
@@ -144,78 +164,184 @@ help_of_all() {
     list_commands
     cat <<'END'
 
-LEFT is the tape of path 1, RIGHT the tape of path 2. SETTINGS describes the machine: which M codes are waits, start and home
-positions, offsets (examples/cell.txt explains each line; an empty file takes the defaults). Options: --blocks N stops after N
-records; --turret1 FILE and --turret2 FILE write what each turret gets to a file or a named pipe, a line a call, during the run;
---outside A-B: the tapes may lack the programs O A to O B. `waits` assumes something of the machine: see `help waits`.
-`run` and `make` begin the journal twin.journal in the current folder; `resume`, `edit`, `moves`, `state`, `zones` and `branch` read it
-there. `branch` alone writes branch.journal.
+LEFT is the tape of path 1, RIGHT the tape of path 2. SETTINGS describes the
+machine: which M codes are waits, start and home positions, offsets
+(examples/cell.txt explains each line; an empty file takes the defaults).
+Options of the program: --blocks N stops after N records; --turret1 FILE and
+--turret2 FILE write what each turret gets to a file or a named pipe, a line a
+call, during the run; --outside A-B: the tapes may lack the programs O A to O B.
+`waits` assumes something of the machine: see `help waits`.
+`run` and `make` begin the journal twin.journal in the current folder; `resume`,
+`edit`, `moves`, `state`, `zones` and `branch` read it there. `branch` alone
+writes branch.journal.
 
-  twin_lathe try waits examples/upper.nc examples/lower.nc examples/cell.txt
+  twin_lathe waits examples/upper.nc examples/lower.nc examples/cell.txt
 
-The first call of a command without `try` proves and builds the program. Only the program's text goes to standard output.
-At a terminal, or with TWIN_LATHE_EXPLAIN=1, standard error says what a refusal means and what to do (docs/ERRORS.md has every
-number; TWIN_LATHE_EXPLAIN=0 turns it off). README.md has the exit statuses.
+Options of the launcher, with any command:
 END
+    launcher_options | sed 's/^/  /'
+    cat <<'END'
+
+Until `prove` has run, the program is compiled without its proofs, once. Only
+the program's text goes to standard output. At a terminal, or with --explain or
+TWIN_LATHE_EXPLAIN=1, standard error says what a refusal means and what to do
+(docs/ERRORS.md has every number; TWIN_LATHE_EXPLAIN=0 turns it off).
+docs/COMMANDS.md has the exit statuses.
+END
+}
+
+# What the help of the command $1 says besides its words.
+body_of() {
+    case $1 in
+        verify)
+            cat <<'END'
+It prints `accepted`, or `refused NUMBER NAME` and the place: the first fault of
+the settings, of the tape of path 1, of that of path 2, or of their waits.
+Nothing runs, and no journal is written. It is stricter than `waits`: what it
+accepts can be played through by `run`.
+END
+            ;;
+        run | resume)
+            cat <<'END'
+It prints each move of both paths, and how the run ended. After a stop, a crash
+or a kill `resume` goes on with the journal twin.journal of this folder, and
+reports the whole run. Give each job a folder of its own.
+END
+            ;;
+        waits)
+            cat <<'END'
+It prints how often the paths meet, each meeting with the line of both tapes,
+and how both tapes end: `end`, `again` (M99 of both main programs) or `off`
+(past their last blocks). It does not look into cycles, unknown codes and
+expressions.
+
+It assumes this of the machine, and no proof covers it: a path that has run a
+block goes on where that block says. After a jump that is its sequence number or
+the next block; after a call, the called program; after M99, the caller; after
+every other block, the next one. At a waiting code a path stands until the other
+path stands at one; then both go on. At M02 and M30 it stays. Anything else is
+an alarm that stops both paths. The line `goes on` names every code and program
+for which only this assumption speaks: see that no parameter makes such a code a
+call.
+END
+            ;;
+        races)
+            cat <<'END'
+It judges the pair as `verify` does. A race is a shared variable that one path
+may write while the other may read or write it, between the same two meetings.
+For each such variable it prints after how many meetings, which path may write
+it, and at which line of each tape. `races 0`: all runs that end make the same
+moves, whichever path is first. Else put a wait into both tapes, between the two
+lines.
+END
+            ;;
+        edit)
+            cat <<'END'
+EDITS is a text of lines: `work p n X.. Z..`, `tool p n X.. Z..` and
+`wear p n X.. Z..` as in the settings, `var p v NUMBER` and `var p v vacant` for
+a common variable (#100 to #199, #500 to #999). p is the path. At most 64 edits;
+each line is one, in order. They become records of the journal, all at once or
+none, and nothing moves. Then `resume` goes on with them.
+END
+            ;;
+        zones)
+            cat <<'END'
+FILE says how both paths lie in one cell, a line each, all of them optional:
+`frame 2 X0 Z500.` where the origin of a path lies, `mirror 2` that a path sees
+X from the other side, `gap X5. Z5.` how far apart they are to stay. It prints a
+line for each segment between two meetings, `clear` or `hit`. `clear` is proved
+of the programmed points, for any timing; of tools and holders it knows nothing.
+END
+            ;;
+        branch)
+            cat <<'END'
+MEETINGS is how many meetings the branch has: 0 is the beginning of the run. The
+journal twin.journal stays as it is, also beside a run. The branch has the same
+tapes and settings. To go on with it, copy branch.journal as twin.journal into
+another folder; there `edit` and `resume` work on it. A journal that is there
+already is never written over.
+END
+            ;;
+        expand)
+            cat <<'END'
+TAPE is the tape of one path; standard output is the new tape. All other lines
+stay byte for byte. G71 is understood in its two-block form, directly behind a
+block `G00 X.. Z..`, with a contour of G01 lines whose X does not fall and whose
+Z does not rise; G70 directly behind a block `G00 X.. Z..`. No move of the new
+blocks cuts into the contour: it is proved.
+END
+            ;;
+        try)
+            cat <<'END'
+The program is compiled once, in two minutes or so, without its proofs. Without
+the word `try` a call takes the proved program, if there is one.
+END
+            ;;
+        prove)
+            cat <<'END'
+It takes 20 to 50 minutes on four processors. From then on each call takes that
+program, until a source or the toolchain changes. `version` says what was
+proved.
+END
+            ;;
+    esac
+}
+
+# Lines of at most 80 columns: a longer one goes on below, before an option or, with the sign for a shell, before a word.
+in_columns() {
+    awk '
+        length($0) <= 80 { print; next }
+        {
+            sign = NR == 1 ? "" : " \\"
+            for (k = 78; k > 1 && !(substr($0, k, 1) == " " && (NR > 1 || substr($0, k + 1, 1) == "[")); k--);
+            print substr($0, 1, k - 1) sign "\n    " substr($0, k + 1)
+        }'
 }
 
 # The help of the command $1.
 help_of() {
-    local name words options what example shown
-    IFS='|' read -r name words options what example < <(row_of "$1")
+    local name words options what example shown body
+    IFS='|' read -r name words options what example < <(row_of "$1" || own_row_of "$1")
     shown=$(usage_of "$name")
-    printf 'twin_lathe %s%s\n\n  %s\n\n  twin_lathe %s\n' "$name" "${shown:+ $shown}" "$what" "$example"
+    printf 'twin_lathe %s%s\n\n  %s\n\n  twin_lathe %s\n' "$name" "${shown:+ $shown}" "$what" "$example" | in_columns
     if judges_files "$name"; then
-        printf '\nLEFT is the tape of path 1, RIGHT the tape of path 2, SETTINGS the file that describes the machine.\n'
+        printf '\nLEFT is the tape of path 1, RIGHT the tape of path 2, SETTINGS the file that\ndescribes the machine.\n'
     fi
-    if [[ $name == waits ]]; then
-        cat <<'END'
-
-It prints how often the paths meet, each meeting with the line of both tapes, and how both tapes end: `end`, `again` (M99 of both
-main programs) or `off` (past their last blocks). It does not look into cycles, unknown codes and expressions.
-
-It assumes this of the machine, and no proof covers it: a path that has run a block goes on where that block says. After a jump that
-is its sequence number or the next block; after a call, the called program; after M99, the caller; after every other block, the next
-one. At a waiting code a path stands until the other path stands at one; then both go on. At M02 and M30 it stays. Anything else is
-an alarm that stops both paths.
-The line `goes on` names every code and program for which only this assumption speaks: see that no parameter makes such a code a call.
-END
-    fi
-    if [[ $name == races ]]; then
-        cat <<'END'
-
-It judges the pair as `verify` does. A race is a shared variable that one path may write while the other may read or write it, between the
-same two meetings. For each such variable it prints after how many meetings, which path may write it, and at which line of each tape.
-`races 0`: all runs that end make the same moves, whichever path is first. Else put a wait into both tapes, between the two lines.
-END
-    fi
-    if [[ $name == edit ]]; then
-        cat <<'END'
-
-EDITS is a text of lines: `work p n X.. Z..`, `tool p n X.. Z..` and `wear p n X.. Z..` as in the settings, `var p v NUMBER` and
-`var p v vacant` for a common variable (#100 to #199, #500 to #999). p is the path. At most 64 edits; each line is one, in order.
-They become records of the journal, all at once or none, and nothing moves. Then `resume` goes on with them.
-END
-    fi
-    if [[ $name == branch ]]; then
-        cat <<'END'
-
-MEETINGS is how many meetings the branch has: 0 is the beginning of the run. The journal twin.journal stays as it is, also beside a run.
-The branch has the same tapes and settings. To go on with it, copy branch.journal as twin.journal into another folder; there `edit` and
-`resume` work on it. A journal that is there already is never written over.
-END
-    fi
-    if [[ $name == expand ]]; then
-        cat <<'END'
-
-TAPE is the tape of one path; standard output is the new tape. All other lines stay byte for byte. G71 is understood in its
-two-block form, directly behind a block `G00 X.. Z..`, with a contour of G01 lines whose X does not fall and whose Z does not rise;
-G70 directly behind a block `G00 X.. Z..`. No move of the new blocks cuts into the contour: it is proved.
-END
-    fi
+    body=$(body_of "$name")
+    [[ -z $body ]] || printf '\n%s\n' "$body"
     [[ " $options " != *' blocks '* ]] || printf '%s\n' '--blocks N stops after N records (1 to 1000000; 100000 if it is not given).'
     [[ " $options " != *' outside '* ]] ||
-        printf '%s\n' '--outside A-B: the tapes may lack the programs O A to O B (1 to 9999). You promise that none of them waits or ends.'
+        printf '%s\n' '--outside A-B: the tapes may lack the programs O A to O B (1 to 9999). You' 'promise that none of them waits or ends.'
     [[ " $options " != *' turret1 '* ]] ||
-        printf '%s\n' '--turret1 FILE, --turret2 FILE: a file or a named pipe for what that turret gets, a line a call, during the run.'
+        printf '%s\n' '--turret1 FILE, --turret2 FILE: a file or a named pipe for what that turret' 'gets, a line a call, during the run.'
+}
+
+# The row of the launcher's own command $1.
+own_row_of() { local commands=$own_commands; row_of "$1"; }
+
+# Whether there is help of $1.
+has_help() { row_of "$1" >/dev/null || own_row_of "$1" >/dev/null; }
+
+# The command that was meant by $1, if one is near: the same but for two letters, one if $1 is short, or its beginning.
+nearest_command() {
+    printf '%s\n' "$commands" "$own_commands" | awk -F '|' -v typed="$1" '
+        function least(a, b, c) { return a < b ? (a < c ? a : c) : (b < c ? b : c) }
+        function distance(a, b,    i, j, row, before, kept) {
+            for (j = 0; j <= length(b); j++) row[j] = j
+            for (i = 1; i <= length(a); i++) {
+                before = row[0]; row[0] = i
+                for (j = 1; j <= length(b); j++) {
+                    kept = row[j]
+                    row[j] = least(row[j] + 1, row[j - 1] + 1, before + (substr(a, i, 1) != substr(b, j, 1)))
+                    before = kept
+                }
+            }
+            return row[length(b)]
+        }
+        {
+            far = distance(tolower(typed), $1)
+            if (length(typed) > 1 && index($1, tolower(typed)) == 1) far = 0
+            if (NR == 1 || far < best) { best = far; name = $1 }
+        }
+        END { if (best <= (length(typed) > 4 ? 2 : 1)) print name }'
 }

@@ -1,0 +1,113 @@
+# What saves a part, beside the verdict: numbers without a point, tapes of the other G-code system, blocks that can only stop a run, and the
+# refusals after the first. Sourced after meanings.sh by scripts/explain and scripts/verdict_json. Nothing here is proved. It reads the
+# text of the tapes in its own way; what the program can be asked, it is asked: `room` is a folder for the tapes of such questions.
+
+# Each function prints a line a finding: FILE, LINE, WORD and a text, with this sign between.
+between=$'\037'
+
+# Numbers of lengths without a point, which count 0.001 mm: how many in the tape $1, and the first. 0 is the same with a point. Words of a
+# dwell, of G10 and of calls are no lengths.
+numbers_without_point() {
+    blocks_of "$1" | awk -F '\t' -v file="$1" -v sign="$between" '
+        { text = $2; sub(/^(\/[1-9]?)?/, "", text); sub(/^N[0-9]+/, "", text) }
+        text ~ /^(#|IF|WHILE|GOTO|DO|END|O[0-9])/ || text ~ /G0*(4|10|65|66)([^0-9.]|$)/ || text ~ /M0*98([^0-9]|$)/ { next }
+        {
+            while (gsub(/\[[^][]*\]/, "#", text));
+            while (match(text, /[XZUWIKR][-+]?[0-9]+/)) {
+                word = substr(text, RSTART, RLENGTH); text = substr(text, RSTART + RLENGTH)
+                if (text ~ /^\./ || word ~ /^.[-+]?0+$/) continue
+                count++
+                if (count == 1) { first = word; line = $1 }
+            }
+        }
+        END {
+            if (!count) exit
+            value = first; sub(/^.\+?/, "", value)
+            printf "%s%s%s%s%s%s%s without a point in this tape: %s is %.3f mm\n", file, sign, line, sign, first, sign,
+                count == 1 ? "a number" : count " numbers", first, value / 1000
+        }'
+}
+
+# A tape that looks like one of system B, where the settings say system A: a code that A does not have, or a word that means something else in
+# A, in the way in which it is written in B.
+looks_like_system_b() {
+    [[ $(system_of_settings) == A ]] || return
+    blocks_of "$1" | awk -F '\t' -v file="$1" -v sign="$between" '
+        {
+            text = $2
+            while (gsub(/\[[^][]*\]/, "#", text));
+            if (match(text, /G(91|95|7[789]|33)/) && substr(text, RSTART + 3) !~ /^[0-9.]/) found = substr(text, RSTART, 3)
+            else if (match(text, /G9[24]/) && text !~ /[XZUW]/ && text ~ /G90/) found = substr(text, RSTART, 3)
+            else if (text ~ /G90/ && match(text, /G0?[01]([^0-9.]|$)/)) found = "G90"
+            else next
+            printf "%s%s%s%s%s%s%s here reads as a code of G-code system B; if the tape is of that system, write `codes B` into the settings\n", file, sign,
+                $1, sign, found, sign, found
+            exit
+        }'
+}
+
+# Blocks of the tape $1 that raise an alarm whenever they run. The text gives at most ten that may be such: a taper, a corner by a letter, a system
+# variable that there is not. The program is asked about each: it traces a tape with that block after a cut.
+blocks_that_stop() {
+    local line text said
+    printf '%%\nO1\nM30\n%%\n' >"$room/end.nc"
+    blocks_of "$1" | awk -F '\t' '
+        { text = $2; sub(/^(\/[1-9]?)?/, "", text); sub(/^N[0-9]+/, "", text) }
+        text ~ /^(IF|WHILE|GOTO|DO|END|O[0-9])/ { next }
+        {
+            maybe = text ~ /G(90|92|94|77|78|79)([^0-9.]|$)/ && text ~ /R[-+]?[0-9.]/
+            maybe = maybe || (text ~ /G0?[01]([^0-9.]|$)/ && text ~ /[RKIC][-+]?[0-9.]/)
+            rest = text
+            while (match(rest, /#[0-9]+/)) {
+                number = substr(rest, RSTART + 1, RLENGTH - 1) + 0; rest = substr(rest, RSTART + RLENGTH)
+                if (number > 999 && number != 3000 || number > 33 && number < 100 || number > 199 && number < 500) maybe = 1
+            }
+            if (maybe && ++count <= 10) print $1 "\t" text
+        }' |
+        while IFS=$'\t' read -r line text; do
+            printf '%%\nO1\nG00 X100. Z100.\nG01 X99. Z99. F0.2\n%s\nM30\n%%\n' "$text" >"$room/stops.nc"
+            said=$("$program" trace -- "$room/stops.nc" "$room/end.nc" "$settings" 2>/dev/null </dev/null | sed -nE 's/^1 5 alarm ((30|31|56) [A-Za-z]+).*/\1/p')
+            [[ -z $said ]] || printf '%s%s%s%s%s%sthis block stops a run with the alarm %s, whatever the values are\n' "$1" "$between" "$line" "$between" "$text" \
+                "$between" "$said"
+        done
+}
+
+# All warnings of the pair.
+warnings() {
+    local path
+    are_readable_again && ((${#names[@]} >= 2)) || return
+    for path in 1 2; do
+        numbers_without_point "$(tape_of "$path")"
+        looks_like_system_b "$(tape_of "$path")"
+        [[ $command == waits ]] || blocks_that_stop "$(tape_of "$path")"
+    done
+}
+
+# The refusals of both tapes besides the answer $1, as the program writes them, at most 20 a call. Each tape is judged beside one without waits. If
+# a block is refused for itself, it is left empty but for its number, and the tape is judged again; what follows from such a gap is not told.
+further_refusals() {
+    local path begun=$SECONDS calls=0
+    are_readable_again && ((${#names[@]} >= 2)) || return
+    printf '%%\nO1\nM30\n%%\n' >"$room/end.nc"
+    for path in 1 2; do refusals_of "$path" "$1"; done
+}
+
+refusals_of() {
+    local path=$1 first=$2 copy=$room/further.nc answer last='' gaps=0 line pair
+    cp -- "$(tape_of "$path")" "$copy" && chmod 600 "$copy" || return
+    if [[ $path == 1 ]]; then pair=("$copy" "$room/end.nc"); else pair=("$room/end.nc" "$copy"); fi
+    while ((calls++ < 20 && SECONDS - begun < 20)); do
+        answer=$(look "$command" ${again[@]+"${again[@]}"} -- "${pair[@]}" "$settings")
+        [[ $answer =~ ^refused\ ([0-9]+)\ [A-Za-z]+\ path\ $path(\ line\ ([0-9]+))?$ && $answer != "$last" ]] || return
+        line=${BASH_REMATCH[3]}
+        if [[ ${BASH_REMATCH[1]} =~ ^(5|1[015]|2[0-5]|54|5[6-9]|61|62|64)$ ]]; then
+            [[ $answer == "$first" ]] || printf '%s\n' "$answer"
+            sed -i -E "${line}s/^([[:blank:]]*\\/?[1-9]?[[:blank:]]*[Nn][0-9]{1,5})?.*\$/\\1/" "$copy"
+            gaps=1
+        else
+            ((gaps)) || [[ $answer == "$first" ]] || printf '%s\n' "$answer"
+            return
+        fi
+        last=$answer
+    done
+}
