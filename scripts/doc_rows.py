@@ -8,13 +8,14 @@ import sys
 
 ROOT, CALLED, WORK = sys.argv[1:]
 HAS_LAUNCHER = os.path.samefile(CALLED, os.path.join(ROOT, "twin_lathe"))
+SECONDS = 300
 DOCUMENTS = ("README.md", "docs/TUTORIAL.md", "docs/COMMANDS.md")
 
 # Lines that are not run here, and why.
 NOT_RUN = {
     "./twin_lathe prove": "it proves the program, for 20 to 50 minutes; the gate has proved it",
     ".ci/run": "it is the gate, of which these rows are a part",
-    "scripts/release": "it needs what the gate leaves; it has rows of its own",
+    "scripts/release": "it needs what the gate leaves; release_rows calls it",
     "scripts/build_library": "it proves the library; library_rows calls it",
     "scripts/build_page": "it compiles the library for a browser; judge_rows calls it",
 }
@@ -75,16 +76,22 @@ def sessions(name):
     return [it for it in found + [calls] if it]
 
 
+def pattern_of(line):
+    """`..` as a word stands for any words, and in quotes for any text."""
+    text = re.escape(line).replace(r"\ ", " ").replace(r'"\.\."', '"[^"]*"')
+    return re.sub(r"(?<!\S)\\\.\\\.(?!\S)", ".*", text)
+
+
 def fits(shown, said):
-    """Whether the lines that were printed are those that are shown. `..` stands for any words, or, alone, for any lines; what stands
-    after three blanks is a remark."""
+    """Whether the lines that were printed are those that are shown. `..` alone stands for any lines; what stands after three blanks is a
+    remark."""
     pattern = ""
     for line in shown:
         if line.strip() == "..":
             pattern += r"(?:.*\n)*?"
             continue
         forms = [line] if line in said else [re.split(r" {3,}", line)[0]]
-        pattern += "|".join(re.sub(r"(?<!\S)\\\.\\\.(?!\S)", ".*", re.escape(form).replace(r"\ ", " ")) for form in forms) + r"\n"
+        pattern += "|".join(pattern_of(form) for form in forms) + r"\n"
     return re.fullmatch(pattern, "".join(line + "\n" for line in said)) is not None
 
 
@@ -113,7 +120,10 @@ def run_session(name, calls, folder):
     script = os.path.join(folder, ".session")
     with open(script, "w", encoding="utf-8") as file:
         file.write("\n".join(lines) + "\n")
-    subprocess.run(["bash", script], stdin=subprocess.DEVNULL, timeout=600, check=False)
+    try:
+        subprocess.run(["bash", script], stdin=subprocess.DEVNULL, timeout=SECONDS, check=False)
+    except subprocess.TimeoutExpired:
+        row(name, False, f"its calls did not end in {SECONDS} seconds")
     for k, call in enumerate(calls):
         judge(call, os.path.join(folder, f".row{k}"))
 
