@@ -3,6 +3,7 @@ Each row is a line `passed|` or `failed|NAME|TEXT`."""
 import os
 import re
 import shutil
+import signal
 import subprocess
 import sys
 
@@ -104,6 +105,17 @@ def make_clone(folder):
     os.symlink(CALLED, os.path.join(folder, "twin_lathe"))
 
 
+def ends(words):
+    """Whether a command ends in time. One that does not is ended, with all that it called."""
+    with subprocess.Popen(words, stdin=subprocess.DEVNULL, start_new_session=True) as called:
+        try:
+            called.wait(SECONDS)
+            return True
+        except subprocess.TimeoutExpired:
+            os.killpg(called.pid, signal.SIGKILL)
+            return False
+
+
 def run_session(name, calls, folder):
     make_clone(folder)
     if name == "docs/TUTORIAL.md":
@@ -120,10 +132,7 @@ def run_session(name, calls, folder):
     script = os.path.join(folder, ".session")
     with open(script, "w", encoding="utf-8") as file:
         file.write("\n".join(lines) + "\n")
-    try:
-        subprocess.run(["bash", script], stdin=subprocess.DEVNULL, timeout=SECONDS, check=False)
-    except subprocess.TimeoutExpired:
-        row(name, False, f"its calls did not end in {SECONDS} seconds")
+    row(name, ends(["bash", script]), f"its calls did not end in {SECONDS} seconds")
     for k, call in enumerate(calls):
         judge(call, os.path.join(folder, f".row{k}"))
 
