@@ -52,6 +52,7 @@ class Call:
     def status(self):
         lines = [line.rpartition(": ")[2] for line in self.shown if not line.startswith("twin_lathe: ")]
         ends = [number for line in lines for front, number in STATUSES if line.startswith(front)]
+        ends += [int(number) for line in lines for number in re.findall(r'"status":(\d+)', line)]
         return ends[-1] if ends and not re.search(r"[|;&]", self.text) else 0
 
 
