@@ -311,7 +311,8 @@ help_of() {
     [[ -z $body ]] || printf '\n%s\n' "$body"
     [[ " $options " != *' blocks '* ]] || printf '%s\n' '--blocks N stops after N records (1 to 1000000; 100000 if it is not given).'
     [[ " $options " != *' outside '* ]] ||
-        printf '%s\n' '--outside A-B: the tapes may lack the programs O A to O B (1 to 9999). You' 'promise that none of them waits or ends.'
+        printf '%s\n' '--outside A-B: the tapes may lack the programs O A to O B (1 to 9999). You' 'promise of each: it neither waits nor ends, it comes back to the block after' \
+            'its call, and it leaves no modal call (G66) on.'
     [[ " $options " != *' turret1 '* ]] ||
         printf '%s\n' '--turret1 FILE, --turret2 FILE: a file or a named pipe for what that turret' 'gets, a line a call, during the run.'
 }
