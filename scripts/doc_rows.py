@@ -3,18 +3,20 @@ Each row is a line `passed|` or `failed|NAME|TEXT`."""
 import os
 import re
 import shutil
+import signal
 import subprocess
 import sys
 
 ROOT, CALLED, WORK = sys.argv[1:]
 HAS_LAUNCHER = os.path.samefile(CALLED, os.path.join(ROOT, "twin_lathe"))
+SECONDS = 300
 DOCUMENTS = ("README.md", "docs/TUTORIAL.md", "docs/COMMANDS.md")
 
 # Lines that are not run here, and why.
 NOT_RUN = {
     "./twin_lathe prove": "it proves the program, for 20 to 50 minutes; the gate has proved it",
     ".ci/run": "it is the gate, of which these rows are a part",
-    "scripts/release": "it needs what the gate leaves; it has rows of its own",
+    "scripts/release": "it needs what the gate leaves; release_rows calls it",
     "scripts/build_library": "it proves the library; library_rows calls it",
     "scripts/build_page": "it compiles the library for a browser; judge_rows calls it",
 }
@@ -50,6 +52,7 @@ class Call:
     def status(self):
         lines = [line.rpartition(": ")[2] for line in self.shown if not line.startswith("twin_lathe: ")]
         ends = [number for line in lines for front, number in STATUSES if line.startswith(front)]
+        ends += [int(number) for line in lines for number in re.findall(r'"status":(\d+)', line)]
         return ends[-1] if ends and not re.search(r"[|;&]", self.text) else 0
 
 
@@ -75,16 +78,22 @@ def sessions(name):
     return [it for it in found + [calls] if it]
 
 
+def pattern_of(line):
+    """`..` as a word stands for any words, and in quotes for any text."""
+    text = re.escape(line).replace(r"\ ", " ").replace(r'"\.\."', '"[^"]*"')
+    return re.sub(r"(?<!\S)\\\.\\\.(?!\S)", ".*", text)
+
+
 def fits(shown, said):
-    """Whether the lines that were printed are those that are shown. `..` stands for any words, or, alone, for any lines; what stands
-    after three blanks is a remark."""
+    """Whether the lines that were printed are those that are shown. `..` alone stands for any lines; what stands after three blanks is a
+    remark."""
     pattern = ""
     for line in shown:
         if line.strip() == "..":
             pattern += r"(?:.*\n)*?"
             continue
         forms = [line] if line in said else [re.split(r" {3,}", line)[0]]
-        pattern += "|".join(re.sub(r"(?<!\S)\\\.\\\.(?!\S)", ".*", re.escape(form).replace(r"\ ", " ")) for form in forms) + r"\n"
+        pattern += "|".join(pattern_of(form) for form in forms) + r"\n"
     return re.fullmatch(pattern, "".join(line + "\n" for line in said)) is not None
 
 
@@ -95,6 +104,17 @@ def make_clone(folder):
     for name in ("scripts", "page", "docs", "include", "crates"):
         os.symlink(os.path.join(ROOT, name), os.path.join(folder, name))
     os.symlink(CALLED, os.path.join(folder, "twin_lathe"))
+
+
+def ends(words):
+    """Whether a command ends in time. One that does not is ended, with all that it called."""
+    with subprocess.Popen(words, stdin=subprocess.DEVNULL, start_new_session=True) as called:
+        try:
+            called.wait(SECONDS)
+            return True
+        except subprocess.TimeoutExpired:
+            os.killpg(called.pid, signal.SIGKILL)
+            return False
 
 
 def run_session(name, calls, folder):
@@ -113,7 +133,7 @@ def run_session(name, calls, folder):
     script = os.path.join(folder, ".session")
     with open(script, "w", encoding="utf-8") as file:
         file.write("\n".join(lines) + "\n")
-    subprocess.run(["bash", script], stdin=subprocess.DEVNULL, timeout=600, check=False)
+    row(name, ends(["bash", script]), f"its calls did not end in {SECONDS} seconds")
     for k, call in enumerate(calls):
         judge(call, os.path.join(folder, f".row{k}"))
 
