@@ -33,7 +33,23 @@ side_by_side() {
 clear_up() {
     local tool
     [[ ! -s $work/tool.pid ]] || { read -r tool <"$work/tool.pid" && kill "$tool" 2>/dev/null; }
-    rm -rf -- "$work"
+    # (what ends just now may still write there)
+    rm -rf -- "$work" 2>/dev/null || { sleep 0.5; rm -rf -- "$work"; }
+}
+
+# A build that gets a signal ends, and `clear_up` ends the tool.
+end_by_signals() {
+    trap clear_up EXIT
+    trap 'exit 129' HUP
+    trap 'exit 130' INT
+    trap 'exit 131' QUIT
+    trap 'exit 143' TERM
+}
+
+# A build that is done.
+end_build() {
+    clear_up
+    trap - EXIT HUP INT QUIT TERM
 }
 
 # Runs the tool in the folder $1 with the words that follow, and notes its process for `clear_up`.
@@ -56,7 +72,7 @@ prove() {
     mkdir -p "$crate/out"
     log=$crate/out/build.log
     work=$(mktemp -d "$crate/out/build.XXXXXX") || exit 70
-    trap clear_up EXIT
+    end_by_signals
     sum_program >"$work/start"
     if [[ -e $program ]]; then
         say "a source or the toolchain has changed since the program was proved; it is proved and built again, which takes minutes if the toolchain keeps what it proved, and else $first_time"
@@ -65,8 +81,11 @@ prove() {
     fi
     rm -f "$program.built"
     copy_sources "$work/copy" || { complain "the sources could not be copied to $work"; exit 70; }
-    RT_JOBS=${RT_JOBS:-$(side_by_side)} run_tool "$work/copy" "$tool" ci 2>&1 | tee "$log" | show_progress "$(wc -l <"$work/copy/crates.txt")"
-    status=${PIPESTATUS[0]}
+    # (a signal ends a `wait`, and not what runs in the foreground)
+    { RT_JOBS=${RT_JOBS:-$(side_by_side)} run_tool "$work/copy" "$tool" ci 2>&1; echo "$?" >"$work/status"; } | tee "$log" |
+        show_progress "$(wc -l <"$work/copy/crates.txt")" &
+    wait "$!"
+    read -r status <"$work/status"
     made=$work/copy/crates/twin_lathe/out/twin_lathe
     if [[ $status != 0 || ! -x $made ]]; then
         complain "the program was not proved or not built; what the tool says is in $log"
@@ -74,15 +93,14 @@ prove() {
     fi
     cp -- "$made" "$program.new" && mv -- "$program.new" "$program" || exit 70
     note_built "$work/start"
-    clear_up
-    trap - EXIT
+    end_build
     say "proved and built in $((SECONDS - begun)) seconds"
 }
 
-# Says at a terminal every second how long this has taken, until it is ended.
+# Says at a terminal every second how long this has taken, until it is ended or the launcher has gone.
 show_seconds() {
     local begun=$SECONDS
-    while sleep 1; do printf '\r\033[Ktwin_lathe: compiling, %d seconds so far' "$((SECONDS - begun))" >&2; done
+    while sleep 1 && kill -0 "$$" 2>/dev/null; do printf '\r\033[Ktwin_lathe: compiling, %d seconds so far' "$((SECONDS - begun))" >&2; done
 }
 
 # Ends that, and wipes what it said.
@@ -115,7 +133,7 @@ compile_anew() {
     tool=$(find_tool) || no_tool
     log=$crate/out/try.log
     work=$(mktemp -d) || exit 70
-    trap clear_up EXIT
+    end_by_signals
     mkdir "$work/tool"
     mkfifo "$work/tape"
     sum_program >"$work/start"
@@ -138,7 +156,6 @@ compile_anew() {
     fi
     note_built "$work/start" "$unproved"
     wait
-    clear_up
-    trap - EXIT
+    end_build
     say "compiled in $((SECONDS - begun)) seconds"
 }

@@ -1,5 +1,5 @@
-# What saves a part, beside the verdict: numbers without a point, tapes of the other G-code system, blocks that can only stop a run, and the
-# refusals after the first. Sourced after meanings.sh by scripts/explain and scripts/verdict_json. Nothing here is proved. It reads the
+# What saves a part, beside the verdict: numbers without a point, tapes of the other G-code system, waits that a switch leaves out, blocks that
+# can only stop a run, and the refusals after the first. Sourced after meanings.sh by scripts/explain and scripts/verdict_json. Nothing here is proved. It reads the
 # text of the tapes in its own way; what the program can be asked, it is asked: `room` is a folder for the tapes of such questions.
 
 # Each function prints a line a finding: FILE, LINE, WORD and a text, with this sign between.
@@ -8,7 +8,7 @@ between=$'\037'
 # Numbers of lengths without a point, which count 0.001 mm: how many in the tape $1, and the first. 0 is the same with a point. Words of a
 # dwell, of G10 and of calls are no lengths.
 numbers_without_point() {
-    blocks_of "$1" | awk -F '\t' -v file="$1" -v sign="$between" '
+    blocks_of "$1" | LC_ALL=C awk -F '\t' -v file="$1" -v sign="$between" '
         { text = $2; sub(/^(\/[1-9]?)?/, "", text); sub(/^N[0-9]+/, "", text) }
         text ~ /^(#|IF|WHILE|GOTO|DO|END|O[0-9])/ || text ~ /G0*(4|10|65|66)([^0-9.]|$)/ || text ~ /M0*98([^0-9]|$)/ { next }
         {
@@ -32,7 +32,7 @@ numbers_without_point() {
 # A, in the way in which it is written in B.
 looks_like_system_b() {
     [[ $(system_of_settings) == A ]] || return
-    blocks_of "$1" | awk -F '\t' -v file="$1" -v sign="$between" '
+    blocks_of "$1" | LC_ALL=C awk -F '\t' -v file="$1" -v sign="$between" '
         {
             text = $2
             while (gsub(/\[[^][]*\]/, "#", text));
@@ -46,12 +46,30 @@ looks_like_system_b() {
         }'
 }
 
+# Waits of the tape $1 behind a sign for block skip: how many, and the first. The verdict is that of the switches in the settings.
+waits_behind_stroke() {
+    local first last
+    read -r first last _ < <(waits_of_settings)
+    blocks_of "$1" | LC_ALL=C awk -F '\t' -v file="$1" -v sign="$between" -v low="$first" -v high="$last" "$codes"'
+        $2 !~ /^(N[0-9]+)?\// { next }
+        {
+            text = $2; sub(/\/[1-9]?/, "", text)
+            many = split(codes(text), list, " ")
+            for (k = 1; k <= many; k++)
+                if (list[k] + 0 >= low + 0 && list[k] + 0 <= high + 0 && ++count == 1) { line = $1; word = "M" list[k] }
+        }
+        END {
+            if (count) printf "%s%s%s%s%s%s%s of this tape behind a `/`: with that switch on the path does not wait at %s; the verdict is that of the switches in the settings\n", \
+                file, sign, line, sign, word, sign, count == 1 ? "a wait" : count " waits", word
+        }'
+}
+
 # Blocks of the tape $1 that raise an alarm whenever they run. The text gives at most ten that may be such: a taper, a corner by a letter, a system
 # variable that there is not. The program is asked about each: it traces a tape with that block after a cut.
 blocks_that_stop() {
     local line text said
     printf '%%\nO1\nM30\n%%\n' >"$room/end.nc"
-    blocks_of "$1" | awk -F '\t' '
+    blocks_of "$1" | LC_ALL=C awk -F '\t' '
         { text = $2; sub(/^(\/[1-9]?)?/, "", text); sub(/^N[0-9]+/, "", text) }
         text ~ /^(IF|WHILE|GOTO|DO|END|O[0-9])/ { next }
         {
@@ -79,6 +97,7 @@ warnings() {
     for path in 1 2; do
         numbers_without_point "$(tape_of "$path")"
         looks_like_system_b "$(tape_of "$path")"
+        waits_behind_stroke "$(tape_of "$path")"
         [[ $command == waits ]] || blocks_that_stop "$(tape_of "$path")"
     done
 }
@@ -96,7 +115,7 @@ refusals_of() {
     local path=$1 first=$2 copy=$room/further.nc answer last='' gaps=0 line pair
     cp -- "$(tape_of "$path")" "$copy" && chmod 600 "$copy" || return
     if [[ $path == 1 ]]; then pair=("$copy" "$room/end.nc"); else pair=("$room/end.nc" "$copy"); fi
-    while ((calls++ < 20 && SECONDS - begun < 20)); do
+    while ((calls++ < 20 && SECONDS - begun < 10)); do
         answer=$(look "$command" ${again[@]+"${again[@]}"} -- "${pair[@]}" "$settings")
         [[ $answer =~ ^refused\ ([0-9]+)\ [A-Za-z]+\ path\ $path(\ line\ ([0-9]+))?$ && $answer != "$last" ]] || return
         line=${BASH_REMATCH[3]}

@@ -134,7 +134,8 @@ judge_words() {
     fi
 }
 
-# The launcher's own commands, in the same form.
+# The launcher's own commands, in the same form. After a change of either list write the man page anew (scripts/man_page >docs/twin_lathe.1) and
+# see that scripts/completion has it: scripts/launcher_rows compares them.
 own_commands='try|COMMAND ..||runs any of these by a program that is not proved, also if one is|try verify examples/upper.nc examples/lower.nc examples/cell.txt
 prove|||proves and builds the program, and runs nothing|prove
 help|[COMMAND]||prints this text, or the help of one command|help waits
@@ -234,8 +235,8 @@ It judges the pair as `verify` does. A race is a shared variable that one path
 may write while the other may read or write it, between the same two meetings.
 For each such variable it prints after how many meetings, which path may write
 it, and at which line of each tape. `races 0`: all runs that both paths finish
-make the same moves, whichever path is first. Else put a wait into both tapes, between the two
-lines.
+make the same moves, whichever path is first. Else put a wait into both tapes,
+between the two lines.
 END
             ;;
         edit)
