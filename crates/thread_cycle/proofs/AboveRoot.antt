@@ -1,7 +1,7 @@
 -- No point of a pass lies below the root: for the law `every_move_is_clear` (src/law.rt), in
 -- ClearMoves.
 use Rattle.std.proofs.Common.{◌≡◌, inl, inr, ℕ, ◌+◌, ◌-◌, ◌*◌, ◌≤◌, Bool, true, false, not, ℤ, pos, ◌+ℤ◌, ◌-ℤ◌, ◌*ℤ◌, ◌≤ℤ◌, refl, sym, subst, ap, ◌∙◌, arith}
-use Rattle.std.specs.Prelude.{unsigned_abs, int_lt}
+use Rattle.std.specs.Prelude.{unsigned_abs}
 use Rattle.std.proofs.lemmas.Int.{ints}
 use Rattle.std.proofs.Math.IntN.{pos-*ℤ-pos, *ℤ-zero}
 use Rattle.nc_number.specs.declared.point.Point.{Point}
@@ -12,7 +12,7 @@ use Rattle.thread_cycle.specs.Passes.{is_inner, goes_down, moved, back, whole_le
 use Rattle.thread_cycle.specs.Moves.{IsOffRoot, RunsOffRoot}
 use Rattle.thread_cycle.specs.Sides.{IsOnSide}
 use Rattle.thread_cycle.proofs.Multiples.{times_le, times_sum, sum_times, mixed, further, at_zero}
-use Rattle.thread_cycle.proofs.TaperLine.{moved_off, moved_by, on_taper}
+use Rattle.thread_cycle.proofs.TaperLine.{moved_by, on_taper}
 
 -- a point so far before the target is off the root
 abbrev pub IsPointOff : ThreadCycle → Point → ℕ → Type 0
