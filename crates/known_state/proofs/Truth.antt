@@ -1,6 +1,6 @@
 -- What is known before a block is so of every path that comes to it: the invariant `IsTrueTo` holds
 -- at the opening of a path and is kept by each of its blocks, for the law of src/laws.rt.
-use Rattle.std.proofs.Common.{◌≡◌, ℕ, zero, suc, inl, inr, ◌⊎◌, Bool, true, false, not, ◌||◌, ◌==◌, List, [], ◌∷◌, find, filter, slice_get, Option, Some, None, unwrap_or, refl, ap, sym, subst, ◌∙◌, if◌then◌else◌}
+use Rattle.std.proofs.Common.{◌≡◌, ℕ, zero, suc, inl, inr, Bool, true, false, not, ◌||◌, ◌==◌, List, [], ◌∷◌, find, filter, slice_get, Option, Some, None, unwrap_or, refl, ap, sym, subst, ◌∙◌, if◌then◌else◌}
 use Rattle.std.specs.List.{list_any}
 use Rattle.std.specs.Option.{option_map_or}
 use Rattle.nc_number.specs.declared.path.Path.{Path}
@@ -10,28 +10,25 @@ use Rattle.code_tables.specs.declared.kind.CodeKind.{CodeKind}
 use Rattle.code_tables.specs.declared.kind.CodeKind.TheVariants as kind
 use Rattle.code_tables.specs.declared.row.Row.{Row}
 use Rattle.code_tables.specs.declared.group.TheConstants.{ABSOLUTE_GROUP}
-use Rattle.code_tables.specs.declared.system.System.{System}
 use Rattle.code_tables.specs.Codes.{last_of, last_of_group}
 use Rattle.code_tables.specs.Kinds.{is_cycle}
 use Rattle.nc_moves.specs.declared.motion.Move.{Move}
 use Rattle.nc_number.specs.declared.axis.Axis.{Axis}
-use Rattle.nc_number.specs.declared.axis.Axis.TheVariants.{Keep, To, By}
 use Rattle.modal_state.specs.Modal.{is_incremental}
 use Rattle.block_order.specs.declared.control.Control.{Control}
 use Rattle.block_order.specs.declared.control.Control.TheVariants as control
 use Rattle.block_order.specs.declared.frame.Frame.{Frame}
 use Rattle.block_order.specs.declared.program.ControlProgram.{ControlProgram}
 use Rattle.block_order.specs.Moves.{place_behind}
-use Rattle.block_order.specs.Steps.{Goes, Step, IsPlace, control_of_place}
+use Rattle.block_order.specs.Steps.{Step, IsPlace, control_of_place}
 use Rattle.block_order.proofs.StepsStay.{step_stays, next_stays}
 use Rattle.block_words.specs.declared.purpose.Purpose.{Purpose}
 use Rattle.block_words.specs.declared.purpose.Purpose.TheVariants.{MacroCall}
-use Rattle.block_words.specs.declared.word.FlowWord.{FlowWord}
-use Rattle.block_words.specs.Codes.{rows, one_shot, gives}
+use Rattle.block_words.specs.Codes.{rows, one_shot}
 use Rattle.block_forms.specs.declared.block.FlowBlock.{FlowBlock}
 use Rattle.block_forms.specs.declared.body.FlowBody.{FlowBody}
 use Rattle.block_forms.specs.declared.body.FlowBody.TheVariants.{Words, Statement}
-use Rattle.macro_expr.specs.Tree.{Named, Sentence, Assign, Goto, IfGoto, IfThen, WhileDo, DoOnly, EndLoop, sentence_of}
+use Rattle.macro_expr.specs.Tree.{Sentence, Assign, Goto, IfGoto, IfThen, WhileDo, DoOnly, EndLoop, sentence_of}
 use Rattle.block_values.specs.Values.{is_dwell}
 use Rattle.tape_flow.specs.declared.flow.Flow.{Flow}
 use Rattle.tape_flow.specs.declared.program.FlowProgram.{FlowProgram}
@@ -41,14 +38,21 @@ use Rattle.tape_flow.specs.Places.{flow_program, flow_blocks, flow_block}
 use Rattle.path_state.specs.View.{PathView}
 use Rattle.path_state.specs.Statements.{Write, After, statement_effect}
 use Rattle.path_state.specs.Opening.{opening_path}
-use Rattle.path_state.specs.Effect.{Effect, Done, AtWait, of_after, effect_of_body, effect_of_block, block_at, effect_of}
+use Rattle.path_state.specs.Effect.{Done, AtWait, of_after, effect_of_body, effect_of_block, block_at}
 use Rattle.path_state.specs.Controlled.{GoesAsOrdered}
 use Rattle.path_state.proofs.ControlledFlow.{steady}
 use Rattle.path_state.specs.Edits.{path_with_edit}
-use Rattle.known_state.specs.Known.{Known, IsSo, unknown, Agrees}
-use Rattle.known_state.specs.Heard.{Heard, silence, heard_words}
-use Rattle.known_state.specs.Behind.{known_code, known_in_force, may_shift, nowhere, counted, known_axis, known_part, leads_to_target, known_motion, known_end, known_behind_codes, known_behind_words, may_offset, known_behind_sentence, known_behind, known_behind_block}
-use Rattle.known_state.specs.Before.{is_entry, makes_incremental, is_absolute, absolute_alone, known_anywhere, known_behind_found, known_before}
+use Rattle.known_blocks.specs.declared.known.Known.{Known}
+use Rattle.known_state.specs.Agreement.{IsSo, Agrees}
+use Rattle.known_blocks.specs.Known.{unknown}
+use Rattle.known_blocks.specs.declared.heard.Heard.{Heard}
+use Rattle.known_blocks.specs.Heard.{silence, heard_words}
+use Rattle.known_blocks.specs.InForce.{known_in_force, may_shift}
+use Rattle.known_blocks.specs.Known.{nowhere, counted}
+use Rattle.known_blocks.specs.Places.{known_axis, known_part, leads_to_target, known_motion, known_end}
+use Rattle.known_blocks.specs.Behind.{known_behind_codes, known_behind_words, may_offset, known_behind_sentence, known_behind_block}
+use Rattle.known_blocks.specs.Entries.{is_entry}
+use Rattle.known_state.specs.Before.{makes_incremental, is_absolute, absolute_alone, known_anywhere, known_behind_found, known_before}
 use Rattle.known_state.specs.Runs.{GoesOn, done, waited, edited, IsAsKnown, IsTrueTo, ComesTo, here, on}
 use Rattle.known_state.proofs.Entries.{IsReached, goes-reaches}
 use Rattle.known_state.proofs.WordsAgree.{OnDone, block-agrees}

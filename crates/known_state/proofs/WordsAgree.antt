@@ -1,16 +1,12 @@
 -- What is known behind a block of words is so of the path behind it.
-use Rattle.std.proofs.Common.{◌≡◌, ℕ, Bool, true, false, ◌||◌, List, [], ◌∷◌, codes, Option, Some, None, Result, Ok, Err, ℤ, refl, ap, sym, subst, ◌∙◌, if◌then◌else◌}
+use Rattle.std.proofs.Common.{◌≡◌, ℕ, Bool, true, false, List, [], codes, Option, Some, None, Result, Ok, Err, refl, sym, subst, if◌then◌else◌}
 use Rattle.nc_number.specs.declared.cause.Cause.{Cause}
 use Rattle.nc_number.specs.declared.point.Point.{Point}
 use Rattle.nc_number.specs.declared.axis.Axis.{Axis}
-use Rattle.nc_number.specs.declared.axis.Axis.TheVariants.{Keep, To, By}
 use Rattle.nc_number.specs.declared.value.Var.{Var}
-use Rattle.nc_number.specs.Axes.{axis_of, is_named}
 use Rattle.code_tables.specs.declared.kind.CodeKind.{CodeKind}
 use Rattle.code_tables.specs.declared.kind.CodeKind.TheVariants as kind
-use Rattle.code_tables.specs.declared.row.Row.{Row}
 use Rattle.code_tables.specs.declared.system.System.{System}
-use Rattle.code_tables.specs.Kinds.{is_cycle}
 use Rattle.nc_moves.specs.declared.motion.Move.{Move}
 use Rattle.local_levels.specs.Stack.{all_vacant}
 use Rattle.modal_state.specs.declared.fault.ModalFault.{ModalFault}
@@ -39,22 +35,28 @@ use Rattle.block_words.specs.declared.purpose.Purpose.TheVariants.{MacroCall}
 use Rattle.block_words.specs.Codes.{rows, one_shot, gives, is_limit, m_code}
 use Rattle.block_words.specs.Words.{has}
 use Rattle.block_values.specs.Outcomes.{Outcome, Gives, Needs, Alarms}
-use Rattle.block_values.specs.Values.{Values, Sense, nothing_said, is_dwell}
-use Rattle.block_values.specs.InForce.{unless_fault, modal_after}
-use Rattle.block_values.specs.Motion.{Motion, x_axis, z_axis, block_motion, motion_kind, motion_number, passed_motion, motion_of_track, turret_motion, motion_of}
-use Rattle.block_values.specs.Moves.{all_moves, last_end}
+use Rattle.block_values.specs.Values.{Values, nothing_said, is_dwell}
+use Rattle.block_values.specs.InForce.{unless_fault}
+use Rattle.block_values.specs.Motion.{Motion, x_axis, z_axis, block_motion, motion_kind, motion_number, passed_motion, motion_of_track, motion_of}
+use Rattle.block_values.specs.Moves.{last_end}
 use Rattle.path_state.specs.View.{Fixed, PathView}
 use Rattle.path_state.specs.Looks.{look_of}
 use Rattle.path_state.specs.Said.{sense_of, words_taken, arguments_taken}
 use Rattle.path_state.specs.Standing.{Standing, standing_of, standing_behind}
 use Rattle.path_state.specs.Effect.{Effect, Done, Moved, with_set_offset, after_motion, motion_with, effect_of_words, done_by, effect_of_control, of_moved, of_values, of_arguments, of_purpose, block_of_words}
 use Rattle.path_state.proofs.ControlledStatements.{OnGives}
-use Rattle.known_state.specs.Known.{Known, IsSo, IsAt, AreInForce, IsInForce, IsKnownOf, Agrees, shift_under}
-use Rattle.known_state.specs.Heard.{Heard, silence, heard_words, IsHeard}
-use Rattle.known_state.specs.Behind.{known_in_force, may_shift, nowhere, counted, known_axis, known_part, leads_to_target, known_motion, known_end, known_behind_codes, known_behind_words}
+use Rattle.known_blocks.specs.declared.known.Known.{Known}
+use Rattle.known_state.specs.Agreement.{IsSo, IsInForce, IsKnownOf, Agrees, shift_under}
+use Rattle.known_blocks.specs.declared.heard.Heard.{Heard}
+use Rattle.known_blocks.specs.Heard.{silence, heard_words}
+use Rattle.known_state.specs.Hearing.{IsHeard}
+use Rattle.known_blocks.specs.InForce.{known_in_force, may_shift}
+use Rattle.known_blocks.specs.Known.{nowhere, counted}
+use Rattle.known_blocks.specs.Places.{known_axis, known_part, known_motion, known_end}
+use Rattle.known_blocks.specs.Behind.{known_behind_codes, known_behind_words}
 use Rattle.known_state.proofs.HeardWords.{words-heard}
 use Rattle.known_state.proofs.InForceKnown.{modal_behind, counted-known}
-use Rattle.known_state.proofs.Targets.{OnMoves, reached, EndsThere, ends_there, motion_leads, axis-known, part-known}
+use Rattle.known_state.proofs.Targets.{OnMoves, EndsThere, ends_there, motion_leads, axis-known, part-known}
 
 -- what is in force is so, however little is known of X and Z
 pub force_alone : (known : Known) (modal : ModalView) (offsets : OffsetTable) (position : Point)
