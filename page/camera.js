@@ -23,6 +23,9 @@ const Camera = (() => {
   /** Where a segment is on the page, at a part of its way. */
   const pointOf = (segment, part) => onPage(segment, Shapes.onSegment(segment, part));
 
+  /** Z and the radius, with the side of its path, at a point of the page. */
+  const placeAt = (x, y) => ({ z: camera.z + (x - sheet.width / 2) / camera.scale, r: camera.r - (y - sheet.height / 2) / camera.scale });
+
   // ---- where the eye is ----
 
   /** The room that buttons, numbers and the legend need at each side. */
@@ -104,5 +107,5 @@ const Camera = (() => {
     return [start && place(start, "start"), home && place(home, "home")].filter(Boolean);
   }
 
-  return { sheet, xOf, yOf, xIn, yIn, onPage, pointOf, placesOf, rim, fit, refit, drag, zoom, get now() { return camera; } };
+  return { sheet, xOf, yOf, xIn, yIn, onPage, pointOf, placeAt, placesOf, rim, fit, refit, drag, zoom, get now() { return camera; } };
 })();

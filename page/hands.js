@@ -7,7 +7,7 @@ const Hands = (() => {
 
   /**
    * Watches a canvas. `hands` has: under(x, y, reach), which finds a segment; drag(dx, dy, from); zoom(by, x, y);
-   * tap(x, y, segment); twice().
+   * tap(x, y, segment); twice(); at(x, y), which tells where the mouse is.
    */
   function watch(canvas, hands) {
     const down = new Map();
@@ -56,7 +56,11 @@ const Hands = (() => {
       const isAsked = hover !== null;
       hover = event;
       if (!isAsked) requestAnimationFrame(() => {
-        if (hover && Look.trace) focus(hover, REACH.mouse);
+        if (hover && Look.trace) {
+          const { x, y } = at(hover);
+          Tables.tellPointer(canvas, hands.at(x, y));
+          focus(hover, REACH.mouse);
+        }
         hover = null;
       });
     }
@@ -84,6 +88,7 @@ const Hands = (() => {
       if (event.pointerType === "touch" || !Look.trace) return;
       Look.focus = null;
       Tables.note(null);
+      Tables.tellPointer(canvas, "");
       Look.ask("over");
     });
     canvas.addEventListener("wheel", event => {
@@ -102,6 +107,7 @@ const Hands = (() => {
       Moving.choose(segment ? segment.stretch : null, false);
     },
     twice: () => Plane.fit(false),
+    at: (x, y) => Tables.placeText(Camera.placeAt(x, y)),
   });
 
   watch($("times"), {
@@ -118,6 +124,7 @@ const Hands = (() => {
       if (!TimeLine.isHead(y)) Moving.toggle(Times.stretchAt(Look.trace, time), false);
     },
     twice: () => TimeLine.fit(),
+    at: x => (TimeLine.isName(x) ? "" : `${TimeLine.timeAt(x).toFixed(2)} s, a guess`),
   });
 
   // ---- the keys ----

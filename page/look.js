@@ -50,6 +50,7 @@ function element(tag, className, ...parts) {
 
 /** A number of seconds as a person says it. */
 function secondsText(seconds) {
+  if (seconds >= 36000) return `${Math.floor(seconds / 3600)} h ${Math.floor(seconds / 60 % 60)} min`;
   if (seconds >= 600) return `${Math.floor(seconds / 60)} min ${Math.floor(seconds % 60)} s`;
   if (seconds >= 100) return `${Math.round(seconds)} s`;
   return `${seconds.toFixed(seconds < 1 && seconds > 0 ? 2 : 1)} s`;

@@ -61,6 +61,7 @@ const Page = (() => {
     Tables.fillMeetings();
     $("meetings-box").scrollTop = 0;
     Races.fill();
+    Idle.fill();
     Tables.fillLegend();
     TapeTexts.clear();
     if (tapes.length) TapeTexts.take(tapes);
@@ -84,6 +85,12 @@ const Page = (() => {
     tellState("refused");
   }
 
+  /** Takes the picture away: nothing is open any more. */
+  function clear() {
+    refuse("", "");
+    tellState("empty");
+  }
+
   /** Says a text as the fault or as the hint; the other one says nothing then. */
   function say(name, text) {
     for (const some of ["fault", "hint"]) $(some).textContent = some === name ? text : "";
@@ -93,6 +100,7 @@ const Page = (() => {
   function tellState(state) {
     const { trace } = Look, { dataset } = document.documentElement;
     dataset.state = state;
+    $("save-picture").disabled = !trace;
     if (!trace) return;
     Object.assign(dataset, { moves: PATHS.map(p => trace.paths[p].moves).join(" "), meetings: trace.meetings.length,
                              records: trace.records, end: trace.end, races: trace.races.length, total: trace.total.toFixed(1) });
@@ -140,6 +148,18 @@ const Page = (() => {
   }
   watchScreen();
 
+  /** Takes the colours that the browser asks for, now and after each change. */
+  function watchMode() {
+    const dark = matchMedia("(prefers-color-scheme: dark)"), take = () => {
+      Colours.take(dark.matches ? "dark" : "light");
+      if (Look.trace) Tables.fillLegend();
+      Look.ask("plane", "times", "over");
+    };
+    dark.addEventListener("change", take);
+    take();
+  }
+  watchMode();
+
   // ---- buttons and fields ----
 
   /** Makes each button with this attribute do something with its value. */
@@ -168,6 +188,7 @@ const Page = (() => {
     Tables.forget();
     Tables.tellHead();
     Tables.fillMeetings();
+    Idle.fill();
     TimeLine.fit();
     Look.ask("times", "over");
     tellState("drawn");
@@ -223,5 +244,5 @@ const Page = (() => {
   tellState("empty");
   takeOwn();
 
-  return { take };
+  return { take, clear };
 })();

@@ -9,9 +9,9 @@ class Sheet {
     this.ratio = 1;             // pixels a point
   }
 
-  /** Takes the size of its box, in points of the page; the canvas gets as many pixels as the screen has there. */
-  resize() {
-    const box = this.under.getBoundingClientRect(), ratio = window.devicePixelRatio || 1;
+  /** Takes the size of its box, in points of the page; the canvas gets as many pixels as the screen has there, or so many a point. */
+  resize(ratio = window.devicePixelRatio || 1) {
+    const box = this.under.getBoundingClientRect();
     this.ratio = ratio;
     this.width = box.width;
     this.height = box.height;

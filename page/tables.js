@@ -182,11 +182,11 @@ const Tables = (() => {
 
   /** Fills the legend: the kinds of moves in the trace, and the first 16 tools. */
   function fillLegend() {
-    const ink = "#333", kinds = new Set(PATHS.flatMap(p => Look.trace.paths[p].segments.map(segment => segment.kind)));
+    const ink = Colours.INK.text, kinds = new Set(PATHS.flatMap(p => Look.trace.paths[p].segments.map(segment => segment.kind)));
     const lines = [["rapid", { stroke: Colours.INK.rapid, "stroke-dasharray": "4 3" }], ["feed", { stroke: ink, "stroke-width": 1.7 }],
                    ["arc", { stroke: ink, "stroke-width": 2.6 }],
                    ["thread", { stroke: ink, "stroke-width": 3, "stroke-dasharray": "0.1 4.5", "stroke-linecap": "round" }]];
-    const tools = [...Colours.tools].slice(0, 16).map(([key, stroke]) => [`path ${key}`, { stroke, "stroke-width": 4 }]);
+    const tools = [...Colours.tools].slice(0, 16).map(([key, stroke]) => [`path ${key.replace(" T00", ", no tool")}`, { stroke, "stroke-width": 4 }]);
     const shown = [...lines.filter(([kind]) => kinds.has(kind)), ...tools];
     $("legend").replaceChildren(...shown.map(([text, style]) => element("span", "", sample(style), text)));
   }
@@ -217,6 +217,19 @@ const Tables = (() => {
     box.style.top = `${y + 20 + height > innerHeight ? Math.max(4, y - height - 14) : y + 20}px`;
   }
 
+  // ---- the place of the mouse ----
+
+  /** A place of the plane in words: Z and the diameter or X, in mm, as fine as the picture is, and whose side it is. */
+  function placeText({ z, r }) {
+    const digits = Math.max(0, Math.min(3, Math.ceil(Math.log10(Camera.now.scale)))), letter = Look.coordinates === "work" ? "\u2300" : "X";
+    return `Z ${Ticks.text(z, 10 ** -digits)}  ${letter} ${Ticks.text(Math.abs(2 * r), 10 ** -digits)}  (path ${r >= 0 ? 1 : 2})`;
+  }
+
+  /** Tells the place of the mouse in the corner of its canvas. */
+  function tellPointer(canvas, text) { setText($(canvas.id === "plane" ? "pointer" : "pointer-time"), text); }
+
+  // ---- what a segment leads to ----
+
   /** Where a segment leads, and how long it may take. */
   function resultText(segment) {
     const seconds = `\u2248 ${secondsText(segment.end - segment.begin)}`, other = 3 - segment.path;
@@ -228,5 +241,5 @@ const Tables = (() => {
     return `to work X${(segment.x1 - segment.shiftX).toFixed(3)} Z${(segment.z1 - segment.shiftZ).toFixed(3)}, ${seconds}`;
   }
 
-  return { tellHead, tellNow, fillMeetings, markMeeting, fillLegend, note, resultText, forget };
+  return { tellHead, tellNow, fillMeetings, markMeeting, fillLegend, note, resultText, placeText, tellPointer, forget };
 })();

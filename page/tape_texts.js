@@ -127,8 +127,11 @@ const TapeTexts = (() => {
     });
   }
 
+  /** The tapes that there are, each with its path and name. */
+  const tapes = () => PATHS.filter(p => panels[p].tape).map(p => ({ name: `path ${p}: ${panels[p].tape.name}`, text: panels[p].tape.lines.join("\n") }));
+
   /** Draws the tapes that there are anew. */
   function redraw() { for (const p of PATHS) if (panels[p].tape) draw(panels[p]); }
 
-  return { take, exchange, clear, mark, redraw, panels };
+  return { take, exchange, clear, mark, redraw, tapes, panels };
 })();

@@ -5,10 +5,10 @@ const TimeLine = (() => {
   const { INK } = Colours;
   const LEFT = 92, RIGHT = 12, HEAD = 40, HIGH = 44, LANES = { 1: HEAD, 2: 104 };
   const FOOT = LANES[2] + HIGH;
-  const BAR = { rapid: "#b9c1cd", dwell: "#f2c744", point: "#39424f" };
+  const BAR = { rapid: "rapidBar", dwell: "dwell", point: "point" };        // the ink of a bar that does not cut
   const sheet = new Sheet("times");
   let shown = { from: 0, to: 1 };
-  let waitPattern = null;
+  let waitPattern = null, patternMode = "";
 
   const xOf = time => LEFT + (time - shown.from) / (shown.to - shown.from) * (sheet.width - LEFT - RIGHT);
   const timeOf = x => shown.from + (x - LEFT) / (sheet.width - LEFT - RIGHT) * (shown.to - shown.from);
@@ -62,7 +62,8 @@ const TimeLine = (() => {
     pen.beginPath();
     pen.rect(LEFT, 0, sheet.width - LEFT, sheet.height);
     pen.clip();
-    waitPattern ||= hatched(pen);
+    if (patternMode !== Colours.mode) waitPattern = hatched(pen);
+    patternMode = Colours.mode;
     for (const p of PATHS) drawLane(pen, Look.trace.paths[p]);
     drawMeetings(pen);
     if (Look.stretch !== null) veilOthers(pen);
@@ -106,6 +107,7 @@ const TimeLine = (() => {
     const { segments } = path, y = LANES[path.number];
     pen.fillStyle = INK.lane;
     pen.fillRect(LEFT, y, sheet.width - LEFT, HIGH);
+    drawEnd(pen, path, y);
     let filled = -1;
     for (let at = Math.max(0, Times.lastBegun(segments, shown.from)); at < segments.length && segments[at].begin <= shown.to; at++) {
       const segment = segments[at], x = xOf(segment.begin), width = xOf(segment.end) - x;
@@ -116,14 +118,25 @@ const TimeLine = (() => {
     }
   }
 
+  /** Draws how a path stands idle from its end on, while the other one goes on. */
+  function drawEnd(pen, path, y) {
+    const begin = Look.trace.last[path.number], seconds = Look.trace.total - begin, x = xOf(begin), width = xOf(Look.trace.total) - x;
+    if (!path.ended || width < 1 || Look.trace.total < shown.from || begin > shown.to) return;
+    pen.fillStyle = INK.idle;
+    pen.fillRect(x, y + 8, width, HIGH - 16);
+    pen.font = FONT.plain;
+    const text = [`has ended, idle \u2248 ${secondsText(seconds)}`, "ended"].find(some => pen.measureText(some).width + 16 < Math.min(width, sheet.width - LEFT));
+    if (text) plateText(pen, text, middleOf(x, width), y + 26, "center", INK.soft);
+  }
+
   /** Draws the bar of a segment, from x on, so wide, with its name. The bar of a rapid is narrower, that of a wait hatched. */
   function drawBar(pen, segment, x, width, y) {
     const isWait = segment.kind === "wait", low = segment.kind === "rapid" ? 13 : 0;
-    pen.fillStyle = isWait ? waitPattern : BAR[segment.kind] || Colours.of(segment);
+    pen.fillStyle = isWait ? waitPattern : INK[BAR[segment.kind]] || Colours.of(segment);
     pen.fillRect(x, y + low, width, HIGH - 2 * low);
     if (isWait) frameWait(pen, x, width, y);
     else if (width > 3) {
-      pen.fillStyle = "#ffffff90";
+      pen.fillStyle = INK.edge;
       pen.fillRect(x + width - 1, y + low, 1, HIGH - 2 * low);
     }
     if (segment.kind === "thread") drawLeads(pen, x, width, y);
@@ -133,7 +146,7 @@ const TimeLine = (() => {
 
   /** Draws the rim of the bar of a wait. */
   function frameWait(pen, x, width, y) {
-    pen.strokeStyle = "#dc8a8e";
+    pen.strokeStyle = INK.waitRim;
     pen.lineWidth = 1;
     pen.strokeRect(x + 0.5, y + 0.5, Math.max(0, width - 1), HIGH - 1);
   }
@@ -141,7 +154,7 @@ const TimeLine = (() => {
   /** Draws strokes into the bar of a thread, if it has more than 6 points. */
   function drawLeads(pen, x, width, y) {
     if (width <= 6) return;
-    pen.strokeStyle = "#ffffff80";
+    pen.strokeStyle = INK.edge;
     pen.lineWidth = 1;
     pen.beginPath();
     for (let at = x + 4; at < x + width - 2; at += 5) {
@@ -156,7 +169,8 @@ const TimeLine = (() => {
 
   /** Writes the code and the line of a wait into its bar, or the code alone, if there is room. */
   function nameWait(pen, segment, x, width, y) {
-    const texts = [`waits at M${segment.code}, line ${segment.line}${segment.met ? "" : ", to the end"}`, `M${segment.code}`];
+    const place = `waits at M${segment.code}, line ${segment.line}${segment.met ? "" : ", to the end"}`;
+    const texts = [`${place}, \u2248 ${secondsText(segment.end - segment.begin)}`, place, `M${segment.code}`];
     pen.font = FONT.plain;
     const text = texts.find(some => pen.measureText(some).width + 16 < Math.min(width, sheet.width - LEFT));
     if (text) plateText(pen, text, middleOf(x, width), y + 26, "center", INK.red);
@@ -166,7 +180,7 @@ const TimeLine = (() => {
   function nameBar(pen, segment, x, width, y) {
     const second = Reading.CUTS.has(segment.kind) ? segment.tool : segment.kind === "dwell" ? "dwell" : segment.tool;
     pen.font = FONT.plain;
-    pen.fillStyle = segment.kind === "dwell" ? "#3b2f00" : INK.paper;
+    pen.fillStyle = segment.kind === "dwell" ? INK.onDwell : INK.onBar;
     pen.textAlign = "center";
     if (width < pen.measureText(String(segment.line)).width + 6) return;
     pen.fillText(String(segment.line), middleOf(x, width), y + 18);
@@ -262,9 +276,9 @@ const TimeLine = (() => {
     const tile = document.createElement("canvas"), size = 8;
     tile.width = tile.height = size;
     const brush = tile.getContext("2d");
-    brush.fillStyle = "#fff4f4";
+    brush.fillStyle = INK.wait;
     brush.fillRect(0, 0, size, size);
-    brush.strokeStyle = "#dc6b70";
+    brush.strokeStyle = INK.waitStroke;
     brush.lineWidth = 1.4;
     brush.beginPath();
     for (const at of [-2, 2]) {
@@ -282,7 +296,7 @@ const TimeLine = (() => {
     const pen = sheet.clean(sheet.over), { focus } = Look, x = xOf(Look.time);
     if (focus) {
       const from = Math.max(LEFT, xOf(focus.begin)), to = Math.min(sheet.width, xOf(focus.end));
-      pen.strokeStyle = "#ffb700";
+      pen.strokeStyle = INK.frame;
       pen.lineWidth = 3;
       if (to >= LEFT && from <= sheet.width) pen.strokeRect(from - 1, LANES[focus.path] - 1, Math.max(3, to - from + 2), HIGH + 2);
     }

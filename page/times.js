@@ -5,6 +5,7 @@ const Times = (() => {
   /** Speeds that stand in when the tape has none, in revolutions a minute. */
   const NO_SPEED = 1000, NO_LIMIT = 5000;
   const STEPS = 12;
+  const LEAST_IDLE = 0.05;              // seconds
 
   /**
    * Times a trace, in seconds from its start. Rates: `rapid` in mm/min, `change` in seconds for each new tool station. A meeting is
@@ -134,11 +135,19 @@ const Times = (() => {
                           stretch === meetings.length ? segments.length : meetings[stretch].last[p] + 1);
   }
 
+  /** Where a path stands idle: at each wait, and from its end until the other path's. None that is too short to be told counts. */
+  function idleOf(trace, p) {
+    const { segments, ended } = trace.paths[p], idle = segments.filter(segment => segment.kind === "wait");
+    const spans = idle.map(segment => ({ path: p, segment, begin: segment.begin, end: segment.end }));
+    if (ended) spans.push({ path: p, segment: ended, begin: trace.last[p], end: trace.total });
+    return spans.filter(({ begin, end }) => end - begin >= LEAST_IDLE);
+  }
+
   /** The part of a segment's way, from 0 to 1, that is gone at a time. */
   function partAt(segment, time) {
     if (segment.end <= segment.begin) return 1;
     return Math.min(1, Math.max(0, (time - segment.begin) / (segment.end - segment.begin)));
   }
 
-  return { timeTrace, lastBegun, stretchAt, spanOf, segmentsIn, partAt, NO_SPEED, NO_LIMIT };
+  return { timeTrace, lastBegun, stretchAt, spanOf, segmentsIn, idleOf, partAt, NO_SPEED, NO_LIMIT };
 })();

@@ -3,13 +3,16 @@ what they ask of the page, and the room in which pages and texts are made. Used 
 import base64
 import os
 import re
+import shutil
 import socket
+import time
 
 import wasm_binary
 from library_texts import EXAMPLES, read
 
 LIMIT = 50000                   # records of a picture, as page/judge/worker.js has it
 PARTS = ("waits", "verdict", "trace")
+WORKERS = len(PARTS)            # one for each part
 PATIENCE = 300                  # seconds for one question, on a machine that does much else
 MODULE = re.compile(r'(<script type="text/plain" id="module">)([^<]*)(</script>)')
 
@@ -48,12 +51,18 @@ class Page:
     def open(self, path):
         """Opens a page, from a file."""
         self.path = path
+        self.run("typeof Keep === 'undefined' || (Keep.want(false), 0)")        # what this one keeps is not for the next
         self.browser.open(path)
+        self.run("Keep.want(true)")
         self.run("document.documentElement.dataset.judged = ''")
 
     def give(self, *texts):
         """Gives it three texts at once, and waits for all answers."""
         return self.run(GIVE % (SETTLED, [base64.b64encode(text).decode() for text in texts]), seconds=PATIENCE)
+
+    def clear(self):
+        """Takes all texts away, with their changes."""
+        self.run("Judge.texts.forEach(text => text.set('', new Uint8Array()))")
 
     def do(self, script):
         """Does something that asks again, and waits for all answers."""
@@ -86,6 +95,15 @@ class Page:
           for (const [name, text] of {given})
             data.items.add(new File([Uint8Array.from(atob(text), letter => letter.charCodeAt(0))], name));
           {target}.dispatchEvent(new DragEvent("drop", {{ dataTransfer: data, bubbles: true, cancelable: true }}))""")
+
+    def start_drop(self, target, files):
+        """Drops files, and waits until the page asks whether what is there may go."""
+        given = [[name, base64.b64encode(data).decode()] for name, data in files]
+        self.run(f"""(async () => {{ const data = new DataTransfer();
+          for (const [name, text] of {given})
+            data.items.add(new File([Uint8Array.from(atob(text), letter => letter.charCodeAt(0))], name));
+          {target}.dispatchEvent(new DragEvent("drop", {{ dataTransfer: data, bubbles: true, cancelable: true }}));
+          for (let turn = 0; turn < 400 && !{OPEN}; turn++) await new Promise(done => setTimeout(done, 10)); }})()""")
 
     def choose(self, name, files):
         """Chooses files by the button of an element."""
@@ -151,7 +169,7 @@ def rows_of_answers(row, page, room):
     row("what a refusal means is said once", "Do: " not in seen["said"]["waits"], seen["said"]["waits"])
     for part in ("M101", "M102", "Meaning: ", "Do: make both tapes wait at the same codes in the same order"):
         row.has(f"a refusal says the lines and what to do: {part}", seen["said"]["verdict"], part)
-    row("the picture of the pair before is no longer in force", seen["isStale"])
+    row("the picture of the pair before is no longer in force, and is not saved", seen["isStale"] and page.run("$('save-picture').disabled"))
     row.equal("a mark is where its line is", page.run("""Judge.texts.slice(0, 2).map(({ field }) => [getComputedStyle(field).lineHeight,
         getComputedStyle(field).paddingTop, /\\) 36px, .*\\) 54px, /.test(getComputedStyle(field).backgroundImage)])"""), [["18px", "0px", True]] * 2)
 
@@ -195,7 +213,7 @@ def rows_of_hands(row, page, room):
     row.equal("files can be chosen", line_of(seen["answers"]["verdict"]), MISMATCH)
     seen = page.choose("file", [os.path.join(examples, file) for file in GOOD])
     row.equal("several at once too", line_of(seen["answers"]["verdict"]), ACCEPTED)
-    strange = bytes(byte for byte in range(256) if byte != 13)
+    strange = bytes(range(256))
     page.give(b"%\nO1\n(" + strange.replace(b")", b"").replace(b"\n", b"") + b")\nM30\n%\n", b"%\nO2\nM30\n%\n", b"")
     page.select(0, 4, 0, 0)
     page.type(" ")
@@ -212,6 +230,274 @@ def rows_of_hands(row, page, room):
     page.wait()
     row.has("keys of the picture are letters in a text", page.run("Judge.texts[1].field.value"), "%\n 0+-")
     row.equal("two tapes that are typed letter by letter are judged", (line_of(seen["answers"]["waits"])[1].splitlines()[0], seen["state"]), ("waits 1", "drawn"))
+
+
+NAMES = "Judge.texts.map(text => text.title.textContent)"
+CAME = "$('judge-came').hidden ? '' : $('judge-came-said').textContent"
+
+
+def rows_of_files(row, page, room):
+    """Files that come together find their places, or the page asks; what it does not take it says, and no byte is changed on the way."""
+    upper, lower, cell = zip(GOOD, pair(*GOOD))
+    page.clear()
+    seen = page.drop("document.body", [lower, upper, cell])
+    row.equal("lower.nc is path 2, though it comes first", page.run(NAMES), list(GOOD))
+    row.equal("and it is judged so", line_of(seen["answers"].get("verdict")), ACCEPTED)
+    row.has("by which sign is told", page.run(CAME), "Path 1: upper.nc, Path 2: lower.nc, Settings: cell.txt (the paths by their names)")
+    page.drop("document.body", [("O12.nc", lower[1]), ("O11.nc", b"%\nO11 (HEAD 1)\nM30\n%\n")])
+    row.has("or by their comments", page.run(CAME), "Path 1: O11.nc, Path 2: O12.nc (the paths by their comments)")
+    cell_of_two = cell[1].replace(b"place 1 X200.", b"place 1 X222.")
+    mute = [text[1].replace(b"(UPPER TURRET)", b"").replace(b"(LOWER TURRET)", b"") for text in (upper, lower)]
+    seen = page.drop("document.body", [("b.nc", mute[1]), ("a.nc", mute[0]), ("cell.txt", cell_of_two)])
+    row.has("where nothing says it, it is asked", page.run(CAME), "Path 1: b.nc, Path 2: a.nc, Settings: cell.txt. Nothing says which path is whose. Is it so?")
+    seen = page.do("$('judge-came-exchange').click()")
+    row.equal("one click exchanges them", page.run(NAMES), ["a.nc", "b.nc", "cell.txt"])
+    row("and the settings stay those of their paths", "\n1 0 at X222.000 Z150.000\n" in seen["answers"]["trace"]["text"] if "trace" in seen["answers"] else False,
+        seen["said"])
+    page.drop("$('judge-left')", [lower])
+    page.drop("$('judge-right')", [upper])
+    row.has("a file that was put to the other path is asked about", page.run(CAME), "By their names the tapes are the other way round. Is it so?")
+    page.run("$('judge-came-right').click()")
+    row.equal("and a yes is enough", page.run(CAME), "")
+    seen = page.drop("document.body", [("b.txt", b"O1\nG00 X1.\nM30\n"), ("a.txt", b"O2\n#100=1\nIF[#100 EQ 0]GOTO 5\nM30\n")])
+    row.equal("a tape without a percent sign is a tape", page.run(NAMES), ["b.txt", "a.txt", "cell.txt"])
+    row("and what it lacks is told", seen["answers"]["verdict"]["status"] == 1 and "Do: " in seen["said"]["verdict"], seen["said"])
+    page.drop("document.body", [upper, lower, ("third.nc", lower[1]), cell, ("more.txt", b"home 1 X3.\n"), ("part.pdf", b"%PDF-1.7\n\0\n"), ("note.txt", b"Dear all\n")])
+    for part in ("third.nc (there are two paths)", "more.txt (there is one text of settings)", "part.pdf (it looks neither like", "note.txt (it looks neither like"):
+        row.has(f"what was not taken is told: {part}", page.run(CAME), part)
+    row.equal("and the others have their places", page.run(NAMES), list(GOOD))
+    page.drop("document.body", [("lower.nc", read("deadlock_lower.nc"))])
+    row.equal("a tape that comes again goes where it was", page.run(NAMES + ".concat(Judge.texts[1].line(4))"), [*GOOD, "M101"])
+    rows_of_returns(row, page)
+
+
+def rows_of_returns(row, page):
+    """A carriage return by itself stays one, and line ends of Windows stay so."""
+    alone = b"%\nO1\nG00 X1.\nN20\rG28\nM30\n%\n"
+    due = (1, "refused 10 BadCharacter path 1 line 4\n")
+    seen = page.give(alone, b"%\nO2\nM30\n%\n", b"")
+    row.equal("a carriage return by itself is refused at its line", line_of(seen["answers"]["verdict"]), due)
+    row.equal("and the editor has as many lines as the control", page.run("Judge.texts[0].lines"), 7)
+    page.select(0, 5, 0, 0)
+    seen = page.type(" ")
+    row.equal("it stays what it is when another line is changed", page.run("[...Judge.texts[0].bytes()]"), list(alone.replace(b"M30", b" M30")))
+    row.equal("and is refused still", line_of(seen["answers"]["verdict"]), due)
+    page.run("""(field => { const data = new DataTransfer(); data.setData("text/plain", "\\r(A)\\r\\n");
+        field.dispatchEvent(new ClipboardEvent("paste", { clipboardData: data, bubbles: true, cancelable: true })); })(Judge.texts[0].field)""")
+    page.wait()
+    row("one that is pasted stays too", b" \r(A)\nM30" in bytes(page.run("[...Judge.texts[0].bytes()]")), page.run("Judge.texts[0].field.value"))
+    windows = b"%\r\nO1\r\nM30\r\n%\r\n"
+    page.give(windows, b"%\nO2\nM30\n%\n", b"")
+    page.select(0, 3, 0, 0)
+    page.type("M101\n")
+    row.equal("line ends of Windows stay so", page.run("[...Judge.texts[0].bytes()]"), list(windows.replace(b"M30", b"M101\r\nM30")))
+
+
+def saved(page, room, name, script):
+    """The bytes of the file that a script of the page saves under a name; None if none comes."""
+    folder = os.path.join(room, "saved")
+    shutil.rmtree(folder, ignore_errors=True)
+    os.mkdir(folder)
+    page.browser.save_to(folder)
+    page.run(script + "; 0")
+    for _ in range(400):
+        if os.path.exists(os.path.join(folder, name)):
+            with open(os.path.join(folder, name), "rb") as file:
+                return file.read()
+        time.sleep(0.025)
+    return None
+
+
+def rows_of_saving(row, page, room):
+    """What was changed, the picture and the report become files; nothing goes without a question; what was open comes back."""
+    upper, lower, cell = zip(GOOD, pair(*GOOD))
+    page.clear()
+    page.drop("document.body", [upper, lower, cell])
+    page.select(0, 2, 0, 0)
+    page.browser.key(" ")
+    page.wait()
+    changed = upper[1].replace(b"O0001", b" O0001")
+    row.equal("a change is told", page.run(NAMES), ["upper.nc, changed", "lower.nc", "cell.txt"])
+    row.equal("the changed tape is saved under its name", saved(page, room, "upper.nc", "$('judge-left-save').click()"), changed)
+    row.equal("and has no changes then", page.run(NAMES), list(GOOD))
+    row.equal("the settings are saved", saved(page, room, "cell.txt", "$('judge-cell-save').click()"), cell[1])
+    picture = saved(page, room, "upper.png", "$('save-picture').click()") or b""
+    wide = page.run("Plane.sheet.width")
+    row("the picture is saved", picture[:8] == b"\x89PNG\r\n\x1a\n" and int.from_bytes(picture[16:20], "big") >= 2 * wide > 0, picture[:24])
+    row("and what is shown stays", page.run("Plane.sheet.under.width === Math.round(Plane.sheet.width * devicePixelRatio)"))
+    report = (saved(page, room, "twin_lathe report.txt", "$('save-report').click()") or b"").decode()
+    for part in (f"path 1: upper.nc, {len(changed)} bytes\n", "== verify\naccepted\n", "== waits\nwaits 2\n", "\nraces 0\n", "\npath 1 moves 19\n", "\nend done\n"):
+        row.has(f"the report has {part.strip()!r}", report, part)
+    strange = b"%\nO1\n(" + bytes(range(256)).replace(b")", b"").replace(b"\n", b"") + b")\nM30\n%\n"
+    page.give(strange, b"%\nO2\nM30\n%\n", b"")
+    row.equal("a text is saved byte by byte", saved(page, room, "path1.nc", "$('judge-left-save').click()"), strange)
+    rows_of_loss(row, page, room)
+
+
+OPEN = "$('judge-unsaved').open"
+
+
+def answer(page, value):
+    """Presses a button of the question, and waits until all is done that hangs on it."""
+    page.run(f"""new Promise(done => {{
+        $("judge-unsaved").addEventListener("close", () => setTimeout(done, 50), {{ once: true }});
+        document.querySelector("#judge-unsaved button[value={value}]").click(); }})""")
+    return page.wait()
+
+
+def rows_of_loss(row, page, room):
+    """What is not saved is asked for before it goes, and comes back after a reload."""
+    upper, lower, cell = zip(GOOD, pair(*GOOD))
+    other = ("other.nc", read("deadlock_upper.nc"))
+    page.drop("document.body", [upper, lower, cell])
+    page.run("Judge.texts[0].field.focus()")
+    page.select(0, 2, 0, 0)
+    page.browser.key(" ")
+    page.wait()
+    page.start_drop("$('judge-left')", [other])
+    row("a tape with changes is asked for before another takes its place", page.run(OPEN))
+    answer(page, "stay")
+    row.equal("it stays", page.run(NAMES)[0], "upper.nc, changed")
+    page.start_drop("$('judge-left')", [other])
+    kept = saved(page, room, "upper.nc", "document.querySelector('#judge-unsaved button[value=save]').click()")
+    row.equal("or is saved first", (kept, page.wait() and page.run(NAMES)[0]), (upper[1].replace(b"O0001", b" O0001"), "other.nc"))
+    page.drop("document.body", [upper, lower, cell])
+    row("without changes nothing is asked", not page.run(OPEN))
+    page.run("Judge.texts[1].field.focus()")
+    page.select(1, 2, 0, 0)
+    page.browser.key(" ")
+    page.do("$('judge-outside').value = '9000-9999'; Judge.ask()")
+    due = page.run("[Judge.texts.map(text => [text.title.textContent, [...text.bytes()]]), $('judge-outside').value]")
+    page.browser.asked.clear()
+    page.browser.reload()
+    seen = page.wait()
+    row.equal("the browser asks before a page with changes goes", page.browser.asked, ["beforeunload"])
+    row.equal("after a reload all is there, with its changes", page.run("[Judge.texts.map(text => [text.title.textContent, [...text.bytes()]]), $('judge-outside').value]"), due)
+    row.equal("and it is judged", line_of(seen["answers"].get("verdict")), ACCEPTED)
+    row.has("the page says where they were", page.run(CAME), "This browser kept them")
+    page.run("$('judge-clear').click()")
+    row("what is to be cleared is asked for", page.run(OPEN))
+    answer(page, "go")
+    row.equal("and all of it goes", page.run("[Judge.texts.map(text => text.bytes().length), Keep.read()]"), [[0, 0, 0], None])
+    page.browser.reload()
+    row.equal("for good", page.run("Judge.texts.map(text => text.bytes().length)"), [0, 0, 0])
+    page.run("$('judge-keep').click()")
+    page.drop("document.body", [upper, lower])
+    page.browser.reload()
+    row.equal("who wants nothing kept has nothing kept", page.run("[Judge.texts.map(text => text.bytes().length), Keep.read(), $('judge-keep').checked]"), [[0, 0, 0], None, False])
+    page.run("$('judge-keep').click()")
+
+
+# The parts of the page whose letters are too near to what lies behind them, by the contrast of WCAG 2: 4.5 is the least for plain text.
+CONTRAST = """(() => {
+  const numbers = colour => colour.match(/[\\d.]+/g).map(Number);
+  const light = colour => numbers(colour).slice(0, 3).reduce((sum, value, k) => {
+    const part = value / 255;
+    return sum + [0.2126, 0.7152, 0.0722][k] * (part <= 0.03928 ? part / 12.92 : ((part + 0.055) / 1.055) ** 2.4); }, 0);
+  const behind = part => { const { backgroundColor } = getComputedStyle(part); return (numbers(backgroundColor)[3] ?? 1) > 0.8 ? backgroundColor : behind(part.parentElement); };
+  const hasText = part => [...part.childNodes].some(node => node.nodeType === 3 && node.data.trim());
+  const poor = [...document.body.querySelectorAll("*")].filter(part => hasText(part) && part.checkVisibility() && !part.closest("script")).filter(part => {
+    const [one, two] = [light(getComputedStyle(part).color), light(behind(part))];
+    return (Math.max(one, two) + 0.05) / (Math.min(one, two) + 0.05) < 4.5; });
+  return poor.map(part => `${part.tagName} ${part.className} ${part.textContent.slice(0, 20)}`); })()"""
+
+
+def rows_of_habits(row, page, room):
+    """Search, go to line, the place of the mouse, dark mode and paper."""
+    upper, lower, cell = zip(GOOD, pair(*GOOD))
+    browser, run = page.browser, page.run
+    page.clear()
+    page.drop("document.body", [upper, lower, cell])
+    run("Judge.texts[0].field.focus()")
+    browser.key("g", control=True)
+    for letter in "12":
+        browser.key(letter)
+    browser.key("Enter")
+    row.equal("Ctrl+G goes to a line", run("(field => [document.activeElement === field, field.value.slice(0, field.selectionStart).split('\\n').length])(Judge.texts[0].field)"), [True, 12])
+    browser.key("f", control=True)
+    for letter in "g00":
+        browser.key(letter)
+    count = "$('judge-find-count').textContent"
+    row.equal("Ctrl+F finds, in capitals or not", (run(count), run("Judge.texts[0].found")), ("2 of 2", 12))
+    seen = []
+    for key, shift in (("Enter", False), ("F3", False), ("F3", True)):
+        browser.key(key, shift=shift)
+        seen.append((run(count), run("Judge.texts[0].found")))
+    row.equal("Enter and F3 go on, with Shift back", seen, [("1 of 2", 8), ("2 of 2", 12), ("1 of 2", 8)])
+    browser.key("Escape")
+    row.equal("Escape closes the search", run("[$('judge-find').hidden, document.activeElement === Judge.texts[0].field]"), [True, True])
+    row.equal("the text is as it was", run("[...Judge.texts[0].bytes()]"), list(upper[1]))
+    browser.key(" ")
+    page.wait()
+    row("Ctrl+S saves", saved(page, room, "upper.nc", "dispatchEvent(new KeyboardEvent('keydown', { key: 's', ctrlKey: true, bubbles: true }))"))
+    page.drop("document.body", [upper])
+    run("$('page').scrollIntoView()")
+    browser.settle()
+    browser.hover(*run("(box => [box.left + Math.round(Camera.xOf(-20)), box.top + Math.round(Camera.yOf(15))])($('plane').getBoundingClientRect())"))
+    found = re.fullmatch(r"Z \u2212(\d+\.\d+)  \u2300 (\d+\.\d+)  \(path 1\)", run("$('pointer').textContent"))
+    row("the place of the mouse is told", found and abs(float(found[1]) - 20) < 0.5 and abs(float(found[2]) - 30) < 0.5, run("$('pointer').textContent"))
+    run("scrollTo(0, 0)")
+    for mode in ("dark", "light"):
+        browser.call("Emulation.setEmulatedMedia", features=[{"name": "prefers-color-scheme", "value": mode}])
+        browser.settle()
+        row.equal(f"{mode}: no letters are hard to read", run(CONTRAST), [])
+        corner = run("[...$('plane').getContext('2d').getImageData(3, 3, 1, 1).data].length && Colours.INK.paper")
+        row.equal(f"{mode}: the picture has its colours", corner, {"dark": "#1c222a", "light": "#ffffff"}[mode])
+    rows_of_paper(row, page)
+
+
+def rows_of_paper(row, page):
+    """What is printed: all lines of both tapes, the picture and the verdict."""
+    browser, run = page.browser, page.run
+    page.give(*LONG[:2], b"")
+    run("dispatchEvent(new Event('beforeprint'))")
+    paper = run("(paper => [paper.textContent, paper.querySelectorAll('canvas').length])($('paper'))")
+    for tape in LONG[:2]:
+        lines = tape.decode().splitlines()
+        row("all lines of a tape are printed", all(f"{k}  {lines[k - 1]}" in paper[0] for k in (1, 2, 777, 20002, len(lines))), paper[0][:200])
+    row("with the verdict and the picture", "accepted" in paper[0] and paper[1] == 1, paper[0][:200])
+    run("dispatchEvent(new Event('afterprint'))")
+    row("and nothing of it stays", not run("Boolean($('paper'))"))
+    page.give(*pair(*GOOD))
+    pages = base64.b64decode(browser.call("Page.printToPDF", printBackground=True)["data"])
+    row("a browser prints it", pages.startswith(b"%PDF-") and pages.count(b"/Type /Page\n") >= 2, len(pages))
+
+
+ERRORS = os.path.join(os.path.dirname(EXAMPLES.rstrip("/")), "docs", "ERRORS.md")
+
+
+def rows_of_refusals(row, page, room):
+    """All that is refused is named at once, each beside its line and with what docs/ERRORS.md says of it."""
+    left, right, cell = (read(name).decode().splitlines() for name in GOOD)
+    left[6], left[10], right[8] = "N50 G01 X Z5.", "N90 G00 X10. (ROUGH", "N70 G01 X123456789. F0.1"
+    cell[3], cell[-1] = "wiat 100 197", "place 3 X1. Z1."
+    seen = page.give(*(("\n".join(text) + "\n").encode() for text in (left, right, cell)))
+    due = [f"refused 90 BadSetting line {line}" for line in (4, len(cell))] + ["refused 11 NoNumber path 1 line 7", "refused 12 OpenComment path 1 line 11",
+                                                                               "refused 5 TooManyDigits path 2 line 9"]
+    row.equal("the first refusal is the program's", line_of(seen["answers"]["verdict"]), (1, due[0] + "\n"))
+    summaries = page.run("[...document.querySelectorAll('#judge-further summary')].map(part => `refused ${part.textContent}`)")
+    row.equal("all further ones are named too", summaries, due[1:])
+    row.has("as what they are", page.run("$('judge-further-box').textContent"), "judged again with the refused lines left empty")
+    row.equal("each has a note beside its line", page.run("Judge.texts.map(text => [...text.notes.keys()])"), [[7, 11], [9], [4, len(cell)]])
+    with open(ERRORS, encoding="utf-8") as file:
+        part = re.search(r"^## 12 OpenComment\n(.*?)^## ", file.read(), flags=re.M | re.S)[1]
+    meant = [" ".join(text.replace("`", "").split()) for text in re.findall(r"^(?:Meaning|Do): .*?(?=\n\n)", part, flags=re.M | re.S)]
+    row.equal("with what it means and what to do", page.run("[...Judge.texts[0].notes.get(11).querySelectorAll('.judge-why p')].map(part => part.textContent)"), meant)
+    page.run("Judge.texts[0].field.focus()")
+    stops = []
+    for shift in (False, False, False, False, True):
+        page.browser.key("F8", shift=shift)
+        stops.append(page.run("[Judge.texts.findIndex(text => text.field === document.activeElement), (field => field.value.slice(0, field.selectionStart).split('\\n').length)(document.activeElement)]"))
+    row.equal("F8 goes from one to the next, and back with Shift", stops, [[2, 4], [2, len(cell)], [0, 7], [0, 11], [0, 7]])
+    many = "\n".join(["%", "O1", *["G01 X Z5."] * 30, "M30", "%", ""]).encode()
+    page.give(many, many, b"")
+    row("of many some are named, of both tapes, and that there may be more", page.run("""(box => box.textContent.endsWith("There may be more.")
+        && [...box.querySelectorAll("summary")].map(part => part.textContent).filter(text => text.includes("path 2")).length === 8)($('judge-further'))"""),
+        page.run("$('judge-further').textContent"))
+    page.give(*pair(*DEADLOCK))
+    row("a deadlock stands alone", page.run("$('judge-further-box').hidden && Judge.texts[0].notes.size === 1"))
+    page.give(*pair(*GOOD))
+    row("and a good pair has no note", page.run("Judge.texts.every(text => text.notes.size === 0)"))
 
 
 def rows_of_typing(row, page, room):
@@ -254,12 +540,12 @@ def rows_of_faults(row, page, room):
     own = page.path
     page.open(spoilt(own, room, lambda module: wasm_binary.with_trap(module, "lathe_trace")))
     seen = page.give(*pair(*GOOD))
-    row.equal("a call that breaks off gives no answer", (seen["answers"]["trace"]["kind"], seen["workers"]), ("broken off", 2))
+    row.equal("a call that breaks off gives no answer", (seen["answers"]["trace"]["kind"], seen["workers"]), ("broken off", WORKERS + 1))
     row.has("the page says so", seen["said"]["run"], "broke off")
     row.has("and that the judge was made anew", seen["said"]["run"], "was made anew")
     row.equal("the other answers are right", {part: line_of(seen["answers"][part]) for part in PARTS[:2]}, {part: due[part] for part in PARTS[:2]})
     seen = page.give(*pair(*DEADLOCK))
-    row.equal("the next pair is judged as ever", (line_of(seen["answers"]["verdict"]), seen["workers"]), (MISMATCH, 2))
+    row.equal("the next pair is judged as ever", line_of(seen["answers"]["verdict"]), MISMATCH)
     for what, spoil, kind, words, sizes in (
             ("a stack", wasm_binary.with_short_stack, "broken off", "broke off", [1 << k for k in range(8, 21)]),
             ("a memory", wasm_binary.with_little_memory, "no memory", "no memory for this", [0, *(1 << k for k in range(13))])):
@@ -276,7 +562,7 @@ def rows_of_faults(row, page, room):
     page.open(spoilt(own, room, lambda module: module[:200]))
     page.run("new Promise(done => setTimeout(done, 300))")
     row.has("a browser that does not know the module is told", page.run("$('judge-verdict').textContent"), "can't judge")
-    row.equal("once", page.run("Judge.workers"), 1)
+    row.equal("and no worker is made", page.run("Judge.workers"), 0)
     page.open(own)
 
 
@@ -284,6 +570,14 @@ HELD = """new Promise(done => {
     addEventListener("securitypolicyviolation", event => done(event.effectiveDirective), { once: true });
     fetch("%s").catch(() => 0);
     setTimeout(() => done("asked for"), 2000); })"""
+
+
+INJECTED = """new Promise(done => {
+    addEventListener("securitypolicyviolation", event => done(event.effectiveDirective), { once: true });
+    const made = %s;
+    made.textContent = "window.wasInjected = 1";
+    document.body.append(made);
+    setTimeout(() => done("came in"), 2000); })"""
 
 
 def rows_of_requests(row, page, room):
@@ -297,6 +591,11 @@ def rows_of_requests(row, page, room):
         far = f"http://127.0.0.1:{server.getsockname()[1]}/"
         for name, session in (("the page's", None), ("the worker's", browser.workers[-1])):
             row.equal(f"{name} policy lets no request out", browser.run(HELD % far, session), "connect-src")
+        row.equal("no script may come in later", browser.run(INJECTED % "document.createElement('script')"), "script-src-elem")
+        row.equal("and no style", browser.run(INJECTED % "document.createElement('style')"), "style-src-elem")
+        made = browser.call("Runtime.evaluate", expression="(() => { try { return new Function('return 1')(); } catch (fault) { return fault.name; } })()",
+                            returnByValue=True, allowUnsafeEvalBlockedByCSP=False)
+        row.equal("and no text becomes a script", made["result"]["value"], "EvalError")
         server.settimeout(0.3)
         try:
             server.accept()
@@ -306,16 +605,31 @@ def rows_of_requests(row, page, room):
     browser.problems.clear()
 
 
+BOUNDS = {"verdict": 500, "trace": 1500}        # milliseconds until the verdict is told and the picture drawn
+
+
 def rows_of_length(row, page, room):
-    """20,000 blocks a tape within a second: the best of three, since the machine may be busy."""
-    best = {}
-    for _ in range(3):
+    """20,000 blocks a tape, soon: the best of some tries. On a machine that does more than it has processors all takes as much longer."""
+    best, busy = {}, min(4, max(1, os.getloadavg()[0] / os.cpu_count()))
+    for _ in range(8):
         seen = page.give(*LONG)
         best = {part: min(seen["times"][part], best.get(part, 1e9)) for part in PARTS}
+        if all(best[part] < BOUNDS[part] for part in BOUNDS):
+            break
     row.equal("20,000 blocks a tape are accepted", line_of(seen["answers"]["verdict"]), ACCEPTED)
-    row("20,000 blocks a tape are judged within a second", best["verdict"] < 1000, best)
-    print("judge rows: 20,000 blocks a tape, the best of three: " + ", ".join(f"{part} after {best[part]:.0f} ms" for part in PARTS))
+    row("their verdict is told within half a second", best["verdict"] < BOUNDS["verdict"] * busy, (best, busy))
+    row("their picture is drawn within a second and a half", best["trace"] < BOUNDS["trace"] * busy, (best, busy))
+    print(f"judge rows: 20,000 blocks a tape, the best of some, at a load of {os.getloadavg()[0]:.0f}: "
+          + ", ".join(f"{part} after {best[part]:.0f} ms" for part in PARTS))
+    # What the page itself asks of a text for one question: its bytes, once.
+    counted = page.run("""(() => { const counts = [0, 0, 0];
+        Judge.texts.forEach((text, k) => { const { bytes } = Object.getPrototypeOf(text); text.bytes = function () { counts[k] += 1; return bytes.call(this); }; });
+        Judge.ask();
+        Judge.texts.forEach(text => { delete text.bytes; });
+        return counts; })()""")
+    page.wait()
+    row.equal("for a question the page takes the bytes of each text once", counted, [1, 1, 1])
 
 
 GROUPS = {group.__name__.removeprefix("rows_of_"): group for group in (
-    rows_of_answers, rows_of_hands, rows_of_typing, rows_of_faults, rows_of_requests, rows_of_length)}
+    rows_of_answers, rows_of_hands, rows_of_files, rows_of_saving, rows_of_habits, rows_of_refusals, rows_of_typing, rows_of_faults, rows_of_requests, rows_of_length)}

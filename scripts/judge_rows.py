@@ -10,9 +10,10 @@ import sys
 import time
 
 from called_program import FILES, Program
-from judge_cases import GROUPS, LIMIT, LONG, MODULE, Page, line_of, long_tape
-from library_texts import changed_triples, triples
+from judge_cases import DEADLOCK, GOOD, GROUPS, LIMIT, LONG, MODULE, Page, line_of, long_tape
+from library_texts import EXAMPLES, changed_triples, triples
 from page_browser import Browser, Hung
+import page_firefox
 from page_drive import Refused, edit_of
 import page_module
 
@@ -71,6 +72,56 @@ def compare(row, page):
                 row.equal(f"{name}: {part}", line_of(seen["answers"].get(part)), due[part])
             if "trace" in due:
                 row.equal(f"{name}: the picture", (seen["state"], seen["isStale"]), ("drawn", False))
+
+
+# ---- another browser ----
+
+JUDGED = "return document.documentElement.dataset.judged === 'done'"
+MARKED = """return ["left", "right", "cell"].map(name => [...document.querySelectorAll(`#judge-${name}-numbers .marked`)].map(row => Number(row.textContent)))"""
+
+
+def text_in(firefox, name):
+    return firefox.run(f"return document.getElementById('{name}').textContent")
+
+
+def choose_in(firefox, names):
+    """Chooses files of a folder as a user does, and waits until they are judged."""
+    firefox.run("document.documentElement.dataset.judged = 'asked'")
+    firefox.type("#file", "\n".join(os.path.realpath(name) for name in names))
+    return firefox.until(JUDGED)
+
+
+def rows_of_firefox(row, path):
+    """The page by itself in Firefox: it judges, marks and draws, takes what is typed, and keeps it over a reload."""
+    firefox, examples = page_firefox.Firefox(), os.path.realpath(EXAMPLES)
+    try:
+        firefox.open(path)
+        row("Firefox: three files are judged", choose_in(firefox, [os.path.join(examples, name) for name in reversed(GOOD)]), text_in(firefox, "judge-verdict"))
+        row.has("Firefox: the pair is accepted", text_in(firefox, "judge-verdict"), "accepted")
+        row.has("Firefox: which tape is whose is told", text_in(firefox, "judge-came-said"), "Path 1: upper.nc, Path 2: lower.nc")
+        row.equal("Firefox: its picture is drawn", firefox.run("return [document.documentElement.dataset.state, document.documentElement.dataset.moves]"), ["drawn", "19 11"])
+        choose_in(firefox, [os.path.join(examples, name) for name in DEADLOCK])
+        row.has("Firefox: a deadlock is refused", text_in(firefox, "judge-verdict"), "refused 72 WaitMismatch path 1 line 3 path 2 line 3 after 0")
+        row.equal("Firefox: and its lines are marked", firefox.run(MARKED), [[3], [3], []])
+        firefox.type("#judge-cell", "wait 102 199\n")
+        row("Firefox: what is typed is judged", firefox.until("return document.getElementById('judge-verdict').textContent.includes('accepted')", 30), text_in(firefox, "judge-verdict"))
+        row("Firefox: and kept", firefox.until("return document.getElementById('judge-kept').textContent.startsWith('Kept')", 30))
+        firefox.reload()
+        row("Firefox: after a reload it is there and judged", firefox.until("return document.getElementById('judge-verdict').textContent.includes('accepted')", 30)
+            and "wait 102 199" in firefox.run("return document.getElementById('judge-cell').value"), text_in(firefox, "judge-came-said"))
+        row("Firefox: 20,000 blocks a tape are judged and drawn", rows_of_long_tapes(firefox), text_in(firefox, "judge-verdict"))
+    finally:
+        firefox.close()
+
+
+def rows_of_long_tapes(firefox):
+    names = [os.path.join(WORK, name) for name in ("long_upper.nc", "long_lower.nc")]
+    for name, tape in zip(names, LONG):
+        with open(name, "wb") as file:
+            file.write(tape)
+    firefox.run("document.getElementById('judge-clear').click(); document.querySelector('#judge-unsaved button[value=go]').click()")
+    firefox.until("return document.getElementById('judge-left').value === ''")
+    return choose_in(firefox, names) and "accepted" in text_in(firefox, "judge-verdict") and firefox.run("return document.documentElement.dataset.state") == "drawn"
 
 
 # ---- wrong pages ----
@@ -139,8 +190,12 @@ def main():
             compare(row, page)
             row.equal("no exception, and no request", page.browser.problems, [])
             page.browser.close()
+            if page_firefox.find():
+                rows_of_firefox(row, alone)
+            else:
+                print("judge rows: there is no Firefox here: its rows are left out")
             refuse_wrong_pages(row, base64.b64decode(MODULE.search(page_module.read(PAGE))[2]))
-        except (Hung, RuntimeError, subprocess.TimeoutExpired) as fault:
+        except (Hung, page_firefox.Gone, RuntimeError, subprocess.TimeoutExpired) as fault:
             row("the rows come to their end", False, str(fault))
         finally:
             page.browser.close()

@@ -23,10 +23,10 @@ class Hung(Exception):
 
 class Browser:
     """A browser with one page. `problems` gathers exceptions of the page, and requests for what is neither a file of this computer nor
-    the page's own; `workers` gathers its workers, if they are watched."""
+    the page's own; `workers` gathers its workers, if they are watched; `asked` the questions before it goes, to which it says yes."""
 
     def __init__(self, width=1400, height=900, ratio=1):
-        self.problems, self.workers = [], []
+        self.problems, self.workers, self.asked = [], [], []
         try:
             self._start([])
         except Hung:
@@ -124,6 +124,9 @@ class Browser:
             self.workers.append(got["params"]["sessionId"])
             for method in ("Runtime.enable", "Network.enable", "Runtime.runIfWaitingForDebugger"):
                 self._order(method, self.workers[-1], {})
+        if got.get("method") == "Page.javascriptDialogOpening":
+            self.asked.append(got["params"]["type"])
+            self._order("Page.handleJavaScriptDialog", self.session, {"accept": True})
         if got.get("method") == "Runtime.exceptionThrown":
             details = got["params"]["exceptionDetails"]
             self.problems.append(details.get("exception", {}).get("description", details.get("text", "?")))
@@ -148,6 +151,23 @@ class Browser:
                 return
             time.sleep(0.025)
         raise Hung("the page did not come up")
+
+    def reload(self):
+        """Loads the page anew, as a user does, and waits until it says what state it is in."""
+        self.run("window.isOld = true")
+        self.call("Page.reload")
+        for _ in range(400):
+            try:
+                if self.run("!window.isOld && document.readyState === 'complete' && Boolean(document.documentElement.dataset.state)"):
+                    return
+            except RuntimeError:
+                pass                # the old page goes just now
+            time.sleep(0.025)
+        raise Hung("the page did not come up again")
+
+    def save_to(self, folder):
+        """From now on files are saved to a folder."""
+        self.call("Browser.setDownloadBehavior", behavior="allow", downloadPath=folder)
 
     def size(self, width, height, ratio=1, mobile=False):
         """The size of the window in points of the page, and how many pixels a point has."""
@@ -212,13 +232,13 @@ class Browser:
         self.touch("touchEnd")
         self.settle()
 
-    def key(self, key, shift=False):
-        """Presses a key, by its name; a text of one character is typed."""
+    def key(self, key, shift=False, control=False):
+        """Presses a key, by its name; a text of one character is typed, but not with the control key."""
         codes = {"Enter": 13, "Tab": 9, "Escape": 27, " ": 32, "PageUp": 33, "PageDown": 34, "End": 35, "Home": 36, "ArrowLeft": 37,
-                 "ArrowUp": 38, "ArrowRight": 39, "ArrowDown": 40}
-        text = {"text": "\r" if key == "Enter" else key} if len(key) == 1 or key == "Enter" else {}
+                 "ArrowUp": 38, "ArrowRight": 39, "ArrowDown": 40, "F3": 114, "F8": 119}
+        text = {"text": "\r" if key == "Enter" else key} if not control and (len(key) == 1 or key == "Enter") else {}
         params = {"key": key, "code": "Space" if key == " " else key, "windowsVirtualKeyCode": codes.get(key, ord(key[0].upper())),
-                  "modifiers": 8 if shift else 0}
+                  "modifiers": (8 if shift else 0) | (2 if control else 0)}
         self.call("Input.dispatchKeyEvent", type="keyDown" if text else "rawKeyDown", **params, **text)
         self.call("Input.dispatchKeyEvent", type="keyUp", **params)
         self.settle()

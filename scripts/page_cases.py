@@ -32,7 +32,7 @@ def with_races(trace, *races):
     return trace.replace("races 0\n", "\n".join((f"races {len(races)}", *races)) + "\n")
 
 
-FLANGE = [("flange_upper.nc", text("flange_upper.nc")), ("flange_lower.nc", text("flange_lower.nc"))]
+FLANGE = [(name, text(name, EXAMPLES)) for name in ("flange_upper.nc", "flange_lower.nc")]
 
 
 class Hand:
@@ -169,12 +169,33 @@ def rows_of_times(row, hand, browser):
         meeting => PATHS.every(p => Look.trace.paths[p].segments[meeting.last[p] + 1].begin === meeting.time))"""))
     row("each segment begins when the one before ends", hand.run("""PATHS.every(p => Look.trace.paths[p].segments.every(
         (segment, k, all) => segment.end >= segment.begin && segment.begin === (k === 0 ? 0 : all[k - 1].end)))"""))
+    rows_of_idle(row, hand, browser)
     total = "Look.trace.total"
     before = hand.run(total)
     hand.run("$('rapid').value = 5; $('rapid').dispatchEvent(new Event('change'))")
     row("another rapid makes another guess", hand.run(total) > before + 1, hand.run(total))
     hand.run("$('rapid').value = ''; $('rapid').dispatchEvent(new Event('change'))")
     row.near("no number is the usual one", hand.run(total), before, 1e-9)
+
+
+def rows_of_idle(row, hand, browser):
+    """Where a path stands idle, and how long by the guess, is told as a guess."""
+    rows = "[...document.querySelectorAll('#idle .idle')].map(e => e.textContent)"
+    browser.drop(trace("times"))
+    told = browser.run(rows)
+    row.has("the longest idle time comes first", told[0], "\u2248 87.7 s path 2 at M100, line ")
+    row.has("how long each path stands idle is told as a guess", hand.shown("#idle-said"), "By the guess path 1 stands idle for \u2248 ")
+    row.equal("a path that has ended stands idle while the other goes on", [some for some in told if "path 1" in some],
+              ["\u2248 6.0 s path 1 after its end, line 18, from 87.7 s on"])
+    begin = browser.run("Times.idleOf(Look.trace, 2).sort((one, two) => two.end - two.begin - one.end + one.begin)[0].begin")
+    hand.press("#idle .idle")
+    row.equal("a click goes there", browser.run("[Look.time, Look.stretch]"), [begin, 0])
+    browser.key("Escape")
+    browser.drop(trace("flange"))
+    row("waits, work and the time behind the end make up the whole, for each path", browser.run("""PATHS.every(p => {
+        const { segments } = Look.trace.paths[p], lasts = list => list.reduce((sum, { begin, end }) => sum + end - begin, 0);
+        const work = lasts(segments.filter(segment => segment.kind !== "wait")), idle = lasts(Times.idleOf(Look.trace, p));
+        return Math.abs(work + idle - Look.trace.total) < 0.2; })"""))
 
 
 def rows_of_plane(row, hand, browser):
@@ -257,7 +278,7 @@ def rows_of_tapes(row, hand, browser):
     names = lambda: [hand.shown("#tape-name-1"), hand.shown("#tape-name-2")]
     problems = lambda: [hand.shown("#tape-problem-1"), hand.shown("#tape-problem-2")]
     now = lambda p: hand.shown(f"#tape-{p} .row.now .text")
-    browser.drop([("flange_cell.txt", text("flange_cell.txt"))] + list(reversed(FLANGE)) + trace("flange"))
+    browser.drop([("flange_cell.txt", text("flange_cell.txt", EXAMPLES))] + list(reversed(FLANGE)) + trace("flange"))
     row.equal("dropped tapes find their paths, beside the settings", names(), ["flange_upper.nc", "flange_lower.nc"])
     row.equal("tapes that go with the trace make no complaint", problems(), ["", ""])
     browser.run("Moving.goTo(Look.trace.meetings[0].time + 3)")

@@ -14,7 +14,7 @@ import time
 
 sys.dont_write_bytecode = True
 from page_browser import Browser, Hung
-from page_cases import BLUE, FIRST_ROWS, FLANGE, HERE, TEXTS, Hand, rows_of_page, text
+from page_cases import BLUE, FIRST_ROWS, EXAMPLES, FLANGE, HERE, Hand, rows_of_page, text
 from page_texts import long_trace
 
 
@@ -66,7 +66,7 @@ def rows_of_length(row, browser):
 def rows_of_single_files(row, browser, folder):
     """The files that scripts/picture makes."""
     hand, picture = Hand(browser), os.path.join(HERE, "picture")
-    tapes = [os.path.join(TEXTS, name) for name, _ in FLANGE]
+    tapes = [os.path.join(EXAMPLES, name) for name, _ in FLANGE]
     for name, more, due in (("examples", [], "19 11"), ("flange", tapes, "38 24"), ("drift", [], "8 4")):
         made = os.path.join(folder, name + ".html")
         with open(made, "wb") as out:

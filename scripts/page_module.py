@@ -4,6 +4,7 @@
     page_module.py check MODULE.wasm                 whether the linked module is one for the page
     page_module.py assemble ROOT MODULE.wasm TO.html one page with all in it"""
 import base64
+import hashlib
 import json
 import re
 import sys
@@ -104,22 +105,33 @@ def assemble(page_folder, errors, module):
     page = read(f"{page_folder}/index.html")
     page = replaced(page, r'<link rel="stylesheet" href="look.css">', f"<style>\n{read(f'{page_folder}/look.css')}{read(f'{judge}/judge.css')}</style>")
     page = replaced(page, r'<script src="([\w.]+)"></script>', script_of, -10)
-    # Nothing may be loaded: the scripts stand in the page, and the worker and the module are made of what stands there.
-    page = replaced(page, "script-src 'unsafe-inline' file:; style-src 'unsafe-inline' file:;",
-                    "script-src 'unsafe-inline' 'wasm-unsafe-eval' blob:; worker-src blob:; style-src 'unsafe-inline';")
     page = replaced(page, "<title>[^<]*</title>", "<title>twin_lathe</title>")
     page = replaced(page, "<body>", '<body class="judging">')
     page = replaced(page, "(?=<main )", read(f"{judge}/panel.html") + "\n")
+    page = replaced(page, "(?=    <h2>Mouse and fingers</h2>)", read(f"{judge}/keys.html"))
     page = replaced(page, r'<div id="empty".*?</div>\n', read(f"{judge}/empty.html"))
     means = json.dumps(meanings(errors)).replace("<", "\\u003c")
     page = replaced(page, "(?=</body>)", "".join([
         f'<script type="text/plain" id="module">{base64.b64encode(module).decode()}</script>\n',
         f'<script type="text/plain" id="worker">{in_script(read(f"{judge}/worker.js"))}</script>\n',
         f'<script type="application/json" id="meanings">{means}</script>\n',
-        *[f"<script>\n{in_script(read(f'{judge}/{name}.js'))}</script>\n" for name in ("editor", "answers", "judge")]]))
+        *[f"<script>\n{in_script(read(f'{judge}/{name}.js'))}</script>\n" for name in ("editor", "files", "keep", "saving", "answers", "seeking", "judge")]]))
     if re.search(r'\b(src|href)="', page):
         stop("the page still names another file")
-    return page
+    return with_policy(page)
+
+
+def with_policy(page):
+    """The page with its own policy: nothing may be loaded or sent, and no script and no style may run but those that stand there now, each
+    named by its checksum. The worker and the module are made of what stands there."""
+    def sums(tag):
+        texts = re.findall(rf"<{tag}>(.*?)</{tag}>", page, flags=re.S)
+        return " ".join(f"'sha256-{base64.b64encode(hashlib.sha256(text.encode()).digest()).decode()}'" for text in texts)
+
+    if re.search(r'<[^>]*\s(style|on\w+)="', page[:page.index("<script")]):
+        stop("the page has a style or a script in an attribute, which its policy would not let in")
+    return replaced(page, "script-src 'unsafe-inline' file:; style-src 'unsafe-inline' file:;",
+                    f"script-src {sums('script')} 'wasm-unsafe-eval'; worker-src blob:; style-src {sums('style')};")
 
 
 def main(step, *words):

@@ -107,12 +107,13 @@ has_line_in_all() {
 }
 
 # How many recorded moves were not made, as the lines of the file $1 say: `COUNT of PATH` for each path. And the file without them.
+beside='(, besides those that the reader of its pipe has not read)?'
 missed_in() {
-    sed -nE -e 's/^path ([12]): (1) recorded move was not made$/\2 of \1/p' \
-        -e 's/^path ([12]): ([2-9]|[1-9][0-9]+) recorded moves were not made$/\2 of \1/p' "$1"
+    sed -nE -e "s/^path ([12]): (1) recorded move was not made$beside$/\2 of \1/p" \
+        -e "s/^path ([12]): ([2-9]|[1-9][0-9]+) recorded moves were not made$beside$/\2 of \1/p" "$1"
 }
 without_missed() {
-    grep -vE -e '^path [12]: 1 recorded move was not made$' -e '^path [12]: ([2-9]|[1-9][0-9]+) recorded moves were not made$' "$1"
+    grep -vE -e "^path [12]: 1 recorded move was not made$beside$" -e "^path [12]: ([2-9]|[1-9][0-9]+) recorded moves were not made$beside$" "$1"
 }
 
 # A file as hexadecimal digits.

@@ -1,10 +1,13 @@
 /* Stops the program at one of its calls on a file, has that call fail or last, or tells its calls. A call is a read, a write or a sync
-   of a file with the name CALLS_FILE, and the one that is meant has the number CALLS_AT, from 1 on. With CALLS_END=kill the program is
-   killed just before it; with `fail` it fails; with `wait` it lasts until the file CALLS_ALSO has CALLS_SIZE bytes, and if that takes
-   too long the program ends with 99. With `log` each call of the file, and of the file CALLS_ALSO, adds a line to the file CALLS_LOG.
-   A program that is killed leaves two more files, with what a loss of power may leave: NAME.lost has nothing that was written since
-   the last sync, and NAME.sevens has the byte 7 in place of each byte that was changed or added since then. Made into a library by
-   stop_rows, which has the program load it before the C library. */
+   of a file with the name CALLS_FILE, or of the one with `.new` after it, which is to take its place, or the call that gives that one
+   the name, or a sync of the folder while the name is new. The one that is meant has the number CALLS_AT, from 1 on. With
+   CALLS_END=kill the program is killed just before it; with `fail` it fails; with `wait` it lasts until the file CALLS_ALSO has
+   CALLS_SIZE bytes, and if that takes too long the program ends with 99. With `log` each call of the file, and of the file CALLS_ALSO,
+   adds a line to the file CALLS_LOG.
+   A program that is killed leaves two more files, with what a loss of power may leave under the name: NAME.lost has nothing that was
+   written since the last sync, and NAME.sevens has the byte 7 in each place that was written or added since then, also where it held
+   the same byte before. While the name is new and the folder was not synced, NAME.lost is the file that had it before. Made into a
+   library by stop_rows, which has the program load it before the C library. */
 #define _GNU_SOURCE
 #include <dlfcn.h>
 #include <errno.h>
@@ -24,9 +27,18 @@
 /* One call of the file at a time, so that each has one number. */
 static pthread_mutex_t lock = PTHREAD_MUTEX_INITIALIZER;
 static unsigned long calls;
-/* What the file held at the last sync, or at the first call. */
-static char synced[MOST_BYTES];
-static ssize_t synced_size = -1;
+
+/* What a file held at the last sync, or at the first call, and which places were written since. */
+struct image {
+    char synced[MOST_BYTES], written[MOST_BYTES];
+    ssize_t size;
+    int file;
+};
+
+/* The file that has the name, the one that is to take its place, and the one that had the name before the folder's last sync. */
+static struct image files[3] = {{.size = -1}, {.size = -1}, {.size = -1}};
+static struct image *named = &files[0], *next = &files[1], *before = &files[2];
+static int is_renamed;
 
 static const char *setting(const char *name) {
     const char *text = getenv(name);
@@ -43,31 +55,34 @@ static const char *name_of(int file, char *path, size_t room) {
     return strrchr(path, '/') ? strrchr(path, '/') + 1 : path;
 }
 
-/* Whether the calls of this file are counted. */
-static int is_meant(int file) {
-    char path[4096];
-    return strcmp(name_of(file, path, sizeof path), setting("CALLS_FILE")) == 0;
+/* The image of this file, if its calls are counted. */
+static struct image *meant(int file) {
+    char path[4096], to[300];
+    const char *name = name_of(file, path, sizeof path);
+    if (strcmp(name, setting("CALLS_FILE")) == 0) return named;
+    snprintf(to, sizeof to, "%s.new", setting("CALLS_FILE"));
+    return strcmp(name, to) == 0 ? next : NULL;
 }
 
-/* Makes the file with this ending after the file's path, with these bytes. */
-static void make(int file, const char *ending, const char *bytes, ssize_t size) {
-    char path[4096], to[4200];
+/* Makes the file CALLS_FILE with this ending, with these bytes. */
+static void make(const char *ending, const char *bytes, ssize_t size) {
+    char to[4200];
     int out;
-    name_of(file, path, sizeof path);
-    snprintf(to, sizeof to, "%s%s", path, ending);
+    snprintf(to, sizeof to, "%s%s", setting("CALLS_FILE"), ending);
     out = syscall(SYS_openat, AT_FDCWD, to, O_WRONLY | O_CREAT | O_TRUNC, 0644);
     if (size > 0 && syscall(SYS_write, out, bytes, size) != size) abort();
     syscall(SYS_close, out);
 }
 
 /* Makes the files of a loss of power. */
-static void make_images(int file) {
+static void make_images(void) {
     static char bytes[MOST_BYTES];
-    ssize_t size = syscall(SYS_pread64, file, bytes, sizeof bytes, 0), k;
+    struct image *old = is_renamed ? before : named;
+    ssize_t size = named->size < 0 ? 0 : syscall(SYS_pread64, named->file, bytes, sizeof bytes, 0), k;
     for (k = 0; k < size; k++)
-        if (k >= synced_size || bytes[k] != synced[k]) bytes[k] = 7;
-    make(file, ".lost", synced, synced_size);
-    make(file, ".sevens", bytes, size);
+        if (k >= named->size || named->written[k]) bytes[k] = 7;
+    make(".lost", old->synced, old->size);
+    make(".sevens", bytes, size);
 }
 
 /* Adds a line to the log if this file has a name that is told. */
@@ -82,15 +97,23 @@ static void tell(const char *what, int file) {
     syscall(SYS_close, out);
 }
 
-static void note_sync(int file) { synced_size = syscall(SYS_pread64, file, synced, sizeof synced, 0); }
+static void note_sync(struct image *of, int file) {
+    of->file = file;
+    of->size = syscall(SYS_pread64, file, of->synced, sizeof of->synced, 0);
+    memset(of->written, 0, sizeof of->written);
+}
 
-/* Counts a call of the file. Whether it is to fail. */
-static int fails(int file) {
+static void note_write(struct image *of, off_t at, ssize_t size) {
+    for (; size-- > 0; at++)
+        if (at >= 0 && at < MOST_BYTES) of->written[at] = 1;
+}
+
+/* Counts a call. Whether it is to fail. */
+static int fails(void) {
     const char *end = setting("CALLS_END");
-    if (synced_size < 0) note_sync(file);
     if (++calls != strtoul(setting("CALLS_AT"), NULL, 10)) return 0;
     if (strcmp(end, "kill") == 0) {
-        make_images(file);
+        make_images();
         kill(getpid(), SIGKILL);
     }
     return strcmp(end, "fail") == 0;
@@ -109,14 +132,17 @@ static void last(void) {
     _exit(99);
 }
 
-/* Makes the call `CALL`, which gives `got`, and then `NOTE`, unless it is to fail. */
+/* Makes the call `CALL`, which gives `got`, and then `NOTE` of the image `of`, unless it is to fail. */
 #define COUNTED(WHAT, FILE, CALL, NOTE)                                               \
     do {                                                                              \
+        struct image *of;                                                             \
         *(void **)&given = dlsym(RTLD_NEXT, __func__);                                \
         if (strcmp(setting("CALLS_END"), "log") == 0) tell(WHAT, FILE);               \
-        if (!is_meant(FILE)) return CALL;                                             \
+        if (!(of = meant(FILE))) return CALL;                                         \
         pthread_mutex_lock(&lock);                                                    \
-        if (fails(FILE)) {                                                            \
+        if (of->size < 0) note_sync(of, FILE);                                        \
+        of->file = FILE;                                                              \
+        if (fails()) {                                                                \
             pthread_mutex_unlock(&lock);                                              \
             errno = EIO;                                                              \
             return -1;                                                                \
@@ -128,14 +154,50 @@ static void last(void) {
         return got;                                                                   \
     } while (0)
 
+/* A sync of the folder while the name is new. */
+static int sync_folder(int file, int (*given)(int)) {
+    int got = -1;
+    pthread_mutex_lock(&lock);
+    if (fails())
+        errno = EIO;
+    else if ((got = given(file)) == 0)
+        is_renamed = 0;
+    pthread_mutex_unlock(&lock);
+    return got;
+}
+
 int fsync(int file) {
     int (*given)(int), got;
-    COUNTED("sync", file, given(file), if (got == 0) note_sync(file));
+    struct stat of_file;
+    *(void **)&given = dlsym(RTLD_NEXT, "fsync");
+    if (is_renamed && fstat(file, &of_file) == 0 && S_ISDIR(of_file.st_mode)) return sync_folder(file, given);
+    COUNTED("sync", file, given(file), if (got == 0) note_sync(of, file));
+}
+
+/* The call that gives the next file the name. */
+int rename(const char *from, const char *to) {
+    int (*given)(const char *, const char *), got = -1;
+    struct image *old;
+    *(void **)&given = dlsym(RTLD_NEXT, "rename");
+    if (strcmp(to, setting("CALLS_FILE")) != 0) return given(from, to);
+    pthread_mutex_lock(&lock);
+    if (fails()) {
+        errno = EIO;
+    } else if ((got = given(from, to)) == 0) {
+        old = before;
+        before = named;
+        named = next;
+        next = old;
+        next->size = -1;
+        is_renamed = 1;
+    }
+    pthread_mutex_unlock(&lock);
+    return got;
 }
 
 ssize_t pwrite(int file, const void *bytes, size_t size, off_t at) {
     ssize_t (*given)(int, const void *, size_t, off_t), got;
-    COUNTED("write", file, given(file, bytes, size, at), (void)got);
+    COUNTED("write", file, given(file, bytes, size, at), note_write(of, at, got));
 }
 
 ssize_t write(int file, const void *bytes, size_t size) {

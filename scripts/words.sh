@@ -1,13 +1,13 @@
 # The command line as the launcher knows it: the list of the commands, the help, and what is wrong with words that are no command.
 # Sourced. The program reads its words itself, and by a proved grammar; this list only saves a build and says more.
 
-# Each command: its name, its words, its options, what it does (in at most 76 characters), and an example. LEFT RIGHT SETTINGS are the files that it judges, so
-# what is said about their lines (scripts/explain) is said for each command whose words begin with these three.
-commands='verify|LEFT RIGHT SETTINGS||judges the two tapes: can they deadlock at a wait?|verify examples/upper.nc examples/lower.nc examples/cell.txt
-waits|LEFT RIGHT SETTINGS|outside|judges the waits of any two tapes, and lists where the paths meet|waits examples/shaft_upper.nc examples/shaft_lower.nc examples/plain.txt --outside 9000-9999
-races|LEFT RIGHT SETTINGS||lists the shared variables whose value depends on which path is first|races examples/race_upper.nc examples/race_lower.nc examples/plain.txt
-trace|LEFT RIGHT SETTINGS|blocks|prints each move, wait and meeting of a run in its place, without a journal|trace examples/upper.nc examples/lower.nc examples/cell.txt
-run|LEFT RIGHT SETTINGS|blocks turret1 turret2|judges the tapes, runs both, and prints the moves of each turret|run examples/upper.nc examples/lower.nc examples/cell.txt
+# Each command: its name, its words, its options, what it does (in at most 76 characters), and an example. A word in brackets may be left out. LEFT RIGHT
+# [SETTINGS] are the files that it judges, so what is said about their lines (scripts/explain) is said for each such command.
+commands='verify|LEFT RIGHT [SETTINGS]||judges the two tapes: can they deadlock at a wait?|verify examples/upper.nc examples/lower.nc examples/cell.txt
+waits|LEFT RIGHT [SETTINGS]|outside|judges the waits of any two tapes, and lists where the paths meet|waits examples/shaft_upper.nc examples/shaft_lower.nc examples/plain.txt --outside 9000-9999
+races|LEFT RIGHT [SETTINGS]||lists the shared variables whose value depends on which path is first|races examples/race_upper.nc examples/race_lower.nc examples/plain.txt
+trace|LEFT RIGHT [SETTINGS]|blocks|prints each move, wait and meeting of a run in its place, without a journal|trace examples/upper.nc examples/lower.nc examples/cell.txt
+run|LEFT RIGHT [SETTINGS]|blocks turret1 turret2|judges the tapes, runs both, and prints the moves of each turret|run examples/upper.nc examples/lower.nc examples/cell.txt
 resume||blocks turret1 turret2|continues the run of the journal after a stop or a crash|resume
 edit|EDITS||corrects offsets and variables of the run in the journal, before it goes on|edit edits.txt
 moves|||prints the moves that the journal has|moves
@@ -55,7 +55,7 @@ usage_of() {
 }
 
 # Whether the command $1 judges two tapes and the settings.
-judges_files() { [[ $(words_of "$1") == 'LEFT RIGHT SETTINGS'* ]]; }
+judges_files() { [[ $(words_of "$1") == 'LEFT RIGHT [SETTINGS]'* ]]; }
 
 # Whether $3 is a whole number from $1 to $2, in at most seven digits.
 is_between() { [[ $3 =~ ^[0-9]{1,7}$ ]] && ((10#$3 >= $1 && 10#$3 <= $2)); }
@@ -96,15 +96,18 @@ fault_of_words() {
     judge_words
 }
 
-# So many words, in words.
-count_words() { if (($1 == 1)); then printf '1 word'; else printf '%d words' "$1"; fi; }
+# So many words, in words: from $1 to $2.
+count_words() {
+    if (($1 != $2)); then printf '%d or %d words' "$1" "$2"; elif (($1 == 1)); then printf '1 word'; else printf '%d words' "$1"; fi
+}
 
 # The same, of the words that fault_of_words has sorted: `names` and `given` options of the command `name`.
 judge_words() {
-    local wanted option text seen=' '
+    local wanted least=0 word option text seen=' '
     read -ra wanted <<<"$(words_of "$name")"
-    if ((${#names[@]} != ${#wanted[@]})); then
-        printf '%s takes %s%s, and %d %s given\n' "$name" "$(count_words "${#wanted[@]}")" "${wanted[*]:+ (${wanted[*]})}" \
+    for word in ${wanted[@]+"${wanted[@]}"}; do [[ $word == \[* ]] || least=$((least + 1)); done
+    if ((${#names[@]} < least || ${#names[@]} > ${#wanted[@]})); then
+        printf '%s takes %s%s, and %d %s given\n' "$name" "$(count_words "$least" "${#wanted[@]}")" "${wanted[*]:+ (${wanted[*]})}" \
             "${#names[@]}" "$( ((${#names[@]} == 1)) && printf is || printf are)"
         return
     fi
@@ -167,7 +170,7 @@ help_of_all() {
 
 LEFT is the tape of path 1, RIGHT the tape of path 2. SETTINGS describes the
 machine: which M codes are waits, start and home positions, offsets
-(examples/cell.txt explains each line; an empty file takes the defaults).
+(examples/cell.txt explains each line; without it the defaults count).
 Options of the program: --blocks N stops after N records; --turret1 FILE and
 --turret2 FILE write what each turret gets to a file or a named pipe, a line a
 call, during the run; --outside A-B: the tapes may lack the programs O A to O B.
@@ -312,7 +315,8 @@ help_of() {
     [[ -z $body ]] || printf '\n%s\n' "$body"
     [[ " $options " != *' blocks '* ]] || printf '%s\n' '--blocks N stops after N records (1 to 1000000; 100000 if it is not given).'
     [[ " $options " != *' outside '* ]] ||
-        printf '%s\n' '--outside A-B: the tapes may lack the programs O A to O B (1 to 9999). You' 'promise that none of them waits or ends.'
+        printf '%s\n' '--outside A-B: the tapes may lack the programs O A to O B (1 to 9999). You' 'promise of each: it neither waits nor ends, it comes back to the block after' \
+            'its call, and it leaves no modal call (G66) on.'
     [[ " $options " != *' turret1 '* ]] ||
         printf '%s\n' '--turret1 FILE, --turret2 FILE: a file or a named pipe for what that turret' 'gets, a line a call, during the run.'
 }

@@ -4,10 +4,13 @@
 
 const Answers = (() => {
   const MOST_ROWS = 2000;               // meetings that are listed
+  const FULL = 14, JOURNAL_FULL = "The run ends there too: its journal is full. The line records of the settings can allow more.";
   const meanings = JSON.parse($("meanings").textContent);
   const editors = { 1: null, 2: null, settings: null };
   let marks = new Map();                // what is marked for the waits, the verdict and the run, and for a race that was clicked
   let refusedWaits = "";                // the line that refuses the waits, if one does
+  let refused = [];                     // the lines that refuse, of the verdict and those found behind it, in their order
+  let stood = -1;                       // at which of them the keys came to
 
   // ---- places ----
 
@@ -85,7 +88,7 @@ const Answers = (() => {
     tell(part, false, element("p", "answer", line), ...places.map(quote));
   }
 
-  const addMeaning = (part, line) => $(`judge-${part}`).append(...meaningOf(/\d+/.exec(line)[0]));
+  const addMeaning = (part, line) => $(`judge-${part}`).append(...meaningOf(numberOf(line)));
 
   /** Shows the meetings, at most 2,000 of them, or why the waits are refused. */
   function showWaits(answer) {
@@ -108,7 +111,51 @@ const Answers = (() => {
     else if (answer.status !== 0) {
       tellRefusal("verdict", line);
       addMeaning("verdict", line);
+      refused = [line];
+      noteAll();
     } else tell("verdict", true, element("p", "answer", line), sentence("The two paths can never deadlock at a wait."));
+  }
+
+  // ---- further refusals ----
+
+  /** Shows what else is refused: each with its line, what stands there, what it means and what to do. */
+  function showFurther({ lines, isWhole }) {
+    refused = [...refused, ...lines];
+    stood = -1;
+    $("judge-further-box").hidden = !lines.length;
+    $("judge-further").replaceChildren(...lines.map(furtherRow), ...isWhole ? [] : [sentence("There may be more.")]);
+    noteAll();
+  }
+
+  /** A further refusal, whose meaning opens by a click. */
+  function furtherRow(line) {
+    const head = element("summary", "", line.replace(/^refused /, "")), parts = [...placesOf(line).map(quote), ...meaningOf(numberOf(line))];
+    const means = element("details", "", head, ...parts);
+    means.addEventListener("toggle", () => { if (means.open) goTo(placesOf(line)); });
+    return means;
+  }
+
+  const numberOf = line => /\d+/.exec(line)[0];
+
+  /** Puts a note beside each line that is refused: what it is, and under the hand what it means and what to do. */
+  function noteAll() {
+    const notes = { 1: new Map(), 2: new Map(), settings: new Map() };
+    for (const line of refused) for (const place of placesOf(line))
+      if (!notes[place.of].has(place.line)) notes[place.of].set(place.line, noteOf(line));
+    for (const of of Object.keys(editors)) editors[of].note(notes[of]);
+  }
+
+  /** The note of a refusal. */
+  function noteOf(line) {
+    const [, number, name] = /^refused (\d+) (\w+)/.exec(line);
+    return element("div", "judge-note", element("button", "", `${number} ${name}`), element("div", "judge-why", ...meaningOf(number)));
+  }
+
+  /** Goes to the next refused line of all texts, or to the one before. */
+  function step(way) {
+    if (!refused.length) return;
+    stood = (Math.max(stood, way > 0 ? -1 : 0) + way + refused.length) % refused.length;
+    goTo(placesOf(refused[stood]));
   }
 
   /** What a trace says behind its events: how the run ended whose picture is drawn, and the races of the pair. */
@@ -125,7 +172,7 @@ const Answers = (() => {
     marks.set("run", placesOf(line));
     if (alarm) tell("run", false, element("p", "answer", line), ...placesOf(line).map(quote), ...meaningOf(alarm[1]));
     else if (answer.status === 0) tell("run", true, element("p", "answer", line), sentence("Both programs ran to their ends."));
-    else tell("run", true, element("p", "answer", line), sentence("The picture ends there, and the run does not."));
+    else tell("run", true, element("p", "answer", line), sentence(answer.status === FULL ? JOURNAL_FULL : "The picture ends there, and the run does not."));
   }
 
   /** Shows the races of the pair, and what to do about them. */
@@ -155,6 +202,10 @@ const Answers = (() => {
   /** Takes the marks, the run and the races of the question before away. */
   function forget() {
     marks = new Map();
+    refused = [];
+    noteAll();
+    $("judge-further-box").hidden = true;
+    $("judge-further").replaceChildren();
     clear("run");
     clear("races");
   }
@@ -173,5 +224,5 @@ const Answers = (() => {
     clear("waits");
   }
 
-  return { editors, show, sayInstead };
+  return { editors, show, showFurther, step, sayInstead };
 })();

@@ -8,44 +8,61 @@ const Judge = (() => {
   const names = ["judge-left", "judge-right", "judge-cell"];
   const texts = names.map(name => new Editor(name, askSoon));
   const [left, right, cell] = texts;
-  const module = Uint8Array.from(atob($("module").textContent.trim()), letter => letter.charCodeAt(0));
+  const PARTS = ["waits", "verdict", "trace"];
   const answers = {};                   // the answers to the newest question, for tests
-  let worker = null, isReady = false, isBroken = false, asked = 0, waiting = 0, workers = 0;
+  const came = {};                      // those of its parts that are not shown yet, since one before them is still to come
+  const reports = new Map();            // who waits for a report, by its number
+  const lanes = new Map();              // the worker of each part
+  let module = null, isBroken = false, asked = 0, waiting = 0, workers = 0, keeping = 0;
 
   Object.assign(Answers.editors, { 1: left, 2: right, settings: cell });
 
-  // ---- the worker ----
+  // ---- the workers ----
 
-  /** Makes a worker, and gives it the module. What it answers is shown if it is of the newest question. */
-  function makeWorker() {
-    workers += 1;
-    isReady = false;
-    const script = URL.createObjectURL(new Blob([$("worker").textContent], { type: "text/javascript" }));
-    worker = new Worker(script);
-    worker.onmessage = ({ data }) => {
-      if (data.isReady) {
-        isReady = true;
-        URL.revokeObjectURL(script);
-      } else if (data.number === asked) show(data);
-    };
-    worker.onerror = event => stopped(event.message);
-    worker.postMessage({ module });
-  }
-
-  /** Takes a new worker, with the module made anew, in place of one that may be spoilt. */
-  function makeAnew() {
-    worker.terminate();
-    makeWorker();
-  }
-
-  /** The worker itself ended. Before it was ready this browser can't run the module, and a new worker would end too. */
-  function stopped(why) {
-    isBroken = !isReady;
-    if (isBroken) Answers.sayInstead(`This browser can't judge (${why}). It has to know WebAssembly of 64 bits: try a newer Chrome or Edge.`, false);
-    else {
-      makeAnew();
-      Answers.sayInstead(`The judge stopped (${why}), and was made anew. Nothing is said about these texts. Change one to ask again.`, false);
+  /** Makes the module and its workers, one for each part of an answer, and asks what was asked meanwhile. */
+  async function start() {
+    const bytes = Uint8Array.from(atob($("module").textContent.trim()), letter => letter.charCodeAt(0));
+    try {
+      module = await WebAssembly.compile(bytes);
+    } catch (fault) {
+      return sayUnable(fault.message);
     }
+    PARTS.forEach(makeWorker);
+    if (document.documentElement.dataset.judged === "asked") ask();
+  }
+
+  /** This browser can't run the module. */
+  function sayUnable(why) {
+    isBroken = true;
+    Answers.sayInstead(`This browser can't judge (${why}). It has to know WebAssembly of 64 bits: try a newer Chrome, Edge or Firefox.`, false);
+    setState("stopped");
+  }
+
+  /** Makes the worker of a part, and gives it the module. What it answers is taken if it is of the newest question. */
+  function makeWorker(part) {
+    workers += 1;
+    const script = URL.createObjectURL(new Blob([$("worker").textContent], { type: "text/javascript" })), worker = new Worker(script);
+    worker.onmessage = ({ data }) => {
+      URL.revokeObjectURL(script);
+      if (data.part === "report") takeReport(data);
+      else if (data.number === asked) takePart(data);
+    };
+    worker.onerror = event => stopped(part, event.message);
+    worker.postMessage({ module });
+    lanes.set(part, worker);
+  }
+
+  /** Takes a new worker in place of one that may be spoilt. */
+  function makeAnew(part) {
+    lanes.get(part).terminate();
+    makeWorker(part);
+  }
+
+  /** A worker itself ended. */
+  function stopped(part, why) {
+    makeAnew(part);
+    asked += 1;
+    Answers.sayInstead(`The judge stopped (${why}), and was made anew. Nothing is said about these texts. Change one to ask again.`, false);
     setState("stopped");
   }
 
@@ -62,11 +79,28 @@ const Judge = (() => {
     clearTimeout(waiting);
     if (isBroken) return setState("stopped");
     asked += 1;
-    for (const part of Object.keys(answers)) delete answers[part];
+    keepSoon();
+    for (const list of [answers, came]) for (const part of Object.keys(list)) delete list[part];
     const lacking = [left, right].findIndex(text => text.isEmpty());
     if (lacking >= 0) return sayLacking(lacking + 1);
     setState("asked");
-    worker.postMessage({ number: asked, texts: texts.map(text => text.bytes()), outside: outside() });
+    const bytes = texts.map(text => text.bytes());
+    for (const [part, worker] of lanes) worker.postMessage({ number: asked, part, texts: bytes, outside: outside() });
+  }
+
+  /** The report of the run, of the texts as they are now. */
+  function report() {
+    return new Promise(done => {
+      const number = asked * 1000 + reports.size;
+      reports.set(number, done);
+      lanes.get("trace").postMessage({ number, part: "report", texts: texts.map(text => text.bytes()) });
+    });
+  }
+
+  /** Gives a report to who waits for it. */
+  function takeReport({ number, answer }) {
+    reports.get(number)?.(answer);
+    reports.delete(number);
   }
 
   /** The least and the greatest number of the programs that are in the control and on no tape; 1 and 0 if there are none. */
@@ -78,9 +112,15 @@ const Judge = (() => {
 
   /** Says that a path has no tape; the picture is of other texts then. */
   function sayLacking(path) {
-    document.body.classList.add("stale");
+    setStale(true);
     Answers.sayInstead(`Path ${path} has no tape yet.`, false);
     setState("done");
+  }
+
+  /** Notes whether the picture is of other texts than those that stand here. Such a picture is not saved. */
+  function setStale(isStale) {
+    document.body.classList.toggle("stale", isStale);
+    $("save-picture").disabled = isStale || !Look.trace;
   }
 
   /** Asks when no change comes for a moment. What is shown until then is of the text before. */
@@ -90,20 +130,34 @@ const Judge = (() => {
     waiting = setTimeout(ask, PAUSE);
   }
 
-  /** Shows a part of the answer; the last part ends the question. */
-  function show({ part, answer, isLast }) {
+  /** Takes a part of the answer. The parts are shown in their order: waits, verdict, and the trace or what is refused besides. */
+  function takePart({ part, answer }) {
+    if (answer.kind === "broken off") makeAnew(part);
+    came[part] = answer;
+    const isAccepted = came.verdict?.kind === "said" && came.verdict.status === 0;
+    const due = ["waits", "verdict", ...isAccepted ? ["trace"] : came.verdict?.kind === "said" ? ["further"] : []];
+    for (const next of due) {
+      if (!came[next]) return;
+      if (!shownParts.has(came[next])) show(next, came[next]);
+    }
+    if (came.verdict) setState("done");
+  }
+
+  const shownParts = new WeakSet();     // answers that are shown already
+
+  /** Shows a part of the answer. */
+  function show(part, answer) {
+    shownParts.add(answer);
+    if (part === "further") return Answers.showFurther(answer);
     answers[part] = answer;
     Answers.show(part, answer);
-    if (part === "verdict") document.body.classList.toggle("stale", answer.status !== 0);
+    if (part === "verdict") setStale(answer.status !== 0);
     if (part === "trace" && /^trace /.test(answer.text)) draw(answer.text);
-    if (!isLast) return;
-    if (Object.values(answers).some(some => some.kind === "broken off")) makeAnew();
-    setState("done");
   }
 
   /** Gives the trace and both tapes to the picture. */
   function draw(trace) {
-    const tapes = [left, right].map(text => ({ name: text.title.textContent || "typed", text: text.field.value }));
+    const tapes = [left, right].map(text => ({ name: text.fileName || "typed", text: text.field.value }));
     Page.take([{ name: [left, right].map(text => text.fileName).filter(Boolean).join(", "), text: trace }, ...tapes]);
   }
 
@@ -116,29 +170,51 @@ const Judge = (() => {
     const long = files.find(file => file.size > MOST_BYTES);
     if (long) return Answers.sayInstead(`${long.name} is far too long for a tape.`, false);
     try {
-      taker(await Promise.all(files.map(read)));
-      ask();
+      if (await taker(await Promise.all(files.map(read)))) ask();
     } catch (fault) {
       if (!(fault instanceof DOMException)) throw fault;
       Answers.sayInstead("A file can't be read. Is it a folder?", false);
     }
   }
 
-  const isTape = ({ bytes }) => Tapes.isTape(textOf(bytes.subarray(0, 65536)));
-
-  /** Several files: tapes to path 1 and path 2 in their order, or to the one that has no text yet; any other text is the settings. */
-  function share(files) {
-    const tapes = files.filter(isTape), others = files.filter(file => !isTape(file));
-    const isSecond = tapes.length === 1 && !left.isEmpty() && right.isEmpty();
-    tapes.slice(0, 2).forEach(({ name, bytes }, k) => (isSecond || k ? right : left).set(name, bytes));
-    if (others.length) cell.set(others[0].name, others[0].bytes);
+  /** Several files: what they are says where they go. It is told, and what is left out. It answers whether they were taken. */
+  async function share(files) {
+    const shared = Files.share(files, [left, right].map(text => text.fileName), [left, right].map(text => text.isEmpty()));
+    const places = [[shared.given[1], left], [shared.given[2], right], [shared.given.settings, cell]].filter(([file]) => file);
+    if (!await Saving.mayGo(places.map(([, text]) => text))) return false;
+    for (const [file, text] of places) text.set(file.name, file.bytes);
+    sayCame(Files.tell(shared));
+    return true;
   }
 
-  /** Gives each path the tape of the other, and asks. */
+  /** A single file, for this text. */
+  async function give(text, { name, bytes }) {
+    if (!await Saving.mayGo([text])) return false;
+    text.set(name, bytes);
+    sayCame({ said: [], isAsked: false });
+    return true;
+  }
+
+  /** Says what came and what was left out, and asks if the paths are right where nothing says so. */
+  function sayCame({ said, isAsked }) {
+    const isDoubtful = Files.areExchanged(left.fileName, right.fileName);
+    if (isDoubtful) said.push("By their names the tapes are the other way round. Is it so?");
+    $("judge-came-said").textContent = said.join(" ");
+    $("judge-came").hidden = !said.length;
+    $("judge-came").classList.toggle("asks", isAsked || isDoubtful);
+    for (const name of ["exchange", "right"]) $(`judge-came-${name}`).hidden = !(isAsked || isDoubtful);
+    $("judge-came-close").hidden = isAsked || isDoubtful;
+  }
+
+  const sayNothing = () => { $("judge-came").hidden = true; };
+
+  /** Gives each path the tape of the other, and asks. The settings stay as they are: they are the paths', and not the tapes'. */
   function exchange() {
-    const [one, two] = [left, right].map(text => [text.fileName, text.bytes()]);
+    const [one, two] = [left, right].map(text => [text.fileName, text.bytes(), text.isChanged]);
     left.set(...two);
     right.set(...one);
+    const [first, second] = [left, right].map(text => text.fileName || "the other text");
+    sayCame({ said: [`Exchanged: path 1 has ${first}, path 2 has ${second}.`], isAsked: false });
     ask();
   }
 
@@ -156,21 +232,22 @@ const Judge = (() => {
     text.field.addEventListener("dragover", () => text.field.classList.add("over"));
     for (const kind of ["dragleave", "drop"]) text.field.addEventListener(kind, () => text.field.classList.remove("over"));
     $(`${names[k]}-file`).addEventListener("change", event => {
-      take([...event.target.files], ([file]) => text.set(file.name, file.bytes));
+      take([...event.target.files], ([file]) => give(text, file));
       event.target.value = "";
     });
   });
   addEventListener("drop", event => {
     const text = texts.find(some => some.field === event.target);
     if (text) text.field.classList.remove("over");
-    takeDropped(event, files => text && files.length === 1 ? text.set(files[0].name, files[0].bytes) : share(files));
+    takeDropped(event, files => text && files.length === 1 ? give(text, files[0]) : share(files));
   }, true);
   $("file").addEventListener("change", event => {
     event.stopImmediatePropagation();
     take([...event.target.files], share);
     event.target.value = "";
   }, true);
-  $("judge-exchange").addEventListener("click", exchange);
+  for (const name of ["judge-exchange", "judge-came-exchange"]) $(name).addEventListener("click", exchange);
+  for (const name of ["right", "close"]) $(`judge-came-${name}`).addEventListener("click", sayNothing);
   $("judge-outside").addEventListener("input", askSoon);
   $("judge-outside").addEventListener("keydown", event => event.stopPropagation());
 
@@ -181,7 +258,71 @@ const Judge = (() => {
     for (const part of Object.keys(first)) $(`judge-${part}`).textContent = first[part];
   }
 
+  // ---- what is kept and saved ----
+
+  /** Keeps the texts when nothing changes for a moment. */
+  function keepSoon() {
+    clearTimeout(keeping);
+    keeping = setTimeout(keep, 3 * PAUSE);
+  }
+
+  /** Keeps the texts in this browser, and says so, or why not. */
+  function keep() {
+    clearTimeout(keeping);
+    keeping = 0;
+    if (texts.every(text => text.isEmpty())) return tellKept("");
+    if (Keep.write(texts, $("judge-outside").value)) tellKept("Kept in this browser, for after a reload. Nothing is sent.");
+    else tellKept(Keep.isWanted() ? "This browser can't keep these texts: save them." : "");
+  }
+
+  function tellKept(text) { $("judge-kept").textContent = text; }
+
+  /** Brings back what was open before. */
+  function restore() {
+    const kept = Keep.read();
+    if (!kept) return;
+    texts.forEach((text, k) => text.set(kept.texts[k].name, bytesOf(kept.texts[k].text), kept.texts[k].isChanged));
+    $("judge-outside").value = kept.outside;
+    sayCame({ said: ["These texts were open before. This browser kept them."], isAsked: false });
+    ask();
+  }
+
+  /** Takes all texts away, the picture, and what is kept. */
+  async function clear() {
+    if (!await Saving.mayGo(texts)) return;
+    for (const text of texts) text.set("", new Uint8Array());
+    $("judge-outside").value = "";
+    Keep.forget();
+    tellKept("");
+    sayNothing();
+    ask();
+    sayFirst();
+    Page.clear();
+  }
+
+  texts.forEach((text, k) => $(`${names[k]}-save`).addEventListener("click", () => Saving.saveText(text)));
+  /** A copy of a part of the panel, in which nothing is folded. */
+  function unfolded(part) {
+    const copy = part.cloneNode(true);
+    for (const more of copy.querySelectorAll("details")) more.open = true;
+    return copy;
+  }
+
+  Seeking.watch(texts);
+  Paper.sources.texts = () => [[left, "path 1"], [right, "path 2"], [cell, "settings"]].filter(([text]) => !text.isEmpty())
+    .map(([text, what]) => ({ name: `${what}: ${text.title.textContent || "typed"}`, text: text.field.value }));
+  Paper.sources.said = () => ["verdict", "further", "waits", "run", "races"].map(part => $(`judge-${part}`)).filter(part => part.textContent)
+    .map(unfolded);
+  Paper.sources.hasPicture = () => Boolean(Look.trace) && !document.body.classList.contains("stale");
+  $("save-report").addEventListener("click", () => Saving.saveReport(texts));
+  $("judge-clear").addEventListener("click", clear);
+  $("judge-keep").checked = Keep.isWanted();
+  $("judge-keep").addEventListener("change", () => { Keep.want($("judge-keep").checked); keep(); });
+  addEventListener("pagehide", () => { if (keeping) keep(); });
+  addEventListener("beforeunload", event => { if (texts.some(Saving.isUnsaved)) event.preventDefault(); });
+
   sayFirst();
-  makeWorker();
-  return { ask, texts, answers, get workers() { return workers; } };
+  restore();
+  start();
+  return { ask, texts, answers, report, keepSoon, get workers() { return workers; } };
 })();

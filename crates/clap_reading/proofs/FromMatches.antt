@@ -20,14 +20,14 @@ use Rattle.command_words.specs.Table.{Listing, listings, row_of}
 use Rattle.command_words.specs.declared.command.Command.{Command}
 use Rattle.command_words.specs.declared.fault.WordsFault.{WordsFault}
 use Rattle.command_words.specs.declared.fault.WordsFault.TheVariants.{Usage, NoMemory}
-use Rattle.clap_reading.specs.ClapReading.{command_from, command_in, command_met, fault_by, command_of_line, names_in, texts_at}
+use Rattle.clap_reading.specs.ClapReading.{command_from, command_in, command_met, fault_by, command_of_line, names_of, texts_at}
 use Rattle.clap_reading.specs.Grammar.{IsRead, program_app}
 
--- the command of a row, and of its name (that of the names of its words: reading/names_in)
+-- the command of a row, and of its name (that of the names of its words: reading/names_in and with_further)
 
 -- The names and texts that were found give the command of the row.
 pub from_names : (rows : List Row) (row : Listing) (names : List Text) (texts : OptionTextsView) (r : Result Command WordsFault)
-    → names_in rows row.words ≡ Some names → texts_at row rows ≡ texts → Answers (command_of row.task names texts) r → Answers (command_from rows row) r
+    → names_of rows row ≡ Some names → texts_at row rows ≡ texts → Answers (command_of row.task names texts) r → Answers (command_from rows row) r
 from_names rows row names texts r e l a = rw e (subst (λ t. Answers (command_of row.task names t) r) (sym l) a)
 
 -- The command of a row is that of its name.

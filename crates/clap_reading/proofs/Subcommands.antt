@@ -1,23 +1,22 @@
--- The arguments of each subcommand, and how its reading ends. Three kinds: those of a pair (left
--- right settings), of one word, and of no word. A use is an argument with the text that it was
--- given. For TopWords.
-use Rattle.std.proofs.Common.{◌≡◌, ℕ, ◌+◌, ◌<◌, inl, inr, Bool, true, false, ◌&&◌, ◌||◌, not, cond, List, [], ◌∷◌, map, length, Option, Some, None, is_some, refl, sym, ap, subst, ◌∙◌, arith, codes}
+-- The arguments of each subcommand, and how its reading ends. Three kinds: those of a pair (left and
+-- right, and settings that may be left out), of one word, and of no word. A use is an argument with
+-- the text that it was given. For TopWords.
+use Rattle.std.proofs.Common.{◌≡◌, ℕ, ◌+◌, ◌<◌, inl, inr, Bool, true, false, ◌&&◌, ◌||◌, not, cond, List, [], ◌∷◌, ◌++◌, map, length, Option, Some, None, is_some, refl, sym, ap, subst, ◌∙◌, arith, codes}
 use Rattle.std.proofs.Math.Bool.{or-true}
 use Rattle.std.specs.Prelude.{nat_eq}
 use Rattle.std.specs.Option.{option_map_or}
 use Rattle.std.specs.List.{find, fold, list_all, list_any, slice_get, zip}
 use Rattle.std.specs.Str.{bytes_eq}
 use Rattle.std.proofs.lemmas.Bool.{and_parts}
-use Rattle.std.proofs.lemmas.Bool.Decides.{eqb_tells}
 use Rattle.clap.specs.Kinds.{Kinds, or_else}
 use Rattle.clap.specs.Faults.{default_fault, defaults_fault}
 use Rattle.clap.specs.Simple.{filled, with_index}
 use Rattle.clap.specs.Takes.{is_given}
 use Rattle.clap.specs.Walk.{Row, Rule, Text, arg_by_id, arg_by_index, arg_by_long, arg_by_short, first_of, has_row, is_empty, takes_several, with_default}
-use Rattle.clap_reading.specs.ClapReading.{command_from, command_in, names_in, text_at, texts_at}
-use Rattle.clap_reading.specs.Grammar.{name_rule}
-use Rattle.command_words.specs.Listed.{OptionTextsView, command_given, command_of, text_for, text_in, texts_for}
-use Rattle.command_words.specs.Table.{Listing, listing, pair_words}
+use Rattle.clap_reading.specs.ClapReading.{command_from, command_in, names_of, text_at, texts_at}
+use Rattle.clap_reading.specs.Grammar.{further_rule, name_rule}
+use Rattle.command_words.specs.Listed.{OptionTextsView, command_given, command_of, takes_words, text_for, text_in, texts_for}
+use Rattle.command_words.specs.Table.{Listing, listing, pair_words, settings_word}
 use Rattle.command_words.specs.declared.table.Journal.{Journal}
 use Rattle.command_words.specs.declared.table.Task.{Task}
 use Rattle.command_words.specs.declared.command.Command.{Command}
@@ -31,9 +30,26 @@ use Rattle.clap_reading.proofs.Walks.{Arguments, RuleAt}
 abbrev pub name_at : ℕ → Text → Rule
 name_at position id = with_index position (filled (name_rule id))
 
+-- The rule of the word at this position that may be left out, as clap fills it in.
+abbrev pub further_at : ℕ → Text → Rule
+further_at position id = with_index position (filled (further_rule id))
+
 -- A word by its position takes one text, once.
 name_once : (position : ℕ) (id : Text) → IsOnce (name_at position id)
 name_once position id = record {
+  takes = λ text rows. refl;
+  faults = λ text rows. or_else-none _;
+  needs = λ rows. refl;
+  valued = refl;
+  several = refl;
+  single = refl;
+  most = refl;
+  closed = refl;
+}
+
+-- A word that may be left out takes one text by its position, once.
+further_once : (position : ℕ) (id : Text) → IsOnce (further_at position id)
+further_once position id = record {
   takes = λ text rows. refl;
   faults = λ text rows. or_else-none _;
   needs = λ rows. refl;
@@ -151,11 +167,11 @@ none_required (own ∷ options) rows = none_required options rows
 
 -- The words of a pair: left, right and settings.
 abbrev pub pair_ids : List Text
-pair_ids = pair_words
+pair_ids = pair_words ++ settings_word
 
 -- The rules of a command of a pair, with these options.
 abbrev pub pair_rules : List Text → List Rule
-pair_rules options = name_at 1 (codes "left") ∷ name_at 2 (codes "right") ∷ name_at 3 (codes "settings") ∷ option_rules options
+pair_rules options = name_at 1 (codes "left") ∷ name_at 2 (codes "right") ∷ further_at 3 (codes "settings") ∷ option_rules options
 
 -- No option has the name of one of these words.
 pub record ArePairNames (options : List Text) : Type 0 where
@@ -203,7 +219,7 @@ pair_fresh (a ∷ b ∷ c ∷ names) id e = cc
 pair_at : (options names : List Text) (id : Text) → slice_get pair_ids (length names) ≡ Some id → RuleAt (pair_rules options) id (length names + 1)
 pair_at options [] id e = as_id (λ id. RuleAt (pair_rules options) id 1) (codes "left") id e (record { rule = name_at 1 (codes "left"); at = refl; same = refl; once = name_once 1 (codes "left"); found = refl })
 pair_at options (a ∷ []) id e = as_id (λ id. RuleAt (pair_rules options) id 2) (codes "right") id e (record { rule = name_at 2 (codes "right"); at = refl; same = refl; once = name_once 2 (codes "right"); found = refl })
-pair_at options (a ∷ b ∷ []) id e = as_id (λ id. RuleAt (pair_rules options) id 3) (codes "settings") id e (record { rule = name_at 3 (codes "settings"); at = refl; same = refl; once = name_once 3 (codes "settings"); found = refl })
+pair_at options (a ∷ b ∷ []) id e = as_id (λ id. RuleAt (pair_rules options) id 3) (codes "settings") id e (record { rule = further_at 3 (codes "settings"); at = refl; same = refl; once = further_once 3 (codes "settings"); found = refl })
 pair_at options (a ∷ b ∷ c ∷ names) id e = cc
 
 -- The arguments of a command of a pair are as the walk needs them.
@@ -281,16 +297,22 @@ one_arguments options id is = record {
 abbrev pub listed_by : Listing → List Text → List Used → Option Command
 listed_by row names marked = command_given row (record { names = names; marked = marked })
 
+-- What all words of a row are called.
+abbrev pub ids_of : Listing → List Text
+ids_of row = row.words ++ row.further
+
 -- Each ending of the subcommand's parse gives the listed command.
 abbrev pub Ends : Listing → List Rule → Type 0
 Ends row c = (fault : Kinds) (rows : List Row) (names : List Text) (marked : List Used)
-    → Ending row.words row.options (check_of row.name c) fault rows names marked
+    → Ending (ids_of row) row.options (check_of row.name c) fault rows names marked
     → cond (is_empty fault) (command_in row.name rows) None ≡ listed_by row names marked
 
 -- Too many names give no listed command.
-longer : (row : Listing) (names : List Text) (marked : List Used) → length row.words < length names → None ≡ listed_by row names marked
+longer : (row : Listing) (names : List Text) (marked : List Used) → length row.words + length row.further < length names
+    → None ≡ listed_by row names marked
 longer row names marked more =
-    elim (eqb_tells (length names) (length row.words)) [ inl same ↦ absurd (omega (arith, same.1, more)) | inr other ↦ rw other.0 refl ]
+    let many : takes_words row (length names) ≡ false = grind arith in
+    rw many refl
 
 -- A fault gives no command.
 fails : (fault : Kinds) (command answer : Option Command) → is_empty fault ≡ false → None ≡ answer → cond (is_empty fault) command None ≡ answer
@@ -307,12 +329,12 @@ first_name : (ids options : List Text) (uses : List Used) (names : List Text) (m
 first_name ids options uses names marked id story other = first_of-uses id uses ∙ value_of_name ids options uses names marked id story other
 
 -- The text of an option is the same by the rows of clap and by the listed reading.
-text_same : (row : Listing) (uses : List Used) (names : List Text) (marked : List Used) (id : Text) → Story row.words row.options uses names marked
+text_same : (row : Listing) (uses : List Used) (names : List Text) (marked : List Used) (id : Text) → Story (ids_of row) row.options uses names marked
     → text_at row id (map row_of_use uses) ≡ text_for row id marked
 text_same row uses names marked id story = here (is_known row.options id) refl
   where
     here : (b : Bool) → is_known row.options id ≡ b → cond b (first_of id (map row_of_use uses)) None ≡ cond b (text_in id marked) None
-    here true is = first_of-uses id uses ∙ value_of_option row.words row.options uses names marked id story is
+    here true is = first_of-uses id uses ∙ value_of_option (ids_of row) row.options uses names marked id story is
     here false other = refl
 
 -- Four texts that agree one by one are the same four.
@@ -322,7 +344,7 @@ four : (a b c d e f g h : Option Text) → a ≡ e → b ≡ f → c ≡ g → d
 four a b c d e f g h x y z w = rw (x, y, z, w) refl
 
 -- The texts of all options are the same by the rows of clap and by the listed reading.
-texts_same : (row : Listing) (uses : List Used) (names : List Text) (marked : List Used) → Story row.words row.options uses names marked
+texts_same : (row : Listing) (uses : List Used) (names : List Text) (marked : List Used) → Story (ids_of row) row.options uses names marked
     → texts_at row (map row_of_use uses) ≡ texts_for row marked
 texts_same row uses names marked story =
     four _ _ _ _ _ _ _ _ (text_same row uses names marked (codes "blocks") story)
@@ -330,9 +352,9 @@ texts_same row uses names marked story =
     (text_same row uses names marked (codes "outside") story)
 
 -- A row whose words and options were read gives the listed command.
-reads_as : (row : Listing) (uses : List Used) (names : List Text) (marked : List Used) → Story row.words row.options uses names marked
-    → ((given : List Row) → command_in row.name given ≡ command_from given row) → names_in (map row_of_use uses) row.words ≡ Some names
-    → nat_eq (length names) (length row.words) ≡ true → command_in row.name (map row_of_use uses) ≡ listed_by row names marked
+reads_as : (row : Listing) (uses : List Used) (names : List Text) (marked : List Used) → Story (ids_of row) row.options uses names marked
+    → ((given : List Row) → command_in row.name given ≡ command_from given row) → names_of (map row_of_use uses) row ≡ Some names
+    → takes_words row (length names) ≡ true → command_in row.name (map row_of_use uses) ≡ listed_by row names marked
 reads_as row uses names marked story is all many =
     let listed : listed_by row names marked ≡ command_of row.task names (texts_for row marked) = rw (many, story.once) refl in
     is (map row_of_use uses)
@@ -345,14 +367,15 @@ checked_as id c fault rows uses_rows answer e f end = rw (e, f) end
 
 -- The row of a command of a pair.
 abbrev pub pair_row : Text → List Text → Journal → Task → Listing
-pair_row name options kept what = listing name pair_words options kept what
+pair_row name options kept what = listing name pair_words settings_word options kept what
 
 -- Each parse of a command of a pair ends with the listed command.
 pub pair_ends : (name : Text) (options : List Text) (kept : Journal) (what : Task) → ArePairNames options
     → ((given : List Row) → command_in name given ≡ command_from given (pair_row name options kept what)) → Ends (pair_row name options kept what) (pair_rules options)
 pair_ends name options kept what free is fault rows [] marked (faulty bad many) = fails fault _ _ bad refl
 pair_ends name options kept what free is fault rows (a ∷ []) marked (faulty bad many) = fails fault _ _ bad refl
-pair_ends name options kept what free is fault rows (a ∷ b ∷ []) marked (faulty bad many) = fails fault _ _ bad refl
+pair_ends name options kept what free is fault rows (a ∷ b ∷ []) marked (faulty bad (inl many)) = absurd (omega (arith, many))
+pair_ends name options kept what free is fault rows (a ∷ b ∷ []) marked (faulty bad (inr twice)) = fails fault _ _ bad (rw twice refl)
 pair_ends name options kept what free is fault rows (a ∷ b ∷ d ∷ []) marked (faulty bad (inl many)) = absurd (omega (arith, many))
 pair_ends name options kept what free is fault rows (a ∷ b ∷ d ∷ []) marked (faulty bad (inr twice)) = fails fault _ _ bad (rw twice refl)
 pair_ends name options kept what free is fault rows (a ∷ b ∷ d ∷ e ∷ names) marked (faulty bad many) =
@@ -366,16 +389,9 @@ pair_ends name options kept what free is fault rows (a ∷ []) marked (checked u
       given_name pair_ids options uses (a ∷ []) marked (codes "right") story free.right,
     ) refl)
 pair_ends name options kept what free is fault rows (a ∷ b ∷ []) marked (checked uses story f g) =
-    checked_as name (pair_rules options) fault rows (map row_of_use uses) None f g
-    (rw (
-      given_name pair_ids options uses (a ∷ b ∷ []) marked (codes "left") story free.left,
-      given_name pair_ids options uses (a ∷ b ∷ []) marked (codes "right") story free.right,
-      given_name pair_ids options uses (a ∷ b ∷ []) marked (codes "settings") story free.settings,
-    ) refl)
-pair_ends name options kept what free is fault rows (a ∷ b ∷ d ∷ []) marked (checked uses story f g) =
     let row = pair_row name options kept what in
-    let names = a ∷ b ∷ d ∷ [] in
-    let all : names_in (map row_of_use uses) pair_words ≡ Some names
+    let names = a ∷ b ∷ [] in
+    let all : names_of (map row_of_use uses) row ≡ Some names
     = rw (
       first_name pair_ids options uses names marked (codes "left") story free.left,
       first_name pair_ids options uses names marked (codes "right") story free.right,
@@ -385,14 +401,28 @@ pair_ends name options kept what free is fault rows (a ∷ b ∷ d ∷ []) marke
     (rw (
       given_name pair_ids options uses names marked (codes "left") story free.left,
       given_name pair_ids options uses names marked (codes "right") story free.right,
-      given_name pair_ids options uses names marked (codes "settings") story free.settings,
+      none_required options (map row_of_use uses),
+    ) (reads_as row uses names marked story is all refl))
+pair_ends name options kept what free is fault rows (a ∷ b ∷ d ∷ []) marked (checked uses story f g) =
+    let row = pair_row name options kept what in
+    let names = a ∷ b ∷ d ∷ [] in
+    let all : names_of (map row_of_use uses) row ≡ Some names
+    = rw (
+      first_name pair_ids options uses names marked (codes "left") story free.left,
+      first_name pair_ids options uses names marked (codes "right") story free.right,
+      first_name pair_ids options uses names marked (codes "settings") story free.settings,
+    ) refl in
+    checked_as name (pair_rules options) fault rows (map row_of_use uses) (listed_by row names marked) f g
+    (rw (
+      given_name pair_ids options uses names marked (codes "left") story free.left,
+      given_name pair_ids options uses names marked (codes "right") story free.right,
       none_required options (map row_of_use uses),
     ) (reads_as row uses names marked story is all refl))
 pair_ends name options kept what free is fault rows (a ∷ b ∷ d ∷ e ∷ names) marked (checked uses story f g) = absurd (omega (arith, story.few_names))
 
 -- The row of a command without words.
 abbrev pub alone_row : Text → List Text → Journal → Task → Listing
-alone_row name options kept what = listing name [] options kept what
+alone_row name options kept what = listing name [] [] options kept what
 
 -- Each parse of a command without words ends with the listed command.
 pub alone_ends : (name : Text) (options : List Text) (kept : Journal) (what : Task)
@@ -409,7 +439,7 @@ alone_ends name options kept what is fault rows (a ∷ names) marked (checked us
 
 -- The row of a command of one word with this name.
 abbrev pub one_row : Text → Text → List Text → Journal → Task → Listing
-one_row name id options kept what = listing name (one_id id) options kept what
+one_row name id options kept what = listing name (one_id id) [] options kept what
 
 -- Each parse of a command of one word ends with the listed command.
 pub one_ends : (name id : Text) (options : List Text) (kept : Journal) (what : Task) → IsWordName options id
@@ -423,7 +453,7 @@ one_ends name id options kept what word is fault rows [] marked (checked uses st
     checked_as name (one_rules id options) fault rows (map row_of_use uses) None f g (rw (given_name (one_id id) options uses [] marked id story word.free) refl)
 one_ends name id options kept what word is fault rows (a ∷ []) marked (checked uses story f g) =
     let row = one_row name id options kept what in
-    let all : names_in (map row_of_use uses) (one_id id) ≡ Some (a ∷ []) = rw (first_name (one_id id) options uses (a ∷ []) marked id story word.free, word.own) refl in
+    let all : names_of (map row_of_use uses) row ≡ Some (a ∷ []) = rw (first_name (one_id id) options uses (a ∷ []) marked id story word.free, word.own) refl in
     checked_as name (one_rules id options) fault rows (map row_of_use uses) (listed_by row (a ∷ []) marked) f g
     (rw (given_name (one_id id) options uses (a ∷ []) marked id story word.free, word.own, none_required options (map row_of_use uses))
     (reads_as row uses (a ∷ []) marked story is all refl))

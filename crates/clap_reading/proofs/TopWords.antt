@@ -23,7 +23,7 @@ use Rattle.command_words.specs.declared.table.Task.TheVariants as task
 use Rattle.clap_reading.proofs.Readings.{check_of, reads_all}
 use Rattle.clap_reading.proofs.Steps.{at_rest, bundle_fails, first_some, going, leaf, or_else-none}
 use Rattle.clap_reading.proofs.Stories.{Outcome, begun}
-use Rattle.clap_reading.proofs.Subcommands.{ArePairNames, Ends, IsWordName, alone_arguments, alone_ends, alone_row, one_arguments, one_ends, one_row, one_rules, option_rules, pair_arguments, pair_ends, pair_row, pair_rules}
+use Rattle.clap_reading.proofs.Subcommands.{ArePairNames, Ends, IsWordName, alone_arguments, alone_ends, alone_row, ids_of, one_arguments, one_ends, one_row, one_rules, option_rules, pair_arguments, pair_ends, pair_row, pair_rules}
 use Rattle.clap_reading.proofs.Uses.{same_text}
 use Rattle.clap_reading.proofs.Walks.{AllTexts, Arguments, end_of, rest_fault}
 use Rattle.clap_reading.proofs.WordKinds.{WordKind, dashes, kind_of_word, listed, long, name, short}
@@ -107,17 +107,17 @@ known id c rest first none found =
 
 -- The outcome of a subcommand's words gives the listed command.
 from_outcome : (row : Listing) (c : List Rule) → Ends row c → (fault : Kinds) (rows : List Row) (g : Option Given)
-    → Outcome row.words row.options (check_of row.name c) fault rows [] [] g
+    → Outcome (ids_of row) row.options (check_of row.name c) fault rows [] [] g
     → cond (is_empty fault) (command_in row.name rows) None ≡ option_and_then (command_given row) g
 from_outcome row c ends fault rows None outcome = rw outcome refl
 from_outcome row c ends fault rows (Some g) outcome = ends fault rows g.names g.marked outcome
 
 -- A subcommand answers the listed command.
-subcommand_is : (row : Listing) (c : List Rule) → Ends row c → Arguments c row.words row.options → (rest : List Text) → AllTexts rest
+subcommand_is : (row : Listing) (c : List Rule) → Ends row c → Arguments c (ids_of row) row.options → (rest : List Text) → AllTexts rest
     → answer_of row.name c rest ≡ command_behind rest row
 subcommand_is row c ends arguments rest texts =
     from_outcome row c ends (rest_fault row.name c (at_rest [] None 1 false) rest) (finished c (end_of c (at_rest [] None 1 false) rest)) (given row.options rest)
-    ((reads_all row.name c row.words row.options arguments rest texts).0 [] None [] [] false tt (begun row.words row.options))
+    ((reads_all row.name c (ids_of row) row.options arguments rest texts).0 [] None [] [] false tt (begun (ids_of row) row.options))
 
 -- an unknown first word
 

@@ -2,7 +2,7 @@
 -- src/reading.rt answer it, and src/law.rt says that it is the listed one. A Row of clap is what
 -- the parse found for one argument; a Listing is a row of the list of commands (command_words). No
 -- other crate cites it.
-use Rattle.std.specs.Prelude.{List, [], ◌∷◌, Option, Some, None, codes, if◌then◌else◌, option_and_then, option_map}
+use Rattle.std.specs.Prelude.{List, [], ◌∷◌, ◌++◌, Option, Some, None, codes, if◌then◌else◌, option_and_then, option_map}
 use Rattle.clap.specs.Walk.{is_empty}
 use Rattle.clap.specs.Words.{Row, fault_of, first_of, subcommand_of}
 use Rattle.clap.specs.declared.error.kind.ErrorKind.{ErrorKind}
@@ -14,11 +14,25 @@ use Rattle.command_words.specs.declared.command.Command.{Command}
 use Rattle.command_words.specs.declared.fault.WordsFault.{WordsFault}
 use Rattle.command_words.specs.declared.fault.WordsFault.TheVariants.{NoMemory, Usage}
 
--- What the words of a command were given, each by its name; none if one was not given.
+-- What the words of a command were given that it must have, each by its name; none if one was not.
 abbrev pub names_in : List Row → List Text → Option (List Text)
 names_in given [] = Some []
 names_in given (id ∷ ids) =
     option_and_then (λ first. option_map (λ rest. first ∷ rest) (names_in given ids)) (first_of id given)
+
+-- A name that was given, as a list; none if none was.
+abbrev pub given_name : Option Text → List Text
+given_name None = []
+given_name (Some name) = name ∷ []
+
+-- What the words of a command were given that may be left out, where they were.
+abbrev pub further_in : List Row → List Text → List Text
+further_in given [] = []
+further_in given (id ∷ ids) = given_name (first_of id given) ++ further_in given ids
+
+-- What all words of a command were given; none if one was not that may not be left out.
+abbrev pub names_of : List Row → Listing → Option (List Text)
+names_of given row = option_map (λ names. names ++ further_in given row.further) (names_in given row.words)
 
 -- The text of an option, if the command takes it and it was given.
 abbrev pub text_at : Listing → Text → List Row → Option Text
@@ -36,7 +50,7 @@ texts_at row given = record {
 -- The command of a listed row and of what was given.
 abbrev pub command_from : List Row → Listing → Option Command
 command_from given row =
-    option_and_then (λ names. command_of row.task names (texts_at row given)) (names_in given row.words)
+    option_and_then (λ names. command_of row.task names (texts_at row given)) (names_of given row)
 
 -- The command of the subcommand of this name and of what it was given.
 unfoldable pub command_in : Text → List Row → Option Command

@@ -11,6 +11,10 @@ use Rattle.command_words.specs.Table.{Listing, listings}
 abbrev pub name_rule : Text → Rule
 name_rule id = record (new_rule id) { required = true }
 
+-- The rule of a word that may be left out.
+abbrev pub further_rule : Text → Rule
+further_rule id = new_rule id
+
 -- The rule of an option with a text, which is called by its name, as `--blocks 14`.
 abbrev pub option_rule : Text → Rule
 option_rule id = record (new_rule id) { long = Some id }
@@ -19,9 +23,17 @@ option_rule id = record (new_rule id) { long = Some id }
 abbrev pub with_name_rule : App → Text → App
 with_name_rule app id = with_rule app (name_rule id)
 
--- The command of a row with its words.
+-- The command of a row with the words that it must have.
 abbrev pub with_names : Listing → App
 with_names row = fold with_name_rule (new_app row.name) row.words
+
+-- A command with one word more that may be left out.
+abbrev pub with_further_rule : App → Text → App
+with_further_rule app id = with_rule app (further_rule id)
+
+-- The command of a row with all its words.
+abbrev pub with_words : Listing → App
+with_words row = fold with_further_rule (with_names row) row.further
 
 -- A command with one option more.
 abbrev pub with_option_rule : App → Text → App
@@ -29,7 +41,7 @@ with_option_rule app id = with_rule app (option_rule id)
 
 -- The subcommand of a row: its words, and then its options.
 abbrev pub app_of_row : Listing → App
-app_of_row row = fold with_option_rule (with_names row) row.options
+app_of_row row = fold with_option_rule (with_words row) row.options
 
 -- A command without its rows: it requires a subcommand, and offers neither help nor a version.
 abbrev pub bare_app : App

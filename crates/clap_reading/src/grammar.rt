@@ -2,7 +2,7 @@
 //! reads the program's words by it. A further command needs nothing here.
 ghost use Rattle.std.specs.Prelude.{◌≡◌, IfOk, false};
 ghost use Rattle.clap.specs.Words.{rule_of};
-ghost use Rattle.clap_reading.specs.Grammar.{IsRead, app_of_row, bare_app, name_rule, option_rule, program_app, with_names};
+ghost use Rattle.clap_reading.specs.Grammar.{IsRead, app_of_row, bare_app, further_rule, name_rule, option_rule, program_app, with_names, with_words};
 ghost use Rattle.command_words.specs.Table.{row_seen};
 
 use clap::{Arg, Command};
@@ -36,15 +36,26 @@ fn bare<'a>(alloc: Global) -> Command<'a>
 fn subcommand<'a>(alloc: Global, row: &Row) -> Result<Command<'a>, AllocError>
     ensures { IfOk result (IsRead (app_of_row (row_seen row.now))) }
 {
-    let mut command = named(alloc, row)?;
+    let mut command = worded(alloc, row)?;
     for id in row.options {
         command = command.arg(optional(alloc, id))?;
     }
     Ok(command)
 }
 
-/// The subcommand of a row with its words alone, which it requires. The only error is out of
-/// memory.
+/// The subcommand of a row with its words alone, those that may be left out too. The only error is
+/// out of memory.
+fn worded<'a>(alloc: Global, row: &Row) -> Result<Command<'a>, AllocError>
+    ensures { IfOk result (IsRead (with_words (row_seen row.now))) }
+{
+    let mut command = named(alloc, row)?;
+    for id in row.further {
+        command = command.arg(further(alloc, id))?;
+    }
+    Ok(command)
+}
+
+/// The subcommand of a row with the words alone that it requires. The only error is out of memory.
 fn named<'a>(alloc: Global, row: &Row) -> Result<Command<'a>, AllocError>
     ensures { IfOk result (IsRead (with_names (row_seen row.now))) }
 {
@@ -61,6 +72,14 @@ fn wanted<'a>(alloc: Global, id: &'a str) -> Arg<'a>
     ensures local { result.global ≡ false }
 {
     Arg::new(alloc, id).required(true)
+}
+
+/// The argument of a word that may be left out.
+fn further<'a>(alloc: Global, id: &'a str) -> Arg<'a>
+    ensures rule { rule_of result ≡ further_rule id.entry.now }
+    ensures local { result.global ≡ false }
+{
+    Arg::new(alloc, id)
 }
 
 /// The argument of an option with a text, which is called by its name.

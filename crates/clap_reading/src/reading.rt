@@ -1,12 +1,12 @@
 //! The program's words, read by `clap`: from the words to the command. What a command does is not
 //! known here. lathe_top, twin_lathe and word_vectors call `read_words`.
-ghost use Rattle.std.specs.Prelude.{◌≡◌, IfOk, IsErrOf, map, option_map, string_bytes};
+ghost use Rattle.std.specs.Prelude.{◌≡◌, ◌++◌, IfOk, IsErrOf, OnOk, map, option_map, string_bytes};
 ghost use Rattle.clap.specs.Words.{first_of, found_of, rows_of};
 ghost use Rattle.clap.specs.Simple.{subcommand_rows_of};
 ghost use Rattle.command_words.specs.Listed.{listed_command};
 ghost use Rattle.command_words.specs.Making.{Answers, texts_seen};
 ghost use Rattle.command_words.specs.Table.{row_seen};
-ghost use Rattle.clap_reading.specs.ClapReading.{clap_command, command_from, command_in, command_met, fault_by, command_of_line, line_of, names_in, text_at, texts_at};
+ghost use Rattle.clap_reading.specs.ClapReading.{clap_command, command_from, command_in, command_met, fault_by, command_of_line, further_in, given_name, line_of, names_in, names_of, text_at, texts_at};
 
 use crate::grammar::program;
 use crate::law::law_of_clap;
@@ -88,10 +88,54 @@ fn command_in(alloc: Global, name: &str, given: &ArgMatches<'_>) -> Result<Comma
 fn command_from(alloc: Global, row: &Row, given: &ArgMatches<'_>) -> Result<Command, WordsFault>
     ensures { Answers (command_from (rows_of (found_of given.now)) (row_seen row.now)) result }
 {
-    match names_in(alloc, row.words, given)? {
+    match names_of(alloc, row, given)? {
         Some(names) => command_of(alloc, row.task, names.as_slice(), &texts_at(row, given)),
         None => Err(WordsFault::Usage),
     }
+}
+
+/// What the words of a row were given, if each was given that may not be left out. The only error
+/// is out of memory.
+fn names_of<'a>(
+    alloc: Global,
+    row: &Row,
+    given: &ArgMatches<'a>,
+) -> Result<Option<Vec<&'a str>>, AllocError>
+    ensures { IfOk result (λ names. option_map (λ all. map (λ s. s.now) all.items) names
+        ≡ names_of (rows_of (found_of given.now)) (row_seen row.now)) }
+{
+    match names_in(alloc, row.words, given)? {
+        Some(names) => Ok(Some(with_further(names, row.further, given)?)),
+        None => Ok(None),
+    }
+}
+
+/// The names, and behind them what the words of these names were given, where they were. The only
+/// error is out of memory.
+fn with_further<'a>(
+    names: Vec<&'a str>,
+    ids: &[&str],
+    given: &ArgMatches<'a>,
+) -> Result<Vec<&'a str>, AllocError>
+    ensures { IfOk result (λ all. map (λ s. s.now) all.items ≡ map (λ s. s.now) names.entry.items
+        ++ further_in (rows_of (found_of given.now)) (map (λ s. s.now) ids.now)) }
+{
+    let mut all = names;
+    for id in ids {
+        add_given(&mut all, text_in(given, id))?;
+    }
+    Ok(all)
+}
+
+/// Adds the name, if one was given. The only error is out of memory.
+fn add_given<'a>(names: &mut Vec<&'a str>, name: Option<&'a str>) -> Result<(), AllocError>
+    ensures { OnOk result (map (λ s. s.now) names.new.items ≡ map (λ s. s.now) names.old.items
+        ++ given_name (option_map (λ s. s.now) name.entry)) }
+{
+    if let Some(name) = name {
+        names.push(name)?;
+    }
+    Ok(())
 }
 
 /// What the words of these names were given, if each was given. The only error is out of memory.

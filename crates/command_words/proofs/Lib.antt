@@ -1,4 +1,5 @@
 -- The lemmas of this crate, each file by its subject. clap_reading takes GivenWords.
 pub mod GivenWords
+pub mod Lengths
 pub mod Numbers
 pub mod PlainWords

@@ -1,6 +1,6 @@
 -- The grammar of the command line, word by word, over the list of commands (Table). clap_reading
 -- proves its reading exact by it, lathe_top cites `listed_command`.
-use Rattle.std.specs.Prelude.{◌≡◌, ℕ, Bool, true, false, ◌&&◌, ◌==◌, not, if◌then◌else◌, List, [], ◌∷◌, ◌++◌, find, length, nat_le, Option, Some, None, is_some, map, option_and_then, option_map, codes}
+use Rattle.std.specs.Prelude.{◌≡◌, ℕ, ◌+◌, Bool, true, false, ◌&&◌, ◌==◌, not, if◌then◌else◌, List, [], ◌∷◌, ◌++◌, find, length, nat_le, Option, Some, None, is_some, map, option_and_then, option_map, codes}
 use Rattle.std.specs.List.{after_first, before_first, list_any, slice_index}
 use Rattle.std.specs.Str.{IsUtf8, bytes_eq}
 use Rattle.nc_number.specs.declared.limits.TheConstants.{MOST_RECORDS}
@@ -172,7 +172,7 @@ word_command task.Branch meetings files = option_map command.Branch (number_of 0
 word_command task.Make number files = option_map (λ n. command.Make n files) (number_of 0 LAST_MADE number)
 word_command _ word files = None
 
--- the command of a task that has the three names of a pair
+-- the command of a task that has the names of a pair
 abbrev pub pair_command : Task → PairNames → Limits → TurretFiles → Option Command
 pair_command task.Verify pair limits files = Some (command.Verify pair.left pair.right pair.settings)
 pair_command task.Trace pair limits files = Some (command.Trace pair.left pair.right pair.settings limits.blocks)
@@ -185,8 +185,10 @@ pair_command _ pair limits files = None
 abbrev pub command_with : Task → List Text → Limits → TurretFiles → Option Command
 command_with what [] limits files = plain_command what limits files
 command_with what (word ∷ []) limits files = word_command what word files
+command_with what (left ∷ right ∷ []) limits files =
+    pair_command what (record { left = left; right = right; settings = None }) limits files
 command_with what (left ∷ right ∷ settings ∷ []) limits files =
-    pair_command what (record { left = left; right = right; settings = settings }) limits files
+    pair_command what (record { left = left; right = right; settings = Some settings }) limits files
 command_with what words limits files = None
 
 -- the command that a task makes of its words and of the texts of the options
@@ -211,11 +213,15 @@ texts_for row marked = record {
   outside = text_for row (codes "outside") marked;
 }
 
--- the command of a row and of what was given: the row takes as many words as it has names for, and
--- each of its options once at most
+-- a row takes so many words: all that it must have, and no more than it has names for
+abbrev pub takes_words : Listing → ℕ → Bool
+takes_words row n = nat_le (length row.words) n && nat_le n (length row.words + length row.further)
+
+-- the command of a row and of what was given: the row takes as many words, and each of its options
+-- once at most
 abbrev pub command_given : Listing → Given → Option Command
 command_given row all =
-    if length all.names == length row.words && stand_once all.marked
+    if takes_words row (length all.names) && stand_once all.marked
     then command_of row.task all.names (texts_for row all.marked)
     else None
 
@@ -235,9 +241,14 @@ pub record IsOptionOf (options : List Text) (id : Text) : Type 0 where
   pub with : (text : Text) → (bytes_eq (long_word id ++ 61 ∷ text) (codes "--") ≡ false)
       × (option_of options (long_word id ++ 61 ∷ text) ≡ Some id) × (option_text (long_word id ++ 61 ∷ text) ≡ Some text)
 
--- whether a row gives a command for as many words `1` as it names
+-- whether a row gives a command for the words `1`, one for each of these
+abbrev pub gives_for : Listing → List Text → Bool
+gives_for row words = is_some (command_given row (record { names = map (λ _. codes "1") words; marked = [] }))
+
+-- whether a row gives a command for as many words `1` as it must have, and for as many as it may
+-- have
 abbrev pub gives_a_command : Listing → Bool
-gives_a_command row = is_some (command_given row (record { names = map (λ _. codes "1") row.words; marked = [] }))
+gives_a_command row = gives_for row row.words && gives_for row (row.words ++ row.further)
 
 -- the files of the turrets that a command names, if it is one that may name any
 abbrev pub files_in : Command → Option TurretFiles

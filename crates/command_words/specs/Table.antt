@@ -14,13 +14,15 @@ use Rattle.command_words.specs.declared.table.Task.TheVariants.{Verify, Waits, R
 abbrev pub Text : Type 0
 Text = List ℕ
 
--- a command: the word that it begins with, what its words are called, which options it takes, what
--- it does with the journal, and what it asks for
+-- a command: the word that it begins with, what its words are called and which of them may be left
+-- out, which options it takes, what it does with the journal, and what it asks for
 pub record Listing : Type 0 where
   -- the word that the command begins with
   pub name : Text
-  -- what the words after the name are called; the command takes as many
+  -- what the words after the name are called that the command must have
   pub words : List Text
+  -- what further words behind these are called, which may be left out
+  pub further : List Text
   -- the options that the command takes, without the dashes
   pub options : List Text
   -- what the command does with the journal
@@ -28,14 +30,18 @@ pub record Listing : Type 0 where
   -- what the command asks for
   pub task : Task
 
--- the row of a name, words, options, a use of the journal and a task
-abbrev pub listing : Text → List Text → List Text → Journal → Task → Listing
-listing name words options journal task =
-    record { name = name; words = words; options = options; journal = journal; task = task }
+-- the row of a name, words, words that may be left out, options, a use of the journal and a task
+abbrev pub listing : Text → List Text → List Text → List Text → Journal → Task → Listing
+listing name words further options journal task =
+    record { name = name; words = words; further = further; options = options; journal = journal; task = task }
 
--- the words of a command of a pair: the two tapes and the settings
+-- the words that a command of a pair must have: the two tapes
 abbrev pub pair_words : List Text
-pair_words = codes "left" ∷ codes "right" ∷ codes "settings" ∷ []
+pair_words = codes "left" ∷ codes "right" ∷ []
+
+-- the word of a command of a pair that may be left out: the settings
+abbrev pub settings_word : List Text
+settings_word = codes "settings" ∷ []
 
 -- the option of `waits`: the programs that the tapes may lack
 abbrev pub outside_options : List Text
@@ -56,23 +62,25 @@ run_options = codes "blocks" ∷ turret_options
 -- all commands, in the order of the code's table
 unfoldable pub listings : List Listing
 listings =
-    listing (codes "verify") pair_words [] journal.None Verify
-    ∷ listing (codes "waits") pair_words outside_options journal.None Waits
-    ∷ listing (codes "races") pair_words [] journal.None Races
-    ∷ listing (codes "trace") pair_words block_options journal.None Trace
-    ∷ listing (codes "run") pair_words run_options journal.Write Run
-    ∷ listing (codes "resume") [] run_options journal.Write Resume
-    ∷ listing (codes "edit") (codes "edits" ∷ []) [] journal.Write Edit
-    ∷ listing (codes "moves") [] [] journal.Look Moves
-    ∷ listing (codes "state") [] [] journal.Look State
-    ∷ listing (codes "zones") (codes "zones" ∷ []) [] journal.Look Zones
-    ∷ listing (codes "branch") (codes "meetings" ∷ []) [] journal.Look Branch
-    ∷ listing (codes "make") (codes "number" ∷ []) turret_options journal.Write Make
-    ∷ listing (codes "expand") (codes "tape" ∷ []) [] journal.None Expand ∷ []
+    listing (codes "verify") pair_words settings_word [] journal.None Verify
+    ∷ listing (codes "waits") pair_words settings_word outside_options journal.None Waits
+    ∷ listing (codes "races") pair_words settings_word [] journal.None Races
+    ∷ listing (codes "trace") pair_words settings_word block_options journal.None Trace
+    ∷ listing (codes "run") pair_words settings_word run_options journal.Write Run
+    ∷ listing (codes "resume") [] [] run_options journal.Write Resume
+    ∷ listing (codes "edit") (codes "edits" ∷ []) [] [] journal.Write Edit
+    ∷ listing (codes "moves") [] [] [] journal.Look Moves
+    ∷ listing (codes "state") [] [] [] journal.Look State
+    ∷ listing (codes "zones") (codes "zones" ∷ []) [] [] journal.Look Zones
+    ∷ listing (codes "branch") (codes "meetings" ∷ []) [] [] journal.Look Branch
+    ∷ listing (codes "make") (codes "number" ∷ []) [] turret_options journal.Write Make
+    ∷ listing (codes "expand") (codes "tape" ∷ []) [] [] journal.None Expand ∷ []
 
 -- a row of the code, as clauses see it
 abbrev pub row_seen : Row → Listing
-row_seen row = listing row.name.now (map (λ word. word.now) row.words.now) (map (λ id. id.now) row.options.now) row.journal row.task
+row_seen row =
+    listing row.name.now (map (λ word. word.now) row.words.now) (map (λ word. word.now) row.further.now)
+    (map (λ id. id.now) row.options.now) row.journal row.task
 
 -- whether a row takes the option
 abbrev pub takes_option : Listing → Text → Bool

@@ -62,20 +62,21 @@ pub struct ProgramRange {
     pub greatest: u16,
 }
 
-/// What the program is asked to do. Tapes are named before the settings, path 1 first.
+/// What the program is asked to do. Tapes are named before the settings, path 1 first; the settings
+/// may be left out, and then they are empty.
 #[derive(Debug, Drop)]
 pub enum Command {
     /// Judge a pair of tapes under settings.
-    Verify(Name, Name, Name),
+    Verify(Name, Name, Option<Name>),
     /// Judge the waits of a pair of tapes under settings, where the tapes may lack the programs of
     /// the range.
-    Waits(Name, Name, Name, Option<ProgramRange>),
+    Waits(Name, Name, Option<Name>, Option<ProgramRange>),
     /// List the races of a pair of tapes under settings.
-    Races(Name, Name, Name),
+    Races(Name, Name, Option<Name>),
     /// Trace the run of a pair of tapes under settings, of at most this many blocks.
-    Trace(Name, Name, Name, u32),
+    Trace(Name, Name, Option<Name>, u32),
     /// Run a pair of tapes under settings, for at most this many blocks.
-    Run(Name, Name, Name, u32, TurretFiles),
+    Run(Name, Name, Option<Name>, u32, TurretFiles),
     /// Go on with the run in the journal, for at most this many blocks.
     Resume(u32, TurretFiles),
     /// Make these edits of offsets and variables in the run in the journal.

@@ -5,7 +5,8 @@ ghost use Rattle.std.specs.List.{list_all};
 ghost use Rattle.command_words.specs.Listed.{AreNames, IsName, IsOptionOf, given, gives_a_command, long_word};
 ghost use Rattle.command_words.specs.Table.{listings, names_stand_once, outside_options, run_options, turret_options};
 
-/// No two rows have the same name, and each gives a command for as many words `1` as it names.
+/// No two rows have the same name, and each gives a command for as many words `1` as it must have,
+/// and for as many as it may have.
 pub fn law_of_rows()
     ensures names { names_stand_once listings ≡ true }
     ensures commands { list_all gives_a_command listings ≡ true }

@@ -37,15 +37,15 @@ pub(crate) struct Limits {
     pub(crate) outside: Option<ProgramRange>,
 }
 
-/// The three names of a pair, as its command has them.
+/// The names of a pair, as its command has them.
 #[derive(Drop)]
 pub(crate) struct PairNames {
     /// The tape of path 1.
     pub(crate) left: Name,
     /// The tape of path 2.
     pub(crate) right: Name,
-    /// The settings.
-    pub(crate) settings: Name,
+    /// The settings, if they are named.
+    pub(crate) settings: Option<Name>,
 }
 
 /// The command that a task makes of its words and of the texts of the options.
@@ -168,11 +168,19 @@ fn command_with(
     match words.len() {
         0 => plain_command(task, limits, files),
         1 => word_command(alloc, task, words[0], files),
+        2 => {
+            let pair = PairNames {
+                left: Name::new(alloc, words[0])?,
+                right: Name::new(alloc, words[1])?,
+                settings: None,
+            };
+            pair_command(task, pair, limits, files)
+        }
         3 => {
             let pair = PairNames {
                 left: Name::new(alloc, words[0])?,
                 right: Name::new(alloc, words[1])?,
-                settings: Name::new(alloc, words[2])?,
+                settings: Some(Name::new(alloc, words[2])?),
             };
             pair_command(task, pair, limits, files)
         }
@@ -212,7 +220,7 @@ fn word_command(
     }
 }
 
-/// The command of a task that has the three names of a pair. `Usage` if it has other words.
+/// The command of a task that has the names of a pair. `Usage` if it has other words.
 fn pair_command(
     task: Task,
     pair: PairNames,

@@ -40,8 +40,10 @@ pub enum Journal {
 pub struct Row {
     /// The word that the command begins with.
     pub name: &'static str,
-    /// What the words after the name are called. The command takes just as many.
+    /// What the words after the name are called that the command must have.
     pub words: &'static [&'static str],
+    /// What further words behind these are called, which may be left out.
+    pub further: &'static [&'static str],
     /// The options that the command takes, each once at most, with a text: `--NAME TEXT` or
     /// `--NAME=TEXT`.
     pub options: &'static [&'static str],
@@ -51,13 +53,17 @@ pub struct Row {
     pub task: Task,
 }
 
-// The rows of the table: a command's name, what its words are called, the options that it takes,
-// what it does with the journal, and its task.
+// The rows of the table: a command's name, what its words are called, those that may be left out,
+// the options that it takes, what it does with the journal, and its task.
 macro_rules! command_rows {
-    ($($name:literal [$($word:literal),*] [$($option:literal),*] $journal:ident $task:ident;)+) => {
+    ($(
+        $name:literal [$($word:literal),*] [$($further:literal),*] [$($option:literal),*]
+        $journal:ident $task:ident;
+    )+) => {
         [$(Row {
             name: $name,
             words: &[$($word),*],
+            further: &[$($further),*],
             options: &[$($option),*],
             journal: Journal::$journal,
             task: Task::$task,
@@ -67,19 +73,19 @@ macro_rules! command_rows {
 
 /// The commands of the program, as specs/Table.antt lists them.
 const ROWS: [Row; 13] = command_rows! {
-    "verify" ["left", "right", "settings"] [] None Verify;
-    "waits" ["left", "right", "settings"] ["outside"] None Waits;
-    "races" ["left", "right", "settings"] [] None Races;
-    "trace" ["left", "right", "settings"] ["blocks"] None Trace;
-    "run" ["left", "right", "settings"] ["blocks", "turret1", "turret2"] Write Run;
-    "resume" [] ["blocks", "turret1", "turret2"] Write Resume;
-    "edit" ["edits"] [] Write Edit;
-    "moves" [] [] Look Moves;
-    "state" [] [] Look State;
-    "zones" ["zones"] [] Look Zones;
-    "branch" ["meetings"] [] Look Branch;
-    "make" ["number"] ["turret1", "turret2"] Write Make;
-    "expand" ["tape"] [] None Expand;
+    "verify" ["left", "right"] ["settings"] [] None Verify;
+    "waits" ["left", "right"] ["settings"] ["outside"] None Waits;
+    "races" ["left", "right"] ["settings"] [] None Races;
+    "trace" ["left", "right"] ["settings"] ["blocks"] None Trace;
+    "run" ["left", "right"] ["settings"] ["blocks", "turret1", "turret2"] Write Run;
+    "resume" [] [] ["blocks", "turret1", "turret2"] Write Resume;
+    "edit" ["edits"] [] [] Write Edit;
+    "moves" [] [] [] Look Moves;
+    "state" [] [] [] Look State;
+    "zones" ["zones"] [] [] Look Zones;
+    "branch" ["meetings"] [] [] Look Branch;
+    "make" ["number"] [] ["turret1", "turret2"] Write Make;
+    "expand" ["tape"] [] [] None Expand;
 };
 
 /// What the command that the words name does with the journal: nothing, if they name none. They do

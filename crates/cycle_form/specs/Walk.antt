@@ -1,6 +1,6 @@
 -- The parts of a tape that are written out, in the order of the text, or the first block with a
--- cycle that is part of no form. src/walk.rt computes `parts_of`; tape_expand cites it.
-use Rattle.std.specs.Prelude.{ℕ, zero, suc, ◌-◌, Bool, false, List, [], ◌∷◌, ◌++◌, length, drop, Option, Some, None, Result, Ok, Err, slice_get, ℤ, pos, if◌then◌else◌}
+-- cycle that is part of no form, or with G91 or G20. src/walk.rt computes `parts_of`; tape_expand cites it.
+use Rattle.std.specs.Prelude.{ℕ, zero, suc, ◌-◌, Bool, false, ◌||◌, List, [], ◌∷◌, ◌++◌, length, drop, Option, Some, None, Result, Ok, Err, slice_get, ℤ, pos, if◌then◌else◌}
 use Rattle.std.specs.List.{list_any}
 use Rattle.nc_number.specs.Options.{◌>>=◌}
 use Rattle.line_text.specs.declared.body.Word.{Word}
@@ -24,6 +24,11 @@ has_word code word = is_code code (literal_of 71 (Some word))
 abbrev pub has_code : ℤ → Body → Bool
 has_code code (Words words) = list_any (has_word code) words
 has_code code (Statement text) = false
+
+-- Whether the block changes what the lengths of a form mean: G91 makes them ways from where the tool
+-- is, G20 inches.
+abbrev pub changes_lengths : Body → Bool
+changes_lengths body = has_code (pos 91) body || has_code (pos 20) body
 
 -- The part that was found, or that the cycle is part of no form.
 abbrev pub part_or_bad : Option PartView → Found
@@ -50,12 +55,14 @@ form_behind marks passed rest = block_before passed >>= (λ a. form_at marks a r
 abbrev pub finish_behind : List Bool → List Block → Block → List PartView → Option PartView
 finish_behind marks passed block done = block_before passed >>= (λ a. finish_at marks a block done)
 
--- What begins in a block: nothing, a part, or a cycle that is part of no form. It depends on the
+-- What begins in a block: nothing, a part, or what is written out nowhere: a cycle that is part of
+-- no form, and G91 or G20, under which no form of the tape says what it seems to. It depends on the
 -- lines with a skip sign or a comment (`marks`), on the blocks that were passed, on the parts of
 -- the program so far (`done`), and on the blocks from this one on (`rest`).
 abbrev pub part_in : List Bool → List Block → List PartView → Block → List Block → Found
 part_in marks passed done block rest =
-    if has_code (pos 71) block.body then part_or_bad (form_behind marks passed rest)
+    if changes_lengths block.body then found.Bad
+    else if has_code (pos 71) block.body then part_or_bad (form_behind marks passed rest)
     else (if has_code (pos 70) block.body then part_or_bad (finish_behind marks passed block done)
     else found.Nothing)
 
@@ -68,7 +75,7 @@ abbrev pub blocks_left : PartView → ℕ
 blocks_left part = length part.lines - 1
 
 -- What the walk answers, by what begins in a block: it goes on with `rest`, or with `more` after a
--- part; a cycle that is part of no form is refused with 93 at this line.
+-- part; what is written out nowhere is refused with 93 at this line.
 abbrev pub found_next : ℕ → Found → Answer → (PartView → Answer) → Answer
 found_next line found.Nothing rest more = rest
 found_next line found.Bad rest more = Err (BadCycle line)

@@ -7,8 +7,8 @@ use thiserror::Error;
 /// Why the roughing cycles of a tape can't be written out.
 #[derive(Clone, Copy, Debug, PartialEq, Eq, Error)]
 pub enum CycleFault {
-    /// This line has a block with G70 or G71 that is part of no form, or the first G71 of a form
-    /// with more than 1,000 passes.
+    /// This line has a block with G70 or G71 that is part of no form, the first G71 of a form with
+    /// more than 1,000 passes, or a block with G91 or G20.
     #[error("refusal 93 at line {0}")]
     BadCycle(u32),
     /// With the part that is replaced from this line on, the whole tape first has more than 20,000

@@ -4,7 +4,7 @@ ghost use Rattle.std.specs.Prelude.{◌≡◌, [], IfOk, IfSome, All, length, dr
 ghost use Rattle.cycle_form.specs.Parts.{IsSoundPart};
 ghost use Rattle.std.specs.List.{list_any};
 ghost use Rattle.nc_number.specs.Answers.{Gives};
-ghost use Rattle.cycle_form.specs.Walk.{has_word, has_code, part_or_bad, form_behind, finish_behind, part_in, parts_from, parts_of, blocks_left, IsSoundFound};
+ghost use Rattle.cycle_form.specs.Walk.{has_word, has_code, changes_lengths, part_or_bad, form_behind, finish_behind, part_in, parts_from, parts_of, blocks_left, IsSoundFound};
 
 use crate::fault::CycleFault;
 use crate::finish::finish_at;
@@ -22,7 +22,7 @@ pub enum Found {
     Nothing,
     /// A part of the tape, with its cycle.
     One(Part),
-    /// A cycle that is part of no form.
+    /// A cycle that is part of no form, or a code that changes what lengths mean.
     Bad,
 }
 
@@ -48,6 +48,14 @@ fn has_code(code: i64, body: &Body) -> bool
         Body::Words(words) => some_word(code, words.as_slice()),
         Body::Statement(_) => false,
     }
+}
+
+/// Whether the block changes what the lengths of a form mean: G91 makes them ways from where the
+/// tool is, G20 inches.
+fn changes_lengths(body: &Body) -> bool
+    ensures { result ≡ changes_lengths body.now }
+{
+    has_code(91, body) || has_code(20, body)
 }
 
 /// The part, if the cycle is one of a form; else that it is of none, which is refused and not
@@ -100,8 +108,8 @@ fn finish_behind(
 
 /// What begins in a block. `passed` are the blocks of its program before it, `rest` those from it
 /// on, `done` the parts of the program so far; `marks` says which lines have a skip sign or a
-/// comment. If the block has both G71 and G70, it is taken for a G71. The only error is out of
-/// memory.
+/// comment. If the block has both G71 and G70, it is taken for a G71; with G91 or G20 it is
+/// refused, whatever else it has. The only error is out of memory.
 fn part_in(
     alloc: Global,
     marks: &[bool],
@@ -113,6 +121,9 @@ fn part_in(
     ensures found { IfOk result (λ found. found ≡ part_in marks.now passed.now done.now block.now rest.now) }
     ensures sound { IfOk result IsSoundFound }
 {
+    if changes_lengths(&block.body) {
+        return Ok(Found::Bad);
+    }
     if has_code(71, &block.body) {
         let part = form_behind(alloc, marks, passed, rest)?;
         return Ok(part_or_bad(part));
@@ -125,7 +136,7 @@ fn part_in(
 }
 
 /// The parts so far, and those of a program of these blocks. Errors: 93 at the first block with a
-/// cycle that is part of no form; out of memory.
+/// cycle that is part of no form, or with G91 or G20; out of memory.
 fn with_program(
     alloc: Global,
     marks: &[bool],
@@ -175,8 +186,9 @@ fn blocks_left(part: &Part) -> usize
 /// The parts of a tape that are written out, in the order of the text. `marks` says of each line of
 /// its text whether it has a skip sign or a comment.
 ///
-/// Errors: 93 at the least line with a block that has G70 or G71 and is part of no form, or with
-/// the first G71 of a form with more than 1,000 passes; out of memory.
+/// Errors: 93 at the least line with a block that has G70 or G71 and is part of no form, with the
+/// first G71 of a form with more than 1,000 passes, or with a block that has G91 or G20; out of
+/// memory.
 pub fn parts_of(
     alloc: Global,
     marks: &[bool],

@@ -1,5 +1,5 @@
-//! A folder in memory with one file, whose calls can be made to fail, and which knows what it was
-//! asked. It stands for the operating system under a `FileDisk`.
+//! A folder in memory with one file, and one that may take its place, whose calls can be made to
+//! fail, and which knows what it was asked. It stands for the operating system under a `FileDisk`.
 //! medium_tests.rt uses it.
 use crate::medium::{Bytes, Medium, get, no_bytes};
 use real_outside::{Folder, Identity, RawFile};
@@ -11,6 +11,9 @@ use std::os::unix::fs::FileExt;
 /// How many calls are noted.
 const MOST_NOTED: usize = 64;
 
+/// By how much the number of the file that may take the place of another is greater.
+const NEXT: u64 = 100;
+
 /// A call of the system.
 #[derive(Clone, Copy, Debug, PartialEq, Eq)]
 pub(crate) enum Call {
@@ -20,6 +23,10 @@ pub(crate) enum Call {
     Look,
     /// The file is made.
     Make,
+    /// The file that may take its place is made.
+    Next,
+    /// The name is given to that one.
+    Replace,
     /// The lock of the file is asked for.
     Hold,
     /// Bytes are written to the file.
@@ -36,6 +43,8 @@ fn letter_of(call: Call) -> u8 {
         Call::Open => b'o',
         Call::Look => b'l',
         Call::Make => b'm',
+        Call::Next => b'n',
+        Call::Replace => b'r',
         Call::Hold => b'h',
         Call::Write => b'w',
         Call::Sync => b's',
@@ -46,8 +55,22 @@ fn letter_of(call: Call) -> u8 {
 /// All that the system knows of the folder and its file.
 #[derive(Clone, Copy)]
 pub(crate) struct System {
-    /// The file, in memory and on the medium.
+    /// The file that has the name, in memory and on the medium.
     pub(crate) file: Medium,
+    /// The file that may take its place, if there is one.
+    pub(crate) next: Option<Medium>,
+    /// What has the name on the medium, if that is another file than in memory.
+    named: Option<Medium>,
+    /// Whether a new name is on the medium at once, and not only with the folder's sync.
+    pub(crate) is_eager: bool,
+    /// Whether the name is a symbolic link.
+    pub(crate) is_link: bool,
+    /// Whether another program renews the file just before its lock is asked for.
+    pub(crate) is_overtaken: bool,
+    /// What another program writes in the course of the next sync of the file.
+    pub(crate) meanwhile: Option<(usize, Bytes)>,
+    /// What another program makes of the file just before it is made.
+    pub(crate) made: Option<Bytes>,
     /// Whether the folder has the file in memory.
     pub(crate) is_there: bool,
     /// Whether the folder has the file on the medium.
@@ -74,6 +97,13 @@ pub(crate) struct System {
 pub(crate) fn new_system() -> System {
     System {
         file: Medium::of(no_bytes()),
+        next: None,
+        named: None,
+        is_eager: false,
+        is_link: false,
+        is_overtaken: false,
+        meanwhile: None,
+        made: None,
         is_there: false,
         is_listed: false,
         number: 1,
@@ -128,10 +158,60 @@ impl System {
 
     /// Cuts the power and gives it back: what is not on the medium is lost.
     pub(crate) fn cut(&mut self) {
+        self.take_names();
         self.file.cut();
+    }
+
+    /// The same, where each write since the last sync is torn.
+    pub(crate) fn tear(&mut self) {
+        self.take_names();
+        self.file.tear();
+    }
+
+    /// The names are those that the medium has.
+    fn take_names(&mut self) {
+        if let Some(named) = self.named {
+            self.file = named;
+        }
+        self.named = None;
         self.is_there = self.is_listed;
         self.calls_left = u64::MAX;
         self.failing = None;
+    }
+
+    /// Gives the name to the file that may take it.
+    fn replace(&mut self) -> io::Result<()> {
+        let Some(next) = self.next else {
+            return Err(io::Error::from(ErrorKind::NotFound));
+        };
+        if !self.is_eager {
+            self.named = Some(self.file);
+        }
+        self.file = next;
+        self.next = None;
+        self.number = self.number.saturating_add(NEXT);
+        Ok(())
+    }
+
+    /// The file of this number, if it is there.
+    fn medium(&self, number: u64) -> Option<Medium> {
+        if number == self.number {
+            return Some(self.file);
+        }
+        if number == self.number.saturating_add(NEXT) {
+            return self.next;
+        }
+        None
+    }
+
+    /// The file of this number is so from now on, if it is there.
+    fn keep(&mut self, number: u64, medium: Medium) {
+        if number == self.number {
+            self.file = medium;
+        }
+        if number == self.number.saturating_add(NEXT) {
+            self.next = Some(medium);
+        }
     }
 
     /// How many bytes of so many a read or a write comes to, or that it is interrupted.
@@ -202,7 +282,11 @@ impl<'a> Folder for FakeFolder<'a> {
     /// Makes the file without a byte, in memory alone.
     fn make(&self, _name: &str) -> io::Result<FakeFile<'a>> {
         let mut system = ask(self.system, Call::Make)?;
-        if system.is_there {
+        if let Some(bytes) = system.made {
+            system.has(bytes);
+            self.system.set(system);
+        }
+        if system.is_there || system.is_link {
             return Err(io::Error::from(ErrorKind::AlreadyExists));
         }
         system.file = Medium::of(no_bytes());
@@ -226,12 +310,53 @@ impl<'a> Folder for FakeFolder<'a> {
         })
     }
 
+    /// Whether the name is a link.
+    fn is_link(&self, _name: &str) -> io::Result<bool> {
+        Ok(self.system.get().is_link)
+    }
+
+    /// Makes the file without a byte, whatever an earlier command left there.
+    fn make_next(&self, _name: &str, _like: &FakeFile<'a>) -> io::Result<FakeFile<'a>> {
+        let mut system = ask(self.system, Call::Next)?;
+        system.next = Some(Medium::of(no_bytes()));
+        self.system.set(system);
+        Ok(FakeFile {
+            system: self.system,
+            number: system.number.saturating_add(NEXT),
+        })
+    }
+
+    /// Gives it the name, in memory alone or at once on the medium too.
+    fn replace(&self, _name: &str) -> io::Result<()> {
+        let mut system = ask(self.system, Call::Replace)?;
+        system.replace()?;
+        self.system.set(system);
+        Ok(())
+    }
+
+    /// Removes it, unless the system does nothing any more.
+    fn discard(&self, _name: &str) {
+        let mut system = self.system.get();
+        if system.calls_left > 0 {
+            system.next = None;
+            self.system.set(system);
+        }
+    }
+
     fn sync(&self) -> io::Result<()> {
         // The medium has the name of the file as memory has it.
         let mut system = ask(self.system, Call::Folder)?;
         system.is_listed = system.is_there;
+        system.named = None;
         self.system.set(system);
         Ok(())
+    }
+}
+
+impl FakeFile<'_> {
+    /// The file as it is now, and without a byte if it has no name any more.
+    fn medium(&self, system: &System) -> Medium {
+        system.medium(self.number).unwrap_or(Medium::of(no_bytes()))
     }
 }
 
@@ -242,7 +367,7 @@ impl FileExt for FakeFile<'_> {
         let share = system.share(buf.len());
         self.system.set(system);
         let at = usize::try_from(offset).unwrap_or(usize::MAX);
-        Ok(get(&system.file.memory, at, share?, buf))
+        Ok(get(&self.medium(&system).memory, at, share?, buf))
     }
 
     /// Writes into memory, and marks the pages.
@@ -252,7 +377,9 @@ impl FileExt for FakeFile<'_> {
         self.system.set(system);
         let count = share?.min(buf.len());
         let at = usize::try_from(offset).unwrap_or(usize::MAX);
-        system.file.write(at, &buf[..count]);
+        let mut medium = self.medium(&system);
+        medium.write(at, &buf[..count]);
+        system.keep(self.number, medium);
         self.system.set(system);
         Ok(count)
     }
@@ -261,7 +388,8 @@ impl FileExt for FakeFile<'_> {
 impl RawFile for FakeFile<'_> {
     /// The number of bytes in memory.
     fn length(&self) -> io::Result<u64> {
-        Ok(self.system.get().file.memory.len as u64)
+        let system = self.system.get();
+        Ok(self.medium(&system).memory.len as u64)
     }
 
     /// The number that the file had when it was opened.
@@ -272,9 +400,15 @@ impl RawFile for FakeFile<'_> {
         })
     }
 
-    /// False if another program has the lock.
+    /// False if another program has the lock. One that renewed the file just before gave its name to
+    /// another one.
     fn hold(&self) -> io::Result<bool> {
-        let system = ask(self.system, Call::Hold)?;
+        let mut system = ask(self.system, Call::Hold)?;
+        if system.is_overtaken {
+            system.is_overtaken = false;
+            system.number = system.number.saturating_add(1);
+            self.system.set(system);
+        }
         Ok(!system.is_held)
     }
 
@@ -282,11 +416,17 @@ impl RawFile for FakeFile<'_> {
         // A sync that fails takes the marks away too, unless the system does nothing any more.
         let outcome = ask(self.system, Call::Sync);
         let mut system = self.system.get();
+        let mut medium = self.medium(&system);
         if outcome.is_ok() {
-            system.file.store();
+            medium.store();
         } else if system.calls_left > 0 {
-            system.file.unmark();
+            medium.unmark();
         }
+        if let Some((at, bytes)) = system.meanwhile {
+            system.meanwhile = None;
+            medium.write(at, &bytes.all[..bytes.len.min(bytes.all.len())]);
+        }
+        system.keep(self.number, medium);
         self.system.set(system);
         outcome?;
         Ok(())

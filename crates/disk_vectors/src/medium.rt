@@ -1,4 +1,4 @@
-//! One file of the fake folder, as the system has it in memory and as its medium has it.
+//! A file of the fake folder, as the system has it in memory and as its medium has it.
 //! fake_folder.rt and medium_tests.rt use it.
 ghost use Rattle.std.specs.Prelude.{◌≡◌, ◌≤◌, length, take};
 
@@ -10,6 +10,9 @@ const PAGE: usize = 8;
 
 /// How many pages the file has.
 const PAGES: usize = 8;
+
+/// What a torn write leaves.
+const TORN: u8 = 7;
 
 /// Bytes, and how many there are.
 #[derive(Clone, Copy)]
@@ -24,7 +27,8 @@ pub(crate) struct Bytes {
 ///
 /// What is written lies in memory, and its pages are marked. A sync puts the marked pages on the
 /// medium and takes the marks away. One that fails takes them away too, as Linux does: a later sync
-/// then has nothing to write.
+/// then has nothing to write. Until a sync was done a power cut may leave anything in each byte that
+/// was written, also in one that had the same value before.
 #[derive(Clone, Copy)]
 pub(crate) struct Medium {
     /// The file as the system has it in memory.
@@ -33,6 +37,8 @@ pub(crate) struct Medium {
     pub(crate) stored: Bytes,
     /// Whether each page was written since the last sync.
     marks: [bool; PAGES],
+    /// Whether each byte was written since the last sync that was done.
+    written: [bool; ROOM],
 }
 
 /// A file's bytes if it has none.
@@ -93,6 +99,7 @@ impl Medium {
             memory: bytes,
             stored: bytes,
             marks: [false; PAGES],
+            written: [false; ROOM],
         }
     }
 
@@ -100,8 +107,12 @@ impl Medium {
     pub(crate) fn write(&mut self, at: usize, bytes: &[u8]) {
         put(&mut self.memory, at, bytes);
         for index in 0..bytes.len() {
-            if let Some(mark) = self.marks.get_mut(at.saturating_add(index) / PAGE) {
+            let place = at.saturating_add(index);
+            if let Some(mark) = self.marks.get_mut(place / PAGE) {
                 *mark = true;
+            }
+            if let Some(written) = self.written.get_mut(place) {
+                *written = true;
             }
         }
     }
@@ -114,6 +125,7 @@ impl Medium {
             }
         }
         self.stored.len = self.memory.len;
+        self.written = [false; ROOM];
         self.unmark();
     }
 
@@ -122,9 +134,22 @@ impl Medium {
         self.marks = [false; PAGES];
     }
 
-    /// What a power cut leaves.
+    /// What a power cut leaves at least.
     pub(crate) fn cut(&mut self) {
         self.memory = self.stored;
+        self.written = [false; ROOM];
         self.unmark();
+    }
+
+    /// What a power cut leaves if it tears each write: a 7 in each byte that was written since the
+    /// last sync.
+    pub(crate) fn tear(&mut self) {
+        for index in 0..ROOM {
+            if self.written[index] {
+                self.stored.all[index] = TORN;
+            }
+        }
+        self.stored.len = self.stored.len.max(self.memory.len);
+        self.cut();
     }
 }

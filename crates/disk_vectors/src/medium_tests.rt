@@ -2,7 +2,7 @@
 //! power cut leaves of it.
 use crate::answers::{is_count, is_done};
 use crate::fake_folder::{Call, FakeFolder, System, new_system};
-use crate::medium::{are, bytes_of, no_bytes};
+use crate::medium::{Bytes, Medium, are, bytes_of, no_bytes};
 use disk_model::{Disk, Failed};
 use real_outside::{Access, FileDisk, Trouble};
 use std::cell::Cell;
@@ -19,14 +19,22 @@ const NAME: &str = "a.journal";
 /// `len COUNT`, `faults COUNT`. What the disk says of its journal: `says TROUBLE`. What is on the
 /// medium: `medium BYTES`. Which calls the system had since it was asked last, without those that
 /// read: `calls LETTERS`, open `o`, open to look `l`, make `m`, hold `h`, write `w`, sync `s`, sync
-/// of the folder `f`.
+/// of the folder `f`, make the file that may take its place `n`, give it the name `r`.
 ///
-/// What happens besides: `has BYTES`, as a file on the medium; `other PLACE BYTES`, another program
-/// writes; `again` and `look`, the next program opens the file, to write or to look; `cut`, the
-/// power goes, and then `again`; `stop COUNT`, after so many calls nothing is done any more; `fail
-/// CALL` and `refuse CALL` and `still CALL`, the next call of this letter fails, for want of the
-/// disk, of the right, or since the disk can't be written; `short`, reads and writes come to two
-/// bytes at most and every other one is interrupted; `held`; `replaced`; `removed`.
+/// What happens besides: `has BYTES`, as a file on the medium; `left BYTES`, as one that was to take
+/// a place; `other PLACE BYTES`, another program writes; `meanwhile PLACE BYTES`, it does so in the
+/// course of the next sync; `made BYTES`, it makes the file before this one can; `overtaken`, it
+/// renews the file before the lock is free; `again`, `resume` and `look`, the next program opens the
+/// file, to write, to go on or to look; `cut`, the power goes, and then `again`; `tear`, it goes and
+/// tears each write; `eager`, a new name is on the medium at once; `stop COUNT`, after so many calls
+/// nothing is done any more; `fail CALL` and `refuse CALL` and `still CALL`, the next call of this
+/// letter fails, for want of the disk, of the right, or since the disk can't be written; `short`,
+/// reads and writes come to two bytes at most and every other one is interrupted; `held`;
+/// `replaced`; `removed`; `link`, the name is a symbolic link.
+///
+/// The journal of a run that is over ends with a batch: `100072140240`, both paths ended, or
+/// `100041150`, an alarm. Behind `100041140`, path 1 ended, and `1000811115555`, a block with a
+/// stamp, it goes on.
 const ROWS: &str = "\
 sync done, calls of, write 0 0 done, calls mhw, sync done, calls sf, write 1 0002ab0 done, sync done, write 0 1 done, sync done, calls wsws, medium 10002ab0
 write 0 0 done, cut, reads , again, write 0 0 done, stop 1, sync failed, cut, reads
@@ -35,32 +43,67 @@ has 0, sync done, write 1 0002ab0 done, cut, reads 0
 has 0, sync done, write 1 0002ab0 done, sync done, write 0 1 done, cut, reads 00002ab0
 has 0, sync done, write 1 0002ab0 done, sync done, write 0 1 done, sync done, cut, reads 10002ab0
 has 0, sync done, stop 0, write 1 0002ab0 failed, sync failed, faults 2, cut, reads 0
-has 0, sync done, stop 1, write 1 0002ab0 done, sync failed, write 0 1 failed, faults 2, cut, reads 0
-has 0, sync done, stop 2, write 1 0002ab0 done, sync done, write 0 1 failed, sync failed, cut, reads 00002ab0
-has 0, sync done, stop 3, write 1 0002ab0 done, sync done, write 0 1 done, sync failed, cut, reads 00002ab0
-has 0, sync done, write 1 0002ab0 done, sync done, write 0 1 done, fail s, sync failed, sync failed, faults 2, again, sync done, reads 10002ab0, cut, reads 10002ab0
+has 0, sync done, stop 6, write 1 0002ab0 failed, sync failed, faults 2, cut, reads 0
+has 0, sync done, stop 7, write 1 0002ab0 done, sync failed, write 0 1 failed, faults 2, cut, reads 0
+has 0, sync done, stop 8, write 1 0002ab0 done, sync done, write 0 1 failed, sync failed, cut, reads 00002ab0
+has 0, sync done, stop 9, write 1 0002ab0 done, sync done, write 0 1 done, sync failed, cut, reads 00002ab0
+has 0, sync done, write 1 0002ab0 done, sync done, write 0 1 done, fail s, sync failed, sync failed, faults 2, resume, sync done, reads 10002ab0, cut, reads 10002ab0
+has 0, sync done, write 1 0002ab0 done, sync done, write 0 1 done, fail s, sync failed, again, sync done, reads 10002ab0, write 8 0001c0 done, cut, reads 10002ab0
 has 0, sync done, write 1 0002ab0 done, sync done, write 0 1 done, fail s, sync failed, look, sync done, len 8, reads 10002ab0, medium 00002ab0
-has 10002ab10002cd0, sync done, write 15 0002ef0 done, sync done, write 14 1 done, fail s, sync failed, again, fail s, sync failed, again, sync done, cut, reads 10002ab10002cd10002ef0
-has 10002ab0, sync done, calls ohwsf, sync done, calls s
-has 10002ab0xxxxxxxxxx, sync done, calls ohwsf, medium 10002ab0xxxxxxxxxx
+has 10002ab10002cd0, sync done, write 15 0002ef0 done, sync done, write 14 1 done, fail s, sync failed, resume, fail s, sync failed, resume, sync done, cut, reads 10002ab10002cd10002ef0
+has 10002ab0, sync done, calls ohsf, sync done, calls s, reads 10002ab0, write 8 0001c0 done, calls nhwsrfw
+has 10002ab0, resume, sync done, calls ohnhwsrfs, sync done, calls s, write 8 0001c0 done, calls w, medium 10002ab0
+has 10002ab0xxxxxxxxxx, sync done, calls ohsf, medium 10002ab0xxxxxxxxxx
+has 10002ab0xxxxxxxxxx, resume, sync done, medium 10002ab0
+has 10002ab1000721402400, resume, sync done, calls ohsf, sync done, calls s
+has 10002ab1000411500, resume, sync done, calls ohsf
+has 10002ab1000411400, resume, sync done, calls ohnhwsrfs
+has 10002ab10008111155550, resume, sync done, calls ohnhwsrfs
+has 0, resume, sync done, calls ohsf
+has 10002ab, resume, sync done, calls ohsf
 has 10002ab0, stop 2, sync failed, cut, reads 10002ab0
 has 10002ab0, stop 3, sync failed, cut, reads 10002ab0
+has 10002ab0, resume, stop 3, sync failed, tear, reads 10002ab0
+has 10002ab0, resume, stop 4, sync failed, tear, reads 10002ab0
+has 10002ab0, resume, stop 5, sync failed, tear, reads 10002ab0
+has 10002ab0, resume, stop 6, sync failed, tear, reads 10002ab0
+has 10002ab0, resume, stop 7, sync failed, tear, reads 10002ab0
+has 10002ab0, resume, stop 8, sync failed, tear, reads 10002ab0
+has 10002ab0, eager, resume, stop 5, sync failed, tear, reads 10002ab0
+has 10002ab0, eager, resume, stop 7, sync failed, tear, reads 10002ab0
+has 10002ab0, eager, resume, stop 8, sync failed, tear, reads 10002ab0
+has 10002ab0, sync done, stop 7, write 8 0001c0 done, sync failed, tear, len 14, resume, sync done, len 8, reads 10002ab0
+has 10002ab0, left xyz, resume, sync done, reads 10002ab0, again, sync done, reads 10002ab0
+left xyz, write 0 0 done, sync done, medium 0
 has 0, sync done, fail w, write 1 0002ab0 failed, sync failed, write 1  failed, len failed, faults 4, again, sync done, reads 0
+has 0, sync done, fail n, write 1 0002ab0 failed, sync failed, again, sync done, reads 0
+has 0, sync done, fail r, write 1 0002ab0 failed, sync failed, again, sync done, reads 0
 fail f, write 0 0 done, sync failed, sync failed, again, sync done, cut, reads 0
 fail m, write 0 0 failed, sync failed, again, sync done, reads , write 0 0 done, sync done, medium 0
 fail o, len failed, len 0, fail h, has 0, faults 1
-has 0, short, sync done, write 1 0002ab0 done, sync done, write 0 1 done, sync done, medium 10002ab0, again, sync done, reads 10002ab0, look, sync done, reads 10002ab0
+has 0, short, sync done, write 1 0002ab0 done, sync done, write 0 1 done, sync done, medium 10002ab0, resume, sync done, reads 10002ab0, look, sync done, reads 10002ab0
 has 0, held, sync failed, says held, len failed, calls oh
+has 0, overtaken, sync done, calls ohohsf, write 1 0002ab0 done
+made 10002ab0, write 0 0 failed, says made, medium 10002ab0
+made , write 0 0 done, calls omohnhsrfw, sync done, medium 0
+made 0, held, write 0 0 failed, says held
 has 0, refuse o, sync failed, says unwritable, len failed, write 0 1 failed, calls o
 refuse m, write 0 0 failed, says unwritable
-has 0, sync done, replaced, write 1 0002ab0 done, sync failed, says replaced, write 0 1 failed
+has 0, sync done, refuse n, write 1 0002ab0 failed, says fixed, medium 0
+has 0, link, sync done, reads 0, write 1 0002ab0 failed, says linked, medium 0
+link, write 0 0 failed, says linked
+has 0, sync done, replaced, write 1 0002ab0 failed, says replaced, sync failed, write 0 1 failed
+write 0 0 done, sync done, replaced, write 1 0002ab0 done, sync failed, says replaced, write 0 1 failed
 has 0, sync done, removed, sync failed, says replaced
 write 0 0 done, sync done, removed, sync failed, says replaced
 has 10002ab0, still s, sync failed, look, still s, sync done, reads 10002ab0, still f, sync done, faults 0
 has 10002ab0, look, calls , sync done, calls lsf, write 7 1 failed, faults 1, medium 10002ab0
 look, sync done, len 0, write 0 0 failed, calls lf, faults 1, medium
+has 0, look, fail s, sync failed, faults 1
+has 0, look, fail f, sync failed, faults 1
 has 0, other 0 10002ab0, look, sync done, reads 10002ab0, medium 10002ab0
 has 0, look, sync done, other 0 10002ab0, len 1, reads 0, again, sync done, reads 10002ab0
+has 0, look, meanwhile 0 10002ab0, sync done, len 1, reads 0
 has 10002ab0, look, sync done, other 8 0002cd0, other 7 1, len 8, reads 10002ab0, look, sync done, len 15, reads 10002ab10002cd0
 has 10002ab, look, sync done, len 7, reads 10002ab
 has 1000, look, sync done, len 4, reads 1000";
@@ -71,6 +114,9 @@ fn trouble_of(name: &str) -> Option<Trouble> {
         "held" => Some(Trouble::Held),
         "unwritable" => Some(Trouble::Unwritable),
         "replaced" => Some(Trouble::Replaced),
+        "made" => Some(Trouble::Made),
+        "linked" => Some(Trouble::Linked),
+        "fixed" => Some(Trouble::Fixed),
         _ => None,
     }
 }
@@ -80,6 +126,8 @@ fn call_of(letter: &str) -> Call {
     match letter {
         "o" => Call::Open,
         "m" => Call::Make,
+        "n" => Call::Next,
+        "r" => Call::Replace,
         "h" => Call::Hold,
         "w" => Call::Write,
         "s" => Call::Sync,
@@ -133,26 +181,45 @@ fn of_system(system: &mut System, words: (&str, &str, &str, &str)) -> bool {
     match words.0 {
         "calls" => return system.were(words.1),
         "medium" => return are(&system.file.stored, words.1),
-        "has" => system.has(bytes_of(words.1)),
-        "other" => {
-            let bytes = bytes_of(words.2);
-            let at = usize::try_from(number(words.1)).unwrap_or(0);
-            system
-                .file
-                .write(at, &bytes.all[..bytes.len.min(bytes.all.len())]);
-        }
-        "cut" => system.cut(),
         "stop" => system.calls_left = number(words.1),
         "fail" => system.failing = Some((call_of(words.1), ErrorKind::Other)),
         "refuse" => system.failing = Some((call_of(words.1), ErrorKind::PermissionDenied)),
         "still" => system.failing = Some((call_of(words.1), ErrorKind::ReadOnlyFilesystem)),
         "short" => system.is_short = true,
+        "cut" => system.cut(),
+        "tear" => system.tear(),
+        "eager" => system.is_eager = true,
+        _ => of_others(system, words),
+    }
+    true
+}
+
+/// Makes the step as something that others do to the files.
+fn of_others(system: &mut System, words: (&str, &str, &str, &str)) {
+    match words.0 {
+        "has" => system.has(bytes_of(words.1)),
+        "left" => system.next = Some(Medium::of(bytes_of(words.1))),
+        "other" => {
+            let (at, bytes) = written_by(words);
+            system
+                .file
+                .write(at, &bytes.all[..bytes.len.min(bytes.all.len())]);
+        }
+        "meanwhile" => system.meanwhile = Some(written_by(words)),
+        "made" => system.made = Some(bytes_of(words.1)),
+        "overtaken" => system.is_overtaken = true,
         "held" => system.is_held = true,
         "replaced" => system.number = system.number.saturating_add(1),
         "removed" => system.is_there = false,
+        "link" => system.is_link = true,
         _ => {}
     }
-    true
+}
+
+/// Where another program writes, and what.
+fn written_by(words: (&str, &str, &str, &str)) -> (usize, Bytes) {
+    let at = usize::try_from(number(words.1)).unwrap_or(0);
+    (at, bytes_of(words.2))
 }
 
 /// The first four words of a step.
@@ -163,6 +230,16 @@ fn words_of(step: &str) -> (&str, &str, &str, &str) {
     let third = words.next().unwrap_or("");
     let fourth = words.next().unwrap_or("");
     (first, second, third, fourth)
+}
+
+/// How the next program opens the file, if the step says that one does.
+fn access_of(step: &str) -> Option<Access> {
+    match step {
+        "again" | "cut" | "tear" => Some(Access::Write),
+        "resume" => Some(Access::Continue),
+        "look" => Some(Access::Look),
+        _ => None,
+    }
 }
 
 /// Whether all steps of a row are as it says.
@@ -182,14 +259,8 @@ fn holds(cell: &Cell<System>, row: &str) -> bool {
         if !is_right {
             return false;
         }
-        match words.0 {
-            "again" | "cut" => disk = FileDisk::new(
-                FakeFolder { system: cell },
-                NAME,
-                Access::Write,
-            ),
-            "look" => disk = FileDisk::new(FakeFolder { system: cell }, NAME, Access::Look),
-            _ => {}
+        if let Some(access) = access_of(words.0) {
+            disk = FileDisk::new(FakeFolder { system: cell }, NAME, access);
         }
     }
     true

@@ -31,12 +31,21 @@ const SHOWN: &str = "sync done, len 1, read 0 1, read 1 0, faults 0";
 /// 2^62.
 const OPENED: &str = "write 4 done, len 6, write 4611686018427387903 failed, len failed, faults 2";
 
-/// A row: the name of a file, and calls. A full device takes no byte, one that keeps nothing can't
-/// be synced, and a folder can't be opened to be written. After a failed write or sync a write of
-/// no byte fails too.
+/// The name of a file of more than one piece, and that of the one that takes its place.
+const LONG: &str = "long_file_disk_test.journal";
+
+const LONG_NEXT: &str = "long_file_disk_test.journal.new";
+
+/// How many parts that file has, and where its last gate is.
+const PARTS: u8 = 40;
+
+const PARTS_END: u64 = 40_005;
+
+/// A row: the name of what is no regular file, and calls. After a failed write or sync a write of no
+/// byte fails too.
 const FAILING: &str = "\
 /dev/full|write 0 failed, sync failed, faults 2, len failed, read 0 failed, touch failed, sync failed, faults 6
-/dev/null|write 0 done, sync failed, faults 1, len failed, read 0 failed, touch failed, sync failed, faults 5
+/dev/null|write 0 failed, sync failed, faults 2, len failed, read 0 failed, touch failed, sync failed, faults 6
 /|write 0 failed, sync failed, faults 2, len failed, read 0 failed, touch failed, sync failed, faults 6";
 
 /// How many of four bytes are read at this place.
@@ -117,5 +126,40 @@ fn after_a_failed_write_or_sync_each_call_fails(rt: HostRuntime) -> Result<(), F
         let mut disk = FileDisk::new(SystemFolder::new(&rt), name, Access::Write);
         assert!(rt; all_hold(&mut disk, steps), "{row}");
     }
+    Ok(())
+}
+
+/// Writes the journal whose parts have the bytes 0, 1 and so on, a thousand times each.
+fn write_parts<R: Files<File = File>>(disk: &mut FileDisk<'_, SystemFolder<'_, R>>) -> bool {
+    let mut is_written = disk.write_at(0, &[1, 0, 0, 156, 64]).is_ok();
+    for part in 0..PARTS {
+        let place = 5 + u64::from(part) * 1_000;
+        is_written &= disk.write_at(place, &[part; 1_000]).is_ok();
+    }
+    is_written && disk.write_at(PARTS_END, &[0]).is_ok() && disk.sync().is_ok()
+}
+
+/// Whether each part of the journal ends with its byte.
+fn has_parts<R: Files<File = File>>(disk: &mut FileDisk<'_, SystemFolder<'_, R>>) -> bool {
+    let mut is_whole = true;
+    for part in 0..PARTS {
+        let mut byte = [PARTS];
+        let place = 1_004 + u64::from(part) * 1_000;
+        is_whole &= disk.read_at(place, &mut byte) == Ok(1) && byte == [part];
+    }
+    is_whole
+}
+
+#[test]
+fn a_journal_of_several_pieces_is_renewed_whole(rt: HostRuntime) -> Result<(), Fail> {
+    let mut disk = FileDisk::new(SystemFolder::new(&rt), LONG, Access::Write);
+    assert!(rt; write_parts(&mut disk));
+    drop(disk);
+    let mut again = FileDisk::new(SystemFolder::new(&rt), LONG, Access::Write);
+    assert!(rt; again.sync().is_ok() && again.write_at(PARTS_END + 1, b"ab").is_ok());
+    assert!(rt; has_parts(&mut again));
+    assert!(rt; again.len() == Ok(PARTS_END + 3));
+    assert!(rt; !fs::exists(&rt, LONG_NEXT)?);
+    fs::remove_file(&rt, LONG)?;
     Ok(())
 }

@@ -20,6 +20,14 @@ on_its_way is = absurd (cc is)
 broken : {n : ℕ} (phase : Phase) → has_failed phase ≡ true → phase ≡ Still → 1 ≤ n
 broken phase failed is = absurd (true≢false (sym failed ∙ ap has_failed is))
 
+-- a turret that failed is not on its way
+stopped : {n m : ℕ} → Failed ≡ Moving → n ≤ m
+stopped is = absurd (cc is)
+
+-- a turret that stands still is not on its way
+at_rest : {n m : ℕ} → Still ≡ Moving → n ≤ m
+at_rest is = absurd (cc is)
+
 -- after a call that did not fail, behind others that did not, the count of faults has not risen
 calm : (a b c : ℕ) → CountsFault a b (IsTrue false) → c ≡ b → CountsFault a c (IsTrue false)
 calm a b c before same =
@@ -50,6 +58,8 @@ serves_none start = record {
   few = omega arith;
   within = omega arith;
   settled = on_its_way;
+  seldom = omega arith;
+  unsettled = λ _. omega arith;
   received = adds_none start.received;
   counted = record { later = omega arith; rose = λ p. absurd (true≢false (sym p)); kept = λ _. refl };
 }
@@ -90,6 +100,7 @@ module _ (moves : List LinedMove) (start : TurretState) (d : DrivenState) (s : S
   serves_taken what now taken calm_ one got same =
       let all = took_all calm_ in
       let none = s.none calm_ in
+      let seldom = s.seldom in
       let long = longer what in
       let e : taken ≡ length (more what) = omega (arith, one, all.0, long) in
       let whole : take taken (more what) ≡ more what = take_all taken (more what) (omega (arith, e)) in
@@ -105,6 +116,8 @@ module _ (moves : List LinedMove) (start : TurretState) (d : DrivenState) (s : S
         few = omega arith;
         within = omega arith;
         settled = on_its_way;
+        seldom = omega (arith, seldom, one);
+        unsettled = λ _. omega (arith, seldom, one);
         received = subst (λ l. Called now l (taken + 0) (s.settles + 0)) gots (subst (λ k. Called now (map Moved (take d.taken moves) ++ Moved what ∷ []) k (s.settles + 0)) calls
             (adds_both start.received d.state.received now.received (map Moved (take d.taken moves)) (Moved what ∷ []) (d.taken + s.at_call) 1 s.settles 0 s.received got));
         counted = calm start.faults d.state.faults now.faults (subst (λ b. CountsFault start.faults d.state.faults (IsTrue b)) calm_ s.counted) same;
@@ -116,6 +129,7 @@ module _ (moves : List LinedMove) (start : TurretState) (d : DrivenState) (s : S
   serves_failed what now missed calm_ one got later rose =
       let all = took_all calm_ in
       let both = s.all in
+      let seldom = s.seldom in
       let long = longer what in
       let calls : d.taken + s.at_call + 1 ≡ d.taken + 1 = omega (arith, all.1) in
       let gots : map Moved (take d.taken moves) ++ [] ≡ map Moved (take d.taken (more what)) = append-nil (map Moved (take d.taken moves)) ∙ ap (map Moved) (sym (shorter what fits)) in
@@ -127,6 +141,8 @@ module _ (moves : List LinedMove) (start : TurretState) (d : DrivenState) (s : S
         few = omega arith;
         within = omega (arith, one);
         settled = broken Failed refl;
+        seldom = omega (arith, seldom);
+        unsettled = stopped;
         received = subst (λ l. Called now l (d.taken + 1) (s.settles + 0)) gots (subst (λ k. Called now (map Moved (take d.taken moves) ++ []) k (s.settles + 0)) calls
             (adds_both start.received d.state.received now.received (map Moved (take d.taken moves)) [] (d.taken + s.at_call) 1 s.settles 0 s.received got));
         counted = failing start.faults d.state.faults now.faults (subst (λ b. CountsFault start.faults d.state.faults (IsTrue b)) calm_ s.counted) later rose;
@@ -147,14 +163,18 @@ module _ (moves : List LinedMove) (start : TurretState) (d : DrivenState) (s : S
         few = s.few;
         within = omega (arith, within, one);
         settled = broken d.phase failed;
+        seldom = s.seldom;
+        unsettled = s.unsettled;
         received = subst (λ l. Called d.state (map Moved l) (d.taken + s.at_call) s.settles) (sym (shorter what fits)) s.received;
         counted = s.counted;
       }
 
-  -- if it settles, it stands still, and has served the same moves
-  pub serves_still : (now : TurretState) → has_failed d.phase ≡ false → Settles d.state now → now.faults ≡ d.state.faults
+  -- if it settles, as it may be on its way, it stands still, and has served the same moves
+  pub serves_still : (now : TurretState) → d.phase ≡ Moving → Settles d.state now → now.faults ≡ d.state.faults
       → Serves moves start (record { state = now; taken = d.taken; missed = d.missed; phase = Still })
-  serves_still now calm_ got same =
+  serves_still now moving got same =
+      let calm_ : has_failed d.phase ≡ false = ap has_failed moving in
+      let before = s.unsettled moving in
       let all = took_all calm_ in
       let none = s.none calm_ in
       let within = s.within in
@@ -167,16 +187,20 @@ module _ (moves : List LinedMove) (start : TurretState) (d : DrivenState) (s : S
         few = omega (arith, all.1);
         within = within;
         settled = λ _. omega arith;
+        seldom = omega (arith, before);
+        unsettled = at_rest;
         received = subst (λ l. Called now l (d.taken + s.at_call) (s.settles + 1)) (append-nil (map Moved (take d.taken moves)))
             (subst (λ k. Called now (map Moved (take d.taken moves) ++ []) k (s.settles + 1)) calls
             (adds_both start.received d.state.received now.received (map Moved (take d.taken moves)) [] (d.taken + s.at_call) 0 s.settles 1 s.received got));
         counted = calm start.faults d.state.faults now.faults (subst (λ b. CountsFault start.faults d.state.faults (IsTrue b)) calm_ s.counted) same;
       }
 
-  -- if it fails at a settle, it has served the same moves
-  pub serves_unsettled : (now : TurretState) → has_failed d.phase ≡ false → Settles d.state now → d.state.faults ≤ now.faults → Rose d.state.faults now.faults
+  -- if it fails at a settle, as it may be on its way, it has served the same moves
+  pub serves_unsettled : (now : TurretState) → d.phase ≡ Moving → Settles d.state now → d.state.faults ≤ now.faults → Rose d.state.faults now.faults
       → Serves moves start (record { state = now; taken = d.taken; missed = d.missed; phase = Failed })
-  serves_unsettled now calm_ got later rose =
+  serves_unsettled now moving got later rose =
+      let calm_ : has_failed d.phase ≡ false = ap has_failed moving in
+      let before = s.unsettled moving in
       let all = took_all calm_ in
       let within = s.within in
       let calls : d.taken + s.at_call + 0 ≡ d.taken + s.at_call = omega arith in
@@ -188,6 +212,8 @@ module _ (moves : List LinedMove) (start : TurretState) (d : DrivenState) (s : S
         few = omega (arith, all.1);
         within = within;
         settled = broken Failed refl;
+        seldom = omega (arith, before);
+        unsettled = stopped;
         received = subst (λ l. Called now l (d.taken + s.at_call) (s.settles + 1)) (append-nil (map Moved (take d.taken moves)))
             (subst (λ k. Called now (map Moved (take d.taken moves) ++ []) k (s.settles + 1)) calls
             (adds_both start.received d.state.received now.received (map Moved (take d.taken moves)) [] (d.taken + s.at_call) 0 s.settles 1 s.received got));

@@ -55,7 +55,7 @@ most false = 0
 
 -- A turret that was to get these moves took the first of them, in order and a call each, and missed
 -- the others: none, unless it failed, at a call for the next move or at a settle. One that stands
--- still was told to settle.
+-- still was told to settle, and none was told so twice without a move between.
 pub record Serves (moves : List LinedMove) (old : TurretState) (driven : DrivenState) : Type 0 where
   -- each move was taken or missed
   pub all : driven.taken + driven.missed ≡ length moves
@@ -71,6 +71,10 @@ pub record Serves (moves : List LinedMove) (old : TurretState) (driven : DrivenS
   pub within : at_call ≤ driven.missed
   -- one that stands still was told to settle
   pub settled : driven.phase ≡ Still → 1 ≤ settles
+  -- it was told so at most once behind its place, and once behind each move that it took
+  pub seldom : settles ≤ 1 + driven.taken
+  -- one that may be on its way was not told so since
+  pub unsettled : driven.phase ≡ Moving → settles ≤ driven.taken
   -- what it got since: the moves that it took, in so many calls
   pub received : Adds old.received driven.state.received (map Moved (take driven.taken moves)) (driven.taken + at_call) settles
   -- the count of its faults rose exactly if it failed

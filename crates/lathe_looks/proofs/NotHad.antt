@@ -1,25 +1,35 @@
 -- The first file of a list that can't be read: how it follows from one file, that no file with a
 -- text is one, and that there is at most one.
 -- The proofs of this crate use it, and lathe_top takes the lemmas on lists.
-use Rattle.std.proofs.Common.{◌≡◌, ℕ, zero, suc, ◌≤◌, ◌<◌, Option, Some, None, List, [], ◌∷◌, ◌++◌, length, map, take, IsSomeAnd, refl, sym, ap, subst, arith, ◌∙◌, append_assoc}
-use Rattle.std.proofs.lemmas.List.{map-append}
+use Rattle.std.proofs.Common.{◌≡◌, ℕ, zero, suc, ◌≤◌, ◌<◌, Option, Some, None, List, [], ◌∷◌, ◌++◌, length, map, take, IsSomeAnd, Result, Ok, Err, refl, sym, ap, subst, arith, ◌∙◌, append_assoc}
+use Rattle.std.specs.Prelude.{IfOk, IfErr, OnOk}
+use Rattle.std.proofs.lemmas.List.{append-nil, map-append}
 use Rattle.nc_number.specs.declared.fault.Failing.{Failing}
 use Rattle.nc_number.specs.declared.fault.Failing.TheVariants.{Fault, NoMemory}
 use Rattle.nc_outside.specs.Faults.{Rose}
 use Rattle.nc_outside.specs.Files.{Files, ShelfState, HoldsMore, HoldsOn, Lacks, file_named}
 use Rattle.block_order.specs.Answers.{IfFault}
+use Rattle.lathe_calls.specs.Texts.{three_texts}
+use Rattle.lathe_calls.specs.declared.pair_texts.TheConstants.{LONGEST_SETTINGS}
 use Rattle.lathe_looks.specs.declared.fetching.FileFault.{FileFault}
+use Rattle.lathe_looks.specs.declared.files.CommandFile.TheVariants.{Settings}
 use Rattle.lathe_looks.specs.declared.fetching.Unfetched.{Unfetched}
 use Rattle.lathe_calls.specs.Answers.{Answer}
-use Rattle.lathe_looks.specs.Named.{Named, most_bytes}
-use Rattle.lathe_looks.specs.Fetched.{AreAsked, AreHad, AreSome, AreTexts, FileCause, failed, absent, too_long, IsNotHad, IsOfFiles, not_had, unread, IsText, IsUnfetched, Reaches, file_of, unfetched_answer}
+use Rattle.lathe_looks.specs.Named.{Named, files_of, most_bytes, named_file, only_text, pair_texts, settings_named, tapes_of}
+use Rattle.lathe_looks.specs.Fetched.{AreAsked, AreHad, AreReadAs, AreSome, AreTexts, FileCause, failed, absent, too_long, IsNotHad, IsOfFiles, answers, not_had, unread, IsText, IsUnfetched, Reaches, file_of, unfetched_answer}
 
 -- The line of the file that can't be read is due to a command of these files.
-pub unfetched_due : {A : Type 0} {listed : A → List (List ℕ)} {Rests : Type 0} {IsAnswer : A → Answer → Type 0} (files : List Named)
+pub unfetched_due : {A : Type 0} {read : List (List ℕ) → A} {Rests : Type 0} {IsAnswer : A → Answer → Type 0} (files : List Named)
     (old new : ShelfState) (error : Failing Unfetched) → IsUnfetched old new files error → Rests
-    → IsOfFiles listed files Rests IsAnswer old new (unfetched_answer error)
+    → IsOfFiles read files Rests IsAnswer old new (unfetched_answer error)
 unfetched_due files old new (Fault missing) is rests = not_had is rests
 unfetched_due files old new NoMemory is rests = unread is rests
+
+-- What a command answers to a value that was read of its files is what it answers of these files.
+pub answered : {A : Type 0} {read : List (List ℕ) → A} {files : List Named} {Rests : Type 0} {old new : ShelfState} {value : A}
+    (IsAnswer : A → Answer → Type 0) (answer : Answer) → AreReadAs read old new files value → IsAnswer value answer
+    → IsOfFiles read files Rests IsAnswer old new answer
+answered IsAnswer answer read_as is = answers read_as.texts read_as.had (subst (λ v. IsAnswer v answer) (sym read_as.are) is)
 
 -- To be asked for some files and then for more is to be asked for all of them.
 asked_more : (old middle new : Option (List (List ℕ))) (files more : List Named) → AreAsked old middle files → AreAsked middle new more
@@ -77,37 +87,34 @@ second_not_had old middle new one two text (Fault missing) is_text same later fi
 second_not_had old middle new one two text NoMemory is_text same later first second is =
     (2, asked_more old.asked middle.asked new.asked (one ∷ []) (two ∷ []) first second)
 
--- If the first two files have texts, and the third can't be read or memory ran out at it, that is
--- why the list of the three has no texts.
-pub third_not_had : (old middle new : ShelfState) (one two three : Named) (a b : List ℕ) (error : Failing Unfetched)
+-- If the first two files have texts, then why the files after them have none is why all of them have
+-- none.
+pub behind_two : (old middle new : ShelfState) (one two : Named) (a b : List ℕ) (more : List Named) (error : Failing Unfetched)
     → AreHad old middle (one ∷ two ∷ []) (a ∷ b ∷ []) → HoldsOn old middle → old.faults ≤ middle.faults
-    → AreAsked middle.asked new.asked (three ∷ [])
-    → IfFault error (λ missing. (file_of missing ≡ three) × FileCause middle new three missing.fault)
-    → IsUnfetched old new (one ∷ two ∷ three ∷ []) error
-third_not_had old middle new one two three a b (Fault missing) had same later last is = record {
-  before = 2;
-  reached = ((a, had.each.0), ((b, had.each.1.0), is.0));
-  cause =
-      subst (λ f. FileCause old new f missing.fault) (sym is.0) (cause_before old middle new three missing.fault same later is.1);
-  asked = asked_more old.asked middle.asked new.asked (one ∷ two ∷ []) (three ∷ []) had.asked last;
+    → IsUnfetched middle new more error → IsUnfetched old new (one ∷ two ∷ more) error
+behind_two old middle new one two a b more (Fault missing) had same later is = record {
+  before = suc (suc is.before);
+  reached = ((a, had.each.0), ((b, had.each.1.0), subst (λ told. Reaches told (file_of missing) more is.before) same is.reached));
+  cause = cause_before old middle new (file_of missing) missing.fault same later is.cause;
+  asked = asked_more old.asked middle.asked new.asked (one ∷ two ∷ []) (take (suc is.before) more) had.asked is.asked;
 }
-third_not_had old middle new one two three a b NoMemory had same later last is =
-    (3, asked_more old.asked middle.asked new.asked (one ∷ two ∷ []) (three ∷ []) had.asked last)
+behind_two old middle new one two a b more NoMemory had same later is =
+    (suc (suc is.0), asked_more old.asked middle.asked new.asked (one ∷ two ∷ []) (take is.0 more) had.asked is.1)
 
--- If one of the tapes can't be read, or memory ran out at one, that is why the tapes and settings
--- have no texts, and the settings were not asked for.
-pub tapes_not_had : (old new : ShelfState) (one two three : Named) (error : Failing Unfetched) → IsUnfetched old new (one ∷ two ∷ []) error
-    → IsUnfetched old new (one ∷ two ∷ three ∷ []) error
-tapes_not_had old new one two three (Fault missing) is = go is.before is.reached is.asked
+-- If one of the tapes can't be read, or memory ran out at one, that is why the tapes and what comes
+-- after them have no texts, and nothing after them was asked for.
+pub tapes_not_had : (old new : ShelfState) (one two : Named) (more : List Named) (error : Failing Unfetched) → IsUnfetched old new (one ∷ two ∷ []) error
+    → IsUnfetched old new (one ∷ two ∷ more) error
+tapes_not_had old new one two more (Fault missing) is = go is.before is.reached is.asked
   where
     go : (n : ℕ) → Reaches old.files (file_of missing) (one ∷ two ∷ []) n → AreAsked old.asked new.asked (take (suc n) (one ∷ two ∷ []))
-        → IsNotHad old new (one ∷ two ∷ three ∷ []) (file_of missing) missing.fault
+        → IsNotHad old new (one ∷ two ∷ more) (file_of missing) missing.fault
     go zero reached asked = record { before = 0; reached = reached; cause = is.cause; asked = asked }
     go (suc zero) reached asked = record { before = 1; reached = (reached.0, reached.1); cause = is.cause; asked = asked }
     go (suc (suc n)) reached asked = absurd reached.1.1
-tapes_not_had old new one two three NoMemory is = go is.0 is.1
+tapes_not_had old new one two more NoMemory is = go is.0 is.1
   where
-    go : (n : ℕ) → AreAsked old.asked new.asked (take n (one ∷ two ∷ [])) → AreSome old new (one ∷ two ∷ three ∷ [])
+    go : (n : ℕ) → AreAsked old.asked new.asked (take n (one ∷ two ∷ [])) → AreSome old new (one ∷ two ∷ more)
     go zero asked = (0, asked)
     go (suc zero) asked = (1, asked)
     go (suc (suc zero)) asked = (2, asked)
@@ -115,27 +122,66 @@ tapes_not_had old new one two three NoMemory is = go is.0 is.1
 
 -- One file that has a text is a list of files that have texts.
 pub tape_had : (old new : ShelfState) (one : Named) (text : List ℕ) → IsText old.files one text → AreAsked old.asked new.asked (one ∷ [])
-    → AreHad old new (one ∷ []) (text ∷ [])
-tape_had old new one text is asked = record { each = (is, tt); asked = asked }
+    → new.faults ≡ old.faults → AreHad old new (one ∷ []) (text ∷ [])
+tape_had old new one text is asked calm = record { each = (is, tt); calm = calm; asked = asked }
 
 -- Two files that have texts are a list that has texts. Between the two calls the shelf had the
--- files `told`, and had been asked for `names`.
-pub tapes_had : (old new : ShelfState) (told : Option Files) (names : Option (List (List ℕ))) (one two : Named) (a b : List ℕ)
+-- files `told`, had been asked for `names`, and had failed so often.
+pub tapes_had : (old new : ShelfState) (often : ℕ) (told : Option Files) (names : Option (List (List ℕ))) (one two : Named) (a b : List ℕ)
     → IsText old.files one a → told ≡ old.files → AreAsked old.asked names (one ∷ []) → IsText told two b
-    → AreAsked names new.asked (two ∷ []) → AreHad old new (one ∷ two ∷ []) (a ∷ b ∷ [])
-tapes_had old new told names one two a b first same asked second then_asked = record {
+    → AreAsked names new.asked (two ∷ []) → often ≡ old.faults → new.faults ≡ often → AreHad old new (one ∷ two ∷ []) (a ∷ b ∷ [])
+tapes_had old new often told names one two a b first same asked second then_asked calm still = record {
   each = (first, (subst (λ files. IsText files two b) same second, tt));
+  calm = still ∙ calm;
   asked = asked_more old.asked names new.asked (one ∷ []) (two ∷ []) asked then_asked;
 }
 
--- Both tapes and the settings, each with a text, are a list that has texts.
-pub texts_had : (old middle new : ShelfState) (one two three : Named) (a b c : List ℕ) → AreHad old middle (one ∷ two ∷ []) (a ∷ b ∷ [])
-    → HoldsOn old middle → IsText middle.files three c → AreAsked middle.asked new.asked (three ∷ [])
-    → AreHad old new (one ∷ two ∷ three ∷ []) (a ∷ b ∷ c ∷ [])
-texts_had old middle new one two three a b c had same third then_asked = record {
-  each = (had.each.0, (had.each.1.0, (subst (λ told. IsText told three c) same third, tt)));
-  asked = asked_more old.asked middle.asked new.asked (one ∷ two ∷ []) (three ∷ []) had.asked then_asked;
+-- Both tapes with their texts, and the settings as they were read, are a pair.
+pub pair_had : (old middle new : ShelfState) (l r : List ℕ) (settings : Option (List ℕ)) (a b c : List ℕ)
+    → AreHad old middle (tapes_of l r) (a ∷ b ∷ []) → HoldsOn old middle → AreReadAs only_text middle new (settings_named settings) c
+    → AreReadAs pair_texts old new (files_of l r settings) (three_texts a b c)
+pair_had old middle new l r settings a b c had same read = record {
+  texts = a ∷ b ∷ read.texts;
+  had = record {
+    each = (had.each.0, (had.each.1.0, subst (λ told. AreTexts told (settings_named settings) read.texts) same read.had.each));
+    calm = read.had.calm ∙ had.calm;
+    asked = asked_more old.asked middle.asked new.asked (tapes_of l r) (settings_named settings) had.asked read.had.asked;
+  };
+  are = ap (three_texts a b) read.are;
 }
+
+-- Settings whose file was had are read as its text.
+pub settings_had : {V E : Type 0} (items : V → List ℕ) (old new : ShelfState) (name : List ℕ) (result : Result V E)
+    → AreAsked old.asked new.asked (settings_named (Some name))
+    → IfOk result (λ text. IsText old.files (named_file Settings name) (items text)) → OnOk result (new.faults ≡ old.faults)
+    → IfOk result (λ text. AreReadAs only_text old new (settings_named (Some name)) (items text))
+settings_had items old new name (Ok text) asked is calm =
+    record { texts = items text ∷ []; had = record { each = (is, tt); calm = calm; asked = asked }; are = refl }
+settings_had items old new name (Err error) asked is calm = tt
+
+-- Settings whose file was had are short.
+pub settings_short : {V E : Type 0} (items : V → List ℕ) (told : Option Files) (name : List ℕ) (result : Result V E)
+    → IfOk result (λ text. IsText told (named_file Settings name) (items text)) → IfOk result (λ text. length (items text) ≤ LONGEST_SETTINGS)
+settings_short items told name (Ok text) is = is.1
+settings_short items told name (Err error) is = tt
+
+-- Settings whose file could not be read, or at which memory ran out, are the first file without a
+-- text.
+pub settings_not_had : {V : Type 0} (old new : ShelfState) (name : List ℕ) (result : Result V (Failing Unfetched))
+    → AreAsked old.asked new.asked (settings_named (Some name))
+    → IfErr result (λ error. IfFault error (λ missing. (file_of missing ≡ named_file Settings name)
+    × FileCause old new (named_file Settings name) missing.fault))
+    → IfErr result (IsUnfetched old new (settings_named (Some name)))
+settings_not_had old new name (Ok text) asked is = tt
+settings_not_had old new name (Err error) asked is = first_not_had old new (named_file Settings name) [] error asked is
+
+-- Settings that are not named are read as empty, and nothing is asked for.
+pub settings_unset : (shelf : ShelfState) (text : List ℕ) → text ≡ [] → AreReadAs only_text shelf shelf [] text
+settings_unset shelf text none = record { texts = []; had = record { each = tt; calm = refl; asked = asked_none shelf.asked }; are = sym none }
+  where
+    asked_none : (names : Option (List (List ℕ))) → AreAsked names names []
+    asked_none None = refl
+    asked_none (Some names) = ap Some (sym (append-nil names))
 
 -- If all files of a list have texts, a file that is reached has one.
 reached_text : (told : Option Files) (file : Named) (files : List Named) (n : ℕ) (texts : List (List ℕ)) → Reaches told file files n

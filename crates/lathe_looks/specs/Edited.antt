@@ -1,14 +1,14 @@
 -- What `edit` answers if the text of edits is no good, and which edits a file has. A file that can't
 -- be read is in Fetched; what edits do to a run is in run_edits.
 -- lathe_top cites it.
-use Rattle.std.specs.Prelude.{◌≡◌, ℕ, List, ◌++◌, codes, decimal, Ok, Err}
+use Rattle.std.specs.Prelude.{◌≡◌, ℕ, List, [], ◌∷◌, ◌++◌, codes, decimal, Ok, Err}
 use Rattle.edit_texts.specs.declared.edit_list.PathEdit.{PathEdit}
 use Rattle.edit_texts.specs.Edits.{edits_of}
 use Rattle.nc_outside.specs.Files.{ShelfState}
 use Rattle.lathe_calls.specs.Answers.{Answer, tells, nothing}
 use Rattle.lathe_calls.specs.Statuses as exit
 use Rattle.lathe_looks.specs.Fetched.{AreHad}
-use Rattle.lathe_looks.specs.Named.{single_text, edits_named}
+use Rattle.lathe_looks.specs.Named.{edits_named}
 
 -- The line of output for a text of edits whose line `line` is refused, as `refused 91 BadEdit line
 -- 2`. The number and the name are those of edit_texts (specs/Faults), and change with them.
@@ -27,6 +27,6 @@ pub record AreEditsOf (old new : ShelfState) (name : List ℕ) (edits : List Pat
   -- the text of the file
   pub text : List ℕ
   -- the shelf has this text, and was asked for the file
-  pub had : AreHad old new (edits_named name) (single_text text)
+  pub had : AreHad old new (edits_named name) (text ∷ [])
   -- the edits of the text are these
   pub are : edits_of text ≡ Ok edits

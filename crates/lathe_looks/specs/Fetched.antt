@@ -56,12 +56,24 @@ pub record IsNotHad (old new : ShelfState) (files : List Named) (file : Named) (
   -- the shelf was asked for the files up to this one, in order
   pub asked : AreAsked old.asked new.asked (take (suc before) files)
 
--- The shelf has these texts of the files, and was asked for each file once, in order.
+-- The shelf has these texts of the files, and was asked for each file once, in order. It did not
+-- fail.
 pub record AreHad (old new : ShelfState) (files : List Named) (texts : List (List ℕ)) : Type 0 where
   -- the shelf has these texts
   pub each : AreTexts old.files files texts
+  -- no call of the shelf failed
+  pub calm : new.faults ≡ old.faults
   -- the shelf was asked for each file once, in order
   pub asked : AreAsked old.asked new.asked files
+
+-- The shelf has texts of these files, and this is what `read` gives of them.
+pub record AreReadAs {A : Type 0} (read : List (List ℕ) → A) (old new : ShelfState) (files : List Named) (value : A) : Type 0 where
+  -- the texts of the files
+  pub texts : List (List ℕ)
+  -- the shelf has them, and was asked for each file once, in order
+  pub had : AreHad old new files texts
+  -- the value is read of them
+  pub are : read texts ≡ value
 
 -- Memory ran out at a file of the list: the shelf was asked for a prefix of the list.
 abbrev pub AreSome : ShelfState → ShelfState → List Named → Type 0
@@ -95,14 +107,14 @@ unfetched_answer (Fault missing) = tells (fault_status missing.fault) (fault_tex
 unfetched_answer NoMemory = nothing
 
 -- What a command of these files answers: about its first file that can't be read, if `Rests` holds
--- besides; or its answer over their texts. `listed` lists the texts in the order of the files.
-pub data IsOfFiles {A : Type 0} (listed : A → List (List ℕ)) (files : List Named) (Rests : Type 0) (IsAnswer : A → Answer → Type 0)
+-- besides; or its answer over what `read` gives of their texts, which it lists in their order.
+pub data IsOfFiles {A : Type 0} (read : List (List ℕ) → A) (files : List Named) (Rests : Type 0) (IsAnswer : A → Answer → Type 0)
     (old new : ShelfState) : Answer → Type 0 where
   -- A file can't be read: its status and line.
   not_had : {file : Named} {fault : FileFault} → IsNotHad old new files file fault → Rests
-      → IsOfFiles listed files Rests IsAnswer old new (tells (fault_status fault) (fault_text file.name fault))
+      → IsOfFiles read files Rests IsAnswer old new (tells (fault_status fault) (fault_text file.name fault))
   -- Memory ran out: no text.
-  unread : AreSome old new files → Rests → IsOfFiles listed files Rests IsAnswer old new nothing
+  unread : AreSome old new files → Rests → IsOfFiles read files Rests IsAnswer old new nothing
   -- All files have a text, and this is what the command answers to them.
-  answers : {answer : Answer} (texts : A) → AreHad old new files (listed texts) → IsAnswer texts answer
-      → IsOfFiles listed files Rests IsAnswer old new answer
+  answers : {answer : Answer} (texts : List (List ℕ)) → AreHad old new files texts → IsAnswer (read texts) answer
+      → IsOfFiles read files Rests IsAnswer old new answer

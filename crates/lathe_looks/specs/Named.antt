@@ -1,7 +1,7 @@
 -- The files that a command names: which kinds there are, how long each may be, and the lists in
 -- which they are read.
 -- lathe_top cites it.
-use Rattle.std.specs.Prelude.{ℕ, List, [], ◌∷◌}
+use Rattle.std.specs.Prelude.{ℕ, List, [], ◌∷◌, Option, Some, None, get_or}
 use Rattle.nc_number.specs.declared.limits.TheConstants.{LONGEST_TAPE}
 use Rattle.nc_verify.specs.Verdict.{Texts}
 use Rattle.lathe_calls.specs.declared.pair_texts.TheConstants.{LONGEST_SETTINGS}
@@ -32,9 +32,15 @@ most_bytes Edits = LONGEST_SETTINGS
 abbrev pub tapes_of : List ℕ → List ℕ → List Named
 tapes_of left right = named_file Left left ∷ named_file Right right ∷ []
 
--- The files of a pair of tapes and the settings, in the order in which they are read.
-abbrev pub files_of : List ℕ → List ℕ → List ℕ → List Named
-files_of left right settings = named_file Left left ∷ named_file Right right ∷ named_file Settings settings ∷ []
+-- The file of the settings, if they are named.
+abbrev pub settings_named : Option (List ℕ) → List Named
+settings_named None = []
+settings_named (Some name) = named_file Settings name ∷ []
+
+-- The files of a pair, in the order in which they are read: both tapes, and the settings if they are
+-- named.
+abbrev pub files_of : List ℕ → List ℕ → Option (List ℕ) → List Named
+files_of left right settings = named_file Left left ∷ named_file Right right ∷ settings_named settings
 
 -- The one file of `expand`.
 abbrev pub tape_named : List ℕ → List Named
@@ -48,10 +54,10 @@ zones_named name = named_file Zones name ∷ []
 abbrev pub edits_named : List ℕ → List Named
 edits_named name = named_file Edits name ∷ []
 
--- The texts of a pair, in the order of its files.
-abbrev pub text_list : Texts → List (List ℕ)
-text_list texts = texts.left ∷ texts.right ∷ texts.settings ∷ []
+-- The texts of a pair, from those of its files in their order. Settings that no file has are empty.
+abbrev pub pair_texts : List (List ℕ) → Texts
+pair_texts texts = record { left = get_or texts 0 []; right = get_or texts 1 []; settings = get_or texts 2 [] }
 
--- The list of one text.
-abbrev pub single_text : List ℕ → List (List ℕ)
-single_text text = text ∷ []
+-- The text of the one file of a list; of none it is empty.
+abbrev pub only_text : List (List ℕ) → List ℕ
+only_text texts = get_or texts 0 []

@@ -1,7 +1,7 @@
 -- What `zones` answers if the text of zones is no good, which zones a file has, and the text that is
 -- shown. A file that can't be read is in Fetched; how zones are found is in zone_check.
 -- lathe_top cites it.
-use Rattle.std.specs.Prelude.{◌≡◌, ℕ, List, ◌++◌, codes, decimal, Ok, Err}
+use Rattle.std.specs.Prelude.{◌≡◌, ℕ, List, [], ◌∷◌, ◌++◌, codes, decimal, Ok, Err}
 use Rattle.nc_outside.specs.Files.{ShelfState}
 use Rattle.nc_restart.specs.Pair.{opening_of, tapes_in}
 use Rattle.nc_verify.specs.declared.verified.Verified.{Verified}
@@ -12,7 +12,7 @@ use Rattle.zone_check.specs.Segments.{zones_of_history}
 use Rattle.lathe_calls.specs.Answers.{Answer, tells, nothing}
 use Rattle.lathe_calls.specs.Statuses as exit
 use Rattle.lathe_looks.specs.Fetched.{AreHad}
-use Rattle.lathe_looks.specs.Named.{single_text, zones_named}
+use Rattle.lathe_looks.specs.Named.{zones_named}
 
 -- The line of output for a text of zones whose line `line` is refused, as `refused 92 BadZone line
 -- 2`. The number and the name are those of zone_cell (specs/Faults), and change with them.
@@ -31,7 +31,7 @@ pub record AreZonesOf (old new : ShelfState) (name : List ℕ) (zones : ZonesVie
   -- the text of the file
   pub text : List ℕ
   -- the shelf has this text, and was asked for the file
-  pub had : AreHad old new (zones_named name) (single_text text)
+  pub had : AreHad old new (zones_named name) (text ∷ [])
   -- the zones of the text are these
   pub are : zones_of text ≡ Ok zones
 

@@ -6,7 +6,7 @@ ghost use Rattle.lathe_calls.specs.Answers.{Ends};
 ghost use Rattle.lathe_calls.specs.Due.{IsDueTo};
 ghost use Rattle.lathe_calls.specs.Texts.{texts_of as lent_texts};
 ghost use Rattle.lathe_looks.specs.Fetched.{IsOfFiles};
-ghost use Rattle.lathe_looks.specs.Named.{text_list};
+ghost use Rattle.lathe_looks.specs.Named.{pair_texts};
 ghost use Rattle.lathe_looks.specs.Texts.{files_in, texts_of};
 
 use crate::fetching::{Texts, fetch_texts, tell_unfetched};
@@ -15,8 +15,8 @@ use lathe_calls::{PairTexts, Question, tell};
 use nc_outside::{Shelf, Sink};
 use std::alloc::Global;
 
-/// Writes what is due to the texts of the files and a question, and gives the exit status. If a
-/// file can't be read, that is written instead. What is due is what the library answers to these
+/// Writes what is due to the texts of the files and a question, and gives the exit status. Settings
+/// that are not named are empty. If a file can't be read, that is written instead. What is due is what the library answers to these
 /// texts.
 pub fn ask<H: Shelf, K: Sink>(
     alloc: Global,
@@ -25,7 +25,7 @@ pub fn ask<H: Shelf, K: Sink>(
     shelf: &mut H,
     out: &mut K,
 ) -> u8
-    ensures { Ends (IsOfFiles text_list (files_in names.now) (Unit {0}) (IsDueTo question)
+    ensures { Ends (IsOfFiles pair_texts (files_in names.now) (Unit {0}) (IsDueTo question)
         (H.state shelf.old) (H.state shelf.new)) (K.state out.old) (K.state out.new) result }
 {
     match fetch_texts(alloc, shelf, names) {

@@ -7,7 +7,7 @@ ghost use Rattle.lathe_calls.specs.Answers.{Ends, IsJust, tells};
 ghost use Rattle.lathe_calls.specs.Statuses as exit;
 ghost use Rattle.lathe_looks.specs.Edited.{AreEditsOf, IsUnedited, bad_edit_text};
 ghost use Rattle.lathe_looks.specs.Fetched.{IsOfFiles};
-ghost use Rattle.lathe_looks.specs.Named.{single_text, edits_named};
+ghost use Rattle.lathe_looks.specs.Named.{only_text, edits_named};
 
 use crate::fetching::{fetch_edits, tell_unfetched};
 use edit_texts::{EditFault, EditList, read_edits};
@@ -27,7 +27,7 @@ pub fn edits_of_file<H: Shelf, K: Sink>(
 ) -> Result<EditList, u8>
     ensures read { IfOk result (λ edits. AreEditsOf (H.state shelf.old) (H.state shelf.new) name.now edits) }
     ensures silent { IfOk result (λ edits. K.state out.new ≡ K.state out.old) }
-    ensures told { IfErr result (λ status. Ends (IsOfFiles single_text (edits_named name.now) (Unit {0}) IsUnedited
+    ensures told { IfErr result (λ status. Ends (IsOfFiles only_text (edits_named name.now) (Unit {0}) IsUnedited
         (H.state shelf.old) (H.state shelf.new)) (K.state out.old) (K.state out.new) status) }
 {
     match fetch_edits(alloc, shelf, name) {

@@ -6,7 +6,7 @@ ghost use Rattle.text_pieces.specs.Pieces.{name_text};
 ghost use Rattle.lathe_calls.specs.Answers.{Ends, IsJust, tells};
 ghost use Rattle.lathe_looks.specs.Expanded.{IsExpanded, IsTapeRefusing, at_line_text, fault_name_text, refusal_text};
 ghost use Rattle.lathe_looks.specs.Fetched.{IsOfFiles};
-ghost use Rattle.lathe_looks.specs.Named.{single_text, tape_named};
+ghost use Rattle.lathe_looks.specs.Named.{only_text, tape_named};
 ghost use Rattle.lathe_calls.specs.Statuses as exit;
 
 use crate::fetching::{fetch_tape, tell_unfetched};
@@ -21,7 +21,7 @@ use text_pieces::{push_bytes, push_numbered};
 /// tape is refused; that of a file that can't be read; 5 if the sink failed; or 12 if memory ran
 /// out.
 pub fn expand<H: Shelf, K: Sink>(alloc: Global, name: &str, shelf: &mut H, out: &mut K) -> u8
-    ensures { Ends (IsOfFiles single_text (tape_named name.now) (Unit {0}) IsExpanded
+    ensures { Ends (IsOfFiles only_text (tape_named name.now) (Unit {0}) IsExpanded
         (H.state shelf.old) (H.state shelf.new))
         (K.state out.old) (K.state out.new) result }
 {

@@ -1,13 +1,14 @@
 //! The texts of the files of a command, or the first file that can't be read, with its line of
 //! output. The commands of this crate read their files so.
 //! lathe_top calls `fetch_texts` and `tell_unfetched` for a run.
-ghost use Rattle.std.specs.Prelude.{◌≡◌, ◌≤◌, ◌<◌, ◌^◌, [], ◌∷◌, ◌++◌, length, OnOk, IfOk, IfErr};
+ghost use Rattle.std.specs.Prelude.{◌≡◌, ◌≤◌, ◌<◌, ◌^◌, [], ◌∷◌, ◌++◌, length, option_map, OnOk, IfOk, IfErr};
 ghost use Rattle.block_order.specs.Answers.{IfFault};
 ghost use Rattle.nc_outside.specs.Files.{HoldsOn};
 ghost use Rattle.lathe_calls.specs.Answers.{Ends, IsJust, tells};
-ghost use Rattle.lathe_looks.specs.Named.{single_text, edits_named, text_list, named_file, tape_named, zones_named};
-ghost use Rattle.lathe_looks.specs.Texts.{files_in, tape_files, texts_of};
-ghost use Rattle.lathe_looks.specs.Fetched.{AreAsked, AreHad, FileCause, IsText, IsUnfetched, fault_status, fault_text, file_of, unfetched_answer};
+ghost use Rattle.lathe_calls.specs.declared.pair_texts.TheConstants.{LONGEST_SETTINGS};
+ghost use Rattle.lathe_looks.specs.Named.{edits_named, named_file, only_text, pair_texts, settings_named, tape_named, zones_named};
+ghost use Rattle.lathe_looks.specs.Texts.{AreShort, files_in, tape_files, texts_of};
+ghost use Rattle.lathe_looks.specs.Fetched.{AreAsked, AreHad, AreReadAs, FileCause, IsText, IsUnfetched, fault_status, fault_text, file_of, unfetched_answer};
 
 use crate::files::{CommandFile, FileNames};
 use lathe_calls::{Status, write_text};
@@ -60,6 +61,7 @@ fn fetch<'a, H: Shelf>(
     ensures files { HoldsOn (H.state shelf.old) (H.state shelf.new) }
     ensures asked { AreAsked (H.state shelf.old).asked (H.state shelf.new).asked (named_file file name.now ∷ []) }
     ensures later { (H.state shelf.old).faults ≤ (H.state shelf.new).faults }
+    ensures calm { OnOk result ((H.state shelf.new).faults ≡ (H.state shelf.old).faults) }
 {
     let mut text = Vec::new(alloc);
     match shelf.fetch(name, &mut text, file.most_bytes()) {
@@ -102,22 +104,42 @@ fn fetch_tapes<'a, H: Shelf>(
     Ok(Both { one, two })
 }
 
-/// The texts of both tapes, and then of the settings. Errors: the first file that can't be read, or
-/// out of memory.
+/// The text of the settings; without a name it is empty, and the shelf is asked for nothing. Errors:
+/// why the file can't be read, or out of memory.
+fn fetch_settings<'a, H: Shelf>(
+    alloc: Global,
+    shelf: &mut H,
+    name: Option<&'a str>,
+) -> Result<Vec<u8>, Failing<Unfetched<'a>>>
+    ensures text { IfOk result (λ text. AreReadAs only_text (H.state shelf.old) (H.state shelf.new)
+        (settings_named (option_map (λ s. s.now) name.entry)) text.items) }
+    ensures short { IfOk result (λ text. length text.items ≤ LONGEST_SETTINGS) }
+    ensures not_had { IfErr result (IsUnfetched (H.state shelf.old) (H.state shelf.new)
+        (settings_named (option_map (λ s. s.now) name.entry))) }
+{
+    match name {
+        Some(name) => fetch(alloc, shelf, CommandFile::Settings, name),
+        None => Ok(Vec::new(alloc)),
+    }
+}
+
+/// The texts of both tapes, and then of the settings; without a name of settings they are empty, and
+/// the shelf is not asked for any. Errors: the first file that can't be read, or out of memory.
 pub fn fetch_texts<'a, H: Shelf>(
     alloc: Global,
     shelf: &mut H,
     names: &FileNames<'a>,
 ) -> Result<Texts, Failing<Unfetched<'a>>>
-    ensures texts { IfOk result (λ texts. AreHad (H.state shelf.old) (H.state shelf.new) (files_in names.now)
-        (text_list (texts_of texts))) }
+    ensures texts { IfOk result (λ texts. AreReadAs pair_texts (H.state shelf.old) (H.state shelf.new)
+        (files_in names.now) (texts_of texts)) }
+    ensures short { IfOk result (λ texts. AreShort (texts_of texts)) }
     ensures not_had { IfErr result (IsUnfetched (H.state shelf.old) (H.state shelf.new) (files_in names.now)) }
 {
     let tapes = match fetch_tapes(alloc, shelf, &names.tapes) {
         Ok(tapes) => tapes,
         Err(error) => return Err(error),
     };
-    match fetch(alloc, shelf, CommandFile::Settings, names.settings) {
+    match fetch_settings(alloc, shelf, names.settings) {
         Ok(settings) => Ok(Texts { tapes, settings }),
         Err(error) => Err(error),
     }
@@ -130,7 +152,7 @@ pub(crate) fn fetch_tape<'a, H: Shelf>(
     name: &'a str,
 ) -> Result<Vec<u8>, Failing<Unfetched<'a>>>
     ensures text { IfOk result (λ text. AreHad (H.state shelf.old) (H.state shelf.new)
-        (tape_named name.now) (single_text text.items)) }
+        (tape_named name.now) (text.items ∷ [])) }
     ensures not_had { IfErr result (IsUnfetched (H.state shelf.old) (H.state shelf.new) (tape_named name.now)) }
 {
     match fetch(alloc, shelf, CommandFile::Tape, name) {
@@ -146,7 +168,7 @@ pub(crate) fn fetch_zones<'a, H: Shelf>(
     name: &'a str,
 ) -> Result<Vec<u8>, Failing<Unfetched<'a>>>
     ensures text { IfOk result (λ text. AreHad (H.state shelf.old) (H.state shelf.new)
-        (zones_named name.now) (single_text text.items)) }
+        (zones_named name.now) (text.items ∷ [])) }
     ensures short { IfOk result (λ text. length text.items < 2 ^ 32) }
     ensures not_had { IfErr result (IsUnfetched (H.state shelf.old) (H.state shelf.new) (zones_named name.now)) }
 {
@@ -163,7 +185,7 @@ pub(crate) fn fetch_edits<'a, H: Shelf>(
     name: &'a str,
 ) -> Result<Vec<u8>, Failing<Unfetched<'a>>>
     ensures text { IfOk result (λ text. AreHad (H.state shelf.old) (H.state shelf.new)
-        (edits_named name.now) (single_text text.items)) }
+        (edits_named name.now) (text.items ∷ [])) }
     ensures short { IfOk result (λ text. length text.items < 2 ^ 32) }
     ensures not_had { IfErr result (IsUnfetched (H.state shelf.old) (H.state shelf.new) (edits_named name.now)) }
 {

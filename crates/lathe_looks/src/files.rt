@@ -36,11 +36,11 @@ impl CommandFile {
     }
 }
 
-/// The names of the files of a pair.
+/// The names of the files of a pair. Without a name the settings are empty.
 #[derive(Clone, Copy, Debug)]
 pub struct FileNames<'a> {
     /// The names of the tapes, by path.
     pub tapes: Both<&'a str>,
-    /// The name of the settings.
-    pub settings: &'a str,
+    /// The name of the settings, if they are named.
+    pub settings: Option<&'a str>,
 }

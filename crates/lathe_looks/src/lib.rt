@@ -1,8 +1,8 @@
 //! What the program's commands answer that only look: they ask what is due to the texts of a
 //! shelf's files, or show what the journal on a disk holds, and write nothing but their text.
 //!
-//! [`ask`] answers a question of crate `lathe_calls` over three files: `verify`, `waits`, `races`
-//! and `trace`. [`expand`] writes a tape with its roughing cycles as plain blocks. [`show`] writes
+//! [`ask`] answers a question of crate `lathe_calls` over the files of a pair: `verify`, `waits`,
+//! `races` and `trace`. [`expand`] writes a tape with its roughing cycles as plain blocks. [`show`] writes
 //! a text of the run whose journal the disk has, [`show_zones`] its zones by a file that
 //! [`zones_of_file`] reads; [`edits_of_file`] reads the file of `edit`. No function here starts a
 //! thread or waits: each call returns. What running a pair has in common with looking stands here

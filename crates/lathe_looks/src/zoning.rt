@@ -8,7 +8,7 @@ ghost use Rattle.zone_cell.specs.Zones.{zones_of};
 ghost use Rattle.lathe_calls.specs.Answers.{Ends, IsJust, tells};
 ghost use Rattle.lathe_calls.specs.Statuses as exit;
 ghost use Rattle.lathe_looks.specs.Fetched.{IsOfFiles};
-ghost use Rattle.lathe_looks.specs.Named.{single_text, zones_named};
+ghost use Rattle.lathe_looks.specs.Named.{only_text, zones_named};
 ghost use Rattle.lathe_looks.specs.Shown.{IsShown};
 ghost use Rattle.lathe_looks.specs.Zoned.{AreZonesOf, IsUnzoned, bad_zone_text, zones_text};
 
@@ -35,7 +35,7 @@ pub fn zones_of_file<H: Shelf, K: Sink>(
 ) -> Result<Zones, u8>
     ensures read { IfOk result (λ zones. AreZonesOf (H.state shelf.old) (H.state shelf.new) name.now zones) }
     ensures silent { IfOk result (λ zones. K.state out.new ≡ K.state out.old) }
-    ensures told { IfErr result (λ status. Ends (IsOfFiles single_text (zones_named name.now) (Unit {0}) IsUnzoned
+    ensures told { IfErr result (λ status. Ends (IsOfFiles only_text (zones_named name.now) (Unit {0}) IsUnzoned
         (H.state shelf.old) (H.state shelf.new)) (K.state out.old) (K.state out.new) status) }
 {
     match fetch_zones(alloc, shelf, name) {

@@ -10,7 +10,7 @@ use Rattle.nc_verify.specs.Verdict.{Texts}
 use Rattle.run_records.specs.Entries.{Entry}
 use Rattle.lathe_calls.specs.Answers.{Answer, whole, cut, unwritten, untold}
 use Rattle.lathe_looks.specs.Fetched.{IsOfFiles, not_had, unread, answers}
-use Rattle.lathe_looks.specs.Named.{Named, single_text, edits_named, text_list, zones_named}
+use Rattle.lathe_looks.specs.Named.{Named, only_text, edits_named, pair_texts, zones_named}
 use Rattle.edit_texts.specs.declared.edit_list.PathEdit.{PathEdit}
 use Rattle.lathe_looks.specs.Shown.{IsShown, shown, unshown}
 use Rattle.lathe_top.specs.Branched as branch
@@ -61,11 +61,11 @@ module _ {D : Type 0} (state : D → DiskState) where
 
   -- `run` over its files leaves what its kind may leave
   files_left : {E : Type 0} (limit : ℕ) (text_of : TextOf) (files : List Named) (old new : TopState E) (answer : Answer)
-      → IsOfFiles text_list files (RestsWhole old.lathe new.lathe) (λ texts. IsRun state limit text_of texts old.lathe new.lathe) old.shelf new.shelf answer
+      → IsOfFiles pair_texts files (RestsWhole old.lathe new.lathe) (λ texts. IsRun state limit text_of texts old.lathe new.lathe) old.shelf new.shelf answer
       → Leaves state (begins limit) old.lathe new.lathe
   files_left limit text_of files old new answer (not_had missing rests) = inl (record { disk = inl rests.disk; turrets = rests.turrets })
   files_left limit text_of files old new answer (unread some rests) = inl (record { disk = inl rests.disk; turrets = rests.turrets })
-  files_left limit text_of files old new answer (answers texts are run) = run_left limit text_of texts old.lathe new.lathe answer run
+  files_left limit text_of files old new answer (answers texts are run) = run_left limit text_of (pair_texts texts) old.lathe new.lathe answer run
 
   -- a command that only shows the journal leaves what its kind may leave
   look_left : (text_of : Verified → List Entry → List ℕ) (old new : LatheState) (answer : Answer) → IsShown text_of old.disk new.disk answer
@@ -82,11 +82,11 @@ module _ {D : Type 0} (state : D → DiskState) where
 
   -- `zones` over its file leaves what its kind may leave
   zones_left : {E : Type 0} (files : List Named) (old new : TopState E) (answer : Answer)
-      → IsOfFiles single_text files (RestsWhole old.lathe new.lathe) (IsZoned old.lathe new.lathe) old.shelf new.shelf answer
+      → IsOfFiles only_text files (RestsWhole old.lathe new.lathe) (IsZoned old.lathe new.lathe) old.shelf new.shelf answer
       → OnlyLooks old.lathe new.lathe
   zones_left files old new answer (not_had missing rests) = record { disk = inl rests.disk; turrets = rests.turrets }
   zones_left files old new answer (unread some rests) = record { disk = inl rests.disk; turrets = rests.turrets }
-  zones_left files old new answer (answers text are is) = zoned_left text old.lathe new.lathe answer is
+  zones_left files old new answer (answers text are is) = zoned_left (only_text text) old.lathe new.lathe answer is
 
   -- an editing that only found the run leaves what its kind may leave
   looked_left : (e : Editing) (old new : LatheState) → IsOnlyFound e old.disk new.disk → AreAtRest old new → Leaves state kind.edits old new
@@ -120,11 +120,11 @@ module _ {D : Type 0} (state : D → DiskState) where
 
   -- `edit` over its file leaves what its kind may leave
   edits_left : {E : Type 0} (files : List Named) (old new : TopState E) (answer : Answer)
-      → IsOfFiles single_text files (RestsWhole old.lathe new.lathe) (IsEdited old.lathe new.lathe) old.shelf new.shelf answer
+      → IsOfFiles only_text files (RestsWhole old.lathe new.lathe) (IsEdited old.lathe new.lathe) old.shelf new.shelf answer
       → Leaves state kind.edits old.lathe new.lathe
   edits_left files old new answer (not_had missing rests) = inl (record { disk = inl rests.disk; turrets = rests.turrets })
   edits_left files old new answer (unread some rests) = inl (record { disk = inl rests.disk; turrets = rests.turrets })
-  edits_left files old new answer (answers text are is) = edited_left text old.lathe new.lathe answer is
+  edits_left files old new answer (answers text are is) = edited_left (only_text text) old.lathe new.lathe answer is
 
   -- `resume` leaves what its kind may leave
   resumed_left : (limit : ℕ) (old new : LatheState) (answer : Answer) → IsResumed state limit old new answer

@@ -60,7 +60,7 @@ use Rattle.lathe_looks.specs.Expanded.{IsExpanded, refusal_text}
 use Rattle.lathe_looks.specs.Fetched.{AreTexts, FileCause, IsOfFiles, not_had, unread, answers, fault_status, fault_text}
 use Rattle.lathe_calls.specs.Judged as judged
 use Rattle.lathe_calls.specs.Judged.{IsJudged}
-use Rattle.lathe_looks.specs.Named.{Named, single_text, edits_named, files_of, text_list, tape_named, zones_named}
+use Rattle.lathe_looks.specs.Named.{Named, only_text, edits_named, files_of, pair_texts, tape_named, zones_named}
 use Rattle.edit_texts.specs.declared.edit_list.PathEdit.{PathEdit}
 use Rattle.lathe_looks.specs.Edited.{bad_edit_text}
 use Rattle.lathe_top.specs.Branched as branch
@@ -156,13 +156,6 @@ judged_once law one texts a b (judged.accepted are v) judged.unjudged = tt
 judged_once law one texts a b (judged.refused is v) judged.unjudged = tt
 judged_once law one texts a b judged.unjudged other = tt
 
--- texts that are one list are the same
-same_texts : (texts others : Texts) → text_list texts ≡ text_list others → texts ≡ others
-same_texts texts others same =
-    let left : texts.left ≡ others.left = cc in
-    let right : texts.right ≡ others.right = cc in
-    let settings : texts.settings ≡ others.settings = cc in λ i. record { left = left i; right = right i; settings = settings i }
-
 -- the law that from an opening there is one list of records in turn, for each limit
 abbrev pub OneInTurn : Type 0
 OneInTurn = (tapes : Tapes) (first second : PathView) (limit : ℕ) (one two : List Entry) → IsInTurn tapes (opening first second) limit one
@@ -236,34 +229,28 @@ races_once law once machine texts a b (due.refused {refusal} {text} denied v) (d
 races_once law once machine texts a b (due.refused denied v) due.unjudged = tt
 races_once law once machine texts a b due.unjudged other = tt
 
--- One answer is due to a command of files: if one answer is due to the texts, if texts that are
--- listed alike are the same, and if the shelf tells its files and did not fail.
-files_once : {A : Type 0} (list_of : A → List (List ℕ)) → ((texts others : A) → list_of texts ≡ list_of others → texts ≡ others)
-    → (told : Files) (files : List Named) (Rests : Type 0) (IsAnswer : A → Answer → Type 0) (old new : ShelfState) → old.files ≡ Some told
+-- One answer is due to a command of files: if one answer is due to the texts, and if the shelf tells
+-- its files and did not fail.
+files_once : {A : Type 0} (read : List (List ℕ) → A) (told : Files) (files : List Named) (Rests : Type 0) (IsAnswer : A → Answer → Type 0) (old new : ShelfState) → old.files ≡ Some told
     → (Rose old.faults new.faults → ⊥) → ((texts : A) (a b : Answer) → IsAnswer texts a → IsAnswer texts b → Agree a b)
-    → (a b : Answer) → IsOfFiles list_of files Rests IsAnswer old new a → IsOfFiles list_of files Rests IsAnswer old new b → Agree a b
-files_once list_of by_list told files Rests IsAnswer old new holds calm once a b (not_had {file} {fault} one rest) (not_had {file = file'} {fault = fault'} two other) =
+    → (a b : Answer) → IsOfFiles read files Rests IsAnswer old new a → IsOfFiles read files Rests IsAnswer old new b → Agree a b
+files_once read told files Rests IsAnswer old new holds calm once a b (not_had {file} {fault} one rest) (not_had {file = file'} {fault = fault'} two other) =
     let same = missing_once told old new files file file' fault fault' one.before two.before holds calm one.reached two.reached one.cause two.cause in
     let why =
     fault_once told old new file' fault fault' holds calm (subst (λ (f : Named). FileCause old new f fault) same one.cause) two.cause in
     (ap fault_status why, λ i. fault_text (same i).name (why i))
-files_once list_of by_list told files Rests IsAnswer old new holds calm once a b (not_had one rest) (unread some other) = tt
-files_once list_of by_list told files Rests IsAnswer old new holds calm once a b (not_had {file} {fault} one rest) (answers texts are from) =
-    absurd (all_had told old new files file fault (list_of texts) holds calm are.each one)
-files_once list_of by_list told files Rests IsAnswer old new holds calm once a b (unread some rest) other = tt
-files_once list_of by_list told files Rests IsAnswer old new holds calm once a b (answers texts are from) (not_had {file} {fault} two rest) =
-    absurd (all_had told old new files file fault (list_of texts) holds calm are.each two)
-files_once list_of by_list told files Rests IsAnswer old new holds calm once a b (answers texts are from) (unread some rest) = agree_nothing a
-files_once {A} list_of by_list told files Rests IsAnswer old new holds calm once a b (answers texts are from) (answers texts' are' from') =
+files_once read told files Rests IsAnswer old new holds calm once a b (not_had one rest) (unread some other) = tt
+files_once read told files Rests IsAnswer old new holds calm once a b (not_had {file} {fault} one rest) (answers texts are from) =
+    absurd (all_had told old new files file fault texts holds calm are.each one)
+files_once read told files Rests IsAnswer old new holds calm once a b (unread some rest) other = tt
+files_once read told files Rests IsAnswer old new holds calm once a b (answers texts are from) (not_had {file} {fault} two rest) =
+    absurd (all_had told old new files file fault texts holds calm are.each two)
+files_once read told files Rests IsAnswer old new holds calm once a b (answers texts are from) (unread some rest) = agree_nothing a
+files_once {A} read told files Rests IsAnswer old new holds calm once a b (answers texts are from) (answers texts' are' from') =
     let P : Option Files → List (List ℕ) → Type 0 = λ v list. AreTexts v files list in
-    let same : list_of texts ≡ list_of texts' =
-    texts_once told files (list_of texts) (list_of texts') (subst (λ v. P v (list_of texts)) holds are.each)
-    (subst (λ v. P v (list_of texts')) holds are'.each) in
-    once texts' a b (subst (λ (x : A). IsAnswer x a) (by_list texts texts' same) from) from'
-
--- texts that are one list of one are the same
-same_text : (text other : List ℕ) → single_text text ≡ single_text other → text ≡ other
-same_text text other same = cc
+    let same : texts ≡ texts' =
+    texts_once told files texts texts' (subst (λ v. P v texts) holds are.each) (subst (λ v. P v texts') holds are'.each) in
+    once (read texts') a b (subst (λ (x : List (List ℕ)). IsAnswer (read x) a) same from) from'
 
 -- one answer of `expand` is due to a text
 expanded_once : (text : List ℕ) (a b : Answer) → IsExpanded text a → IsExpanded text b → Agree a b
@@ -647,18 +634,18 @@ module _ {D E : Type 0} (state : D → DiskState) (second : E → DiskState) (bo
   due_to_once : (asked : Command) (a b : Answer) → ServesFiles (named_by (Some asked)) call → ServesKind second (kind_of (Some asked)) call
       → IsDueTo state second asked call.before call.after a → IsDueTo state second asked call.before call.after b → Agree a b
   due_to_once (command.Verify l r c) a b files others one two =
-      files_once text_list same_texts files.0.0 (files_of l r c) (Unit {0}) IsJudged call.before.shelf call.after.shelf files.0.1 files.1 (judged_once both one_refusal) a b one.0 two.0
+      files_once pair_texts files.0.0 (files_of l r c) (Unit {0}) IsJudged call.before.shelf call.after.shelf files.0.1 files.1 (judged_once both one_refusal) a b one.0 two.0
   due_to_once (command.Waits l r c o) a b files others one two =
-      files_once text_list same_texts files.0.0 (files_of l r c) (Unit {0}) (AreWaits (outside_in o)) call.before.shelf call.after.shelf files.0.1 files.1
+      files_once pair_texts files.0.0 (files_of l r c) (Unit {0}) (AreWaits (outside_in o)) call.before.shelf call.after.shelf files.0.1 files.1
       (waits_once waits_apart one_wait_refusal (outside_in o)) a b one.0 two.0
   due_to_once (command.Races l r c) a b files others one two =
-      files_once text_list same_texts files.0.0 (files_of l r c) (Unit {0}) (IsOfPair IsRaceAnswer) call.before.shelf call.after.shelf files.0.1 files.1
+      files_once pair_texts files.0.0 (files_of l r c) (Unit {0}) (IsOfPair IsRaceAnswer) call.before.shelf call.after.shelf files.0.1 files.1
       (races_once both one_refusal one_machine) a b one.0 two.0
   due_to_once (command.Trace l r c n) a b files others one two =
-      files_once text_list same_texts files.0.0 (files_of l r c) (Unit {0}) (IsTraced n) call.before.shelf call.after.shelf files.0.1 files.1
+      files_once pair_texts files.0.0 (files_of l r c) (Unit {0}) (IsTraced n) call.before.shelf call.after.shelf files.0.1 files.1
       (traced_once both one_refusal one_machine in_turn n) a b one.0 two.0
   due_to_once (command.Run l r c n turrets) a b files others one two =
-      files_once text_list same_texts files.0.0 (files_of l r c) (RestsWhole call.before.lathe call.after.lathe)
+      files_once pair_texts files.0.0 (files_of l r c) (RestsWhole call.before.lathe call.after.lathe)
       (λ texts. IsRun state n report_of texts call.before.lathe call.after.lathe) call.before.shelf call.after.shelf files.0.1 files.1
       (run_once state both one_refusal one_run one_journal one_machine call.before.lathe call.after.lathe coherent others.0.bytes others.0.tells others.0.calm
       others.1 n report_of report_hangs)
@@ -667,7 +654,7 @@ module _ {D E : Type 0} (state : D → DiskState) (second : E → DiskState) (bo
       resumed_once state both one_refusal one_run one_journal one_machine call.before.lathe call.after.lathe coherent others.0.bytes others.0.tells others.0.calm
       others.1 n a b one.0 two.0
   due_to_once (command.Edit name) a b files others one two =
-      files_once single_text same_text files.0.0 (edits_named name) (RestsWhole call.before.lathe call.after.lathe) (IsEdited call.before.lathe call.after.lathe)
+      files_once only_text files.0.0 (edits_named name) (RestsWhole call.before.lathe call.after.lathe) (IsEdited call.before.lathe call.after.lathe)
       call.before.shelf call.after.shelf files.0.1 files.1
       (edited_once one_run one_machine call.before.lathe call.after.lathe others.bytes others.tells others.calm) a b one two
   due_to_once command.Moves a b files others one two =
@@ -678,14 +665,14 @@ module _ {D E : Type 0} (state : D → DiskState) (second : E → DiskState) (bo
       run_once state both one_refusal one_run one_journal one_machine call.before.lathe call.after.lathe coherent others.0.bytes others.0.tells others.0.calm
       others.1 made_limit (made_text n) (made_hangs n) (made_texts n) a b one.0 two.0
   due_to_once (command.Zones name) a b files others one two =
-      files_once single_text same_text files.0.0 (zones_named name) (RestsWhole call.before.lathe call.after.lathe) (IsZoned call.before.lathe call.after.lathe)
+      files_once only_text files.0.0 (zones_named name) (RestsWhole call.before.lathe call.after.lathe) (IsZoned call.before.lathe call.after.lathe)
       call.before.shelf call.after.shelf files.0.1 files.1
       (zoned_once one_run one_machine call.before.lathe call.after.lathe others.bytes others.tells others.calm) a b one two
   due_to_once (command.Branch n) a b files others one two =
       branched_once one_run one_machine call.before.lathe.disk call.after.lathe.disk others.0.bytes others.0.tells others.0.calm second n
       call.before.second call.after.second others.1.bytes others.1.tells others.1.calm a b one.0 two.0
   due_to_once (command.Expand tape) a b files others one two =
-      files_once single_text same_text files.0.0 (tape_named tape) (Unit {0}) IsExpanded call.before.shelf call.after.shelf files.0.1 files.1 expanded_once
+      files_once only_text files.0.0 (tape_named tape) (Unit {0}) IsExpanded call.before.shelf call.after.shelf files.0.1 files.1 expanded_once
       a b one.0 two.0
 
   -- one answer is due to a call, if the outside tells what it holds and did not fail

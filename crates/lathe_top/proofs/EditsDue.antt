@@ -21,7 +21,7 @@ use Rattle.nc_restart.specs.Pair.{IsPairOf, IsSamePair, machine_behind, opening_
 use Rattle.lathe_calls.specs.Answers.{Answer, tells, nothing}
 use Rattle.lathe_calls.specs.Statuses as exit
 use Rattle.lathe_looks.specs.Fetched.{IsOfFiles, not_had, unread, answers}
-use Rattle.lathe_looks.specs.Named.{single_text, edits_named}
+use Rattle.lathe_looks.specs.Named.{only_text, edits_named}
 use Rattle.lathe_looks.specs.Edited as looked
 use Rattle.lathe_looks.specs.Edited.{IsUnedited}
 use Rattle.lathe_top.specs.Edited.{IsEdited, bad_edits, unread_edits, IsEditOf, alarmed, full, unready, none_asked, made, failed, edited_text}
@@ -38,11 +38,11 @@ unedited_text old new text answer looked.unread_edits rests = unread_edits rests
 -- what is told of a file that gives no edits is due to `edit`, if neither the disk nor a turret was
 -- called
 pub unedited_due : (name : List ℕ) (shelf shelf' : ShelfState) (old new : LatheState) (answer : Answer)
-    → IsOfFiles single_text (edits_named name) (Unit {0}) IsUnedited shelf shelf' answer → RestsWhole old new
-    → IsOfFiles single_text (edits_named name) (RestsWhole old new) (IsEdited old new) shelf shelf' answer
+    → IsOfFiles only_text (edits_named name) (Unit {0}) IsUnedited shelf shelf' answer → RestsWhole old new
+    → IsOfFiles only_text (edits_named name) (RestsWhole old new) (IsEdited old new) shelf shelf' answer
 unedited_due name shelf shelf' old new answer (not_had missing none) rests = not_had missing rests
 unedited_due name shelf shelf' old new answer (unread some none) rests = unread some rests
-unedited_due name shelf shelf' old new answer (answers text had is) rests = answers text had (unedited_text old new text answer is rests)
+unedited_due name shelf shelf' old new answer (answers text had is) rests = answers text had (unedited_text old new (only_text text) answer is rests)
 
 -- what is told by the alarm of a run, and by whether there would be too many records
 abbrev told_by : (Alarm → List ℕ) → ℕ → Option Alarm → Bool → Answer

@@ -24,7 +24,7 @@ use Rattle.nc_restart.specs.declared.fault.RestartFault.TheVariants as restart
 use Rattle.nc_restart.specs.Recovered.{FoundRun, Recovers}
 use Rattle.lathe_calls.specs.Answers.{Answer}
 use Rattle.lathe_looks.specs.Fetched.{IsOfFiles, not_had, unread, answers}
-use Rattle.lathe_looks.specs.Named.{Named, single_text, edits_named, text_list, zones_named}
+use Rattle.lathe_looks.specs.Named.{Named, only_text, edits_named, pair_texts, zones_named}
 use Rattle.edit_texts.specs.declared.edit_list.PathEdit.{PathEdit}
 use Rattle.lathe_looks.specs.Shown.{IsShown, shown, unshown, unfound_answer}
 use Rattle.lathe_calls.specs.Statuses as exit
@@ -110,10 +110,10 @@ module _ {D : Type 0} (state : D → DiskState) (wanted : ℕ) (old new : LatheS
 
   -- an answer of `run` over its files has the wanted status
   files_first : (limit : ℕ) (text_of : TextOf) (files : List Named) (shelf shelf' : ShelfState) (a : Answer)
-      → IsOfFiles text_list files (RestsWhole old new) (λ texts. IsRun state limit text_of texts old new) shelf shelf' a → HasStatus wanted a
+      → IsOfFiles pair_texts files (RestsWhole old new) (λ texts. IsRun state limit text_of texts old new) shelf shelf' a → HasStatus wanted a
   files_first limit text_of files shelf shelf' a (not_had missing rests) = absurd (not_rested rests)
   files_first limit text_of files shelf shelf' a (unread all rests) = tt
-  files_first limit text_of files shelf shelf' a (answers texts are from) = run_first limit text_of texts a from
+  files_first limit text_of files shelf shelf' a (answers texts are from) = run_first limit text_of (pair_texts texts) a from
 
   -- an answer of `zones` over the text of its file has the wanted status
   zoned_first : (text : List ℕ) (a : Answer) → IsZoned old new text a → HasStatus wanted a
@@ -123,10 +123,10 @@ module _ {D : Type 0} (state : D → DiskState) (wanted : ℕ) (old new : LatheS
 
   -- an answer of `zones` over its file has the wanted status
   zones_first : (files : List Named) (shelf shelf' : ShelfState) (a : Answer)
-      → IsOfFiles single_text files (RestsWhole old new) (IsZoned old new) shelf shelf' a → HasStatus wanted a
+      → IsOfFiles only_text files (RestsWhole old new) (IsZoned old new) shelf shelf' a → HasStatus wanted a
   zones_first files shelf shelf' a (not_had missing rests) = absurd (not_rested rests)
   zones_first files shelf shelf' a (unread all rests) = tt
-  zones_first files shelf shelf' a (answers text are from) = zoned_first text a from
+  zones_first files shelf shelf' a (answers text are from) = zoned_first (only_text text) a from
 
   -- a command that only found the run had no fault
   only_found : (e : Editing) → IsOnlyFound e old.disk new.disk → AreAtRest old new → ⊥
@@ -154,10 +154,10 @@ module _ {D : Type 0} (state : D → DiskState) (wanted : ℕ) (old new : LatheS
 
   -- an answer of `edit` over its file has the wanted status
   edits_first : (files : List Named) (shelf shelf' : ShelfState) (a : Answer)
-      → IsOfFiles single_text files (RestsWhole old new) (IsEdited old new) shelf shelf' a → HasStatus wanted a
+      → IsOfFiles only_text files (RestsWhole old new) (IsEdited old new) shelf shelf' a → HasStatus wanted a
   edits_first files shelf shelf' a (not_had missing rests) = absurd (not_rested rests)
   edits_first files shelf shelf' a (unread all rests) = tt
-  edits_first files shelf shelf' a (answers text are from) = edited_first text a from
+  edits_first files shelf shelf' a (answers text are from) = edited_first (only_text text) a from
 
   -- an answer of `branch` has the wanted status, if the first disk failed
   branched_first : {E : Type 0} (second : E → DiskState) (n : ℕ) (onto left : E) (a : Answer) → IsBranched second n old.disk new.disk onto left a

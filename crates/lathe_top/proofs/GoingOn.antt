@@ -32,8 +32,8 @@ use Rattle.run_table.specs.Recording.{StandsForPrefix, IsJournaled, sent_count, 
 use Rattle.run_table.specs.Running as running
 use Rattle.run_table.specs.Running.{MayRun}
 use Rattle.run_table.specs.Since.{Since}
-use Rattle.turret_run.specs.Served.{moves_told, GetsAll, GetsSome, FailsAmong, Misses}
-use Rattle.turret_run.specs.Runs.{due_to_turret, GetsAt, GetsBeside, StandsBeside, none_missed, Stays}
+use Rattle.turret_run.specs.Served.{moves_told, FailsPlace, GetsAll, GetsSome, FailsAmong, Misses}
+use Rattle.turret_run.specs.Runs.{due_to_turret, due_by_all, GetsAt, GetsBeside, StandsBeside, none_missed, Stays}
 use Rattle.two_path.specs.Machine.{MachineView, position_of}
 use Rattle.two_path.specs.Ending.{end_of as machine_end}
 use Rattle.two_path.specs.Histories.{IsKept}
@@ -41,7 +41,7 @@ use Rattle.nc_restart.specs.Pair.{tapes_in, opening_of, machine_behind}
 use Rattle.lathe_looks.specs.Standing.{is_over, reason_by, reason_of}
 use Rattle.lathe_top.specs.Lathe.{LatheState, lathe_with}
 use Rattle.lathe_top.specs.Session.{Session, AreMost, IsLeast, NoneFailed, EndsBy, over, full, stopped, disk_failed, turret_failed, GoesOn}
-use Rattle.lathe_top.specs.Turrets.{due_to, AreServed, AreMissed, GetTheirs, IsEnding}
+use Rattle.lathe_top.specs.Turrets.{due_to, AreServed, AreFailed, GetTheirs, IsEnding}
 use Rattle.lathe_top.specs.Kept.{end_of}
 use Rattle.lathe_top.specs.Going.{KeepsGoing}
 
@@ -167,7 +167,7 @@ module _ {D : Type 0} (state : D → DiskState) (small : AreSmall state) (limit 
   -- if the journal may be written and each turret got all that is due, no call failed
   calm_by : IsTrue new.recording.log.file.live → ((path : Path) → GetsAll (due_to_turret path old new) (of_path before path) (of_path after path))
       → NoneFailed d e
-  calm_by live got = record { disk = since.recording.calm live; turrets = λ path. (got path).counted.kept (λ is. absurd cc) }
+  calm_by live got = record { disk = since.recording.calm live; turrets = λ path. (got path).gets.counted.kept (λ is. absurd cc) }
 
   -- why the table ended is why the session ended
   ends_by : (x : Reason) → running.EndsBy state old new x
@@ -220,39 +220,45 @@ module _ {D : Type 0} (state : D → DiskState) (small : AreSmall state) (limit 
       → GetsSome (due_to session least path) (of_path before path) (of_path after path)
   got_some path got = subst (λ (what : List Got). GetsSome what (of_path before path) (of_path after path)) (due_is path) got
 
-  -- both turrets are served as the reason says
-  served : (x : Reason) → running.EndsBy state old new x → ((path : Path) → GetsAt x (due_to_turret path old new) (of_path before path) (of_path after path))
-      → AreServed x session least before after
-  served Reason.Done ends got = λ path. got_all path (got path)
-  served (Reason.Alarm alarm) ends got = λ path. got_all path (got path)
-  served Reason.Full ends got = λ path. got_all path (got path)
-  served Reason.Stopped ends got = λ path. got_all path (got path)
-  served Reason.DiskFault ends got = λ path. got_some path (got path)
-  served (Reason.TurretFault path) ends got = absurd ends
-
-  -- a turret that failed in what is due by the table failed in what is due by the session
-  failed_at : (path : Path) → FailsAmong (due_to_turret path old new) (of_path before path) (of_path after path)
-      → FailsAmong (due_to session least path) (of_path before path) (of_path after path)
-  failed_at path got = subst (λ (what : List Got). FailsAmong what (of_path before path) (of_path after path)) (due_is path) got
-
-  -- what the turret beside a failed one got by the table it got by the session
-  got_beside : (path other : Path) → GetsBeside path (due_to_turret other old new) (of_path before other) (of_path after other)
-      → GetsBeside path (due_to session least other) (of_path before other) (of_path after other)
-  got_beside path other got =
-      subst (λ (what : List Got). GetsBeside path what (of_path before other) (of_path after other)) (due_is other) got
-
-  -- what the turrets got and missed, as a session has it: the run was not over at its opening
-  theirs : (reason : Reason) → AreServed reason session least before after → AreMissed session least d e → GetTheirs reason session least d e
-  theirs reason are miss = record { over = λ over_now. let open_now = still in absurd (cc); goes_on = λ open_now. are; missed = λ open_now. miss }
-
   -- each turret missed what it did not get of what is due by the table
   abbrev pub Missing : Type 0
   Missing = (path : Path) → Misses (due_to_turret path old new) (of_path missed path) (of_path before path) (of_path after path)
 
-  -- what the turrets missed by the table they missed by the session
-  missing : Missing → AreMissed session least d e
-  missing miss = inl (λ path.
-      subst (λ (what : List Got). Misses what (of_path missed path) (of_path before path) (of_path after path)) (due_is path) (miss path))
+  -- what a turret missed by the table it missed by the session
+  missing : Missing → (path : Path) → Misses (due_to session least path) (of_path missed path) (of_path before path) (of_path after path)
+  missing miss path =
+      subst (λ (what : List Got). Misses what (of_path missed path) (of_path before path) (of_path after path)) (due_is path) (miss path)
+
+  -- both turrets are served as the reason says
+  served : (x : Reason) → running.EndsBy state old new x → ((path : Path) → GetsAt x (due_to_turret path old new) (of_path before path) (of_path after path))
+      → Missing → AreServed x session least before after missed
+  served Reason.Done ends got miss = (λ path. got_all path (got path), missing miss)
+  served (Reason.Alarm alarm) ends got miss = (λ path. got_all path (got path), missing miss)
+  served Reason.Full ends got miss = (λ path. got_all path (got path), missing miss)
+  served Reason.Stopped ends got miss = (λ path. got_all path (got path), missing miss)
+  served Reason.DiskFault ends got miss = (λ path. got_some path (got path), missing miss)
+  served (Reason.TurretFault path) ends got miss = absurd ends
+
+  -- what is due by the table is due by all records of the session, if the others make no moves
+  due_whole : (whole : (p : Path) → due_by_all p old new ≡ due_to_turret p old new) (path : Path) → due_to_turret path old new ≡ due_to session (length history) path
+  due_whole whole path =
+      sym (whole path) ∙ ap (λ (m : MachineView). moves_told (position_of path m) (moves_made new.verified path (length found) (length history) history)) machine_is
+
+  -- what the turrets got and missed beside a fault of one by the table, they did by all records of
+  -- the session
+  failed_so : (path : Path) → ((p : Path) → due_by_all p old new ≡ due_to_turret p old new) → FailsAmong (due_to_turret path old new) (of_path before path) (of_path after path)
+      → GetsBeside path (due_to_turret (other_of path) old new) (of_path before (other_of path)) (of_path after (other_of path))
+      → Missing → AreFailed path session before after missed
+  failed_so path whole failed other miss = record {
+    failed = subst (λ (what : List Got). FailsAmong what (of_path before path) (of_path after path)) (due_whole whole path) failed;
+    other =
+        subst (λ (what : List Got). GetsBeside path what (of_path before (other_of path)) (of_path after (other_of path))) (due_whole whole (other_of path)) other;
+    misses = λ p. subst (λ (what : List Got). Misses what (of_path missed p) (of_path before p) (of_path after p)) (due_whole whole p) (miss p);
+  }
+
+  -- what the turrets got and missed, as a session has it: the run was not over at its opening
+  theirs : (reason : Reason) → AreServed reason session least before after missed → GetTheirs reason session least d e
+  theirs reason are = record { over = λ over_now. let open_now = still in absurd (cc); goes_on = λ open_now. are }
 
   -- how the run ended is how the session ended
   pub ending : (x : Reason) → running.EndsBy state old new x
@@ -262,37 +268,38 @@ module _ {D : Type 0} (state : D → DiskState) (small : AreSmall state) (limit 
     few = no_more;
     cause = ends_by x ends got;
     enough = enough x ends;
-    turrets = theirs x (served x ends got) (missing miss);
+    turrets = theirs x (served x ends got miss);
   }
 
   -- if the turret of a path failed and no call of the disk, that is how the session ended
-  pub failing : (path : Path) → e.disk.faults ≡ d.disk.faults → FailsAmong (due_to_turret path old new) (of_path before path) (of_path after path)
+  pub failing : (path : Path) → e.disk.faults ≡ d.disk.faults → ((p : Path) → due_by_all p old new ≡ due_to_turret p old new)
+      → FailsAmong (due_to_turret path old new) (of_path before path) (of_path after path)
       → GetsBeside path (due_to_turret (other_of path) old new) (of_path before (other_of path)) (of_path after (other_of path))
       → Missing → IsEnding limit (Reason.TurretFault path) session least d e
-  failing path calm failed other miss = record {
+  failing path calm whole failed other miss = record {
     few = no_more;
-    cause = turret_failed path (failed.1.counted.rose refl) calm;
+    cause = turret_failed path (failed.1.gets.counted.rose refl) calm;
     enough = most;
-    turrets = theirs (Reason.TurretFault path) (inl (failed_at path failed, got_beside path (other_of path) other)) (missing miss);
+    turrets = theirs (Reason.TurretFault path) (inl (failed_so path whole failed other miss));
   }
 
   -- a turret that failed at its place, in a run without a record
-  pub unplaced : (path : Path) → Stays old new → FailsAmong (moves_told (position_of path old.machine) []) (of_path before path) (of_path after path)
-      → StandsBeside path (moves_told (position_of (other_of path) old.machine) []) (of_path before (other_of path)) (of_path after (other_of path))
+  pub unplaced : (path : Path) → Stays old new → FailsPlace (position_of path old.machine) (of_path before path) (of_path after path)
+      → StandsBeside path (position_of (other_of path) old.machine) (of_path before (other_of path)) (of_path after (other_of path))
       → missed ≡ none_missed → IsEnding limit (Reason.TurretFault path) session least d e
   unplaced path same failed other none = record {
     few = no_more;
-    cause = turret_failed path (failed.1.counted.rose refl) (ap (λ (file : Gate D). (state file.disk).faults) same.file);
+    cause = turret_failed path failed.rose (ap (λ (file : Gate D). (state file.disk).faults) same.file);
     enough = most;
     turrets = theirs (Reason.TurretFault path)
         (inr (record {
           none = same.history;
-          failed =
-              subst (λ (m : MachineView). FailsAmong (moves_told (position_of path m) []) (of_path before path) (of_path after path)) machine_is failed;
+          failed = subst (λ (m : MachineView). FailsPlace (position_of path m) (of_path before path) (of_path after path)) machine_is failed;
           other =
-              subst (λ (m : MachineView). StandsBeside path (moves_told (position_of (other_of path) m) []) (of_path before (other_of path))
-              (of_path after (other_of path))) machine_is other;
-        })) (inr (same.history, none));
+              subst (λ (m : MachineView). StandsBeside path (position_of (other_of path) m) (of_path before (other_of path)) (of_path after (other_of path)))
+              machine_is other;
+          misses = none;
+        }));
   }
 
   -- the records that were sent before the run are those found

@@ -137,7 +137,7 @@ module _ {D : Type 0} (state : D → DiskState) (coherent : (disk : D) → IsCoh
   told_report text_of (Ok (Reason.TurretFault path)) (inl ran) =
       report new.recording.history new.recording.flushed
       (goes_on state small limit old new may behind unended ran.since kept few pending header journaled before after missed)
-      (failing state small limit old new may behind unended ran.since kept few pending header journaled before after missed path ran.calm ran.failed ran.other ran.misses)
+      (failing state small limit old new may behind unended ran.since kept few pending header journaled before after missed path ran.calm ran.whole ran.failed ran.other ran.misses)
       (keeps_going state small limit old new may behind unended ran.since kept few pending header journaled before after missed)
   told_report text_of (Ok (Reason.TurretFault path)) (inr ran) =
       report new.recording.history new.recording.flushed

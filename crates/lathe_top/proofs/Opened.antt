@@ -49,7 +49,7 @@ ending_since limit s a b before c reason least opened ends = record {
   few = ends.few;
   cause = ends_since limit s a b before c opened ends.cause;
   enough = ends.enough;
-  turrets = record { over = ends.turrets.over; goes_on = ends.turrets.goes_on; missed = ends.turrets.missed };
+  turrets = record { over = ends.turrets.over; goes_on = ends.turrets.goes_on };
 }
 
 -- the records that were found are no more than those at the end

@@ -2,7 +2,7 @@
 -- its line here.
 -- For the proof of `a_row_says_what_its_kind_does` (src/rows.rt).
 use Rattle.std.proofs.Common.{◌≡◌, ℕ, Bool, true, false, cond, List, [], ◌∷◌, length, Option, Some, None, refl, sym, subst, ◌∙◌}
-use Rattle.std.specs.Prelude.{◌&&◌, ◌==◌, option_map, option_and_then, if◌then◌else◌}
+use Rattle.std.specs.Prelude.{◌&&◌, option_map, option_and_then, if◌then◌else◌}
 use Rattle.std.specs.Str.{bytes_eq}
 use Rattle.std.proofs.lemmas.Option.{option_and_then_some}
 use Rattle.command_words.specs.declared.command.Command.{Command}
@@ -13,7 +13,7 @@ use Rattle.command_words.specs.declared.table.Journal.{Journal}
 use Rattle.command_words.specs.declared.table.Journal.TheVariants as journal
 use Rattle.command_words.specs.declared.table.Task.{Task}
 use Rattle.command_words.specs.declared.table.Task.TheVariants as task
-use Rattle.command_words.specs.Listed.{Given, OptionTextsView, command_behind, command_given, command_of, command_with, files_of, pair_command, plain_command, word_command, given, limit_of, listed_command, outside_of, stand_once, texts_for}
+use Rattle.command_words.specs.Listed.{Given, OptionTextsView, command_behind, command_given, command_of, command_with, files_of, pair_command, plain_command, word_command, given, limit_of, listed_command, outside_of, stand_once, takes_words, texts_for}
 use Rattle.command_words.specs.Number.{number_of}
 use Rattle.command_words.specs.Table.{Listing, Text, journal_in, journal_of, listings, row_in, row_of}
 use Rattle.lathe_top.specs.Kinds.{kind_of, journal_for}
@@ -90,8 +90,8 @@ word_does task.Make a files asked is = made_number files (number_of 0 999999 a) 
 word_does task.Expand a files asked is =
     let same : command.Expand a ≡ asked = cc in subst (λ x. Does x journal.None) same refl
 
--- so does the command of a task that has the three names of a pair
-pair_does : (what : Task) (a b c : Text) (blocks : ℕ) (outside : Option ProgramRange) (files : TurretFiles) (asked : Command)
+-- so does the command of a task that has the names of a pair
+pair_does : (what : Task) (a b : Text) (c : Option Text) (blocks : ℕ) (outside : Option ProgramRange) (files : TurretFiles) (asked : Command)
     → pair_command what (record { left = a; right = b; settings = c }) (record { blocks = blocks; outside = outside }) files ≡ Some asked
     → Does asked (journal_by what)
 pair_does task.Verify a b c blocks outside files asked is =
@@ -118,8 +118,8 @@ does_as : (what : Task) (names : List Text) (blocks : ℕ) (outside : Option Pro
     → command_with what names (record { blocks = blocks; outside = outside }) files ≡ Some asked → Does asked (journal_by what)
 does_as what [] blocks outside files asked is = plain_does what blocks outside files asked is
 does_as what (a ∷ []) blocks outside files asked is = word_does what a files asked is
-does_as what (a ∷ b ∷ []) blocks outside files asked is = absurd cc
-does_as what (a ∷ b ∷ c ∷ []) blocks outside files asked is = pair_does what a b c blocks outside files asked is
+does_as what (a ∷ b ∷ []) blocks outside files asked is = pair_does what a b None blocks outside files asked is
+does_as what (a ∷ b ∷ c ∷ []) blocks outside files asked is = pair_does what a b (Some c) blocks outside files asked is
 does_as what (a ∷ b ∷ c ∷ d ∷ rest) blocks outside files asked is = absurd cc
 
 -- a command that a task makes of any words does with the journal what the task does
@@ -140,7 +140,7 @@ of_texts what names texts asked is =
 
 -- a command that a row makes of the words and options that were read does what the row says
 of_given : (row : Listing) (all : Given) (asked : Command) → command_given row all ≡ Some asked → Does asked (journal_by row.task)
-of_given row all asked is = go (length all.names == length row.words && stand_once all.marked) is
+of_given row all asked is = go (takes_words row (length all.names) && stand_once all.marked) is
   where
     go : (fits : Bool) → (if fits then command_of row.task all.names (texts_for row all.marked) else None) ≡ Some asked
         → Does asked (journal_by row.task)

@@ -137,5 +137,5 @@ module _ {D : Type 0} (state : D → DiskState) (coherent : (disk : D) → IsCoh
         enough =
             subst (λ (r : Reason). IsLeast r session (length entries)) (sym by)
             (least_by session (machine_behind pair entries).alarm (are_finished (machine_behind pair entries)));
-        turrets = record { over = λ is_there. (refl, refl); goes_on = λ open_there. absurd (cc); missed = λ open_there. absurd (cc) };
+        turrets = record { over = λ is_there. (refl, refl); goes_on = λ open_there. absurd (cc) };
       }

@@ -39,7 +39,7 @@ use Rattle.lathe_looks.specs.declared.fetching.FileFault.{FileFault}
 use Rattle.lathe_looks.specs.declared.fetching.FileFault.TheVariants.{Failed, Absent, TooLong}
 use Rattle.lathe_looks.specs.Fetched.{IsOfFiles, not_had, unread, answers, fault_status}
 use Rattle.lathe_looks.specs.Shown.{unfound_answer}
-use Rattle.lathe_looks.specs.Named.{Named, text_list}
+use Rattle.lathe_looks.specs.Named.{Named, pair_texts}
 use Rattle.lathe_looks.specs.Standing.{is_over}
 use Rattle.lathe_top.specs.Done as done
 use Rattle.lathe_top.specs.Done.{Call, command_of, IsDone, IsDue, IsDueTo}
@@ -106,7 +106,8 @@ for_some w P Q more holds = λ b is. more b (holds b is)
 gets_stream : (s : Session) (path : Path) (old new : TurretState) → take (length s.found) s.history ≡ s.found
     → GetsAll (due_to s (length s.history) path) old new → GetsStream s path old new
 unfolding got_of told_on
-gets_stream s path old new extends gets =
+gets_stream s path old new extends all =
+    let gets = all.gets in
     let what = due_to s (length s.history) path in
     let adds : Adds old.received new.received what (length what + gets.at_call) gets.settles =
     subst (λ (g : List Got). Adds old.received new.received g (length what + gets.at_call) gets.settles) (take_all (length what) what (omega arith)) gets.received in
@@ -206,13 +207,13 @@ module _ {D E : Type 0} (state : D → DiskState) (second : E → DiskState) (ca
       → IsOpened opening s call.before.lathe.disk → KeepsSession state opening s least call.before.lathe.disk call.after.lathe.disk
       → IsEnding limit reason s least call.before.lathe call.after.lathe → HasStreams state call (reason_status reason)
   ended opening limit s Reason.Done least uncut is opened keeps ends =
-      served opening s Reason.Done least is opened keeps ends.enough ends.turrets.over ends.turrets.goes_on
+      served opening s Reason.Done least is opened keeps ends.enough ends.turrets.over (λ more. (ends.turrets.goes_on more).0)
   ended opening limit s (Reason.Alarm alarm) least uncut is opened keeps ends =
-      served opening s (Reason.Alarm alarm) least is opened keeps ends.enough ends.turrets.over ends.turrets.goes_on
+      served opening s (Reason.Alarm alarm) least is opened keeps ends.enough ends.turrets.over (λ more. (ends.turrets.goes_on more).0)
   ended opening limit s Reason.Stopped least uncut is opened keeps ends =
-      served opening s Reason.Stopped least is opened keeps ends.enough ends.turrets.over ends.turrets.goes_on
+      served opening s Reason.Stopped least is opened keeps ends.enough ends.turrets.over (λ more. (ends.turrets.goes_on more).0)
   ended opening limit s Reason.Full least uncut is opened keeps ends =
-      served opening s Reason.Full least is opened keeps ends.enough ends.turrets.over ends.turrets.goes_on
+      served opening s Reason.Full least is opened keeps ends.enough ends.turrets.over (λ more. (ends.turrets.goes_on more).0)
   ended opening limit s Reason.DiskFault least uncut is opened keeps ends = absurd (no_mid 6 (omega arith) (omega arith) uncut)
   ended opening limit s (Reason.TurretFault path) least uncut is opened keeps ends = absurd (no_mid 7 (omega arith) (omega arith) uncut)
 
@@ -238,12 +239,12 @@ module _ {D E : Type 0} (state : D → DiskState) (second : E → DiskState) (ca
   -- `run` over its files, with the status of a run that was not cut off, wrote the stream of each
   -- path
   files_streams : (limit : ℕ) (text_of : TextOf) (files : List Named) (answer : Answer)
-      → IsOfFiles text_list files (RestsWhole call.before.lathe call.after.lathe)
+      → IsOfFiles pair_texts files (RestsWhole call.before.lathe call.after.lathe)
       (λ texts. IsRun state limit text_of texts call.before.lathe call.after.lathe) call.before.shelf call.after.shelf answer
       → IsUncut (answer_status answer) → HasStreams state call (answer_status answer)
   files_streams limit text_of files answer (not_had {fault = fault} missing rests) uncut = absurd (missing_status fault uncut)
   files_streams limit text_of files answer (unread some rests) uncut = absurd (no_high 12 (omega arith) (omega arith) uncut)
-  files_streams limit text_of files answer (answers texts are run) uncut = run_streams limit text_of texts answer run uncut
+  files_streams limit text_of files answer (answers texts are run) uncut = run_streams limit text_of (pair_texts texts) answer run uncut
 
   -- `resume`, with the status of a run that was not cut off, wrote the stream of each path
   resumed_streams : (limit : ℕ) (answer : Answer) → IsResumed state limit call.before.lathe call.after.lathe answer → IsUncut (answer_status answer)

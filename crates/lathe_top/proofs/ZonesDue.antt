@@ -10,7 +10,7 @@ use Rattle.zone_cell.specs.Zones.{ZonesView}
 use Rattle.zone_check.specs.Segments.{zones_of_history}
 use Rattle.lathe_calls.specs.Answers.{Answer}
 use Rattle.lathe_looks.specs.Fetched.{IsOfFiles, not_had, unread, answers}
-use Rattle.lathe_looks.specs.Named.{single_text, zones_named}
+use Rattle.lathe_looks.specs.Named.{only_text, zones_named}
 use Rattle.lathe_looks.specs.Zoned as looked
 use Rattle.lathe_looks.specs.Zoned.{IsUnzoned, zones_text}
 use Rattle.lathe_top.specs.Kept.{RestsWhole}
@@ -26,11 +26,11 @@ unzoned_text old new text answer looked.unread_zones rests = unread_zones rests
 -- what is told of a file that gives no zones is due to `zones`, if neither the disk nor a turret
 -- was called
 pub unzoned_due : (name : List ℕ) (shelf shelf' : ShelfState) (old new : LatheState) (answer : Answer)
-    → IsOfFiles single_text (zones_named name) (Unit {0}) IsUnzoned shelf shelf' answer → RestsWhole old new
-    → IsOfFiles single_text (zones_named name) (RestsWhole old new) (IsZoned old new) shelf shelf' answer
+    → IsOfFiles only_text (zones_named name) (Unit {0}) IsUnzoned shelf shelf' answer → RestsWhole old new
+    → IsOfFiles only_text (zones_named name) (RestsWhole old new) (IsZoned old new) shelf shelf' answer
 unzoned_due name shelf shelf' old new answer (not_had missing none) rests = not_had missing rests
 unzoned_due name shelf shelf' old new answer (unread some none) rests = unread some rests
-unzoned_due name shelf shelf' old new answer (answers text had is) rests = answers text had (unzoned_text old new text answer is rests)
+unzoned_due name shelf shelf' old new answer (answers text had is) rests = answers text had (unzoned_text old new (only_text text) answer is rests)
 
 -- pairs of the same texts have one text of zones
 pub zones_hang : (zones : ZonesView) (pair other : Verified) → IsSamePair pair other → (entries : List Entry)

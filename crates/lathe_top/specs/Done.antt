@@ -18,7 +18,7 @@ use Rattle.lathe_calls.specs.Answers.{Answer, tells, nothing, Ends}
 use Rattle.lathe_looks.specs.Expanded.{IsExpanded}
 use Rattle.lathe_calls.specs.Judged.{IsJudged}
 use Rattle.lathe_calls.specs.Due.{IsOfPair}
-use Rattle.lathe_looks.specs.Named.{Named, single_text, edits_named, files_of, text_list, tape_named, zones_named}
+use Rattle.lathe_looks.specs.Named.{Named, only_text, edits_named, files_of, pair_texts, tape_named, zones_named}
 use Rattle.lathe_looks.specs.Shown.{IsShown, shown_text}
 use Rattle.lathe_calls.specs.Races.{IsRaceAnswer}
 use Rattle.lathe_calls.specs.Statuses as exit
@@ -90,31 +90,31 @@ LeavesSecond (goes_on limit) old new = new ≡ old
 -- that names no file does not call the shelf.
 abbrev pub IsDueTo : {D E : Type 0} → (D → DiskState) → (E → DiskState) → Command → TopState E → TopState E → Answer → Type 0
 IsDueTo state second (command.Verify left right settings) old new answer =
-    IsOfFilesAlone text_list (files_of left right settings) IsJudged old.lathe new.lathe old.shelf new.shelf answer
+    IsOfFilesAlone pair_texts (files_of left right settings) IsJudged old.lathe new.lathe old.shelf new.shelf answer
 IsDueTo state second (command.Waits left right settings outside) old new answer =
-    IsOfFilesAlone text_list (files_of left right settings) (AreWaits (outside_in outside)) old.lathe new.lathe old.shelf new.shelf answer
+    IsOfFilesAlone pair_texts (files_of left right settings) (AreWaits (outside_in outside)) old.lathe new.lathe old.shelf new.shelf answer
 IsDueTo state second (command.Races left right settings) old new answer =
-    IsOfFilesAlone text_list (files_of left right settings) (IsOfPair IsRaceAnswer) old.lathe new.lathe old.shelf new.shelf answer
+    IsOfFilesAlone pair_texts (files_of left right settings) (IsOfPair IsRaceAnswer) old.lathe new.lathe old.shelf new.shelf answer
 IsDueTo state second (command.Trace left right settings limit) old new answer =
-    IsOfFilesAlone text_list (files_of left right settings) (IsTraced limit)
+    IsOfFilesAlone pair_texts (files_of left right settings) (IsTraced limit)
     old.lathe new.lathe old.shelf new.shelf answer
 IsDueTo state second (command.Run left right settings limit turrets) old new answer =
-    IsOverFiles text_list (files_of left right settings) (IsRunAnew state limit) old.lathe new.lathe old.shelf new.shelf answer
+    IsOverFiles pair_texts (files_of left right settings) (IsRunAnew state limit) old.lathe new.lathe old.shelf new.shelf answer
 IsDueTo state second (command.Make number turrets) old new answer =
     IsRun state made_limit (made_text number) (made_texts number) old.lathe new.lathe answer × AsksNothing old new
 IsDueTo state second (command.Resume limit turrets) old new answer = IsResumed state limit old.lathe new.lathe answer × AsksNothing old new
 IsDueTo state second (command.Edit name) old new answer =
-    IsOverFiles single_text (edits_named name) IsEdited old.lathe new.lathe old.shelf new.shelf answer
+    IsOverFiles only_text (edits_named name) IsEdited old.lathe new.lathe old.shelf new.shelf answer
 IsDueTo state second command.Moves old new answer =
     IsShown (shown_text showing.Moves) old.lathe.disk new.lathe.disk answer × AreAtRest old.lathe new.lathe × AsksNothing old new
 IsDueTo state second command.State old new answer =
     IsShown (shown_text showing.State) old.lathe.disk new.lathe.disk answer × AreAtRest old.lathe new.lathe × AsksNothing old new
 IsDueTo state second (command.Zones zones) old new answer =
-    IsOverFiles single_text (zones_named zones) IsZoned old.lathe new.lathe old.shelf new.shelf answer
+    IsOverFiles only_text (zones_named zones) IsZoned old.lathe new.lathe old.shelf new.shelf answer
 IsDueTo state second (command.Branch meetings) old new answer =
     IsBranched second meetings old.lathe.disk new.lathe.disk old.second new.second answer × AreAtRest old.lathe new.lathe × AsksNothing old new
 IsDueTo state second (command.Expand tape) old new answer =
-    IsOfFilesAlone single_text (tape_named tape) IsExpanded old.lathe new.lathe old.shelf new.shelf answer
+    IsOfFilesAlone only_text (tape_named tape) IsExpanded old.lathe new.lathe old.shelf new.shelf answer
 
 -- the command was done, and the call ended with this status
 abbrev pub Performs : {D E : Type 0} → (D → DiskState) → (E → DiskState) → Command → TopState E → TopState E → ℕ → Type 0

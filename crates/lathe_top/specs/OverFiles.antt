@@ -9,13 +9,13 @@ use Rattle.lathe_top.specs.Kept.{RestsWhole}
 use Rattle.lathe_top.specs.Lathe.{LatheState}
 
 -- the command answers over the texts of its files, and calls neither the disk nor a turret
-abbrev pub IsOfFilesAlone : {A : Type 0} → (A → List (List ℕ)) → List Named → (A → Answer → Type 0) → LatheState → LatheState
+abbrev pub IsOfFilesAlone : {A : Type 0} → (List (List ℕ) → A) → List Named → (A → Answer → Type 0) → LatheState → LatheState
     → ShelfState → ShelfState → Answer → Type 0
-IsOfFilesAlone listed files IsAnswer old new before after =
-    λ answer. IsOfFiles listed files (Unit {0}) IsAnswer before after answer × RestsWhole old new
+IsOfFilesAlone read files IsAnswer old new before after =
+    λ answer. IsOfFiles read files (Unit {0}) IsAnswer before after answer × RestsWhole old new
 
 -- the command answers over the texts of its files, and does this to the disk and the turrets; if a
 -- file can't be read or memory runs out at one, it calls neither
-abbrev pub IsOverFiles : {A : Type 0} → (A → List (List ℕ)) → List Named → (LatheState → LatheState → A → Answer → Type 0)
+abbrev pub IsOverFiles : {A : Type 0} → (List (List ℕ) → A) → List Named → (LatheState → LatheState → A → Answer → Type 0)
     → LatheState → LatheState → ShelfState → ShelfState → Answer → Type 0
-IsOverFiles listed files Does old new before after = IsOfFiles listed files (RestsWhole old new) (Does old new) before after
+IsOverFiles read files Does old new before after = IsOfFiles read files (RestsWhole old new) (Does old new) before after

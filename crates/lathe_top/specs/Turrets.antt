@@ -11,7 +11,7 @@ use Rattle.nc_outside.specs.declared.got.Got.{Got}
 use Rattle.nc_outside.specs.declared.reason.Reason.{Reason}
 use Rattle.two_path.specs.Machine.{position_of}
 use Rattle.run_table.specs.Made.{moves_made}
-use Rattle.turret_run.specs.Served.{moves_told, GetsAll, GetsPart, GetsSome, FailsAmong, Misses}
+use Rattle.turret_run.specs.Served.{moves_told, FailsPlace, GetsAll, GetsPart, GetsSome, FailsAmong, Misses}
 use Rattle.turret_run.specs.Runs.{GetsBeside, StandsBeside, none_missed}
 use Rattle.lathe_top.specs.Lathe.{LatheState, AreAtRest}
 use Rattle.lathe_looks.specs.Standing.{is_over}
@@ -23,48 +23,56 @@ abbrev pub due_to : Session → ℕ → Path → List Got
 due_to s upto path =
     moves_told (position_of path (machine_found s)) (moves_made s.pair path (length s.found) upto s.history)
 
--- The turret of a path failed at its place. No record was made and no turret got a move. Beside
--- path 1 that of path 2 was not called; beside path 2 that of path 1 had got its place.
-pub record AreUnplaced (path : Path) (s : Session) (old new : Both TurretState) : Type 0 where
+-- How many moves each turret missed of a session, by its records up to this one: of what is due to
+-- it all that it did not get, and none unless it failed.
+abbrev pub AreMissed : Session → ℕ → Both TurretState → Both TurretState → Both ℕ → Type 0
+AreMissed s upto old new missed =
+    (path : Path) → Misses (due_to s upto path) (of_path missed path) (of_path old path) (of_path new path)
+
+-- The turret of a path failed after both had come to their places, and no call of the disk failed.
+-- What is due to each turret, and what each missed, is counted by all records of the session.
+pub record AreFailed (path : Path) (s : Session) (old new : Both TurretState) (missed : Both ℕ) : Type 0 where
+  -- the turret of this path got its place and a prefix of its moves, and failed
+  pub failed : FailsAmong (due_to s (length s.history) path) (of_path old path) (of_path new path)
+  -- the other turret got all that is due to it, or failed too
+  pub other : GetsBeside path (due_to s (length s.history) (other_of path)) (of_path old (other_of path))
+      (of_path new (other_of path))
+  -- so much of it each turret missed
+  pub misses : AreMissed s (length s.history) old new missed
+
+-- The turret of a path failed at its place, or in coming to stand still there. No record was made,
+-- and no turret got or missed a move. Beside path 1 that of path 2 was not called; beside path 2 that
+-- of path 1 stood still at its place.
+pub record AreUnplaced (path : Path) (s : Session) (old new : Both TurretState) (missed : Both ℕ) : Type 0 where
   -- no record was made
   pub none : s.history ≡ s.found
   -- the turret of this path failed at its place
-  pub failed : FailsAmong (moves_told (position_of path (machine_found s)) []) (of_path old path) (of_path new path)
+  pub failed : FailsPlace (position_of path (machine_found s)) (of_path old path) (of_path new path)
   -- what the other turret got
-  pub other : StandsBeside path (moves_told (position_of (other_of path) (machine_found s)) [])
-      (of_path old (other_of path))
+  pub other : StandsBeside path (position_of (other_of path) (machine_found s)) (of_path old (other_of path))
       (of_path new (other_of path))
+  -- no move was missed
+  pub misses : missed ≡ none_missed
 
--- What the turrets got of a session that might make records, by records that are on the disk: all
--- that is due to them. If the disk failed, it is a prefix of that. If a turret failed, it got a
--- prefix and the other one all, unless that failed too.
-abbrev pub AreServed : Reason → Session → ℕ → Both TurretState → Both TurretState → Type 0
-AreServed Reason.DiskFault s least old new =
-    (path : Path) → GetsSome (due_to s least path) (of_path old path) (of_path new path)
-AreServed (Reason.TurretFault path) s least old new =
-    (FailsAmong (due_to s least path) (of_path old path) (of_path new path)
-    × GetsBeside path (due_to s least (other_of path)) (of_path old (other_of path)) (of_path new (other_of path)))
-    ⊎ AreUnplaced path s old new
-AreServed other s least old new =
-    (path : Path) → GetsAll (due_to s least path) (of_path old path) (of_path new path)
-
--- How many moves each turret missed of a session, by records that are on the disk: of what is due
--- to it all that it did not get, and none unless it failed. If no record was made, as when a turret
--- failed at its place, there was none to miss.
-abbrev pub AreMissed : Session → ℕ → LatheState → LatheState → Type 0
-AreMissed s least old new =
-    ((path : Path) → Misses (due_to s least path) (of_path new.missed path) (of_path old.turrets path) (of_path new.turrets path))
-    ⊎ ((s.history ≡ s.found) × (new.missed ≡ none_missed))
+-- What the turrets got of a session that might make records, by records that are on the disk, and
+-- what they missed: each got all that is due to it. If the disk failed, it is a prefix of that. If a
+-- turret failed, it got a prefix and the other one all, unless that failed too; or no turret got a
+-- move, since it failed at its place.
+abbrev pub AreServed : Reason → Session → ℕ → Both TurretState → Both TurretState → Both ℕ → Type 0
+AreServed Reason.DiskFault s least old new missed =
+    ((path : Path) → GetsSome (due_to s least path) (of_path old path) (of_path new path)) × AreMissed s least old new missed
+AreServed (Reason.TurretFault path) s least old new missed =
+    AreFailed path s old new missed ⊎ AreUnplaced path s old new missed
+AreServed other s least old new missed =
+    ((path : Path) → GetsAll (due_to s least path) (of_path old path) (of_path new path)) × AreMissed s least old new missed
 
 -- what the turrets got of a session, and how much they missed: nothing, if the run was over at
 -- its opening
 pub record GetTheirs (reason : Reason) (s : Session) (least : ℕ) (old new : LatheState) : Type 0 where
   -- if the run was over, no turret was called
   pub over : is_over (machine_found s) ≡ true → AreAtRest old new
-  -- else the turrets got what the reason says
-  pub goes_on : is_over (machine_found s) ≡ false → AreServed reason s least old.turrets new.turrets
-  -- else so much of it was missed
-  pub missed : is_over (machine_found s) ≡ false → AreMissed s least old new
+  -- else the turrets got and missed what the reason says
+  pub goes_on : is_over (machine_found s) ≡ false → AreServed reason s least old.turrets new.turrets new.missed
 
 -- How a session of at most so many records ended for this reason: what its cause is, how many
 -- records the disk holds at least, and what the turrets got.

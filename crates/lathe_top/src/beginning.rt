@@ -4,7 +4,7 @@
 ghost use Rattle.std.specs.Prelude.{◌≡◌, ◌≤◌, length};
 ghost use Rattle.lathe_calls.specs.Answers.{Ends};
 ghost use Rattle.lathe_calls.specs.declared.pair_texts.TheConstants.{LONGEST_SETTINGS};
-ghost use Rattle.lathe_looks.specs.Named.{text_list};
+ghost use Rattle.lathe_looks.specs.Named.{pair_texts};
 ghost use Rattle.lathe_looks.specs.Texts.{files_in, texts_of};
 ghost use Rattle.lathe_top.specs.Held.{lathe_of, lathe_left};
 ghost use Rattle.lathe_top.specs.OverFiles.{IsOverFiles};
@@ -49,7 +49,7 @@ where
     D: Disk + Send,
     T: Turret + Send,
     K: Sink,
-    ensures { Ends (IsOverFiles text_list (files_in names.now) (IsRunAnew D.state limit)
+    ensures { Ends (IsOverFiles pair_texts (files_in names.now) (IsRunAnew D.state limit)
         (lathe_of D.state T.state lathe) (lathe_left D.state T.state result) (H.state shelf.old) (H.state shelf.new))
         (K.state out.old) (K.state out.new) result.status }
 {

@@ -1,7 +1,7 @@
 //! The call that the program makes: words in, text and status out. Each command has its own module
 //! beside this one; `perform` says which, and a new command needs its arm there.
 //! own_turret and twin_lathe call `top`.
-ghost use Rattle.std.specs.Prelude.{◌≡◌, map};
+ghost use Rattle.std.specs.Prelude.{◌≡◌, map, option_map};
 ghost use Rattle.std.specs.String.{string_bytes};
 ghost use Rattle.lathe_looks.specs.Named.{files_of};
 ghost use Rattle.lathe_looks.specs.Texts.{files_in};
@@ -228,7 +228,7 @@ fn outside_in(range: Option<ProgramRange>) -> Option<Outside>
 }
 
 /// The names of the files of a pair, as lathe_looks takes them.
-fn names_of<'a>(left: &'a Name, right: &'a Name, settings: &'a Name) -> FileNames<'a>
+fn names_of<'a>(left: &'a Name, right: &'a Name, settings: &'a Option<Name>) -> FileNames<'a>
     ensures { files_in result ≡ files_of left.now right.now settings.now }
 {
     FileNames {
@@ -236,6 +236,16 @@ fn names_of<'a>(left: &'a Name, right: &'a Name, settings: &'a Name) -> FileName
             one: left.as_str(),
             two: right.as_str(),
         },
-        settings: settings.as_str(),
+        settings: name_in(settings),
+    }
+}
+
+/// The text of a name, if there is one.
+fn name_in(name: &Option<Name>) -> Option<&str>
+    ensures { option_map (λ s. s.now) result ≡ name.now }
+{
+    match name {
+        Some(name) => Some(name.as_str()),
+        None => None,
     }
 }

@@ -8,7 +8,7 @@ ghost use Rattle.nc_restart.specs.Recovered.{IsRecovered, Recovers, run_found};
 ghost use Rattle.lathe_calls.specs.Answers.{Ends, IsJust, tells};
 ghost use Rattle.lathe_calls.specs.Reported.{report_of};
 ghost use Rattle.lathe_calls.specs.Statuses as exit;
-ghost use Rattle.lathe_looks.specs.Named.{single_text, edits_named};
+ghost use Rattle.lathe_looks.specs.Named.{only_text, edits_named};
 ghost use Rattle.lathe_looks.specs.Standing.{reason_of};
 ghost use Rattle.lathe_top.specs.Edited.{IsEdited, IsEditedRun, edited_text, told_of_failure, told_of_writing};
 ghost use Rattle.lathe_top.specs.Held.{lathe_of, lathe_left};
@@ -39,7 +39,7 @@ pub(crate) fn edit<H: Shelf, D: Disk, T: Turret, K: Sink>(
     lathe: Lathe<D, T>,
     out: &mut K,
 ) -> Ended<D, T>
-    ensures { Ends (IsOverFiles single_text (edits_named name.now) IsEdited
+    ensures { Ends (IsOverFiles only_text (edits_named name.now) IsEdited
         (lathe_of D.state T.state lathe) (lathe_left D.state T.state result) (H.state shelf.old) (H.state shelf.new))
         (K.state out.old) (K.state out.new) result.status }
 {

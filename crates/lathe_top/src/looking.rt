@@ -4,7 +4,7 @@
 ghost use Rattle.lathe_calls.specs.Answers.{Ends};
 ghost use Rattle.lathe_calls.specs.Due.{IsDueTo};
 ghost use Rattle.lathe_looks.specs.Expanded.{IsExpanded};
-ghost use Rattle.lathe_looks.specs.Named.{single_text, text_list, tape_named, zones_named};
+ghost use Rattle.lathe_looks.specs.Named.{only_text, pair_texts, tape_named, zones_named};
 ghost use Rattle.lathe_looks.specs.Shown.{IsShown, shown_text};
 ghost use Rattle.lathe_looks.specs.Zoned.{zones_text};
 ghost use Rattle.lathe_looks.specs.Texts.{files_in};
@@ -30,7 +30,7 @@ pub(crate) fn answer_pair<H: Shelf, D: Disk, T: Turret, K: Sink>(
     lathe: Lathe<D, T>,
     out: &mut K,
 ) -> Ended<D, T>
-    ensures { Ends (IsOfFilesAlone text_list (files_in names.now) (IsDueTo question)
+    ensures { Ends (IsOfFilesAlone pair_texts (files_in names.now) (IsDueTo question)
         (lathe_of D.state T.state lathe) (lathe_left D.state T.state result) (H.state shelf.old) (H.state shelf.new))
         (K.state out.old) (K.state out.new) result.status }
 {
@@ -45,7 +45,7 @@ pub(crate) fn write_out<H: Shelf, D: Disk, T: Turret, K: Sink>(
     lathe: Lathe<D, T>,
     out: &mut K,
 ) -> Ended<D, T>
-    ensures { Ends (IsOfFilesAlone single_text (tape_named tape.now) IsExpanded
+    ensures { Ends (IsOfFilesAlone only_text (tape_named tape.now) IsExpanded
         (lathe_of D.state T.state lathe) (lathe_left D.state T.state result) (H.state shelf.old) (H.state shelf.new))
         (K.state out.old) (K.state out.new) result.status }
 {
@@ -77,7 +77,7 @@ pub(crate) fn show_zoned<H: Shelf, D: Disk, T: Turret, K: Sink>(
     lathe: Lathe<D, T>,
     out: &mut K,
 ) -> Ended<D, T>
-    ensures { Ends (IsOverFiles single_text (zones_named name.now) IsZoned
+    ensures { Ends (IsOverFiles only_text (zones_named name.now) IsZoned
         (lathe_of D.state T.state lathe) (lathe_left D.state T.state result) (H.state shelf.old) (H.state shelf.new))
         (K.state out.old) (K.state out.new) result.status }
 {

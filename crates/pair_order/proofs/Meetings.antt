@@ -1,7 +1,7 @@
 -- Two paths over tapes whose lists of labels are equal: the labels ahead of both agree, and each
 -- step leaves it so. For the law `no_pair_waits_in_vain` and for Machines; two_path takes `Agree`
 -- with `agree_swap`, `agree_waits`, `agree_end` and `step_keeps`.
-use Rattle.std.proofs.Common.{◌≡◌, ℕ, ◌⊎◌, inl, inr, List, [], ◌∷◌, refl, sym, subst, ◌∙◌}
+use Rattle.std.proofs.Common.{◌≡◌, ℕ, ◌⊎◌, inl, inr, List, [], ◌∷◌, ◌++◌, refl, sym, subst, ◌∙◌}
 use Rattle.block_order.specs.declared.control.Control.{Control}
 use Rattle.block_order.specs.declared.control.Control.TheVariants as control
 use Rattle.block_order.specs.declared.frame.Frame.{Frame}
@@ -11,6 +11,8 @@ use Rattle.block_order.specs.declared.program.ControlProgram.{ControlProgram}
 use Rattle.block_order.specs.Labels.{labels_ahead, list}
 use Rattle.block_order.specs.Steps.{Step, IsPlace, place_behind, Kept, KeepsLabels}
 use Rattle.pair_order.specs.Pairs.{Paths, IsAtWait, Goes, one, two, meet, IsBeginning, AreMet, none, one_more, anew, IsFree, IsReached, begun, gone, IsNeverStuck}
+use Rattle.pair_order.specs.Pairs.{IsAtEnd, EndsOrGoesOn, ended, goes_on, first_alarm, second_alarm}
+use Rattle.pair_order.proofs.Ways.{Way, waits, ends, steps, alarms, way_of}
 
 -- The labels ahead of two paths are the same; or one path has gone back to its start, and the other
 -- has `Again` alone ahead.
@@ -158,15 +160,45 @@ beginning_sound left right pair p at = record {
   met = rw (at.first, at.met) none;
 }
 
+-- Path 1 does not stand at a wait while path 2 stands at an end.
+first_not_alone : (left right : List ControlProgram) → IsLawfulPair left right → (p : Paths) → IsSound left right p → (code : ℕ)
+    → IsAtWait left p.first code → IsAtEnd right p.second → ⊥
+first_not_alone left right pair p s code is end = agree_end (list left) (labels_ahead left (place_behind p.first)) code
+    (rw (← (pair.first.wait p.first code s.first is).1, ← pair.second.ends p.second s.second end) (s.agree))
+
+-- Path 2 does not stand at a wait while path 1 stands at an end.
+second_not_alone : (left right : List ControlProgram) → IsLawfulPair left right → (p : Paths) → IsSound left right p → (code : ℕ)
+    → IsAtEnd left p.first → IsAtWait right p.second code → ⊥
+second_not_alone left right pair p s code end is = agree_end (list left) (labels_ahead right (place_behind p.second)) code
+    (rw (← (pair.second.wait p.second code s.second is).1, ← pair.first.ends p.first s.first end)
+    (agree_swap (list left) (labels_ahead left p.first) (labels_ahead right p.second) s.agree))
+
+-- If no path waits for one that has ended, the pair has ended, goes on, or has an alarm.
+not_stuck : (left right : List ControlProgram) (p : Paths)
+    → ((code : ℕ) → IsAtWait left p.first code → IsAtEnd right p.second → ⊥)
+    → ((code : ℕ) → IsAtEnd left p.first → IsAtWait right p.second code → ⊥)
+    → Way left p.first → Way right p.second → EndsOrGoesOn left right p
+not_stuck left right p alone other (steps to step) way = goes_on (record p { first = to }) (one step refl refl)
+not_stuck left right p alone other (alarms alarm) way = first_alarm alarm
+not_stuck left right p alone other (waits code is) (steps to step) = goes_on (record p { second = to }) (two refl step refl)
+not_stuck left right p alone other (waits code is) (alarms alarm) = second_alarm alarm
+not_stuck left right p alone other (waits code is) (waits there beyond) =
+    goes_on (record { first = place_behind p.first; second = place_behind p.second; met = p.met ++ code ∷ [] })
+    (meet code there is beyond refl refl refl)
+not_stuck left right p alone other (waits code is) (ends end) = absurd (alone code is end)
+not_stuck left right p alone other (ends end) (steps to step) = goes_on (record p { second = to }) (two refl step refl)
+not_stuck left right p alone other (ends end) (alarms alarm) = second_alarm alarm
+not_stuck left right p alone other (ends end) (waits code is) = absurd (other code end is)
+not_stuck left right p alone other (ends end) (ends beyond) = ended end beyond
+
 -- If `IsSound` holds, neither path waits in vain.
 free : (left right : List ControlProgram) → IsLawfulPair left right → (p : Paths) → IsSound left right p → IsFree left right p
 free left right pair p s = record {
+  unstuck = not_stuck left right p (first_not_alone left right pair p s) (second_not_alone left right pair p s)
+      (way_of left p.first) (way_of right p.second);
   same = λ code there is other. (meeting left right pair p s code there is other).0;
-  first_alone = λ code is ends. agree_end (list left) (labels_ahead left (place_behind p.first)) code
-      (rw (← (pair.first.wait p.first code s.first is).1, ← pair.second.ends p.second s.second ends) (s.agree));
-  second_alone = λ code ends is. agree_end (list left) (labels_ahead right (place_behind p.second)) code
-      (rw (← (pair.second.wait p.second code s.second is).1, ← pair.first.ends p.first s.first ends)
-      (agree_swap (list left) (labels_ahead left p.first) (labels_ahead right p.second) s.agree));
+  first_alone = first_not_alone left right pair p s;
+  second_alone = second_not_alone left right pair p s;
   met = s.met;
 }
 

@@ -75,9 +75,32 @@ pub data AreMet (all : List Label) : List ℕ → List Label → Type 0 where
   -- If `Again` alone is ahead, the list begins anew.
   anew : (met : List ℕ) → AreMet all met (label.Again ∷ []) → AreMet all met all
 
--- Two waits at which both paths stand are of one code, no path waits for one that has ended, and
--- the meetings are those of the list.
+-- The path stands at an alarm: its block is no wait and no end, and yet no step leads on. The place is
+-- past the last block of its program, or a loop's end, a call or a jump back leads nowhere.
+pub record IsAtAlarm (tape : List ControlProgram) (place : List Frame) : Type 0 where
+  -- It stands at no wait.
+  pub no_wait : (code : ℕ) → IsAtWait tape place code → ⊥
+  -- It stands at no end.
+  pub no_end : IsAtEnd tape place → ⊥
+  -- No step leads on.
+  pub no_step : (to : List Frame) → Step tape place to → ⊥
+
+-- Both paths have ended, or the pair can take a step, or a path stands at an alarm, which stops both.
+pub data EndsOrGoesOn (left right : List ControlProgram) (paths : Paths) : Type 0 where
+  -- Both paths have ended.
+  ended : IsAtEnd left paths.first → IsAtEnd right paths.second → EndsOrGoesOn left right paths
+  -- A step of the pair leads on.
+  goes_on : (to : Paths) → Goes left right paths to → EndsOrGoesOn left right paths
+  -- Path 1 stands at an alarm.
+  first_alarm : IsAtAlarm left paths.first → EndsOrGoesOn left right paths
+  -- Path 2 stands at an alarm.
+  second_alarm : IsAtAlarm right paths.second → EndsOrGoesOn left right paths
+
+-- An unfinished pair can take a step or has an alarm, two waits at which both paths stand are of one
+-- code, no path waits for one that has ended, and the meetings are those of the list.
 pub record IsFree (left right : List ControlProgram) (paths : Paths) : Type 0 where
+  -- Both have ended, or the pair can take a step, or a path stands at an alarm.
+  pub unstuck : EndsOrGoesOn left right paths
   -- If both stand at waits, these are of one code.
   pub same : (code there : ℕ) → IsAtWait left paths.first code → IsAtWait right paths.second there → code ≡ there
   -- Path 1 does not stand at a wait while path 2 stands at an end.

@@ -6,8 +6,9 @@ ghost use Rattle.pair_order.specs.Pairs.{IsPair, IsNeverStuck};
 
 use block_order::each_step_keeps_the_labels;
 
-/// Two tapes have one list of labels each, and these are equal. Then no steps lead to two waits of
-/// different codes, or to a path that waits for one that has ended. And the paths meet as the list
+/// Two tapes have one list of labels each, and these are equal. Then wherever steps lead, both paths
+/// have ended, or the pair can take a step, or a path stands at an alarm. No steps lead to two waits
+/// of different codes, or to a path that waits for one that has ended. And the paths meet as the list
 /// says.
 ///
 /// A step leads one path where the order of its blocks allows, or both paths past waits at which

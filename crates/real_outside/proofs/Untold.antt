@@ -1,6 +1,6 @@
 -- The calls of a disk of which nothing is told keep the contract of a disk.
 -- The proofs of src/file_disk.rt use it.
-use Rattle.std.proofs.Common.{inl, ℕ, ◌+◌, ◌-◌, ◌^◌, ◌≤◌, ◌<◌, List, length, arith, refl, Ok, Err}
+use Rattle.std.proofs.Common.{inl, ℕ, ◌+◌, ◌^◌, ◌≤◌, ◌<◌, List, length, arith, refl, Ok, Err}
 use Rattle.std.proofs.lemmas.Option.{none-some}
 use Rattle.disk_model.specs.Device.{Looks, Tears, Torn, HasCause}
 use Rattle.nc_number.specs.Faults.{Rose}

@@ -1,6 +1,6 @@
 //! How far the bytes of a journal count: up to its first shut gate. The format is that of gate_file
 //! (specs/Chain.antt), and changes with it.
-//! For journal_file.rt and shown_file.rt of this crate.
+//! For journal_file.rt, renewal.rt, shown_file.rt and standing.rt of this crate.
 ghost use Rattle.std.specs.Prelude.{◌≡◌, ◌<◌, ◌^◌, ℕ, IfOk};
 
 use crate::folder::RawFile;
@@ -11,7 +11,7 @@ use std::io;
 pub(crate) const END: u64 = 1 << 62;
 
 /// How many bytes of the chain go with a body: the gate before it and the four of its length.
-const FRAME: usize = 5;
+pub(crate) const FRAME: usize = 5;
 
 /// Where the gates of a journal end.
 #[derive(Clone, Copy, Debug, PartialEq, Eq)]
@@ -24,7 +24,7 @@ pub(crate) struct LastGate {
 
 /// What stands at a gate.
 #[derive(Clone, Copy, Debug, PartialEq, Eq)]
-enum Head {
+pub(crate) enum Head {
     /// It is shut.
     Shut,
     /// It is open, and this is the place of the next.
@@ -53,7 +53,7 @@ pub(crate) fn last_gate<F: RawFile>(file: &F) -> io::Result<LastGate>
 }
 
 /// What stands at the gate of this place.
-fn head_at<F: RawFile>(file: &F, at: u64) -> io::Result<Head>
+pub(crate) fn head_at<F: RawFile>(file: &F, at: u64) -> io::Result<Head>
     requires { at < 2 ^ 62 }
     ensures { IfOk result (λ head. (next : ℕ) → head ≡ Head.Open next → (at < next) × (next < 2 ^ 62)) }
 {

@@ -7,6 +7,7 @@ ghost use Rattle.nc_number.specs.Faults.{Rose};
 use crate::folder::Folder;
 use crate::journal_file::{Access, JournalFile, Trouble};
 use disk_model::{Disk, Failed};
+use std::io;
 
 /// A journal in a folder as a disk, which tells nothing of what it holds.
 ///
@@ -15,9 +16,11 @@ use disk_model::{Disk, Failed};
 ///
 /// - After a sync that answered Ok all that was written is on the medium, and the folder has the
 ///   journal's name there.
-/// - What is found of a journal is on the medium once the first sync has answered Ok, even if an
-///   earlier program's sync failed: it is written over itself before. A stop at any moment leaves
-///   each byte as it was.
+/// - What is found of a journal is never written over. Before the first write a new file with all
+///   that counts of it takes its place, in one step, once it is on the medium: even what an earlier
+///   program's failed sync left in the memory of the system alone. Bytes after the first shut gate
+///   count for nothing, and are not copied. [`Access::Continue`] does so at the first sync, if the
+///   run is not over.
 /// - After a write or a sync that failed each call fails.
 /// - One program at a time may write it, and it fails at a sync if it was moved, removed or
 ///   replaced meanwhile.
@@ -34,6 +37,8 @@ pub struct FileDisk<'a, D: Folder + Drop> {
     file: JournalFile<'a, D>,
     /// How many calls have failed.
     faults: u64,
+    /// What the first of them failed by.
+    cause: Option<io::Error>,
 }
 
 impl<'a, D: Folder + Drop> FileDisk<'a, D> {
@@ -45,6 +50,7 @@ impl<'a, D: Folder + Drop> FileDisk<'a, D> {
         FileDisk {
             file: JournalFile::new(folder, name, access),
             faults: 0,
+            cause: None,
         }
     }
 
@@ -54,10 +60,19 @@ impl<'a, D: Folder + Drop> FileDisk<'a, D> {
         self.file.trouble()
     }
 
-    /// Counts a call that failed, and gives the error for it.
-    fn fault(&mut self) -> Failed
+    /// What the first call that failed did so by, if one has. Where there is a trouble, that says
+    /// more.
+    pub fn cause(&self) -> Option<io::Error> {
+        self.cause
+    }
+
+    /// Counts a call that failed by this, and gives the error for it.
+    fn fault(&mut self, error: io::Error) -> Failed
         ensures { (self.old.faults ≤ self.new.faults) × Rose self.old.faults self.new.faults }
     {
+        if self.cause.is_none() {
+            self.cause = Some(error);
+        }
         self.faults = self.faults.saturating_add(1);
         Failed
     }
@@ -79,7 +94,7 @@ impl<D: Folder + Drop> Disk for FileDisk<'_, D> {
     fn len(&mut self) -> Result<u64, Failed> {
         match self.file.length() {
             Ok(count) => Ok(count),
-            Err(_) => Err(self.fault()),
+            Err(error) => Err(self.fault(error)),
         }
     }
 
@@ -87,7 +102,7 @@ impl<D: Folder + Drop> Disk for FileDisk<'_, D> {
     fn read_at(&mut self, at: u64, into: &mut [u8]) -> Result<usize, Failed> {
         match self.file.read_at(at, into) {
             Ok(count) => Ok(count),
-            Err(_) => Err(self.fault()),
+            Err(error) => Err(self.fault(error)),
         }
     }
 
@@ -95,7 +110,7 @@ impl<D: Folder + Drop> Disk for FileDisk<'_, D> {
     fn write_at(&mut self, at: u64, bytes: &[u8]) -> Result<(), Failed> {
         match self.file.write_at(at, bytes) {
             Ok(()) => Ok(()),
-            Err(_) => Err(self.fault()),
+            Err(error) => Err(self.fault(error)),
         }
     }
 
@@ -103,7 +118,7 @@ impl<D: Folder + Drop> Disk for FileDisk<'_, D> {
     fn sync(&mut self) -> Result<(), Failed> {
         match self.file.sync() {
             Ok(()) => Ok(()),
-            Err(_) => Err(self.fault()),
+            Err(error) => Err(self.fault(error)),
         }
     }
 }

@@ -18,10 +18,12 @@ pub trait Folder {
     /// An open file of the folder.
     type File: RawFile;
 
-    /// Opens a file to be read and written. `NotFound` if there is none.
+    /// Opens a file to be read and written. `NotFound` if there is none. What is no regular file is
+    /// refused.
     fn open(&self, name: &str) -> io::Result<Self::File>;
 
-    /// Opens a file to be read alone. `NotFound` if there is none.
+    /// Opens a file to be read alone. `NotFound` if there is none. What is no regular file is
+    /// refused.
     fn open_to_read(&self, name: &str) -> io::Result<Self::File>;
 
     /// Makes a file that is not there, and opens it to be read and written. `AlreadyExists` if
@@ -30,6 +32,21 @@ pub trait Folder {
 
     /// Which file has this name now. `NotFound` if none has it.
     fn identity(&self, name: &str) -> io::Result<Identity>;
+
+    /// Whether this name is a symbolic link. `NotFound` if nothing has it.
+    fn is_link(&self, name: &str) -> io::Result<bool>;
+
+    /// Makes the file that may take the place of the one of this name, without a byte, and opens it
+    /// to be read and written. Its rights are those of the file that is given, and its owner as far
+    /// as the user may set that. One that an earlier command left is removed before.
+    fn make_next(&self, name: &str, like: &Self::File) -> io::Result<Self::File>;
+
+    /// Gives this name to the file that `make_next` made last for it, in one step: at any moment
+    /// one of the two files has it.
+    fn replace(&self, name: &str) -> io::Result<()>;
+
+    /// Removes the file that `make_next` made for this name, if it is there still.
+    fn discard(&self, name: &str);
 
     /// Puts on the medium which names the folder has.
     fn sync(&self) -> io::Result<()>;

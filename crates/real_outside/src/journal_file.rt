@@ -1,16 +1,22 @@
-//! The file of the journal, as a command may use it: who may write, and what is believed after a
-//! fault. How it looks to a run is in file_disk.rt.
+//! The file of the journal, as a command may use it: who may write, what is believed after a fault,
+//! and when a new file takes the place of the one that was found. How it looks to a run is in
+//! file_disk.rt.
 //! file_disk.rt uses `JournalFile`; own_turret and twin_lathe name `Access`, and twin_lathe says
 //! `Trouble` to a person.
 ghost use Rattle.std.specs.Prelude.{◌+◌, ◌≤◌, ◌<◌, ◌^◌, IfOk, OnOk, length};
 
-use crate::chain::{END, last_gate};
+use crate::chain::END;
 use crate::folder::{Folder, RawFile};
-use crate::pieces::{read_up_to, write_again};
+use crate::pieces::read_up_to;
+use crate::renewal::{length_of, renewed};
 use crate::shown_file::{Extent, length_shown, read_shown, sync_shown, written};
+use crate::standing::may_go_on;
 use std::io;
 use std::io::ErrorKind;
 use thiserror::Error;
+
+/// How often a file is opened whose name another command gives to a new one meanwhile.
+const TRIES: u8 = 8;
 
 /// What a command does with a journal.
 #[derive(Clone, Copy, Debug, PartialEq, Eq)]
@@ -18,8 +24,12 @@ pub enum Access {
     /// It reads what is there, keeps nobody from writing, and writes nothing.
     Look,
     /// It reads and writes, and no other command may write meanwhile. A journal that it may not
-    /// write it does not read either.
+    /// write it does not read either. What it found is on the medium for certain once its first
+    /// write was done.
     Write,
+    /// As `Write`, by a command that goes on with the run that it finds. If that is not over, all
+    /// that it found is on the medium for certain once its first sync was done.
+    Continue,
 }
 
 /// Why a journal can't be used though its disk is sound. The text goes after the journal's name.
@@ -34,6 +44,15 @@ pub enum Trouble {
     /// Its name is no longer that of the file that was opened.
     #[error("was moved, removed or replaced while it was being written")]
     Replaced,
+    /// There was none at first, and another command has begun one since.
+    #[error("was made by another command meanwhile")]
+    Made,
+    /// Its name leads to a file elsewhere, whose place no new file can take.
+    #[error("is a symbolic link, and is written only if it is the file itself")]
+    Linked,
+    /// No new file can be made that would take its place.
+    #[error("can't be written anew: its folder may not be written")]
+    Fixed,
 }
 
 /// What is known of the file.
@@ -57,7 +76,8 @@ enum Found<F: RawFile> {
 /// It is looked for at the first call, and made at the first write; until then it reads as a file
 /// of no bytes, so that a command which only looks leaves none behind. One command at a time may
 /// write it, and to another that would each call fails. After a write or a sync that failed each
-/// call fails.
+/// call fails. A file that was found is never written: before the first write a new one with all
+/// that counts takes its place.
 #[derive(Drop)]
 pub(crate) struct JournalFile<'a, D: Folder + Drop> {
     /// The folder that the file is in.
@@ -72,8 +92,8 @@ pub(crate) struct JournalFile<'a, D: Folder + Drop> {
     trouble: Option<Trouble>,
     /// How much is shown of a file that is read alone.
     shown: Option<Extent>,
-    /// Whether what was found of the file was written again, so that a sync puts it on the medium.
-    is_renewed: bool,
+    /// Whether the open file is a new one, made by this command.
+    is_new: bool,
     /// Whether the folder was synced since the file was looked for or made.
     is_listed: bool,
 }
@@ -88,7 +108,7 @@ impl<'a, D: Folder + Drop> JournalFile<'a, D> {
             found: Found::Unknown,
             trouble: None,
             shown: None,
-            is_renewed: false,
+            is_new: false,
             is_listed: false,
         }
     }
@@ -151,48 +171,60 @@ impl<'a, D: Folder + Drop> JournalFile<'a, D> {
     /// Looks for the file, if that was not done yet.
     fn look(&mut self) -> io::Result<()> {
         if let Found::Unknown = &self.found {
-            self.found = self.find()?;
+            self.found = match self.access {
+                Access::Look => self.find_shown()?,
+                Access::Write | Access::Continue => self.find()?,
+            };
         }
         Ok(())
     }
 
-    /// Opens the file as the command is to use it, if there is one.
-    fn find(&mut self) -> io::Result<Found<D::File>> {
-        let opened = match self.access {
-            Access::Look => self.folder.open_to_read(self.name),
-            Access::Write => self.folder.open(self.name),
-        };
-        match opened {
-            Ok(file) => match self.access {
-                Access::Look => Ok(Found::Shown(file)),
-                Access::Write => self.hold(file),
-            },
+    /// Opens the file to be read alone, if there is one.
+    fn find_shown(&self) -> io::Result<Found<D::File>> {
+        match self.folder.open_to_read(self.name) {
+            Ok(file) => Ok(Found::Shown(file)),
             Err(error) if error.kind() == ErrorKind::NotFound => Ok(Found::Absent),
-            Err(error) => self.unopened(error),
+            Err(error) => Err(error),
         }
     }
 
-    /// The answer if there is a file that can't be opened: the trouble that it may not be written,
-    /// or the error.
+    /// Opens the file to be written, if there is one, and takes its lock. Another command may have
+    /// given its name to a new file before the lock was free: then that one is opened.
+    fn find(&mut self) -> io::Result<Found<D::File>> {
+        for _ in 0..TRIES {
+            match self.folder.open(self.name) {
+                Ok(file) => {
+                    if !file.hold()? {
+                        return Ok(self.lost(Trouble::Held));
+                    }
+                    if has_name(&self.folder, self.name, &file)? {
+                        return Ok(Found::Open(file));
+                    }
+                }
+                Err(error) if error.kind() == ErrorKind::NotFound => return Ok(Found::Absent),
+                Err(error) => return self.unopened(error),
+            }
+        }
+        Ok(self.lost(Trouble::Held))
+    }
+
+    /// Notes why the file may not be used.
+    fn lost(&mut self, trouble: Trouble) -> Found<D::File> {
+        self.trouble = Some(trouble);
+        Found::Lost
+    }
+
+    /// The answer if there is a file that can't be opened, or none that can be made: the trouble
+    /// that it may not be written, or the error.
     fn unopened(&mut self, error: io::Error) -> io::Result<Found<D::File>> {
-        if self.access == Access::Write && may_not(error.kind()) {
-            self.trouble = Some(Trouble::Unwritable);
-            return Ok(Found::Lost);
+        if may_not(error.kind()) {
+            return Ok(self.lost(Trouble::Unwritable));
         }
         Err(error)
     }
 
-    /// Takes the lock of the open file, so that nobody else may write it up to the command's end.
-    /// Nothing was read of it before, so all that others wrote is seen.
-    fn hold(&mut self, file: D::File) -> io::Result<Found<D::File>> {
-        if !file.hold()? {
-            self.trouble = Some(Trouble::Held);
-            return Ok(Found::Lost);
-        }
-        Ok(Found::Open(file))
-    }
-
-    /// Writes all bytes at an offset of the journal, which is made if there was none.
+    /// Writes all bytes at an offset of the journal, which is made if there was none, and renewed
+    /// if it was found.
     fn write(&mut self, at: u64, bytes: &[u8]) -> io::Result<()>
         ensures { OnOk result (at + length bytes.now < 2 ^ 62) }
     {
@@ -200,6 +232,7 @@ impl<'a, D: Folder + Drop> JournalFile<'a, D> {
         if let Found::Absent = &self.found {
             self.found = self.make()?;
         }
+        self.renew()?;
         match &self.found {
             Found::Open(file) => put(file, at, bytes),
             Found::Unknown | Found::Absent | Found::Shown(_) | Found::Lost => Err(refused()),
@@ -213,25 +246,89 @@ impl<'a, D: Folder + Drop> JournalFile<'a, D> {
         }
         match self.folder.make(self.name) {
             Ok(file) => {
-                self.is_renewed = true;
+                self.is_new = true;
                 self.is_listed = false;
-                self.hold(file)
+                if !file.hold()? {
+                    return Ok(self.lost(Trouble::Held));
+                }
+                Ok(Found::Open(file))
             }
+            Err(error) if error.kind() == ErrorKind::AlreadyExists => self.meet(error),
             Err(error) => self.unopened(error),
         }
     }
 
-    /// Brings to the medium what was found of the journal and what was written to it.
+    /// What has the name though nothing had it before: the file of another command, which may be
+    /// used if that has let go of it without a byte; or a link that leads nowhere.
+    fn meet(&mut self, error: io::Error) -> io::Result<Found<D::File>> {
+        match self.find()? {
+            Found::Open(file) => {
+                if length_of(&file)? > 0 {
+                    return Ok(self.lost(Trouble::Made));
+                }
+                Ok(Found::Open(file))
+            }
+            Found::Absent => {
+                if self.folder.is_link(self.name)? {
+                    return Ok(self.lost(Trouble::Linked));
+                }
+                Err(error)
+            }
+            found => Ok(found),
+        }
+    }
+
+    /// Puts a new file with all that counts in the place of one that was found, if that was not
+    /// done yet. Only a file that has the name, and whose lock this command has, gives way.
+    fn renew(&mut self) -> io::Result<()> {
+        if self.is_new {
+            return Ok(());
+        }
+        self.recognize()?;
+        let Found::Open(old) = &self.found else {
+            return Ok(());
+        };
+        if self.folder.is_link(self.name)? {
+            self.trouble = Some(Trouble::Linked);
+            return Err(refused());
+        }
+        match renewed(&self.folder, self.name, old) {
+            Ok(next) => {
+                self.found = Found::Open(next);
+                self.is_new = true;
+                self.is_listed = true;
+                Ok(())
+            }
+            Err(error) => {
+                if may_not(error.kind()) {
+                    self.trouble = Some(Trouble::Fixed);
+                }
+                Err(error)
+            }
+        }
+    }
+
+    /// Renews the journal of a run with which the command is to go on.
+    fn renew_found(&mut self) -> io::Result<()> {
+        if self.access != Access::Continue || self.is_new {
+            return Ok(());
+        }
+        let Found::Open(file) = &self.found else {
+            return Ok(());
+        };
+        if may_go_on(file)? {
+            self.renew()?;
+        }
+        Ok(())
+    }
+
+    /// Brings to the medium what was written to the journal, and what was found of it as far as the
+    /// system knows that it is not there.
     fn settle(&mut self) -> io::Result<()> {
         self.look()?;
+        self.renew_found()?;
         match &self.found {
-            Found::Open(file) => {
-                if !self.is_renewed {
-                    renew(file)?;
-                    self.is_renewed = true;
-                }
-                file.sync()?;
-            }
+            Found::Open(file) => file.sync()?,
             Found::Shown(file) => sync_shown(file, &mut self.shown)?,
             Found::Absent => {}
             Found::Unknown | Found::Lost => return Err(refused()),
@@ -247,7 +344,7 @@ impl<'a, D: Folder + Drop> JournalFile<'a, D> {
         }
         match self.access {
             Access::Look => written(self.folder.sync())?,
-            Access::Write => self.folder.sync()?,
+            Access::Write | Access::Continue => self.folder.sync()?,
         }
         self.is_listed = true;
         Ok(())
@@ -259,15 +356,21 @@ impl<'a, D: Folder + Drop> JournalFile<'a, D> {
         let Found::Open(file) = &self.found else {
             return Ok(());
         };
-        let own = file.identity()?;
-        match self.folder.identity(self.name) {
-            Ok(named) if named == own => Ok(()),
-            Err(error) if error.kind() != ErrorKind::NotFound => Err(error),
-            _ => {
-                self.trouble = Some(Trouble::Replaced);
-                Err(refused())
-            }
+        if has_name(&self.folder, self.name, file)? {
+            return Ok(());
         }
+        self.trouble = Some(Trouble::Replaced);
+        Err(refused())
+    }
+}
+
+/// Whether this name of the folder is that of the open file.
+fn has_name<D: Folder>(folder: &D, name: &str, file: &D::File) -> io::Result<bool> {
+    let own = file.identity()?;
+    match folder.identity(name) {
+        Ok(named) => Ok(named == own),
+        Err(error) if error.kind() == ErrorKind::NotFound => Ok(false),
+        Err(error) => Err(error),
     }
 }
 
@@ -282,24 +385,6 @@ fn may_not(kind: ErrorKind) -> bool {
         kind,
         ErrorKind::PermissionDenied | ErrorKind::ReadOnlyFilesystem
     )
-}
-
-/// Writes over itself all that counts of a journal that was found, so that a sync puts it on the
-/// medium.
-fn renew<F: RawFile>(file: &F) -> io::Result<()> {
-    let last = last_gate(file)?;
-    write_again(file, last.at + 1)
-}
-
-/// How long a file is. One that is longer than a file may be is refused.
-fn length_of<F: RawFile>(file: &F) -> io::Result<u64>
-    ensures { IfOk result (λ n. n < 2 ^ 62) }
-{
-    let length = file.length()?;
-    if length >= END {
-        return Err(ErrorKind::FileTooLarge.into());
-    }
-    Ok(length)
 }
 
 /// Writes all bytes at an offset, if they end before the end of a file. A write that comes to

@@ -18,8 +18,11 @@ mod folder;
 mod journal_file;
 mod line_file;
 mod log_turret;
+mod next_name;
 mod pieces;
+mod renewal;
 mod shown_file;
+mod standing;
 mod std_sink;
 mod system_folder;
 

@@ -1,12 +1,12 @@
 //! Bytes of a file that are read and written in pieces.
-//! For chain.rt, journal_file.rt and shown_file.rt of this crate.
+//! For chain.rt, renewal.rt, shown_file.rt and standing.rt of this crate, and journal_file.rt.
 ghost use Rattle.std.specs.Prelude.{◌≤◌, ◌^◌, IfOk, length};
 
 use crate::folder::RawFile;
 use std::io;
 use std::io::ErrorKind;
 
-/// How many bytes are written over themselves at once.
+/// How many bytes are copied at once.
 const PIECE: usize = 16_384;
 
 /// Reads from an offset on, as many bytes as there are, up to the slice's length, and answers how
@@ -29,23 +29,19 @@ pub(crate) fn read_up_to<F: RawFile>(file: &F, at: u64, into: &mut [u8]) -> io::
     Err(ErrorKind::Interrupted.into())
 }
 
-/// Writes over themselves all bytes up to this end, or up to the file's.
-///
-/// After a write to the medium that failed, the system takes for written what it has in memory
-/// alone, and a sync leaves it there. What was written over itself is to be written again. A stop
-/// inside leaves each byte as it was.
-pub(crate) fn write_again<F: RawFile>(file: &F, end: u64) -> io::Result<()>
+/// Copies all bytes up to this end into another file. It fails if there are fewer.
+pub(crate) fn copy_front<F: RawFile>(from: &F, to: &F, end: u64) -> io::Result<()>
     requires { end ≤ 2 ^ 62 }
 {
     let mut piece = [0u8; PIECE];
     let mut at = 0;
     while at < end {
         let wanted = (end - at).min(PIECE as u64) as usize;
-        let count = read_up_to(file, at, &mut piece[..wanted])?;
+        let count = read_up_to(from, at, &mut piece[..wanted])?;
         if count == 0 {
-            return Ok(());
+            return Err(ErrorKind::UnexpectedEof.into());
         }
-        file.write_all_at(&piece[..count], at)?;
+        to.write_all_at(&piece[..count], at)?;
         at += count as u64;
     }
     Ok(())

@@ -1,14 +1,18 @@
 //! The folder and the files of the operating system, behind the traits of folder.rt.
 //! own_turret and twin_lathe use it.
 use crate::folder::{Folder, Identity, RawFile};
+use crate::next_name::NextName;
 use std::fs::{File, Metadata, OpenFile};
 use std::io::ErrorKind;
-use std::os::unix::fs::{FileExt, MetadataExt};
+use std::os::unix::fs::{FileExt, MetadataExt, OpenOptionsExt, fchown};
 use std::rt::Files;
 use std::{fs, io};
 
 /// The current folder, by its name.
 const CURRENT: &str = ".";
+
+/// The rights of a new file until it has those of the one whose place it takes.
+const OWN: u32 = 0o600;
 
 /// The current folder of the program.
 #[derive(Drop)]
@@ -29,14 +33,13 @@ impl<R: Files<File = File>> Folder for SystemFolder<'_, R> {
 
     /// To be read and written, by a descriptor that is no standard stream.
     fn open(&self, name: &str) -> io::Result<SystemFile> {
+        regular(&named(self.rt, name)?)?;
         apart(File::options().read(true).write(true).open(self.rt, name)?)
     }
 
-    /// What is no file is refused: a named pipe would be waited for.
+    /// A named pipe would be waited for: it is refused before.
     fn open_to_read(&self, name: &str) -> io::Result<SystemFile> {
-        if !fs::metadata(self.rt, name)?.is_file() {
-            return Err(io::Error::from(ErrorKind::InvalidInput));
-        }
+        regular(&named(self.rt, name)?)?;
         apart(File::open(self.rt, name)?)
     }
 
@@ -47,7 +50,36 @@ impl<R: Files<File = File>> Folder for SystemFolder<'_, R> {
 
     /// By the number of the file and that of its device.
     fn identity(&self, name: &str) -> io::Result<Identity> {
-        Ok(identity_of(&fs::metadata(self.rt, name)?))
+        Ok(identity_of(&named(self.rt, name)?))
+    }
+
+    /// By the name itself, whatever it leads to.
+    fn is_link(&self, name: &str) -> io::Result<bool> {
+        Ok(fs::symlink_metadata(self.rt, name)?.is_symlink())
+    }
+
+    /// Beside it, with `.new` after its name. Nobody else may read it before it has its rights.
+    fn make_next(&self, name: &str, like: &SystemFile) -> io::Result<SystemFile> {
+        self.discard(name);
+        let next = NextName::of(name)?;
+        let mut options = File::options();
+        options.read(true).write(true).create_new(true).mode(OWN);
+        let file = options.open(self.rt, next.as_str())?;
+        give_rights(&file, &like.file)?;
+        apart(file)
+    }
+
+    /// By one call of the system.
+    fn replace(&self, name: &str) -> io::Result<()> {
+        let next = NextName::of(name)?;
+        fs::rename(self.rt, next.as_str(), name)
+    }
+
+    /// What can't be removed stays: the call that needs its place will say so.
+    fn discard(&self, name: &str) {
+        if let Ok(next) = NextName::of(name) {
+            let _ = fs::remove_file(self.rt, next.as_str());
+        }
     }
 
     /// The folder is opened for it and closed again.
@@ -73,6 +105,45 @@ fn apart(file: File) -> io::Result<SystemFile> {
     })
 }
 
+/// The data of what has this name now. A call that a signal interrupted is made again.
+fn named<R: Files>(rt: &R, name: &str) -> io::Result<Metadata> {
+    for _ in 0..u64::MAX {
+        match fs::metadata(rt, name) {
+            Err(error) if error.kind() == ErrorKind::Interrupted => {}
+            answer => return answer,
+        }
+    }
+    Err(ErrorKind::Interrupted.into())
+}
+
+/// The data of an open file. A call that a signal interrupted is made again.
+fn data_of(file: &File) -> io::Result<Metadata> {
+    for _ in 0..u64::MAX {
+        match file.metadata() {
+            Err(error) if error.kind() == ErrorKind::Interrupted => {}
+            answer => return answer,
+        }
+    }
+    Err(ErrorKind::Interrupted.into())
+}
+
+/// Fails if this is a folder, a pipe or a device.
+fn regular(found: &Metadata) -> io::Result<()> {
+    if found.is_file() {
+        return Ok(());
+    }
+    Err(io::Error::new(ErrorKind::InvalidInput, "it is no regular file"))
+}
+
+/// Gives a new file the owner of another one, as far as the user may, and then its rights.
+fn give_rights(file: &File, like: &File) -> io::Result<()> {
+    let data = data_of(like)?;
+    if fchown(file, Some(data.uid()), Some(data.gid())).is_err() {
+        let _ = fchown(file, None, Some(data.gid()));
+    }
+    file.set_permissions(data.permissions())
+}
+
 /// Which file it is, on its device.
 fn identity_of(found: &Metadata) -> Identity {
     Identity {
@@ -96,12 +167,12 @@ impl FileExt for SystemFile {
 impl RawFile for SystemFile {
     /// By the data that the system keeps of the file.
     fn length(&self) -> io::Result<u64> {
-        Ok(self.file.metadata()?.len())
+        Ok(data_of(&self.file)?.len())
     }
 
     /// By the number of the file and that of its device.
     fn identity(&self) -> io::Result<Identity> {
-        Ok(identity_of(&self.file.metadata()?))
+        Ok(identity_of(&data_of(&self.file)?))
     }
 
     /// By a lock of the system, which ends when this opening of the file is closed.

@@ -141,9 +141,9 @@ fn written(alloc: Global, text: &[u8], parts: &[Part]) -> Result<Vec<u8>, AllocE
 /// stand in place of its first line, and every line outside of the parts stays byte for byte.
 ///
 /// Errors: the refusal of a text that reads as no tape, with no block skipped; else 93 at the least
-/// line with a block that has G70 or G71 and is part of no form, or with the first G71 of a form
-/// with more than 1,000 passes; else 94 at the first line of the part with which the whole tape
-/// first has more than 20,000 blocks.
+/// line with a block that has G70 or G71 and is part of no form, with the first G71 of a form with
+/// more than 1,000 passes, or with a block that has G91 or G20; else 94 at the first line of the
+/// part with which the whole tape first has more than 20,000 blocks.
 pub fn expand_tape(alloc: Global, text: &[u8]) -> Result<Vec<u8>, Failing<ExpandFault>>
     ensures exact { Gives (λ bytes. bytes.items) result (expansion_of text.now) }
     // No whole point on a move of the blocks that it prints lies inside the contour of their part.

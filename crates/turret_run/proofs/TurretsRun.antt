@@ -1,9 +1,10 @@
 -- How a run with turrets ends, from what its threads and the turns after them left.
 -- The proofs of `end_of_run` (src/rest.rt), `run_opened` and `run_with_turrets` (src/run.rt) use
 -- it.
-use Rattle.std.proofs.Common.{arith, ◌≡◌, ◌≢◌, ℕ, Bool, true, false, List, [], ◌-◌, length, refl, ap, sym, ◌∙◌, subst, Option, Some, None, ⊎_elim, inl, inr}
+use Rattle.std.proofs.Common.{arith, ◌≡◌, ◌≢◌, ℕ, Bool, true, false, List, [], ◌++◌, drop, take, length, refl, ap, sym, ◌∙◌, subst, Option, Some, None, ⊎_elim, inl, inr}
 use Rattle.std.specs.Prelude.{IsTrue, IfSome, IfNone, Result, Ok, Err}
 use Rattle.std.proofs.lemmas.List.{drop_all}
+use Rattle.std.proofs.Math.Seq.{take-length, take-append_seam}
 use Rattle.disk_model.specs.Device.{DiskState, Rose}
 use Rattle.gate_file.specs.Gate.{Gate}
 use Rattle.nc_number.specs.declared.both.Both.{Both}
@@ -25,16 +26,16 @@ use Rattle.two_path.specs.Histories.{fold}
 use Rattle.drive_line.specs.Driving.{DrivenState, has_failed, Serves}
 use Rattle.seat_table.specs.Turning.{moves_in}
 use Rattle.run_table.specs.Ending.{IsAtEnd, HasEnded as Ends, HasNotEnded}
-use Rattle.run_table.specs.Holding.{HeldView, held_of, IsOf, ShowsFlushed, answered_from, records_since, without_turret}
+use Rattle.run_table.specs.Holding.{HeldView, held_of, IsOf, ShowsFlushed, MayHoldAgain, answered_from, records_since, without_turret}
 use Rattle.run_table.specs.Kept.{TableView, tapes_in, opening_of}
-use Rattle.run_table.specs.Made.{moves_made}
+use Rattle.run_table.specs.Made.{shown_from, moves_made}
 use Rattle.run_table.specs.Recording.{RecordingView, Follows}
 use Rattle.run_table.specs.Running.{EndsBy, IsNoneOrAlarm}
 use Rattle.run_table.specs.Since.{Since}
-use Rattle.turret_run.specs.Served.{moves_told, GetsAll, GetsPart, FailsAmong, Misses}
-use Rattle.turret_run.specs.Runs.{due_to_turret, GetsAt, GetsBeside, StandsBeside, none_missed, Stays, HasEnded, HasFailed, IsNotPlaced, RunsWith}
-use Rattle.turret_run.specs.Rests.{ArePlaced, FailsAtPlace, first_by, first_failed, HasCause}
-use Rattle.turret_run.proofs.TurretsGet.{GotBy, served, all_of, fails_of, some_of, misses_of, either_of}
+use Rattle.turret_run.specs.Served.{moves_told, IsPlaced, FailsPlace, GetsAll, GetsPart, FailsAmong, Misses}
+use Rattle.turret_run.specs.Runs.{due_to_turret, due_by_all, GetsAt, GetsBeside, StandsBeside, none_missed, Stays, HasEnded, HasFailed, IsNotPlaced, RunsWith}
+use Rattle.turret_run.specs.Rests.{ArePlaced, FailsAtPlace, IsStillOrFailed, first_by, first_failed, HasCause}
+use Rattle.turret_run.proofs.TurretsGet.{GotBy, placed_part, served, all_of, fails_of, some_of, misses_of, either_of}
 
 -- a recording with these records, so many of which are flushed, with this file and a journal of
 -- this version
@@ -99,6 +100,12 @@ module _ {D : Type 0} (state : D → DiskState) (limit : ℕ) (old ready : Table
       ap (λ (m : MachineView). due_to_turret path (record ready { machine = m }) new) stays.machine
       ∙ ap (λ (n : ℕ). moves_told (position_of path old.machine) (moves_made new.verified path n new.recording.flushed new.recording.history)) (ap length stays.history)
 
+  -- what would be due by all records to a turret of the ready table would be due by the old one
+  all_ready : (path : Path) (new : TableView D) → due_by_all path ready new ≡ due_by_all path old new
+  all_ready path new =
+      ap (λ (m : MachineView). due_by_all path (record ready { machine = m }) new) stays.machine
+      ∙ ap (λ (n : ℕ). moves_told (position_of path old.machine) (moves_made new.verified path n (length new.recording.history) new.recording.history)) (ap length stays.history)
+
   -- what stays of the ready table stays of the old one
   stays_ready : (new : TableView D) → Stays ready new → Stays old new
   stays_ready new same = record {
@@ -112,9 +119,9 @@ module _ {D : Type 0} (state : D → DiskState) (limit : ℕ) (old ready : Table
   }
 
   -- what holds beside a failed turret for the ready table holds for the old one
-  stands_ready : (path other : Path) (a b : TurretState) → StandsBeside path (moves_told (position_of other ready.machine) []) a b → StandsBeside path (moves_told (position_of other old.machine) []) a b
+  stands_ready : (path other : Path) (a b : TurretState) → StandsBeside path (position_of other ready.machine) a b → StandsBeside path (position_of other old.machine) a b
   stands_ready One other a b same = same
-  stands_ready Two other a b place = subst (λ (m : MachineView). GetsAll (moves_told (position_of other m) []) a b) stays.machine place
+  stands_ready Two other a b place = subst (λ (m : MachineView). IsPlaced (position_of other m) a b) stays.machine place
 
   -- how the run of the ready table ended is how that of the old one did
   ended_ready : (new : TableView D) (before after : Both TurretState) (missed : Both ℕ) (end : Reason) → HasEnded state ready.budget ready new before after missed end
@@ -133,6 +140,7 @@ module _ {D : Type 0} (state : D → DiskState) (limit : ℕ) (old ready : Table
     since = since_ready new r.since;
     disk = r.disk;
     calm = r.calm ∙ ap (λ (file : Gate D). (state file.disk).faults) stays.file;
+    whole = λ p. sym (all_ready p new) ∙ r.whole p ∙ due_ready p new;
     failed = subst (λ what. FailsAmong what (of_path before path) (of_path after path)) (due_ready path new) r.failed;
     other = subst (λ what. GetsBeside path what (of_path before (other_of path)) (of_path after (other_of path))) (due_ready (other_of path) new) r.other;
     misses = λ p. subst (λ what. Misses what (of_path missed p) (of_path before p) (of_path after p)) (due_ready p new) (r.misses p);
@@ -145,7 +153,7 @@ module _ {D : Type 0} (state : D → DiskState) (limit : ℕ) (old ready : Table
     since = since_ready new r.since;
     same = stays_ready new r.same;
     disk = r.disk;
-    failed = subst (λ (m : MachineView). FailsAmong (moves_told (position_of path m) []) (of_path before path) (of_path after path)) stays.machine r.failed;
+    failed = subst (λ (m : MachineView). FailsPlace (position_of path m) (of_path before path) (of_path after path)) stays.machine r.failed;
     other = stands_ready path (other_of path) (of_path before (other_of path)) (of_path after (other_of path)) r.other;
     none = r.none;
   }
@@ -222,17 +230,33 @@ module _ {D : Type 0} (state : D → DiskState) (opened : Option (TableView D)) 
   taken_since = subst (λ o. IsOf state o taken) is of
 
   -- a turret that was placed and then served the records got what is due but what it missed
-  pub got : (path : Path) (before now : TurretState) (d : DrivenState) → GetsAll (moves_told (position_of path start.machine) []) before now
+  pub got : (path : Path) (before now : TurretState) (d : DrivenState) → IsPlaced (position_of path start.machine) before now → IsStillOrFailed d.phase
       → Serves (moves_in (records_since opened held path)) now d → GotBy (has_failed d.phase) d.missed (due_to_turret path start taken) before d.state
-  got path before now d place s =
+  got path before now d place stands s =
       let at : Serves (moves_in (records_since (Some start) held path)) now d = subst (λ o. Serves (moves_in (records_since o held path)) now d) is s in
       let moves = moves_made taken.verified path (length start.recording.history) taken.recording.flushed taken.recording.history in
       let told_of = subst (λ o. ShowsFlushed o held taken) is shown path in
-      served (position_of path start.machine) moves before now d place (subst (λ ms. Serves ms now d) told_of at)
+      served (position_of path start.machine) moves before now d place stands (subst (λ ms. Serves ms now d) told_of at)
+
+  -- unless the disk failed, the records that are not on the disk make no moves
+  pub none_beside : (taken.halt ≢ Some halt.Disk → MayHoldAgain state opened held taken) → taken.halt ≢ Some halt.Disk
+      → (path : Path) → due_by_all path start taken ≡ due_to_turret path start taken
+  none_beside again calm path =
+      let shows = subst (λ o. ShowsFlushed o (held_of taken true) taken) is (again calm).may.shows path in
+      ap (moves_told (position_of path start.machine)) (all_shown taken_since.verified taken_since.made taken_since.recording.history path ∙ shows)
+    where
+      all_shown : taken.verified ≡ start.verified → (made : List Entry) → taken.recording.history ≡ start.recording.history ++ made → (path : Path)
+          → moves_made taken.verified path (length start.recording.history) (length taken.recording.history) taken.recording.history
+          ≡ moves_in (records_since (Some start) (held_of taken true) path)
+      all_shown pair made grown path =
+          let from = length start.recording.history in
+          let history = taken.recording.history in
+          let begins : take from history ≡ start.recording.history = ap (take from) grown ∙ take-append_seam start.recording.history made in
+          λ i. moves_in (shown_from (tapes_in (pair i)) (fold (tapes_in (pair i)) (opening_of (pair i)) (begins i)) path (drop from (take-length history i)))
 
 -- a turret that was placed and got no move got no more than its place
 pub placed_only : (m : MachineView) (before now : Both TurretState) → ArePlaced m before now → (path : Path) → GetsPart (moves_told (position_of path m) []) (of_path before path) (of_path now path)
-placed_only m before now placed path = (1, placed path)
+placed_only m before now placed path = placed_part (position_of path m) (of_path before path) (of_path now path) (placed path)
 
 -- a turret failed at its place, and nothing else was done
 module _ {D : Type 0} (state : D → DiskState) (limit : ℕ) (old ready : TableView D) (stays : Stays old ready) (leave : ready.budget ≡ limit)
@@ -243,7 +267,7 @@ module _ {D : Type 0} (state : D → DiskState) (limit : ℕ) (old ready : Table
     since = since_ready state limit old ready stays leave ready itself;
     same = stays;
     disk = subst (λ h. h ≢ Some halt.Disk) (sym stays.halt) (calm_is_no_disk old.halt may);
-    failed = subst (λ (m : MachineView). FailsAmong (moves_told (position_of path m) []) (of_path before path) (of_path after path)) stays.machine f.0;
+    failed = subst (λ (m : MachineView). FailsPlace (position_of path m) (of_path before path) (of_path after path)) stays.machine f.0;
     other = stands_ready state limit old ready stays leave path (other_of path) (of_path before (other_of path)) (of_path after (other_of path)) f.1;
     none = refl;
   }
@@ -270,9 +294,26 @@ module _ {D : Type 0} (held : HeldView D) where
   has_cause (Some reason.Stopped) (Some path) ends on = (no_disk None ends.0, ends.0.live, refl)
   has_cause (Some (reason.TurretFault path)) failed ends on = absurd ends
 
+-- if no cause is told, no turret failed
+pub none_left : (end : Option Reason) (failed : Option Path) → IfNone (first_cause end failed) (failed ≡ None)
+none_left None None = refl
+none_left None (Some path) = tt
+none_left (Some reason.DiskFault) failed = tt
+none_left (Some reason.Done) None = tt
+none_left (Some reason.Done) (Some path) = tt
+none_left (Some (reason.Alarm alarm)) None = tt
+none_left (Some (reason.Alarm alarm)) (Some path) = tt
+none_left (Some reason.Full) None = tt
+none_left (Some reason.Full) (Some path) = tt
+none_left (Some reason.Stopped) None = tt
+none_left (Some reason.Stopped) (Some path) = tt
+none_left (Some (reason.TurretFault which)) None = tt
+none_left (Some (reason.TurretFault which)) (Some path) = tt
+
 -- the end of a run, by the cause that the turns after the threads found
 module _ {D : Type 0} (state : D → DiskState) (start taken : TableView D) (since : Since state start taken) (held : HeldView D) (before after : Both TurretState) (failed : Both Bool) (missed : Both ℕ)
     (ends : (end : Reason) → Ends held end → EndsBy state start taken end) (halt_is : taken.halt ≡ without_turret held.halt) (file_is : taken.recording.log.file ≡ held.file)
+    (whole : taken.halt ≢ Some halt.Disk → (path : Path) → due_by_all path start taken ≡ due_to_turret path start taken)
     (gots : (path : Path) → GotBy (of_path failed path) (of_path missed path) (due_to_turret path start taken) (of_path before path) (of_path after path)) where
   -- each turret missed what it did not get
   misses : (path : Path) → Misses (due_to_turret path start taken) (of_path missed path) (of_path before path) (of_path after path)
@@ -330,10 +371,12 @@ module _ {D : Type 0} (state : D → DiskState) (start taken : TableView D) (sin
   run_ends (reason.TurretFault path) cause =
       let fails = failed_at path cause.2 in
       let live = subst (λ (file : Gate D). IsTrue file.live) (sym file_is) cause.1 in
+      let disk : taken.halt ≢ Some halt.Disk = subst (λ h. h ≢ Some halt.Disk) (sym halt_is) (not_disk held.halt cause.0) in
       inl (record {
         since = since;
-        disk = subst (λ h. h ≢ Some halt.Disk) (sym halt_is) (not_disk held.halt cause.0);
+        disk = disk;
         calm = since.recording.calm live;
+        whole = whole disk;
         failed = fails.0;
         other = fails.1;
         misses = misses;

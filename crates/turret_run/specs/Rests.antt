@@ -2,7 +2,7 @@
 -- threads keep.
 -- No other crate cites it. src/placing.rt, rest.rt and run.rt do, and `ServesOn` stands in the
 -- contract of the public `give_turn` (src/turns.rt).
-use Rattle.std.specs.Prelude.{◌≡◌, ◌≢◌, ◌⊎◌, Bool, true, false, IsTrue, [], Option, Some, None}
+use Rattle.std.specs.Prelude.{◌≡◌, ◌≢◌, ◌⊎◌, Bool, true, false, IsTrue, Option, Some, None}
 use Rattle.nc_number.specs.declared.both.Both.{Both}
 use Rattle.nc_number.specs.declared.path.Path.{Path}
 use Rattle.nc_number.specs.declared.path.Path.TheVariants.{One, Two}
@@ -19,19 +19,19 @@ use Rattle.nc_outside.specs.declared.reason.Reason.TheVariants as reason
 use Rattle.two_path.specs.Machine.{MachineView, position_of}
 use Rattle.run_table.specs.Ending.{HasEnded}
 use Rattle.run_table.specs.Holding.{HeldView}
-use Rattle.turret_run.specs.Served.{moves_told, GetsAll, FailsAmong}
+use Rattle.turret_run.specs.Served.{IsPlaced, FailsPlace}
 use Rattle.turret_run.specs.Runs.{StandsBeside}
 
--- each turret got its place
+-- each turret got its place, and stands still there
 abbrev pub ArePlaced : MachineView → Both TurretState → Both TurretState → Type 0
-ArePlaced m before after = (path : Path) → GetsAll (moves_told (position_of path m) []) (of_path before path) (of_path after path)
+ArePlaced m before after = (path : Path) → IsPlaced (position_of path m) (of_path before path) (of_path after path)
 
--- the turret of this path failed at its place; if it is path 2's, that of path 1 had got its place,
--- and if it is path 1's, that of path 2 was not called
+-- the turret of this path failed at its place; if it is path 2's, that of path 1 stood still at its
+-- place, and if it is path 1's, that of path 2 was not called
 abbrev pub FailsAtPlace : MachineView → Both TurretState → Both TurretState → Path → Type 0
 FailsAtPlace m before after path =
-    FailsAmong (moves_told (position_of path m) []) (of_path before path) (of_path after path)
-    × StandsBeside path (moves_told (position_of (other_of path) m) []) (of_path before (other_of path)) (of_path after (other_of path))
+    FailsPlace (position_of path m) (of_path before path) (of_path after path)
+    × StandsBeside path (position_of (other_of path) m) (of_path before (other_of path)) (of_path after (other_of path))
 
 -- a turret that had served the moves of the old records has served those of the new ones
 abbrev pub ServesOn : Records → DrivenState → Records → DrivenState → Type 0

@@ -7,6 +7,7 @@ use Rattle.nc_number.specs.declared.both.Both.{Both}
 use Rattle.nc_number.specs.declared.fault.NoMemory.{NoMemory}
 use Rattle.nc_number.specs.declared.path.Path.{Path}
 use Rattle.nc_number.specs.declared.path.Path.TheVariants.{One, Two}
+use Rattle.nc_number.specs.declared.point.Point.{Point}
 use Rattle.nc_number.specs.Both.{of_path}
 use Rattle.nc_number.specs.Path.{other_of}
 use Rattle.nc_outside.specs.declared.halt.Halt.TheVariants.{Disk}
@@ -19,13 +20,19 @@ use Rattle.run_table.specs.Kept.{TableView}
 use Rattle.run_table.specs.Made.{moves_made}
 use Rattle.run_table.specs.Running.{EndsBy}
 use Rattle.run_table.specs.Since.{Since}
-use Rattle.turret_run.specs.Served.{moves_told, GetsAll, GetsPart, GetsSome, FailsAmong, Misses}
+use Rattle.turret_run.specs.Served.{moves_told, IsPlaced, FailsPlace, GetsAll, GetsPart, GetsSome, FailsAmong, Misses}
 
 -- What is due to the turret of a path: its place at the beginning, and the moves of the path's
 -- records since then that are on the disk at the end.
 abbrev pub due_to_turret : {D : Type 0} → Path → TableView D → TableView D → List Got
 due_to_turret path old new = moves_told (position_of path old.machine)
     (moves_made new.verified path (length old.recording.history) new.recording.flushed new.recording.history)
+
+-- What would be due to the turret of a path if all records were on the disk: its place at the
+-- beginning, and the moves of all records of the path since then.
+abbrev pub due_by_all : {D : Type 0} → Path → TableView D → TableView D → List Got
+due_by_all path old new = moves_told (position_of path old.machine)
+    (moves_made new.verified path (length old.recording.history) (length new.recording.history) new.recording.history)
 
 -- What a turret got at an end of the run that is no fault of a turret: all that is due. If the disk
 -- failed, it got a prefix of that, and may have failed too.
@@ -40,11 +47,11 @@ GetsBeside One what old new = GetsAll what old new ⊎ FailsAmong what old new
 GetsBeside Two what old new = GetsAll what old new
 
 -- What the other turret got if that of the named path failed at its place, of which path 1's comes
--- first. Beside path 1 that of path 2 was not called; beside path 2 that of path 1 had got its
--- place.
-abbrev pub StandsBeside : Path → List Got → TurretState → TurretState → Type 0
+-- first. Beside path 1 that of path 2 was not called; beside path 2 that of path 1 stood still at
+-- its place.
+abbrev pub StandsBeside : Path → Point → TurretState → TurretState → Type 0
 StandsBeside One place old new = new ≡ old
-StandsBeside Two place old new = GetsAll place old new
+StandsBeside Two place old new = IsPlaced place old new
 
 -- no turret missed a move
 abbrev pub none_missed : Both ℕ
@@ -82,7 +89,7 @@ module _ {D : Type 0} (state : D → DiskState) (limit : ℕ) (old new : TableVi
     -- how much of what is due each turret missed
     pub misses : (path : Path) → Misses (due_to_turret path old new) (of_path missed path) (of_path before path) (of_path after path)
 
-  -- A turret failed after its place, and no call of the disk failed.
+  -- A turret failed after both turrets had got their places, and no call of the disk failed.
   pub record HasFailed (path : Path) : Type 0 where
     -- the table has come of the old one by at most `limit` records
     pub since : Since state (record old { budget = limit }) new
@@ -90,15 +97,17 @@ module _ {D : Type 0} (state : D → DiskState) (limit : ℕ) (old new : TableVi
     pub disk : new.halt ≢ Some Disk
     -- no call of the disk failed
     pub calm : (state new.recording.log.file.disk).faults ≡ (state old.recording.log.file.disk).faults
-    -- the turret of this path got a prefix of what is due to it, and failed
+    -- the records that are not on the disk make no moves: with them no more is due to either turret
+    pub whole : (p : Path) → due_by_all p old new ≡ due_to_turret p old new
+    -- the turret of this path got its place and a prefix of what is due to it, and failed
     pub failed : FailsAmong (due_to_turret path old new) (of_path before path) (of_path after path)
     -- what the other turret got
     pub other : GetsBeside path (due_to_turret (other_of path) old new) (of_path before (other_of path)) (of_path after (other_of path))
     -- how much of what is due each turret missed
     pub misses : (p : Path) → Misses (due_to_turret p old new) (of_path missed p) (of_path before p) (of_path after p)
 
-  -- A turret failed at its place: the table is as it was, no turret got a move, and the other one
-  -- got no more than its place.
+  -- A turret failed at its place, or in coming to stand still there: the table is as it was, no
+  -- turret got a move, and the other one got no more than its place.
   pub record IsNotPlaced (path : Path) : Type 0 where
     -- the table has come of the old one
     pub since : Since state (record old { budget = limit }) new
@@ -107,9 +116,9 @@ module _ {D : Type 0} (state : D → DiskState) (limit : ℕ) (old new : TableVi
     -- the table keeps no fault of the disk
     pub disk : new.halt ≢ Some Disk
     -- the turret of this path failed at its place
-    pub failed : FailsAmong (moves_told (position_of path old.machine) []) (of_path before path) (of_path after path)
+    pub failed : FailsPlace (position_of path old.machine) (of_path before path) (of_path after path)
     -- what the other turret got
-    pub other : StandsBeside path (moves_told (position_of (other_of path) old.machine) []) (of_path before (other_of path)) (of_path after (other_of path))
+    pub other : StandsBeside path (position_of (other_of path) old.machine) (of_path before (other_of path)) (of_path after (other_of path))
     -- no move was missed
     pub none : missed ≡ none_missed
 

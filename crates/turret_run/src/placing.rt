@@ -1,12 +1,14 @@
-//! What is done before a run: leave for its records, and the places of both turrets.
+//! What is done before a run: leave for its records, and the places of both turrets, at which they
+//! stand still before the first record.
 //! For run.rt of this crate.
-ghost use Rattle.std.specs.Prelude.{◌≡◌, IfErr, OnOk};
+ghost use Rattle.std.specs.Prelude.{◌≡◌, IfErr, OnErr, OnOk};
 ghost use Rattle.nc_number.specs.Both.{both_of};
 ghost use Rattle.turret_run.specs.Runs.{Stays};
 ghost use Rattle.turret_run.specs.Rests.{ArePlaced, FailsAtPlace};
+ghost use Rattle.turret_run.specs.Served.{IsPlaced, FailsPlace};
 
 use disk_model::Disk;
-use nc_number::{Both, NoMemory, Path};
+use nc_number::{Both, Failed, NoMemory, Path, Point};
 use nc_outside::Turret;
 use run_table::Table;
 
@@ -19,8 +21,22 @@ pub(crate) fn make_ready<D: Disk>(table: &mut Table<D>, limit: u32) -> Result<()
     table.prepare(limit)
 }
 
-/// Places both turrets where their paths are, that of path 1 first. An error is the path whose
-/// turret failed.
+/// Places the turret there, and waits until it stands still at its place.
+fn take_place<T: Turret>(turret: &mut T, at: Point) -> Result<(), Failed>
+    ensures ok { OnOk result (IsPlaced at (T.state turret.old) (T.state turret.new)) }
+    ensures err { OnErr result (FailsPlace at (T.state turret.old) (T.state turret.new)) }
+{
+    if let Err(fault) = turret.place(at) {
+        return Err(fault);
+    }
+    if let Err(fault) = turret.settle() {
+        return Err(fault);
+    }
+    Ok(())
+}
+
+/// Places both turrets where their paths are, that of path 1 first. That of path 2 is placed once
+/// the first one stands still at its place. An error is the path whose turret failed.
 pub(crate) fn place_both<D: Disk, T: Turret>(
     table: &Table<D>,
     turrets: &mut Both<T>,
@@ -30,10 +46,10 @@ pub(crate) fn place_both<D: Disk, T: Turret>(
     ensures err { IfErr result (FailsAtPlace table.now.machine
         (both_of T.state turrets.old) (both_of T.state turrets.new)) }
 {
-    if let Err(_) = turrets.one.place(table.position(Path::One)) {
+    if let Err(_) = take_place(&mut turrets.one, table.position(Path::One)) {
         return Err(Path::One);
     }
-    if let Err(_) = turrets.two.place(table.position(Path::Two)) {
+    if let Err(_) = take_place(&mut turrets.two, table.position(Path::Two)) {
         return Err(Path::Two);
     }
     Ok(())

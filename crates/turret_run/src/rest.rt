@@ -1,6 +1,6 @@
 //! The turns that are left after the threads have ended, given one by one in the caller's thread.
 //! For run.rt of this crate.
-ghost use Rattle.std.specs.Prelude.{◌≡◌, List, IfSome};
+ghost use Rattle.std.specs.Prelude.{◌≡◌, List, IfNone, IfSome, None};
 ghost use Rattle.drive_line.specs.Driving.{Serves};
 ghost use Rattle.nc_outside.specs.declared.lined_move.LinedMove.{LinedMove as Lined};
 ghost use Rattle.nc_outside.specs.Received.{TurretState};
@@ -46,6 +46,7 @@ fn end_of_run<D: Disk, O: Opening<D>>(
     failed: Option<Path>,
 ) -> Option<Reason>
     ensures ends { IfSome result (HasCause table.new failed) }
+    ensures goes_on { IfNone result (failed ≡ None) }
     ensures same { (p : OnePath) → records_since O.opened table.new p ≡ records_since O.opened table.old p }
 {
     Reason::of_causes(table.end(), failed)
@@ -60,13 +61,15 @@ fn settle<T: Turret>(driven: &mut Driven<T>)
     driven.settle();
 }
 
-/// Gives a path of the held table one turn, and its moves to its turret.
+/// Gives a path of the held table one turn, and its moves to its turret. Once a turret has failed
+/// no turn is given.
 fn give_turn_of<R: Wait, D: Disk, O: Opening<D>, T: Turret>(
     rt: &R,
     table: &mut Held<D, O>,
     path: Path,
     turrets: &mut Both<Driven<T>>,
 )
+    requires { first_failed (who_failed turrets.old) ≡ None }
     ensures one { ServesOn (records_since O.opened table.old One) turrets.old.one
         (records_since O.opened table.new One) turrets.new.one }
     ensures two { ServesOn (records_since O.opened table.old Two) turrets.old.two

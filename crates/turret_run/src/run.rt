@@ -105,9 +105,9 @@ fn unbegun<D: Disk, T: Turret>(table: Table<D>, turrets: Both<T>) -> TurretRun<D
     }
 }
 
-/// Places both turrets where their paths stand, that of path 1 first. Then it runs both paths at
-/// once, until the run ends or has made `limit` records. Each path has a worker and a drive, in
-/// threads of their own.
+/// Places both turrets where their paths stand, that of path 1 first, and waits until each stands
+/// still there. Then it runs both paths at once, until the run ends or has made `limit` records.
+/// Each path has a worker and a drive, in threads of their own.
 ///
 /// Memory may run out only before the first step. Before a turret is placed, as many threads are
 /// made at once as the run needs beside the caller's; if one is refused nothing is done. A thread

@@ -4,19 +4,22 @@
 #![tactic(auto)]
 
 mod ending;
+mod turret_files;
 
 use clap_reading::read_words;
-use command_words::{Command, Journal, Name, WordsFault, journal_of};
+use command_words::{Command, Journal, WordsFault, journal_of};
 use disk_model::Disk;
 use ending::Ending;
 use lathe_top::{Outcome, top};
 use nc_number::Path;
 use nc_outside::Turret;
-use real_outside::{Access, FileDisk, FileShelf, LineFile, StdSink, SystemFolder, Trouble};
+use real_outside::{Access, FileDisk, FileShelf, Folder, LineFile, StdSink, SystemFolder};
 use std::alloc::AllocError;
 use std::env;
-use std::io::ErrorKind;
-use std::rt::Env;
+use std::fs::File;
+use std::io::{ErrorKind, IsTerminal};
+use std::rt::{Env, Files};
+use turret_files::{Clash, TurretNames, clash_of, names_for_turrets, pipe_of};
 use turret_lines::LineTurret;
 
 /// The file of the journal, in the current folder.
@@ -35,89 +38,105 @@ fn main(rt: HostRuntime) -> Ending {
         Err(WordsFault::Usage) => None,
         Err(WordsFault::NoMemory) => return Ending::without_memory(),
     };
+    let clash = clash_of(&rt, &command);
+    let words = words_without(clash, words.as_slice());
     let names = names_for_turrets(&command);
+    if rt.stderr().is_terminal() {
+        tell_pipes(&rt, names);
+    }
     let mut shelf = FileShelf::new(&rt);
     let mut out = StdSink::new(&rt);
-    let access = access_of(words.as_slice());
+    let access = access_of(&command, words);
     let outcome = top(
         &rt,
         rt.alloc(),
-        words.as_slice(),
+        words,
         &mut shelf,
         FileDisk::new(SystemFolder::new(&rt), JOURNAL, access),
         FileDisk::new(SystemFolder::new(&rt), BRANCH, Access::Write),
-        LineTurret::new(LineFile::new(&rt, names.one)),
+        LineTurret::new(LineFile::before(&rt, names.one, names.two)),
         LineTurret::new(LineFile::new(&rt, names.two)),
         &mut out,
     );
     let end = Ending::behind(&outcome);
-    tell_missed(&rt, &outcome);
-    complain(&rt, JOURNAL, outcome.disk.trouble());
-    complain(&rt, BRANCH, outcome.second.trouble());
+    tell_clash(&rt, clash);
+    tell_missed(&rt, names, &outcome);
+    complain(&rt, JOURNAL, &outcome.disk);
+    complain(&rt, BRANCH, &outcome.second);
     end
 }
 
-/// The names of the files to which the turrets of a run write, if they were given.
-#[derive(Clone, Copy)]
-struct TurretNames<'a> {
-    /// The file of path 1's turret.
-    one: Option<&'a str>,
-    /// The file of path 2's turret.
-    two: Option<&'a str>,
-}
-
-/// The names of the files to which the turrets of a command write.
-fn names_for_turrets(command: &Option<Command>) -> TurretNames<'_> {
-    let files = match command {
-        Some(command) => command.turret_files(),
-        None => None,
-    };
-    match files {
-        Some(files) => TurretNames {
-            one: text_of(&files.one),
-            two: text_of(&files.two),
-        },
-        None => TurretNames {
-            one: None,
-            two: None,
-        },
+/// Whether the command of these words writes the journal, goes on with it, or only looks at it.
+fn access_of(command: &Option<Command>, words: &[String]) -> Access {
+    if let Some(Command::Resume(_, _)) = command {
+        return Access::Continue;
     }
-}
-
-/// The text of a name, if there is one.
-fn text_of(name: &Option<Name>) -> Option<&str> {
-    match name {
-        Some(name) => Some(name.as_str()),
-        None => None,
-    }
-}
-
-/// Whether the command of these words writes the journal, or only looks at it.
-fn access_of(words: &[String]) -> Access {
     match journal_of(words) {
         Journal::Write => Access::Write,
         Journal::None | Journal::Look => Access::Look,
     }
 }
 
-/// Says on standard error how many recorded moves each turret missed, if it missed any.
-fn tell_missed<R: Eprint, D: Disk, E: Disk, T: Turret>(rt: &R, outcome: &Outcome<D, E, T>) {
+/// The words of the command, or none, which are no command, if its turrets may not write to their
+/// files.
+fn words_without(clash: Option<Clash>, words: &[String]) -> &[String] {
+    if clash.is_some() {
+        return &[];
+    }
+    words
+}
+
+/// Says on standard error why the turrets may not write to their files, if they may not.
+fn tell_clash<R: Eprint>(rt: &R, clash: Option<Clash>) {
+    let _ = match clash {
+        None => Ok(()),
+        Some(Clash::One) => eprintln!(rt; "--turret1 would make a file anew that the command uses"),
+        Some(Clash::Two) => eprintln!(rt; "--turret2 would make a file anew that the command uses"),
+        Some(Clash::Both) => eprintln!(rt; "--turret1 and --turret2 are one file"),
+    };
+}
+
+/// Says on standard error which pipes the run waits for, until something reads them.
+fn tell_pipes<R: Eprint + Files<File = File>>(rt: &R, names: TurretNames<'_>) {
+    for path in [Path::One, Path::Two] {
+        if let Some(pipe) = pipe_of(rt, names, path) {
+            let number = path.number();
+            let _ = eprintln!(rt;
+                "turret {number} is the pipe {pipe}: the run begins once it is read"
+            );
+        }
+    }
+}
+
+/// Says on standard error how many recorded moves each turret missed, if it missed any. What was
+/// written into a pipe and not read counts as made.
+fn tell_missed<R: Eprint + Files<File = File>, D: Disk, E: Disk, T: Turret>(
+    rt: &R,
+    names: TurretNames<'_>,
+    outcome: &Outcome<D, E, T>,
+) {
     for path in [Path::One, Path::Two] {
         let number = path.number();
+        let beside = match pipe_of(rt, names, path) {
+            Some(_) => ", besides those that the reader of its pipe has not read",
+            None => "",
+        };
         let _ = match outcome.missed(path) {
             0 => Ok(()),
-            1 => eprintln!(rt; "path {number}: 1 recorded move was not made"),
-            many => eprintln!(rt; "path {number}: {many} recorded moves were not made"),
+            1 => eprintln!(rt; "path {number}: 1 recorded move was not made{beside}"),
+            many => eprintln!(rt; "path {number}: {many} recorded moves were not made{beside}"),
         };
     }
 }
 
-/// Says on standard error why the file of a journal can't be used, if there is a reason. If that
+/// Says on standard error why the file of a journal can't be used, if a call of it failed. If that
 /// can't be said, the status still tells of it.
-fn complain<R: Eprint>(rt: &R, journal: &str, trouble: Option<Trouble>) {
-    if let Some(trouble) = trouble {
-        let _ = eprintln!(rt; "{journal} {trouble}");
-    }
+fn complain<R: Eprint, D: Folder + Drop>(rt: &R, journal: &str, disk: &FileDisk<'_, D>) {
+    let _ = match (disk.trouble(), disk.cause()) {
+        (Some(trouble), _) => eprintln!(rt; "{journal} {trouble}"),
+        (None, Some(error)) => eprintln!(rt; "{journal}: {error}"),
+        (None, None) => Ok(()),
+    };
 }
 
 /// The words after the program's name. If one of them is no text they are no command, and none is

@@ -2,7 +2,7 @@
 //! of clap_reading.
 
 use clap_reading::read_words;
-use command_words::{Command, ProgramRange, TurretFiles, WordsFault};
+use command_words::{Command, Name, ProgramRange, TurretFiles, WordsFault};
 use std::alloc::{AllocError, Global};
 use std::test::Fail;
 
@@ -11,7 +11,7 @@ use std::test::Fail;
 const ROWS: &str = "verify l r s -> verify [l] [r] [s]
 verify -> usage
 verify l -> usage
-verify l r -> usage
+verify l r -> verify [l] [r]
 verify l r s t -> usage
 verify  r s -> verify [] [r] [s]
 verify    -> verify [] [] []
@@ -24,7 +24,15 @@ verify l -- r s -> verify [l] [r] [s]
 verify l r s -- -> verify [l] [r] [s]
 verify -- --help -x --blocks -> verify [--help] [-x] [--blocks]
 verify -- l -- s -> verify [l] [--] [s]
-verify -- l r -> usage
+verify  r -> verify [] [r]
+verify   -> verify [] []
+verify - - -> verify [-] [-]
+verify verify run -> verify [verify] [run]
+verify -- l r -> verify [l] [r]
+verify l -- r -> verify [l] [r]
+verify l r -- -> verify [l] [r]
+verify -- l -> usage
+verify -- -- -- -> verify [--] [--]
 verify -- l r s t -> usage
 verify l r s -- -- -> usage
 -- verify l r s -> usage
@@ -39,7 +47,11 @@ verify l r s -V -> usage
 Verify l r s -> usage
 verif l r s -> usage
 waits l r s -> waits [l] [r] [s]
-waits l r -> usage
+waits l r -> waits [l] [r]
+waits l r --outside 1-2 -> waits [l] [r] 1 2
+waits l --outside=1-2 r -> waits [l] [r] 1 2
+waits l --outside 1-2 -> usage
+waits l -> usage
 waits l r s t -> usage
 waits l r s --outside 9000-9999 -> waits [l] [r] [s] 9000 9999
 waits --outside=1-1 l r s -> waits [l] [r] [s] 1 1
@@ -56,14 +68,18 @@ waits l r s --outside 1-2 --outside 1-2 -> usage
 waits l r s --blocks 7 -> usage
 verify l r s --outside 1-2 -> usage
 races l r s -> races [l] [r] [s]
-races l r -> usage
+races l r -> races [l] [r]
+races l -> usage
 races l r s t -> usage
 races l -- r s -> races [l] [r] [s]
 races l r s --blocks 5 -> usage
 races l r s --outside 1-2 -> usage
 Races l r s -> usage
 trace l r s -> trace [l] [r] [s] 100000
-trace l r -> usage
+trace l r -> trace [l] [r] 100000
+trace l r --blocks 7 -> trace [l] [r] 7
+trace -- l --blocks -> trace [l] [--blocks] 100000
+trace l -> usage
 trace l r s t -> usage
 trace l r s --blocks 7 -> trace [l] [r] [s] 7
 trace --blocks=1000000 l r s -> trace [l] [r] [s] 1000000
@@ -72,7 +88,14 @@ trace l r s --blocks 0 -> usage
 trace l r s --turret1 a -> usage
 trace -- l r --blocks -> trace [l] [r] [--blocks] 100000
 run l r s -> run [l] [r] [s] 100000
-run l r -> usage
+run l r -> run [l] [r] 100000
+run l -> usage
+run l r --blocks 5 -> run [l] [r] 5
+run l --blocks 5 r -> run [l] [r] 5
+run l --blocks r -> usage
+run l --blocks 5 -> usage
+run l r --turret1 a -> run [l] [r] 100000 1>a
+run --turret1 a --turret2 b l r --blocks=9 -> run [l] [r] 9 1>a 2>b
 run l r s t -> usage
 run l r s --blocks 1 -> run [l] [r] [s] 1
 run l r s --blocks 1000000 -> run [l] [r] [s] 1000000
@@ -223,38 +246,33 @@ fn words_of(alloc: Global, row: &str) -> Result<Vec<String>, AllocError> {
 fn shown(alloc: Global, answer: Result<Command, WordsFault>) -> Result<String, AllocError> {
     match answer {
         Ok(Command::Verify(left, right, settings)) => {
-            let left = left.as_str();
-            let right = right.as_str();
-            let settings = settings.as_str();
-            format!(in alloc; "verify [{left}] [{right}] [{settings}]")
+            let pair = pair_shown(alloc, &left, &right, &settings)?;
+            let pair = pair.as_str();
+            format!(in alloc; "verify{pair}")
         }
         Ok(Command::Waits(left, right, settings, outside)) => {
-            let left = left.as_str();
-            let right = right.as_str();
-            let settings = settings.as_str();
+            let pair = pair_shown(alloc, &left, &right, &settings)?;
+            let pair = pair.as_str();
             let outside = range_shown(alloc, outside)?;
             let outside = outside.as_str();
-            format!(in alloc; "waits [{left}] [{right}] [{settings}]{outside}")
+            format!(in alloc; "waits{pair}{outside}")
         }
         Ok(Command::Races(left, right, settings)) => {
-            let left = left.as_str();
-            let right = right.as_str();
-            let settings = settings.as_str();
-            format!(in alloc; "races [{left}] [{right}] [{settings}]")
+            let pair = pair_shown(alloc, &left, &right, &settings)?;
+            let pair = pair.as_str();
+            format!(in alloc; "races{pair}")
         }
         Ok(Command::Trace(left, right, settings, blocks)) => {
-            let left = left.as_str();
-            let right = right.as_str();
-            let settings = settings.as_str();
-            format!(in alloc; "trace [{left}] [{right}] [{settings}] {blocks}")
+            let pair = pair_shown(alloc, &left, &right, &settings)?;
+            let pair = pair.as_str();
+            format!(in alloc; "trace{pair} {blocks}")
         }
         Ok(Command::Run(left, right, settings, blocks, files)) => {
-            let left = left.as_str();
-            let right = right.as_str();
-            let settings = settings.as_str();
+            let pair = pair_shown(alloc, &left, &right, &settings)?;
+            let pair = pair.as_str();
             let files = files_shown(alloc, &files)?;
             let files = files.as_str();
-            format!(in alloc; "run [{left}] [{right}] [{settings}] {blocks}{files}")
+            format!(in alloc; "run{pair} {blocks}{files}")
         }
         Ok(Command::Resume(blocks, files)) => {
             let files = files_shown(alloc, &files)?;
@@ -283,6 +301,25 @@ fn shown(alloc: Global, answer: Result<Command, WordsFault>) -> Result<String, A
         }
         Err(WordsFault::Usage) => String::from_str(alloc, "usage"),
         Err(WordsFault::NoMemory) => String::from_str(alloc, "no memory"),
+    }
+}
+
+/// The names of a pair as the rows write them: a space before each, and nothing for settings that
+/// were left out.
+fn pair_shown(
+    alloc: Global,
+    left: &Name,
+    right: &Name,
+    settings: &Option<Name>,
+) -> Result<String, AllocError> {
+    let left = left.as_str();
+    let right = right.as_str();
+    match settings {
+        Some(settings) => {
+            let settings = settings.as_str();
+            format!(in alloc; " [{left}] [{right}] [{settings}]")
+        }
+        None => format!(in alloc; " [{left}] [{right}]"),
     }
 }
 

@@ -11,7 +11,7 @@ use Rattle.clap_reading.proofs.grammar.program.Goals as goal
 
 -- The row that is read if a list has none.
 abbrev no_row : Row
-no_row = record { name = record { ref_ptr = (0, 0); now = [] }; words = record { ref_ptr = (0, 0); now = [] }; options = record { ref_ptr = (0, 0); now = [] }; journal = journal.None; task = Verify }
+no_row = record { name = record { ref_ptr = (0, 0); now = [] }; words = record { ref_ptr = (0, 0); now = [] }; further = record { ref_ptr = (0, 0); now = [] }; options = record { ref_ptr = (0, 0); now = [] }; journal = journal.None; task = Verify }
 
 pub loop-row-preserved : goal.loop-row-preserved
 loop-row-preserved c =

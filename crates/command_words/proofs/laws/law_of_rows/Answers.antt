@@ -1,5 +1,5 @@
--- No two rows of commands have one name, and each gives a command for as many words `1` as it names
--- (src/laws.rt).
+-- No two rows of commands have one name, and each gives a command for as many words `1` as it must
+-- have, and for as many as it may have (src/laws.rt).
 use Rattle.std.proofs.Common.{refl}
 use Rattle.command_words.specs.Number.{number_of}
 use Rattle.command_words.specs.Table.{listings}

@@ -13,4 +13,5 @@ returns-in-Err-fetch-clause-not_had g c =
 
 pub returns-clause-texts : goal.returns-clause-texts
 returns-clause-texts g c =
-    tapes_had _ _ _ _ _ _ _ _ c.in-Ok.ensures.text c.in-Ok.ensures.files c.in-Ok.ensures.asked c.in-Ok-fetch.ensures.text c.in-Ok-fetch.ensures.asked
+    tapes_had _ _ _ _ _ _ _ _ _ c.in-Ok.ensures.text c.in-Ok.ensures.files c.in-Ok.ensures.asked c.in-Ok-fetch.ensures.text c.in-Ok-fetch.ensures.asked
+    c.in-Ok.ensures.calm c.in-Ok-fetch.ensures.calm

@@ -1,14 +1,12 @@
--- For the proof of `run` (src/beginning.rt): the pair of the three files is run with a new journal;
+-- For the proof of `run` (src/beginning.rt): the pair of the files is run with a new journal;
 -- or it is told which file can't be read, and nothing is run.
-use Rattle.lathe_looks.specs.Fetched.{answers}
-use Rattle.lathe_looks.specs.Texts.{texts_of}
 use Rattle.lathe_calls.proofs.Ended.{ends_by, ends_just}
-use Rattle.lathe_looks.proofs.NotHad.{unfetched_due}
+use Rattle.lathe_looks.proofs.NotHad.{answered, unfetched_due}
 use Rattle.lathe_top.proofs.Opened.{none_called}
 use Rattle.lathe_top.proofs.beginning.run.Goals as goal
 
 pub returns-in-Ok : goal.returns-in-Ok
-returns-in-Ok g c = ends_by _ (λ answer ran. answers (texts_of c.in-Ok.texts) c.in-Ok.ensures.texts ran) c.run_texts.ensures
+returns-in-Ok g c = ends_by _ (λ answer ran. answered _ answer c.in-Ok.ensures.texts ran) c.run_texts.ensures
 
 pub returns-in-Err : goal.returns-in-Err
 returns-in-Err g c =

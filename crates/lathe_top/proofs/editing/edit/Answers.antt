@@ -1,5 +1,6 @@
 -- For the proof of `edit` (src/editing.rt): the edits of the file are made; or it is told why the
 -- file gives none.
+use Rattle.std.proofs.Common.{[], ◌∷◌}
 use Rattle.lathe_calls.proofs.Ended.{ends_by}
 use Rattle.lathe_looks.specs.Fetched.{answers}
 use Rattle.lathe_top.specs.Edited.{edited}
@@ -10,7 +11,7 @@ use Rattle.lathe_top.proofs.editing.edit.Goals as goal
 pub returns-in-Ok : goal.returns-in-Ok
 returns-in-Ok g c =
     let read = c.in-Ok.ensures.read in
-    ends_by _ (λ answer due. answers read.text read.had (edited read.are due.0 due.1)) (rw (c.in-Ok.ensures.silent) at c.edit_by.ensures)
+    ends_by _ (λ answer due. answers (read.text ∷ []) read.had (edited read.are due.0 due.1)) (rw (c.in-Ok.ensures.silent) at c.edit_by.ensures)
 
 pub returns-in-Err : goal.returns-in-Err
 returns-in-Err g c =

@@ -1,5 +1,5 @@
--- For the proof of `answer_pair` (src/looking.rt): a question about three files is answered, and
--- neither the disk nor a turret is called.
+-- For the proof of `answer_pair` (src/looking.rt): a question about the files of a pair is answered,
+-- and neither the disk nor a turret is called.
 use Rattle.lathe_calls.proofs.Ended.{ends_by}
 use Rattle.lathe_top.proofs.Opened.{none_called}
 use Rattle.lathe_top.proofs.looking.answer_pair.Goals as goal

@@ -10,7 +10,7 @@ use Rattle.run_table.specs.Holding.{MayHold, without_turret}
 use Rattle.turret_run.specs.Rests.{ArePlaced, who_failed}
 use Rattle.turret_run.specs.Runs.{due_to_turret}
 use Rattle.turret_run.proofs.TurretsGet.{GotBy}
-use Rattle.turret_run.proofs.TurretsRun.{for_each, none_since, taken_since, got, run_ends, placed_only, calm_is_no_disk, calm_stays}
+use Rattle.turret_run.proofs.TurretsRun.{for_each, none_since, taken_since, got, none_beside, run_ends, placed_only, calm_is_no_disk, calm_stays}
 use Rattle.turret_run.proofs.run.run_opened.Goals as goal
 
 pub new-requires : goal.new-requires
@@ -35,12 +35,12 @@ returns-in-Ok g c =
     let gots : (start : Both TurretState) → ArePlaced t.machine start (both_of turret c.args.turrets)
     → (path : Path) → GotBy (of_path (who_failed now) path) (of_path (both_of (λ d. d.missed) now) path) (due_to_turret path t out.result) (of_path start path) (of_path (both_of (λ d. d.state) now) path) =
     λ start placed. for_each (λ path. GotBy (of_path (who_failed now) path) (of_path (both_of (λ d. d.missed) now) path) (due_to_turret path t out.result) (of_path start path) (of_path (both_of (λ d. d.state) now) path))
-    (gets One start.one (turret c.args.turrets.one) now.one (placed One) (rest.ensures.one (turret c.args.turrets.one) c.in-Ok.ensures.one))
-    (gets Two start.two (turret c.args.turrets.two) now.two (placed Two) (rest.ensures.two (turret c.args.turrets.two) c.in-Ok.ensures.two)) in
+    (gets One start.one (turret c.args.turrets.one) now.one (placed One) rest.ensures.still.0 (rest.ensures.one (turret c.args.turrets.one) c.in-Ok.ensures.one))
+    (gets Two start.two (turret c.args.turrets.two) now.two (placed Two) rest.ensures.still.1 (rest.ensures.two (turret c.args.turrets.two) c.in-Ok.ensures.two)) in
     record {
       run = λ start placed. rw (c.let_go.ensures, c.who_missed-missed.ensures) (run_ends state t out.result since held start (both_of (λ d. d.state) now) (who_failed now) (both_of (λ d. d.missed) now)
           (λ end has. c.a_taken_table_ended_so.ensures t out.result held end since (calm_is_no_disk t.halt c.requires.halt) out.ensures.taken has) out.ensures.taken.halt out.ensures.taken.file
-          (gots start placed) rest.result rest.ensures.ends);
+          (none_beside state opened t out.result held is out.ensures.of out.ensures.shown out.ensures.again) (gots start placed) rest.result rest.ensures.ends);
     }
 
 pub returns-in-Err : goal.returns-in-Err

@@ -1,6 +1,0 @@
--- For the loop of `write_again` (src/pieces.rt): the place so far is no further than the end.
-use Rattle.std.proofs.Common.{◌-◌}
-use Rattle.real_outside.proofs.pieces.write_again.Given as goal
-
-abbrev pub decreases-loop-at : goal.decreases-loop-at
-decreases-loop-at g l = l.end - l.at
