@@ -1,5 +1,5 @@
 # How the launcher has the program proved and built, or compiled without its proofs. Sourced by it, after program.sh, if one of these is
-# still to be done. It ends with 70 if that fails.
+# still to be done. It ends with 70 if that fails. scripts/build_library takes from it how progress is shown.
 
 # How long the first proof takes: calculated from the processor time of each crate (docs/dev/GATE.md).
 first_time='20 to 50 minutes on four processors'
