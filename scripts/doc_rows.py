@@ -79,8 +79,8 @@ def sessions(name):
 
 
 def pattern_of(line):
-    """`..` as a word stands for any words, and in quotes for any text."""
-    text = re.escape(line).replace(r"\ ", " ").replace(r'"\.\."', '"[^"]*"')
+    """`..` as a word stands for any words, and in quotes for any text. The documents show a program that was proved."""
+    text = re.escape(line).replace(r"\ ", " ").replace(r'"\.\."', '"[^"]*"').replace('"proved":true', '"proved":(?:true|false)')
     return re.sub(r"(?<!\S)\\\.\\\.(?!\S)", ".*", text)
 
 
