@@ -112,9 +112,17 @@ fn is_used<D: Folder>(folder: &D, command: &Command, name: &str) -> bool {
     if let Command::Run(left, right, settings, _, _) = command {
         return is_same(folder, name, left.as_str())
             || is_same(folder, name, right.as_str())
-            || is_same(folder, name, settings.as_str());
+            || is_settings(folder, name, settings);
     }
     false
+}
+
+/// Whether the name is that of the settings, if there are any.
+fn is_settings<D: Folder>(folder: &D, name: &str, settings: &Option<Name>) -> bool {
+    match settings {
+        Some(own) => is_same(folder, name, own.as_str()),
+        None => false,
+    }
 }
 
 /// Whether both names are of one file; of one that is not there, by its folder and its last name. A
