@@ -1,6 +1,6 @@
 -- What writing edits leaves on the disk of a journal, from the raising of the journal and the flush
 -- of the batch. `write_edits` and `make_all` (src/making.rt) rest on it.
-use Rattle.std.proofs.Common.{◌≡◌, inl, ℕ, ◌+◌, ◌*◌, ◌≤◌, ◌==◌, false, List, [], ◌∷◌, ◌++◌, length, Ok, Err, sym, ap, subst, arith, ◌∙◌, length-append}
+use Rattle.std.proofs.Common.{◌≡◌, inl, ℕ, ◌+◌, ◌*◌, ◌≤◌, ◌==◌, false, List, [], ◌∷◌, ◌++◌, length, Ok, Err, refl, sym, ap, subst, arith, ◌∙◌, length-append}
 use Rattle.std.proofs.lemmas.List.Concat.{flat_map-append}
 use Rattle.disk_model.specs.Device.{DiskState, Reads, Rose}
 use Rattle.disk_model.specs.Moments.{LeavesOnly, Uses}
@@ -13,12 +13,13 @@ use Rattle.run_records.specs.Entries.{Entry}
 use Rattle.run_records.specs.declared.header.Header.{Header}
 use Rattle.run_records.specs.declared.version.Version.{Version}
 use Rattle.run_records.specs.declared.version.Version.TheVariants.{Two}
-use Rattle.run_records.specs.Headers.{header_bytes}
 use Rattle.run_journal.specs.Batches.{batch_bytes, records_bytes}
 use Rattle.run_journal.specs.Kept.{Log}
 use Rattle.run_journal.specs.Stands.{Holds, Pends, Stands, StandsEither}
 use Rattle.run_records.specs.Spelling.{entry_bytes}
 use Rattle.run_edits.specs.Made.{MakesEdits, edits_end, records_of}
+use Rattle.run_edits.specs.Writing.{mark_size}
+use Rattle.run_edits.proofs.Held.{held_end}
 
 -- A journal before (`old`), once raised (`mid`), with the records of the edits noted (`noted`), and
 -- after the flush (`new`). The records of the edits are `made`.
@@ -68,14 +69,17 @@ pub none_made : (edits : List PathEdit) → (length edits == 0) ≡ false → re
 none_made [] some none = absurd cc
 none_made (what ∷ edits) some none = absurd cc
 
+-- a list that is not empty has a length of 1 at least
+some_records : (made : List Entry) → (made ≡ [] → ⊥) → 1 ≤ length made
+some_records [] some = absurd (some refl)
+some_records (one ∷ made) some = omega arith
+
 -- what making all edits promises, from what writing them did
 module _ {D : Type 0} (state : D → DiskState) (old new : Log D) (header : Header) (found made : List Entry) (some : made ≡ [] → ⊥)
-    (small : (disk : D) (header : Header) (version : Version) (entries : List Entry) (end : ℕ) → Holds header version entries (state disk) end
-    → end ≤ 13 + length (header_bytes header) + length (records_bytes entries) + 6 * length entries)
     (holds : (bytes : List ℕ) → Reads (state old.file.disk) bytes → Holds header old.version found (state old.file.disk) old.file.end)
     (moment : (header : Header) (entries : List Entry) → Holds header old.version entries (state old.file.disk) old.file.end
     → LeavesOnly (StandsEither header entries made) (state old.file.disk) (state new.file.disk))
-    (uses : Uses 8 (old.file.end + 14 + length (batch_bytes made)) (state old.file.disk) (state new.file.disk)) where
+    (uses : Uses 8 (old.file.end + mark_size old.version + 6 + length (batch_bytes made)) (state old.file.disk) (state new.file.disk)) where
   -- no write ended past the bound for the run and its edits
   uses_all : Uses 8 (edits_end header (found ++ made)) (state old.file.disk) (state new.file.disk)
   uses_all =
@@ -85,8 +89,8 @@ module _ {D : Type 0} (state : D → DiskState) (old new : Log D) (header : Head
       record {
         calls = uses.calls;
         reach = λ bytes reads.
-            let end = small old.file.disk header old.version found old.file.end (holds bytes reads) in
-            omega (arith, uses.reach bytes reads, end, bytes_are, count);
+            let end = held_end header old.version found (state old.file.disk) old.file.end (holds bytes reads) in
+            omega (arith, uses.reach bytes reads, end, bytes_are, count, some_records made some);
         told = uses.told;
         untold = uses.untold;
         allows = uses.allows;

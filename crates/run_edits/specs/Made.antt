@@ -22,10 +22,10 @@ record_of what = edit_entry what.path what.edit
 abbrev pub records_of : List PathEdit → List Entry
 records_of edits = map record_of edits
 
--- no write of edits ends past this: twenty-eight bytes, the header, and of each record its bytes
--- and six more
+-- no write of edits ends past this: fourteen bytes, the header, and of each record its bytes and six
+-- more, as in a session of a run
 abbrev pub edits_end : Header → List Entry → ℕ
-edits_end header history = 28 + length (header_bytes header) + length (records_bytes history) + 6 * length history
+edits_end header history = 14 + length (header_bytes header) + length (records_bytes history) + 6 * length history
 
 -- why edits were not made: the disk failed, or there was no memory, and the disk was not called
 abbrev pub FailsFor : {D : Type 0} → (D → DiskState) → D → D → Failing DiskFault → Type 0

@@ -2,9 +2,16 @@
 -- src/making.rt. For this crate alone.
 use Rattle.std.specs.Prelude.{◌≡◌, ℕ, ◌+◌, ◌≤◌, List, [], ◌∷◌, IsTrue, None}
 use Rattle.nc_number.specs.declared.limits.TheConstants.{MOST_RECORDS}
+use Rattle.run_records.specs.declared.version.Version.{Version}
+use Rattle.run_records.specs.declared.version.Version.TheVariants.{One, Two}
 use Rattle.run_journal.specs.Kept.{Log}
 use Rattle.two_path.specs.Joined.{RoomyMachine}
 use Rattle.two_path.specs.Machine.{MachineView}
+
+-- how many bytes a raising mark takes, where one may still come: in version 1 alone
+abbrev pub mark_size : Version → ℕ
+mark_size One = 8
+mark_size Two = 0
 
 -- the journal may be written, nothing pends, and it may have so many records more
 pub record MayTake {D : Type 0} (count : ℕ) (log : Log D) : Type 0 where

@@ -13,14 +13,14 @@ ghost use Rattle.run_journal.specs.Stands.{Pends, Holds, Stands, StandsEither};
 ghost use Rattle.nc_restart.specs.History.{IsHistory};
 ghost use Rattle.nc_restart.specs.Recovered.{IsRecovered};
 ghost use Rattle.run_edits.specs.Made.{MakesEdits, records_of};
-ghost use Rattle.run_edits.specs.Writing.{IsCalm, MayMake, MayTake};
+ghost use Rattle.run_edits.specs.Writing.{IsCalm, MayMake, MayTake, mark_size};
 
 use disk_model::Disk;
 use edit_texts::{EditList, PathEdit};
 use gate_file::DiskFault;
 use nc_number::Failing;
 use nc_restart::Recovered;
-use run_journal::{Journal, a_held_journal_is_small, a_held_journal_leaves_its_records};
+use run_journal::{Journal, a_held_journal_leaves_its_records};
 use run_records::Version;
 use two_path::Machine;
 
@@ -83,7 +83,6 @@ fn make_all<D: Disk>(
         → Holds header journal.old.version found (D.state journal.old.file.disk) journal.old.file.end)
         → MakesEdits D.state header found (records_of edits.now) journal.old.file.disk journal.new.file.disk result }
 {
-    a_held_journal_is_small::<D>();
     a_held_journal_leaves_its_records::<D>();
     if edits.is_empty() {
         return Ok(());
@@ -114,7 +113,7 @@ fn write_edits<D: Disk>(
         → Holds header journal.old.version entries (D.state journal.old.file.disk) journal.old.file.end
         → (c : List ℕ) → (D.state journal.new.file.disk).image c → Stands header (entries ++ records_of edits.now) c) }
     ensures cause { HasCause (D.state journal.old.file.disk) (D.state journal.new.file.disk) result }
-    ensures uses { Uses 8 (journal.old.file.end + 14 + length (batch_bytes (records_of edits.now)))
+    ensures uses { Uses 8 (journal.old.file.end + mark_size journal.old.version + 6 + length (batch_bytes (records_of edits.now)))
         (D.state journal.old.file.disk) (D.state journal.new.file.disk) }
 {
     a_held_journal_leaves_its_records::<D>();
@@ -137,9 +136,9 @@ fn raise_first<D: Disk>(journal: &mut Journal<D>) -> Result<(), DiskFault>
     ensures batch { journal.new.batch ≡ journal.old.batch }
     ensures count { journal.new.count ≡ journal.old.count }
     ensures live { journal.new.file.live ≡ is_ok result }
-    ensures end { OnOk result (journal.new.file.end ≤ journal.old.file.end + 8) }
+    ensures end { OnOk result (journal.new.file.end ≤ journal.old.file.end + mark_size journal.old.version) }
     ensures cause { HasCause (D.state journal.old.file.disk) (D.state journal.new.file.disk) result }
-    ensures uses { Uses 4 (journal.old.file.end + 9) (D.state journal.old.file.disk) (D.state journal.new.file.disk) }
+    ensures uses { Uses 4 (journal.old.file.end + mark_size journal.old.version + 1) (D.state journal.old.file.disk) (D.state journal.new.file.disk) }
 {
     a_held_journal_leaves_its_records::<D>();
     if journal.version() == Version::Two {

@@ -10,7 +10,7 @@ returns-in-Ok g c = λ header found holds.
     let edits = c.args.edits.now in
     let some : (length edits == 0) ≡ false = search rules in
     when_made g.D.Disk.state c.args.journal.now c.write_edits.new.journal header found (records_of edits) (none_made edits some)
-    c.a_held_journal_is_small.ensures holds c.in-Ok.ensures.any_moment c.in-Ok.ensures.uses c.in-Ok.ensures.whole c.in-Ok.ensures.cause.later
+    holds c.in-Ok.ensures.any_moment c.in-Ok.ensures.uses c.in-Ok.ensures.whole c.in-Ok.ensures.cause.later
     (c.in-Ok.ensures.cause.calm refl)
 
 pub returns-in-Err : goal.returns-in-Err
@@ -18,5 +18,5 @@ returns-in-Err g c = λ header found holds.
     let edits = c.args.edits.now in
     let some : (length edits == 0) ≡ false = search rules in
     when_failed g.D.Disk.state c.args.journal.now c.write_edits.new.journal header found (records_of edits) (none_made edits some)
-    c.a_held_journal_is_small.ensures holds c.in-Err.ensures.any_moment c.in-Err.ensures.uses c.in-Err.fault c.in-Err.ensures.cause.later
+    holds c.in-Err.ensures.any_moment c.in-Err.ensures.uses c.in-Err.fault c.in-Err.ensures.cause.later
     (c.in-Err.ensures.cause.failed refl)
