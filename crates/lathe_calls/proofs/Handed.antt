@@ -16,11 +16,11 @@ pub said_of : {IsDue : Answer → Type 0} {texts : Texts} {text before after : L
     → Ends IsDue (sink_with []) (sink_with text) status → IsHanded status text before after it
     → IsSaid texts (λ s t. IsDue (tells s t)) before after it
 said_of status fit ends (says.lacking is same left) = says.lacking fit same left
-said_of {IsDue} status fit (answers.whole {text = told} due is) (says.whole some same left) =
+said_of {IsDue} status fit (answers.whole {text = told} due calm is) (says.whole some same left) =
     says.whole fit (subst (λ t. IsDue (tells status t)) (sym is) due) same left
 said_of status fit (answers.cut due rose n is) (says.whole some same left) = absurd (omega (arith, rose))
-said_of status fit (answers.unwritten due n is) (says.whole some same left) = absurd (some refl)
-said_of status fit (answers.untold due is) (says.whole some same left) = absurd (some refl)
+said_of status fit (answers.unwritten due calm n is) (says.whole some same left) = absurd (some refl)
+said_of status fit (answers.untold due calm is) (says.whole some same left) = absurd (some refl)
 
 -- if events that are due were handed out, the call told them
 pub events_said : {order : List ℕ} {texts : Texts} {list given before after : List Event} {it : Said} (status : ℕ) → are_fit texts ≡ true

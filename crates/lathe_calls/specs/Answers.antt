@@ -20,20 +20,25 @@ pub data Answer : Type 0 where
 abbrev pub IsJust : Answer → Answer → Type 0
 IsJust due answer = answer ≡ due
 
+-- no call of the sink failed
+abbrev pub NoPutFailed : SinkState → SinkState → Type 0
+NoPutFailed old new = new.faults ≡ old.faults
+
 -- How a call ends, by what is due. The text is written whole after what was there, and the status
 -- is its own. Or the sink failed after a part of the text, or memory ran out after a part of it. Or
--- memory ran out or a thread was refused before there was a text, and nothing was written.
+-- memory ran out or a thread was refused before there was a text, and nothing was written. A fault
+-- of the sink always gives its own status.
 pub data Ends (Due : Answer → Type 0) (old new : SinkState) : ℕ → Type 0 where
   -- the text was written whole
-  whole : {status : ℕ} {text : List ℕ} → Due (tells status text) → Writes old new text → Ends Due old new status
+  whole : {status : ℕ} {text : List ℕ} → Due (tells status text) → NoPutFailed old new → Writes old new text → Ends Due old new status
   -- the sink failed after the first n bytes
   cut : {status : ℕ} {text : List ℕ} → Due (tells status text) → Rose old.faults new.faults → (n : ℕ)
       → Writes old new (take n text) → Ends Due old new exit.sink_fault
   -- memory ran out after the first n bytes
-  unwritten : {status : ℕ} {text : List ℕ} → Due (tells status text) → (n : ℕ) → Writes old new (take n text)
+  unwritten : {status : ℕ} {text : List ℕ} → Due (tells status text) → NoPutFailed old new → (n : ℕ) → Writes old new (take n text)
       → Ends Due old new exit.no_memory
   -- memory ran out or a thread was refused before there was a text
-  untold : Due nothing → Writes old new [] → Ends Due old new exit.no_memory
+  untold : Due nothing → NoPutFailed old new → Writes old new [] → Ends Due old new exit.no_memory
 
 -- the status after a text that was put with this result
 abbrev pub status_behind : Result (Unit {0}) PutFault → ℕ → ℕ

@@ -176,7 +176,7 @@ module _ {D : Type 0} (state : D → DiskState) where
 
   -- what a call did that ended with this status is what its kind of command may do
   pub done_left : {E : Type 0} (second : E → DiskState) (call : Call E) (status : ℕ) → IsDone state second call status → Leaves state (kind_of (command_of call)) call.before.lathe call.after.lathe
-  done_left second call status (whole due written) = call_left second call _ due
+  done_left second call status (whole due calm written) = call_left second call _ due
   done_left second call status (cut due rose n written) = call_left second call _ due
-  done_left second call status (unwritten due n written) = call_left second call _ due
-  done_left second call status (untold due written) = call_left second call _ due
+  done_left second call status (unwritten due calm n written) = call_left second call _ due
+  done_left second call status (untold due calm written) = call_left second call _ due

@@ -355,6 +355,7 @@ module _ {D : Type 0} (state : D → DiskState) (small : AreSmall state) (limit 
         (since.recording.journal header journaled).journaled.left moves_told.0 moves_told.1 c image;
     moments = λ bytes reads.
         subst (λ n. LeavesOnly (StandsForPrefix header n history) d.disk e.disk) may.all ((since.recording.journal header journaled).any_moment bytes reads);
+    over = λ over_now. let open_now = still in absurd (cc);
     uses = uses;
     later = since.recording.later;
   }

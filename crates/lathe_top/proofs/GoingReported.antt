@@ -7,7 +7,7 @@ use Rattle.nc_outside.specs.Received.{TurretState}
 use Rattle.nc_number.specs.declared.both.Both.{Both}
 use Rattle.nc_number.specs.Both.{of_path}
 use Rattle.disk_model.specs.Device.{DiskState, IsCoherent, Reads}
-use Rattle.disk_model.proofs.Runs.{no_call, uses_none}
+use Rattle.disk_model.proofs.Runs.{no_call, unwritten_none, uses_none}
 use Rattle.gate_file.specs.Gate.{Gate}
 use Rattle.nc_number.specs.declared.fault.NoMemory.{NoMemory}
 use Rattle.nc_outside.specs.declared.reason.Reason.{Reason}
@@ -107,6 +107,7 @@ module _ {D : Type 0} (state : D → DiskState) (coherent : (disk : D) → IsCoh
           moments = λ bytes reads.
               no_call (StandsForPrefix header (length old.recording.history) old.recording.history) d.disk (coherent old.recording.log.file.disk)
               (left bytes reads);
+          over = λ over. unwritten_none d.disk (coherent old.recording.log.file.disk);
           uses = uses_none (4 * (length old.recording.history - length old.recording.history)) (end_of (session_to run old.recording.history)) d.disk;
           later = omega arith;
         })

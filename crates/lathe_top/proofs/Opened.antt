@@ -70,6 +70,7 @@ module _ {D : Type 0} (state : D → DiskState) (opening : Opening) (s : Session
     opens = moments;
     goes = λ bytes reads. let told = uses.told bytes reads in keeps.moments told.0 told.1;
     left = λ bytes reads. let told = uses.told bytes reads in keeps.left told.0 told.1;
+    over = keeps.over;
     uses = uses_widened (calls + 4 * (length s.history - length s.found)) (opening_calls opening + 4 * length s.history) (max end (end_of s)) (end_of s) a c
         (uses_add calls (4 * (length s.history - length s.found)) end (end_of s) a (state begun) c uses keeps.uses)
         (omega (arith, few, no_less)) (omega (arith, within));

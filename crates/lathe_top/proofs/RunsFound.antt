@@ -5,7 +5,7 @@ use Rattle.std.proofs.Math.Seq.{take-length}
 use Rattle.nc_outside.specs.Received.{TurretState}
 use Rattle.nc_number.specs.declared.both.Both.{Both}
 use Rattle.disk_model.specs.Device.{DiskState, IsCoherent, Reads}
-use Rattle.disk_model.proofs.Runs.{no_call, uses_none}
+use Rattle.disk_model.proofs.Runs.{no_call, unwritten_none, uses_none}
 use Rattle.nc_outside.specs.declared.reason.Reason.{Reason}
 use Rattle.nc_moves.specs.declared.alarm.Alarm.{Alarm}
 use Rattle.nc_verify.specs.declared.verified.Verified.{Verified}
@@ -121,6 +121,7 @@ module _ {D : Type 0} (state : D → DiskState) (coherent : (disk : D) → IsCoh
   keeps_there = record {
     left = all_left;
     moments = λ bytes reads. no_call (StandsForPrefix header (length entries) entries) disk (coherent log.file.disk) (all_left bytes reads);
+    over = λ over. unwritten_none disk (coherent log.file.disk);
     uses = uses_none (4 * (length entries - length entries)) (end_of session) disk;
     later = omega arith;
   }

@@ -282,7 +282,7 @@ module _ {D E : Type 0} (state : D → DiskState) (second : E → DiskState) (ca
   -- a call that makes records, and that ended with the status of a run that was not cut off, wrote
   -- the streams
   pub streams_of : (status : ℕ) → IsDone state second call status → MakesRecords (kind_of (command_of call)) → IsUncut status → HasStreams state call status
-  streams_of status (whole due written) makes uncut = call_streams _ due makes uncut
+  streams_of status (whole due calm written) makes uncut = call_streams _ due makes uncut
   streams_of status (cut due rose n written) makes uncut = absurd (no_mid 5 (omega arith) (omega arith) uncut)
-  streams_of status (unwritten due n written) makes uncut = absurd (no_high 12 (omega arith) (omega arith) uncut)
-  streams_of status (untold due written) makes uncut = absurd (no_high 12 (omega arith) (omega arith) uncut)
+  streams_of status (unwritten due calm n written) makes uncut = absurd (no_high 12 (omega arith) (omega arith) uncut)
+  streams_of status (untold due calm written) makes uncut = absurd (no_high 12 (omega arith) (omega arith) uncut)

@@ -14,7 +14,7 @@ use Rattle.nc_outside.specs.Faults.{Rose}
 use Rattle.nc_outside.specs.Files.{Files, ShelfState}
 use Rattle.nc_outside.specs.Written.{SinkState, Writes}
 use Rattle.lathe_looks.specs.declared.showing.Showing.TheVariants as showing
-use Rattle.lathe_calls.specs.Answers.{Answer, tells, nothing, Ends}
+use Rattle.lathe_calls.specs.Answers.{Answer, tells, nothing, Ends, NoPutFailed}
 use Rattle.lathe_looks.specs.Expanded.{IsExpanded}
 use Rattle.lathe_calls.specs.Judged.{IsJudged}
 use Rattle.lathe_calls.specs.Due.{IsOfPair}
@@ -143,25 +143,26 @@ pub data IsDue {D E : Type 0} (state : D → DiskState) (second : E → DiskStat
 abbrev pub IsDone : {D E : Type 0} → (D → DiskState) → (E → DiskState) → Call E → ℕ → Type 0
 IsDone state second call status = Ends (IsDue state second call) call.before.sink call.after.sink status
 
--- the call ended with this status; or with a fault of the sink, if one rose; or with 12, as memory
--- ran out or a thread was refused
+-- the call ended with this status, and no call of the sink failed; or with a fault of the sink, if
+-- one rose; or with 12, as memory ran out or a thread was refused
 pub data IsOr (old new : SinkState) (status : ℕ) : ℕ → Type 0 where
   -- the status itself
-  itself : IsOr old new status status
+  itself : NoPutFailed old new → IsOr old new status status
   -- the sink failed
   sink_failed : Rose old.faults new.faults → IsOr old new status exit.sink_fault
   -- memory ran out, or a thread was refused
-  memory_wanting : IsOr old new status exit.no_memory
+  memory_wanting : NoPutFailed old new → IsOr old new status exit.no_memory
 
--- the text stands whole after what was there, and the status is its own; or the sink failed after a
--- part of it; or memory ran out after a part, or a thread was refused before it
+-- the text stands whole after what was there, the status is its own, and no call of the sink failed;
+-- or the sink failed after a part of it; or memory ran out after a part, or a thread was refused
+-- before it
 pub data IsTold (old new : SinkState) (status : ℕ) (text : List ℕ) : ℕ → Type 0 where
   -- the text was written whole
-  in_full : Writes old new text → IsTold old new status text status
+  in_full : NoPutFailed old new → Writes old new text → IsTold old new status text status
   -- the sink failed after the first n bytes
   cut_off : Rose old.faults new.faults → (n : ℕ) → Writes old new (take n text) → IsTold old new status text exit.sink_fault
   -- memory ran out after the first n bytes, or a thread was refused and n is 0
-  left_off : (n : ℕ) → Writes old new (take n text) → IsTold old new status text exit.no_memory
+  left_off : NoPutFailed old new → (n : ℕ) → Writes old new (take n text) → IsTold old new status text exit.no_memory
 
 -- if files are named, the shelf makes known what it holds, and did not fail
 abbrev pub ServesFiles : {E : Type 0} → List Named → Call E → Type 0
@@ -204,12 +205,15 @@ pub record Serves {E : Type 0} (second : E → DiskState) (call : Call E) : Type
   pub others : ServesKind second (kind_of (command_of call)) call
 
 -- The causes of a call have one order, whatever the outside makes known. If the count of faults of
--- either disk rose, the status is 6. Else, if that of a turret rose, it is 7. If what the command
--- uses makes known what it holds and did not fail, what is due is told, with its text and its
--- status. Instead of each the sink may have failed, memory run out, or a thread been refused.
+-- the sink rose, the status is 5. Else, if that of either disk rose, it is 6. Else, if that of a
+-- turret rose, it is 7. If what the command uses makes known what it holds and did not fail, what is
+-- due is told, with its text and its status. Instead of each but the first memory may have run out,
+-- or a thread been refused.
 pub record GetsItsStatus {D E : Type 0} (state : D → DiskState) (second : E → DiskState) (call : Call E) (result : ℕ) : Type 0 where
   -- words that are no command are told so, with status 2
   pub usage : command_of call ≡ None → IsTold call.before.sink call.after.sink exit.usage (codes "usage\n") result
+  -- if a call of the sink failed, the status is 5
+  pub sink : call.before.sink.faults < call.after.sink.faults → result ≡ exit.sink_fault
   -- if a call of the journal's disk failed, the status is 6
   pub disk : call.before.lathe.disk.faults < call.after.lathe.disk.faults → IsOr call.before.sink call.after.sink exit.disk_fault result
   -- if a call of the second disk failed, the status is 6

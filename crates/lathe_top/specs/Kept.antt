@@ -1,7 +1,7 @@
 -- What a call does to the disk and to the turrets, by the kind of its command. What it answers is
 -- in Ran, Edited, Branched and Zoned.
 -- What `top` promises is said in it; no other crate takes it.
-use Rattle.std.specs.Prelude.{◌≡◌, ◌⊎◌, ℕ, ◌+◌, ◌*◌, ◌≤◌, List, [], ◌++◌, length, Result, Err}
+use Rattle.std.specs.Prelude.{◌≡◌, ◌⊎◌, ℕ, ◌+◌, ◌*◌, ◌≤◌, true, List, [], ◌++◌, length, Result, Err}
 use Rattle.disk_model.specs.Device.{DiskState, Reads}
 use Rattle.disk_model.specs.Moments.{LeavesOnly, Unwritten, Uses}
 use Rattle.gate_file.specs.declared.fault.GateFault.{GateFault}
@@ -26,7 +26,8 @@ use Rattle.nc_restart.specs.Meaning.{StandsForRun}
 use Rattle.nc_restart.specs.Recovered.{FoundRun, Recovers}
 use Rattle.lathe_top.specs.Kinds.{Kind, rests, looks, branches, edits, begins, goes_on}
 use Rattle.lathe_top.specs.Lathe.{LatheState, AreAtRest}
-use Rattle.lathe_top.specs.Session.{Session, IsSession}
+use Rattle.lathe_looks.specs.Standing.{is_over}
+use Rattle.lathe_top.specs.Session.{Session, IsSession, machine_found}
 use Rattle.lathe_top.specs.Turrets.{IsSessionEnd}
 
 -- how a session opens: by a new journal, or by a recovery
@@ -54,8 +55,8 @@ IsOfOpening again s image c = image c
 
 -- What a session does to the disk, in two spans of time. Up to the moment at which the opening
 -- answered, a crash leaves an image of the opening; from then on a prefix of the history that has
--- all that was found; and now one of `least` records at least. The last two fields say how far the
--- disk is used.
+-- all that was found; and now one of `least` records at least. A run that was over is only looked
+-- at. The last two fields say how far the disk is used.
 pub record KeepsSession {D : Type 0} (state : D → DiskState) (opening : Opening) (s : Session) (least : ℕ) (old new : DiskState) : Type 0 where
   -- the disk at the moment at which the opening answered
   pub begun : D
@@ -65,6 +66,8 @@ pub record KeepsSession {D : Type 0} (state : D → DiskState) (opening : Openin
   pub goes : (bytes : List ℕ) → Reads old bytes → LeavesOnly (StandsForPrefix s.header (length s.found) s.history) (state begun) new
   -- now a crash leaves a prefix of `least` records at least
   pub left : (bytes : List ℕ) → Reads old bytes → (c : List ℕ) → new.image c → StandsForPrefix s.header least s.history c
+  -- to a run that was over at its opening nothing is written from then on
+  pub over : is_over (machine_found s) ≡ true → Unwritten (state begun) new
   -- how many calls of the disk there were at most, and how far they reach
   pub uses : Uses (opening_calls opening + 4 * length s.history) (end_of s) old new
   -- the count of faults doesn't sink

@@ -2,7 +2,7 @@
 -- gives its status.
 use Rattle.std.specs.Prelude.{codes}
 use Rattle.lathe_calls.specs.Statuses as exit
-use Rattle.lathe_top.proofs.Agreed.{ends_or, ends_told}
+use Rattle.lathe_top.proofs.Agreed.{ends_failed, ends_or, ends_told}
 use Rattle.lathe_top.proofs.DueOnce.{due_once, usage_once}
 use Rattle.lathe_top.proofs.FaultsFirst.{disk_first, second_first, turret_first}
 use Rattle.lathe_top.proofs.control.top.Goals as goal
@@ -17,6 +17,7 @@ returns-clause-due g c =
     let disks = g.met.D.Disk g.world.𝓛 g.world.𝓜 g.world.𝓡 ((λ s x. x), (λ x. x), (λ x. x), λ x. x) in
     let result = c.respond-ended.result.0.status in record {
       usage = λ none. ends_told exit.usage (codes "usage\n") result (λ answer due. usage_once state second _ answer none due) c.respond-ended.ensures;
+      sink = λ rose. ends_failed result rose c.respond-ended.ensures;
       disk = λ rose. ends_or exit.disk_fault result (disk_first state second _ rose) c.respond-ended.ensures;
       second_disk = λ rose. ends_or exit.disk_fault result (second_first state second _ rose) c.respond-ended.ensures;
       turret = λ calm path rose. ends_or exit.turret_fault result (turret_first state second _ calm path rose) c.respond-ended.ensures;
