@@ -11,6 +11,7 @@ ROOT = os.path.dirname(os.path.dirname(os.path.realpath(__file__)))
 HEAD = re.compile(r"^(?:(?:pub|abbrev|unfoldable|opaque|record|data|syntax)\s+)*([^\s(){}\[\],:;]+)(?=\s|$)")
 GROUP = re.compile(r"use Rattle\.(\w+)\.specs\.([\w.]+?)\.\{([^}]*)\}", re.S)
 ALIAS = re.compile(r"use Rattle\.(\w+)\.specs\.([\w.]+) as (\w+)")
+OPENS = re.compile(r"(?:pub )?module .*where$")
 WORD = re.compile(r"[A-Za-z_][\w'-]*(?:\.[A-Za-z_][\w'-]*)*")
 FUNCTION = re.compile(r"^\s*(?:pub(?:\([a-z]+\))?\s+)?(?:const\s+|unsafe\s+)*fn\s+(\w+)")
 CLAUSE = re.compile(r"^\s*(?:requires|ensures|invariant)\b\s*(\w+)?\s*\{")
@@ -65,27 +66,35 @@ def crates():
 
 
 def definitions_of(path):
-    """The definitions of one file of specs/. One begins at the margin, and goes on while a line is indented or begins with its name."""
+    """The definitions of one file of specs/. One begins at the margin, or at that of the module with parameters that it is in, and goes on
+    while a line is indented further or begins with its name."""
     crate, _, rest = os.path.relpath(path, f"{ROOT}/crates").split("/", 2)
     module = rest[: -len(".antt")].replace("/", ".")
     with open(path, encoding="utf-8") as it:
         whole = it.read()
-    names, found, said, last = taken_names(whole), [], [], None
+    names, found, said, last, margin = taken_names(whole), [], [], None, 0
     for number, line in enumerate(whole.split("\n"), 1):
-        if line.startswith("--"):
-            said.append(line.lstrip("- "))
-            last = None
-        elif not line.strip():
+        text = line.strip()
+        indent = len(line) - len(line.lstrip())
+        if text and indent < margin:
+            margin = indent
+        if not text:
             said, last = [], None
-        elif line.startswith(("use ", "module ", "pub mod", "mod ", "}")):
+        elif text.startswith("--"):
+            if indent == margin:
+                said.append(text.lstrip("- "))
+                last = None
+        elif OPENS.match(text):
+            said, last, margin = [], None, indent + 2
+        elif text.startswith(("use ", "pub use ", "module ", "pub mod", "mod ", "}")):
             said, last = [], None
-        elif line[0] in " \t":
-            if last is not None and not line.strip().startswith("--"):
+        elif indent > margin:
+            if last is not None:
                 last.text += "\n" + line
         else:
-            name = HEAD.match(line)
+            name = HEAD.match(text)
             name = name.group(1) if name else None
-            if last is not None and last.name == name or name is None:
+            if name is None or last is not None and last.name == name:
                 if last is not None:
                     last.text += "\n" + line
             elif found and found[-1].name == name:
