@@ -76,6 +76,8 @@ def compare(row, page):
 
 # ---- another browser ----
 
+# Whether a browser knows the kind of module: an empty one with a memory of 64 bits.
+KNOWS_MODULE = "return WebAssembly.validate(new Uint8Array([0, 97, 115, 109, 1, 0, 0, 0, 5, 3, 1, 4, 1]))"
 JUDGED = "return document.documentElement.dataset.judged === 'done'"
 MARKED = """return ["left", "right", "cell"].map(name => [...document.querySelectorAll(`#judge-${name}-numbers .marked`)].map(row => Number(row.textContent)))"""
 
@@ -95,6 +97,8 @@ def rows_of_firefox(row, path):
     """The page by itself in Firefox: it judges, marks and draws, takes what is typed, and keeps it over a reload."""
     firefox, examples = page_firefox.Firefox(), os.path.realpath(EXAMPLES)
     try:
+        if not firefox.run(KNOWS_MODULE):
+            return print("judge rows: this Firefox knows no WebAssembly of 64 bits: its rows are left out")
         firefox.open(path)
         row("Firefox: three files are judged", choose_in(firefox, [os.path.join(examples, name) for name in reversed(GOOD)]), text_in(firefox, "judge-verdict"))
         row.has("Firefox: the pair is accepted", text_in(firefox, "judge-verdict"), "accepted")
