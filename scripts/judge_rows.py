@@ -154,24 +154,33 @@ def open_browser():
     return Page(browser)
 
 
+def try_wrong_page(row, page, called, edit, module):
+    """Tries a wrong page, and tells whether a row of the group that its edit names refuses it."""
+    try:
+        page.open(wrong_page(edit, module))
+        GROUPS[edit["rows"]](WrongRows(), page, WORK)
+        row(called, False, "no row refuses it")
+    except Refused as refused:
+        row(f"{called} (refused by: {refused})", True)
+        print(f"judge rows: {called}, refused by: {refused}")
+    except RuntimeError as fault:
+        row(called, False, str(fault))
+
+
 def refuse_wrong_pages(row, module):
-    """Each wrong page must be refused by a row of the group that its edit names. Behind one that hangs there is a new browser."""
+    """Each wrong page must be refused by a row. If the browser goes away, it is tried in a new one, once more."""
     page = open_browser()
     for name in sorted(glob.glob(os.path.join(ROOT, "page/judge/must-fail/*.edit"))):
         called, edit = "wrong page: " + os.path.basename(name)[:-len(".edit")].replace("_", " "), edit_of(name)
-        try:
-            page.open(wrong_page(edit, module))
-            GROUPS[edit["rows"]](WrongRows(), page, WORK)
-            row(called, False, "no row refuses it")
-        except Refused as refused:
-            row(f"{called} (refused by: {refused})", True)
-            print(f"judge rows: {called}, refused by: {refused}")
-        except RuntimeError as fault:
-            row(called, False, str(fault))
-        except Hung as fault:
-            row(called, False, str(fault))
-            page.browser.close()
-            page = open_browser()
+        for is_last in (False, True):
+            try:
+                try_wrong_page(row, page, called, edit, module)
+                break
+            except Hung as fault:
+                page.browser.close()
+                page = open_browser()
+                if is_last:
+                    row(called, False, str(fault))
     page.browser.close()
 
 
