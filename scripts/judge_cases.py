@@ -34,7 +34,7 @@ GIVE = """(async () => {
   bytes.forEach((text, k) => Judge.texts[k].set("", text));
   begun = performance.now();
   Judge.ask();
-  const turn = () => { if (page.judged === "asked" && !times.verdict) { turns.before += 1; setTimeout(turn, 1); } };
+  const turn = () => { if (page.judged === "asked" && !times.trace) { turns.before += 1; setTimeout(turn, 1); } };
   turn();
   await settled();
   look.disconnect();

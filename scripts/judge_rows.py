@@ -76,6 +76,8 @@ def compare(row, page):
 
 # ---- another browser ----
 
+# Whether a browser knows the kind of module: an empty one with a memory of 64 bits.
+KNOWS_MODULE = "return WebAssembly.validate(new Uint8Array([0, 97, 115, 109, 1, 0, 0, 0, 5, 3, 1, 4, 1]))"
 JUDGED = "return document.documentElement.dataset.judged === 'done'"
 MARKED = """return ["left", "right", "cell"].map(name => [...document.querySelectorAll(`#judge-${name}-numbers .marked`)].map(row => Number(row.textContent)))"""
 
@@ -95,6 +97,8 @@ def rows_of_firefox(row, path):
     """The page by itself in Firefox: it judges, marks and draws, takes what is typed, and keeps it over a reload."""
     firefox, examples = page_firefox.Firefox(), os.path.realpath(EXAMPLES)
     try:
+        if not firefox.run(KNOWS_MODULE):
+            return print("judge rows: this Firefox knows no WebAssembly of 64 bits: its rows are left out")
         firefox.open(path)
         row("Firefox: three files are judged", choose_in(firefox, [os.path.join(examples, name) for name in reversed(GOOD)]), text_in(firefox, "judge-verdict"))
         row.has("Firefox: the pair is accepted", text_in(firefox, "judge-verdict"), "accepted")
@@ -150,24 +154,33 @@ def open_browser():
     return Page(browser)
 
 
+def try_wrong_page(row, page, called, edit, module):
+    """Tries a wrong page, and tells whether a row of the group that its edit names refuses it."""
+    try:
+        page.open(wrong_page(edit, module))
+        GROUPS[edit["rows"]](WrongRows(), page, WORK)
+        row(called, False, "no row refuses it")
+    except Refused as refused:
+        row(f"{called} (refused by: {refused})", True)
+        print(f"judge rows: {called}, refused by: {refused}")
+    except RuntimeError as fault:
+        row(called, False, str(fault))
+
+
 def refuse_wrong_pages(row, module):
-    """Each wrong page must be refused by a row of the group that its edit names. Behind one that hangs there is a new browser."""
+    """Each wrong page must be refused by a row. If the browser goes away, it is tried in a new one, once more."""
     page = open_browser()
     for name in sorted(glob.glob(os.path.join(ROOT, "page/judge/must-fail/*.edit"))):
         called, edit = "wrong page: " + os.path.basename(name)[:-len(".edit")].replace("_", " "), edit_of(name)
-        try:
-            page.open(wrong_page(edit, module))
-            GROUPS[edit["rows"]](WrongRows(), page, WORK)
-            row(called, False, "no row refuses it")
-        except Refused as refused:
-            row(f"{called} (refused by: {refused})", True)
-            print(f"judge rows: {called}, refused by: {refused}")
-        except RuntimeError as fault:
-            row(called, False, str(fault))
-        except Hung as fault:
-            row(called, False, str(fault))
-            page.browser.close()
-            page = open_browser()
+        for is_last in (False, True):
+            try:
+                try_wrong_page(row, page, called, edit, module)
+                break
+            except Hung as fault:
+                page.browser.close()
+                page = open_browser()
+                if is_last:
+                    row(called, False, str(fault))
     page.browser.close()
 
 

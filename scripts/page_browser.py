@@ -17,6 +17,9 @@ def find():
     return next((found for found in map(shutil.which, NAMES) if found), None)
 
 
+READY = "document.readyState === 'complete' && Boolean(document.documentElement.dataset.state)"
+
+
 class Hung(Exception):
     """The browser went away, or did not answer in time."""
 
@@ -143,27 +146,28 @@ class Browser:
         return got["result"].get("value")
 
     def open(self, path):
-        """Opens a file, and waits until the page says what state it is in."""
+        """Opens a file, and waits until the page says what state it is in. The page before goes first."""
         self.call("Page.navigate", url="about:blank")
+        self._until("location.href === 'about:blank' && document.readyState === 'complete'")
         self.call("Page.navigate", url="file://" + os.path.abspath(path))
-        for _ in range(400):
-            if self.run("document.readyState === 'complete' && Boolean(document.documentElement.dataset.state)"):
-                return
-            time.sleep(0.025)
-        raise Hung("the page did not come up")
+        self._until(READY)
 
     def reload(self):
         """Loads the page anew, as a user does, and waits until it says what state it is in."""
         self.run("window.isOld = true")
         self.call("Page.reload")
+        self._until(f"!window.isOld && {READY}")
+
+    def _until(self, script):
+        """Waits until a script says yes. While a page goes, there is none that could."""
         for _ in range(400):
             try:
-                if self.run("!window.isOld && document.readyState === 'complete' && Boolean(document.documentElement.dataset.state)"):
+                if self.run(script):
                     return
             except RuntimeError:
-                pass                # the old page goes just now
+                pass
             time.sleep(0.025)
-        raise Hung("the page did not come up again")
+        raise Hung("the page did not come up")
 
     def save_to(self, folder):
         """From now on files are saved to a folder."""

@@ -49,7 +49,7 @@ class Editor {
   setChanged(isChanged) {
     this.isChanged = isChanged;
     const told = this.isShown ? this.fileName : `${this.fileName} is too long to be shown`;
-    this.title.textContent = isChanged ? `${told || "typed"}, changed` : told;
+    this.title.title = this.title.textContent = isChanged ? `${told || "typed"}, changed` : told;
     $(`${this.field.id}-save`).classList.toggle("unsaved", isChanged);
   }
 
