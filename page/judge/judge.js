@@ -13,6 +13,7 @@ const Judge = (() => {
   const came = {};                      // those of its parts that are not shown yet, since one before them is still to come
   const reports = new Map();            // who waits for a report, by its number
   const lanes = new Map();              // the worker of each part
+  let isHeld = false;                   // whether a question came before the workers
   let module = null, isBroken = false, asked = 0, waiting = 0, workers = 0, keeping = 0;
 
   Object.assign(Answers.editors, { 1: left, 2: right, settings: cell });
@@ -28,7 +29,7 @@ const Judge = (() => {
       return sayUnable(fault.message);
     }
     PARTS.forEach(makeWorker);
-    if (document.documentElement.dataset.judged === "asked") ask();
+    if (isHeld) ask();
   }
 
   /** This browser can't run the module. */
@@ -84,6 +85,7 @@ const Judge = (() => {
     const lacking = [left, right].findIndex(text => text.isEmpty());
     if (lacking >= 0) return sayLacking(lacking + 1);
     setState("asked");
+    isHeld = !lanes.size;
     const bytes = texts.map(text => text.bytes());
     for (const [part, worker] of lanes) worker.postMessage({ number: asked, part, texts: bytes, outside: outside() });
   }
