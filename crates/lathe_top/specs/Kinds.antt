@@ -1,7 +1,7 @@
 -- The kinds of commands: what each may do to the disk and to the turrets, and which files it names.
 -- A new command needs its line in `kind_of`, and in `named_by` if it names files.
 -- What `top` promises is said in it; no other crate takes it.
-use Rattle.std.specs.Prelude.{ℕ, Option, Some, None, List, []}
+use Rattle.std.specs.Prelude.{ℕ, Bool, true, false, Option, Some, None, List, []}
 use Rattle.command_words.specs.declared.command.Command.{Command}
 use Rattle.command_words.specs.declared.command.Command.TheVariants as command
 use Rattle.command_words.specs.declared.table.Journal.{Journal}
@@ -52,6 +52,16 @@ named_by (Some (command.Expand tape)) = tape_named tape
 named_by (Some (command.Zones zones)) = zones_named zones
 named_by (Some (command.Edit name)) = edits_named name
 named_by other = []
+
+-- Whether a command of a kind makes a run. Those that do run both paths in threads, and wait for
+-- them.
+abbrev pub makes_run : Kind → Bool
+makes_run rests = false
+makes_run looks = false
+makes_run branches = false
+makes_run edits = false
+makes_run (begins limit) = true
+makes_run (goes_on limit) = true
 
 -- What a command of a kind does with the journal of a run, for whoever locks its file. The second
 -- disk of a branch is not meant.

@@ -1,33 +1,28 @@
 //! The call that the program makes: words in, text and status out. Each command has its own module
-//! beside this one; `perform` says which, and a new command needs its arm there.
+//! beside this one; `perform` and `perform_no_run` (returning.rt) say which, and a new command needs
+//! its arm in one of them.
 //! own_turret and twin_lathe call `top`.
-ghost use Rattle.std.specs.Prelude.{◌≡◌, map, option_map};
+ghost use Rattle.std.specs.Prelude.{◌≡◌, map};
 ghost use Rattle.std.specs.String.{string_bytes};
-ghost use Rattle.lathe_looks.specs.Named.{files_of};
-ghost use Rattle.lathe_looks.specs.Texts.{files_in};
 ghost use Rattle.lathe_top.specs.Done.{GetsItsStatus, IsDone, Performs, top_state, call_of};
 ghost use Rattle.lathe_top.specs.Held.{lathe_of, lathe_left};
 ghost use Rattle.lathe_top.specs.Lathe.{lathe_at, lathe_after};
-ghost use Rattle.lathe_top.specs.Outside.{outside_in};
 
 use crate::beginning::run;
-use crate::branching::branch_off;
-use crate::editing::edit;
 use crate::held::{Ended, Lathe};
-use crate::looking::{answer_pair, look, show_zoned, write_out};
 use crate::making::make;
 use crate::outcome::Outcome;
 use crate::resuming::resume;
+use crate::returning::{names_of, perform_no_run};
 use clap_reading::read_words;
-use command_words::{Command, Name, ProgramRange, WordsFault};
+use command_words::{Command, WordsFault};
 use disk_model::Disk;
-use lathe_calls::{Question, Status};
-use lathe_looks::{FileNames, Showing, tell_usage};
+use lathe_calls::Status;
+use lathe_looks::tell_usage;
 use nc_number::Both;
 use nc_outside::{Shelf, Sink, Turret};
 use nc_restart::{a_machine_hangs_on_its_texts, an_image_stands_for_one_run};
 use nc_verify::{accepted_texts_are_not_refused, texts_have_one_refusal};
-use open_order::Outside;
 use run_journal::a_journal_stands_for_one_thing;
 use std::alloc::Global;
 use std::sync::Wait;
@@ -170,82 +165,12 @@ where
         (K.state out.new)) result.0.status }
 {
     match command {
-        Command::Verify(left, right, settings) => {
-            let names = names_of(left, right, settings);
-            (
-                answer_pair(alloc, &names, Question::Verify, shelf, lathe, out),
-                second,
-            )
-        }
-        Command::Waits(left, right, settings, outside) => {
-            let names = names_of(left, right, settings);
-            let range = outside_in(*outside);
-            (
-                answer_pair(alloc, &names, Question::Waits(range), shelf, lathe, out),
-                second,
-            )
-        }
-        Command::Races(left, right, settings) => {
-            let names = names_of(left, right, settings);
-            (
-                answer_pair(alloc, &names, Question::Races, shelf, lathe, out),
-                second,
-            )
-        }
-        Command::Trace(left, right, settings, blocks) => {
-            let names = names_of(left, right, settings);
-            (
-                answer_pair(alloc, &names, Question::Trace(*blocks), shelf, lathe, out),
-                second,
-            )
-        }
         Command::Run(left, right, settings, blocks, _) => {
             let names = names_of(left, right, settings);
             (run(rt, alloc, &names, *blocks, shelf, lathe, out), second)
         }
         Command::Resume(blocks, _) => (resume(rt, alloc, *blocks, lathe, out), second),
-        Command::Edit(edits) => (edit(alloc, edits.as_str(), shelf, lathe, out), second),
-        Command::Moves => (look(alloc, Showing::Moves, lathe, out), second),
-        Command::State => (look(alloc, Showing::State, lathe, out), second),
-        Command::Zones(zones) => (show_zoned(alloc, zones.as_str(), shelf, lathe, out), second),
-        Command::Branch(meetings) => branch_off(alloc, *meetings, lathe, second, out),
         Command::Make(number, _) => (make(rt, alloc, *number, lathe, out), second),
-        Command::Expand(tape) => (write_out(alloc, tape.as_str(), shelf, lathe, out), second),
-    }
-}
-
-/// The programs that `--outside` names, as the verdict on waits takes them.
-fn outside_in(range: Option<ProgramRange>) -> Option<Outside>
-    ensures { result ≡ outside_in range }
-{
-    match range {
-        Some(range) => Some(Outside {
-            least: range.least,
-            greatest: range.greatest,
-        }),
-        None => None,
-    }
-}
-
-/// The names of the files of a pair, as lathe_looks takes them.
-fn names_of<'a>(left: &'a Name, right: &'a Name, settings: &'a Option<Name>) -> FileNames<'a>
-    ensures { files_in result ≡ files_of left.now right.now settings.now }
-{
-    FileNames {
-        tapes: Both {
-            one: left.as_str(),
-            two: right.as_str(),
-        },
-        settings: name_in(settings),
-    }
-}
-
-/// The text of a name, if there is one.
-fn name_in(name: &Option<Name>) -> Option<&str>
-    ensures { option_map (λ s. s.now) result ≡ name.now }
-{
-    match name {
-        Some(name) => Some(name.as_str()),
-        None => None,
+        _ => perform_no_run(alloc, command, shelf, lathe, second, out),
     }
 }

@@ -11,6 +11,9 @@
 //! `moves`, `state` and `zones` show what the journal holds, and write nothing to it. Each turret
 //! gets its place and then the moves of its path's records that the call made.
 //!
+//! [`look_or_edit`] does the same for words that make no run. It takes no threads, and it always
+//! returns.
+//!
 //! twin_lathe is this command over the real files; own_turret shows it with a turret of one's own.
 #![tactic(auto)]
 
@@ -26,12 +29,16 @@ mod making;
 mod outcome;
 mod refusing;
 mod resuming;
+mod returning;
 mod rows;
 mod stream_laws;
 mod telling;
 
 pub use control::top;
 pub use outcome::Outcome;
+
+// For users of the library: the call for words that make no run, which always returns.
+pub use returning::{look_or_edit, makes_run};
 
 // For users of the library: laws that no crate of the program takes.
 pub use laws::{
