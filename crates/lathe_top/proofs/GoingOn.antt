@@ -1,7 +1,7 @@
 -- What going on with a run comes to: a run with turrets is a session but for its opening. What is
 -- told of it is in GoingReported.
 -- GoingReported and the proof of `go_on` (src/going.rt) use it.
-use Rattle.std.proofs.Common.{◌≡◌, inl, inr, ℕ, ◌+◌, ◌-◌, ◌*◌, ◌≤◌, max, Bool, true, false, ◌||◌, ◌&&◌, is_some, if◌then◌else◌, List, [], length, take, drop, Option, Some, None, refl, sym, ◌∙◌, ap, subst, arith}
+use Rattle.std.proofs.Common.{◌≡◌, ◌⊎◌, inl, inr, ⊎_elim, ℕ, ◌+◌, ◌-◌, ◌*◌, ◌≤◌, max, Bool, true, false, ◌||◌, ◌&&◌, is_some, if◌then◌else◌, List, [], length, take, drop, Option, Some, None, refl, sym, ◌∙◌, ap, subst, arith}
 use Rattle.std.specs.Prelude.{IsTrue}
 use Rattle.std.proofs.Math.Seq.{take-append_seam, drop-append_seam, take-length}
 use Rattle.std.proofs.lemmas.List.{length-append}
@@ -9,9 +9,11 @@ use Rattle.std.proofs.lemmas.Grind.{flat_map-append}
 use Rattle.nc_outside.specs.Received.{TurretState}
 use Rattle.nc_number.specs.declared.both.Both.{Both}
 use Rattle.nc_number.specs.Both.{of_path}
-use Rattle.disk_model.specs.Device.{DiskState, Reads}
+use Rattle.disk_model.specs.Device.{DiskState, Reads, Rose}
 use Rattle.disk_model.specs.Moments.{LeavesOnly, Uses}
 use Rattle.gate_file.specs.Gate.{Gate}
+use Rattle.nc_outside.specs.declared.halt.Halt.{Halt}
+use Rattle.nc_outside.specs.declared.halt.Halt.TheVariants as halt
 use Rattle.nc_outside.specs.declared.reason.Reason.{Reason}
 use Rattle.nc_outside.specs.Reasons.{end_by}
 use Rattle.nc_number.specs.declared.path.Path.{Path}
@@ -30,7 +32,7 @@ use Rattle.run_table.specs.Kept.{TableView}
 use Rattle.run_table.specs.Made.{moves_made}
 use Rattle.run_table.specs.Recording.{StandsForPrefix, IsJournaled, sent_count, most_bytes}
 use Rattle.run_table.specs.Running as running
-use Rattle.run_table.specs.Running.{MayRun}
+use Rattle.run_table.specs.Running.{IsNoneOrAlarm, MayRun}
 use Rattle.run_table.specs.Since.{Since}
 use Rattle.turret_run.specs.Served.{moves_told, FailsPlace, GetsAll, GetsSome, FailsAmong, Misses}
 use Rattle.turret_run.specs.Runs.{due_to_turret, due_by_all, GetsAt, GetsBeside, StandsBeside, none_missed, Stays}
@@ -42,8 +44,9 @@ use Rattle.lathe_looks.specs.Standing.{is_over, reason_by, reason_of}
 use Rattle.lathe_top.specs.Lathe.{LatheState, lathe_with}
 use Rattle.lathe_top.specs.Session.{Session, AreMost, IsLeast, NoneFailed, EndsBy, over, full, stopped, disk_failed, turret_failed, GoesOn}
 use Rattle.lathe_top.specs.Turrets.{due_to, AreServed, AreFailed, GetTheirs, IsEnding}
-use Rattle.lathe_top.specs.Kept.{end_of}
+use Rattle.lathe_top.specs.Kept.{end_of, KeepsVersion}
 use Rattle.lathe_top.specs.Going.{KeepsGoing}
+use Rattle.lathe_top.proofs.VersionsKept.{is_disk_or_not, keeps_version}
 
 -- the law that a journal ends no further on than its header and its records with their gates reach
 abbrev pub AreSmall : {D : Type 0} → (D → DiskState) → Type 0
@@ -82,6 +85,14 @@ sent_all false flushed all same = refl
 sent_within : (live : Bool) (flushed all : ℕ) → flushed ≤ all → (if live then flushed else all) ≤ all
 sent_within true flushed all within = within
 sent_within false flushed all within = omega arith
+
+-- the journal of a table may be written, unless the table was stopped by a fault of the disk
+abbrev pub IsLive : {D : Type 0} → TableView D → Type 0
+IsLive t = (t.halt ≡ Some halt.Disk → ⊥) → IsTrue t.recording.log.file.live
+
+-- what stopped a table that may be run is no fault of the disk
+pub no_disk_fault : (why : Option Halt) → IsNoneOrAlarm why → why ≡ Some halt.Disk → ⊥
+no_disk_fault why may is = subst IsNoneOrAlarm is may
 
 -- A table that was run for so many records at most, and what has come of it: the table `old` before
 -- and `new` after, with the turrets before and after and how many moves each missed. It was not
@@ -324,6 +335,34 @@ module _ {D : Type 0} (state : D → DiskState) (small : AreSmall state) (limit 
   all_flushed : take old.recording.flushed found ≡ found
   all_flushed = ap (λ n. take n found) may.all ∙ take-length found
 
+  -- a journal that may be written holds all that was found
+  found_held : (bytes : List ℕ) → Reads d.disk bytes → IsTrue old.recording.log.file.live
+      → Holds header old.recording.log.version found d.disk old.recording.log.file.end
+  found_held bytes reads live =
+      subst (λ (l : List Entry). Holds header old.recording.log.version l d.disk old.recording.log.file.end) all_flushed (journaled.held bytes reads live)
+
+  -- a journal that may be written now could be written before
+  lived : (live : Bool) → old.recording.log.file.live ≡ live → IsTrue new.recording.log.file.live → IsTrue old.recording.log.file.live
+  lived true is now = is
+  lived false dead now = subst (λ (file : Gate D). IsTrue file.live) (since.recording.rests dead) now
+
+  -- a journal that may be written now has the version that it had
+  same_version : IsTrue new.recording.log.file.live → (bytes : List ℕ) → Reads d.disk bytes → KeepsVersion session least d.disk e.disk
+  same_version live bytes reads =
+      let told = since.recording.told bytes reads in
+      let held = (since.recording.journal header journaled).journaled.held told.0 told.1 live in
+      keeps_version session least d.disk e.disk old.recording.log.version
+      (old.recording.log.file.end, found_held bytes reads (lived old.recording.log.file.live refl live)) (
+        new.recording.log.file.end,
+        subst (λ (v : Version). Holds header v (take least history) e.disk new.recording.log.file.end) since.recording.version held,
+      )
+
+  -- a call of the disk failed, or the journal has the version that it had
+  version_kept : IsLive new → (bytes : List ℕ) → Reads d.disk bytes → Rose d.disk.faults e.disk.faults ⊎ KeepsVersion session least d.disk e.disk
+  version_kept live bytes reads =
+      ⊎_elim (λ is. ⊎_elim (λ was. absurd (no_disk_fault old.halt may.halt was)) (λ rose. inl rose) (since.cause is))
+      (λ other. inr (same_version (live other) bytes reads)) (is_disk_or_not new.halt)
+
   -- how far the disk was written: not past the end of the session's journal
   reaches : (live : Bool) → old.recording.log.file.live ≡ live → (bytes : List ℕ) → Reads d.disk bytes → e.disk.reach ≤ max d.disk.reach (end_of session)
   reaches false dead bytes reads =
@@ -331,8 +370,7 @@ module _ {D : Type 0} (state : D → DiskState) (small : AreSmall state) (limit 
       omega (arith, same)
   reaches true is bytes reads =
       let live : IsTrue old.recording.log.file.live = is in
-      let holds : Holds header old.recording.log.version found d.disk old.recording.log.file.end =
-      subst (λ (l : List Entry). Holds header old.recording.log.version l d.disk old.recording.log.file.end) all_flushed (journaled.held bytes reads live) in
+      let holds = found_held bytes reads live in
       let end_is = small old.recording.log.file.disk header old.recording.log.version found old.recording.log.file.end holds in
       let most : most_bytes (drop old.recording.flushed history) ≡ most_bytes made = ap most_bytes rest_is in
       omega (arith, end_is, most, bytes_are, longer, (since.recording.sends within).uses.reach bytes reads)
@@ -348,14 +386,15 @@ module _ {D : Type 0} (state : D → DiskState) (small : AreSmall state) (limit 
   }
 
   -- what the run did to the disk is what going on may do
-  pub keeps_going : KeepsGoing session least d.disk e.disk
-  keeps_going = record {
+  pub keeps_going : IsLive new → KeepsGoing session least d.disk e.disk
+  keeps_going live = record {
     left = λ bytes reads c image.
         let moves_told = since.recording.told bytes reads in
         (since.recording.journal header journaled).journaled.left moves_told.0 moves_told.1 c image;
     moments = λ bytes reads.
         subst (λ n. LeavesOnly (StandsForPrefix header n history) d.disk e.disk) may.all ((since.recording.journal header journaled).any_moment bytes reads);
     over = λ over_now. let open_now = still in absurd (cc);
+    version = version_kept live;
     uses = uses;
     later = since.recording.later;
   }

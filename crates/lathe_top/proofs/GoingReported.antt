@@ -1,7 +1,8 @@
 -- What is told of a run that went on, and of one that did not begin, as memory ran out or a thread
 -- was refused.
 -- For the proof of `go_on` (src/going.rt).
-use Rattle.std.proofs.Common.{◌≡◌, inl, inr, ℕ, ◌+◌, ◌-◌, ◌*◌, ◌≤◌, false, List, [], length, refl, sym, ap, subst, arith, ◌∙◌, Result, Ok, Err}
+use Rattle.std.proofs.Common.{◌≡◌, inl, inr, ℕ, ◌+◌, ◌-◌, ◌*◌, ◌≤◌, false, List, [], length, take, refl, sym, ap, subst, arith, ◌∙◌, Result, Ok, Err}
+use Rattle.std.specs.Prelude.{IsTrue}
 use Rattle.std.proofs.Math.Seq.{take-length}
 use Rattle.nc_outside.specs.Received.{TurretState}
 use Rattle.nc_number.specs.declared.both.Both.{Both}
@@ -14,6 +15,7 @@ use Rattle.nc_outside.specs.declared.reason.Reason.{Reason}
 use Rattle.nc_verify.specs.declared.verified.Verified.{Verified}
 use Rattle.run_records.specs.Entries.{Entry}
 use Rattle.run_records.specs.declared.header.Header.{Header}
+use Rattle.run_journal.specs.Stands.{Holds}
 use Rattle.run_table.specs.Kept.{TableView}
 use Rattle.run_table.specs.Recording.{StandsForPrefix, IsJournaled}
 use Rattle.run_table.specs.Running.{MayRun}
@@ -29,7 +31,8 @@ use Rattle.lathe_top.specs.Lathe.{LatheState, lathe_with}
 use Rattle.lathe_top.specs.Ran.{TextOf}
 use Rattle.lathe_top.specs.Kept.{end_of}
 use Rattle.lathe_top.specs.Going.{Standing, standing_run, session_to, IsReport, report, stayed, told_of}
-use Rattle.lathe_top.proofs.GoingOn.{AreSmall, goes_on, ending, failing, unplaced, keeps_going}
+use Rattle.lathe_top.proofs.VersionsKept.{version_stays}
+use Rattle.lathe_top.proofs.GoingOn.{AreSmall, IsLive, no_disk_fault, goes_on, ending, failing, unplaced, keeps_going}
 
 -- what holds of a run and the disk that it leaves holds of a run of the same pair with the same
 -- disk
@@ -50,7 +53,7 @@ module _ {D : Type 0} (state : D → DiskState) (coherent : (disk : D) → IsCoh
     (behind : old.machine ≡ machine_behind old.verified old.recording.history) (unended : is_over old.machine ≡ false)
     (kept : IsKept (tapes_in new.verified) (opening_of new.verified) new.recording.history new.machine)
     (few : length new.recording.history ≤ new.verified.settings.records)
-    (pending : length new.recording.history ≤ new.recording.flushed + 64)
+    (pending : length new.recording.history ≤ new.recording.flushed + 64) (live : IsLive new)
     (header : Header) (journaled : IsJournaled state header old.recording) (before after : Both TurretState) (missed : Both ℕ) where
   -- the run that goes on
   abbrev pub run : Standing
@@ -89,6 +92,18 @@ module _ {D : Type 0} (state : D → DiskState) (coherent : (disk : D) → IsCoh
     machine_is : old.machine ≡ machine_behind new.verified old.recording.history
     machine_is = behind ∙ ap (λ (pair : Verified). machine_behind pair old.recording.history) (sym not_begun.same.verified)
 
+    -- the journal of a run that did not begin may be written
+    lives : IsTrue old.recording.log.file.live
+    lives = subst (λ (file : Gate D). IsTrue file.live) not_begun.same.file
+        (live (λ is. no_disk_fault old.halt may.halt (sym not_begun.same.halt ∙ is)))
+
+    -- the journal of a run that did not begin holds all its records
+    held : (bytes : List ℕ) → Reads d.disk bytes
+        → Holds header old.recording.log.version old.recording.history d.disk old.recording.log.file.end
+    held bytes reads =
+        subst (λ (l : List Entry). Holds header old.recording.log.version l d.disk old.recording.log.file.end)
+        (ap (λ n. take n old.recording.history) may.all ∙ take-length old.recording.history) (journaled.held bytes reads lives)
+
     -- nothing is told of a run that did not begin, over the same disk
     stays : (text_of : TextOf) → IsReport limit text_of run d (record { disk = d.disk; turrets = after; missed = missed }) nothing
     stays text_of = stayed old.recording.history (length old.recording.history)
@@ -108,6 +123,8 @@ module _ {D : Type 0} (state : D → DiskState) (coherent : (disk : D) → IsCoh
               no_call (StandsForPrefix header (length old.recording.history) old.recording.history) d.disk (coherent old.recording.log.file.disk)
               (left bytes reads);
           over = λ over. unwritten_none d.disk (coherent old.recording.log.file.disk);
+          version = λ bytes reads.
+              inr (version_stays header new.verified old.recording.history d.disk old.recording.log.version old.recording.log.file.end (held bytes reads));
           uses = uses_none (4 * (length old.recording.history - length old.recording.history)) (end_of (session_to run old.recording.history)) d.disk;
           later = omega arith;
         })
@@ -125,7 +142,7 @@ module _ {D : Type 0} (state : D → DiskState) (coherent : (disk : D) → IsCoh
       report new.recording.history new.recording.flushed
       (goes_on state small limit old new may behind unended ran.since kept few pending header journaled before after missed)
       (ending state small limit old new may behind unended ran.since kept few pending header journaled before after missed end ran.ends ran.turrets ran.misses)
-      (keeps_going state small limit old new may behind unended ran.since kept few pending header journaled before after missed)
+      (keeps_going state small limit old new may behind unended ran.since kept few pending header journaled before after missed live)
 
   -- what is told of a run is what is due to its end, or nothing if it did not begin
   pub told_report : (text_of : TextOf) (end : Result Reason NoMemory) → RunsWith state limit old new before after missed end
@@ -139,13 +156,13 @@ module _ {D : Type 0} (state : D → DiskState) (coherent : (disk : D) → IsCoh
       report new.recording.history new.recording.flushed
       (goes_on state small limit old new may behind unended ran.since kept few pending header journaled before after missed)
       (failing state small limit old new may behind unended ran.since kept few pending header journaled before after missed path ran.calm ran.whole ran.failed ran.other ran.misses)
-      (keeps_going state small limit old new may behind unended ran.since kept few pending header journaled before after missed)
+      (keeps_going state small limit old new may behind unended ran.since kept few pending header journaled before after missed live)
   told_report text_of (Ok (Reason.TurretFault path)) (inr ran) =
       report new.recording.history new.recording.flushed
       (goes_on state small limit old new may behind unended ran.since kept few pending header journaled before after missed)
       (unplaced state small limit old new may behind unended ran.since kept few pending header journaled before after missed path ran.same ran.failed
       ran.other ran.none)
-      (keeps_going state small limit old new may behind unended ran.since kept few pending header journaled before after missed)
+      (keeps_going state small limit old new may behind unended ran.since kept few pending header journaled before after missed live)
   told_report text_of (Err none) ran = has_stayed ran text_of
 
   -- the pair of the new table is that of the old one

@@ -1,6 +1,7 @@
 -- The lemmas of this crate, in the order in which they rest on each other, but for BranchesMade,
 -- which takes a definition of StopsLeave. The proofs of this crate use them, and no other crate
 -- does.
+pub mod VersionsKept
 pub mod GoingOn
 pub mod GoingReported
 pub mod Opened

@@ -1,6 +1,6 @@
 -- A session: an opening of the disk, and a run that goes on from it.
 -- RunsBegun, RunsFound and the proofs of most commands use it.
-use Rattle.std.proofs.Common.{◌≡◌, ℕ, ◌+◌, ◌-◌, ◌*◌, ◌≤◌, max, List, [], length, take, Ok, refl, ap, arith, ◌∙◌}
+use Rattle.std.proofs.Common.{◌≡◌, inl, inr, ⊎_elim, ℕ, ◌+◌, ◌-◌, ◌*◌, ◌≤◌, max, List, [], length, take, Ok, refl, ap, arith, ◌∙◌}
 use Rattle.std.proofs.lemmas.List.{length-take}
 use Rattle.nc_outside.specs.Received.{TurretState}
 use Rattle.nc_number.specs.declared.both.Both.{Both}
@@ -71,6 +71,9 @@ module _ {D : Type 0} (state : D → DiskState) (opening : Opening) (s : Session
     goes = λ bytes reads. let told = uses.told bytes reads in keeps.moments told.0 told.1;
     left = λ bytes reads. let told = uses.told bytes reads in keeps.left told.0 told.1;
     over = keeps.over;
+    version = λ bytes reads.
+        let told = uses.told bytes reads in
+        ⊎_elim (λ rose. inl (omega (arith, later, rose))) (λ version. inr version) (keeps.version told.0 told.1);
     uses = uses_widened (calls + 4 * (length s.history - length s.found)) (opening_calls opening + 4 * length s.history) (max end (end_of s)) (end_of s) a c
         (uses_add calls (4 * (length s.history - length s.found)) end (end_of s) a (state begun) c uses keeps.uses)
         (omega (arith, few, no_less)) (omega (arith, within));

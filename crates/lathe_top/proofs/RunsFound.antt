@@ -1,6 +1,6 @@
 -- What is answered after a recovery.
 -- DueOnce and the proofs of `resume` and `resume_found` (src/resuming.rt) use it.
-use Rattle.std.proofs.Common.{◌≡◌, ℕ, ◌-◌, ◌*◌, Bool, true, false, List, length, Ok, Some, None, Option, refl, sym, ap, subst, arith, ◌∙◌}
+use Rattle.std.proofs.Common.{◌≡◌, inr, ℕ, ◌-◌, ◌*◌, Bool, true, false, List, length, Ok, Some, None, Option, refl, sym, ap, subst, arith, ◌∙◌}
 use Rattle.std.proofs.Math.Seq.{take-length}
 use Rattle.nc_outside.specs.Received.{TurretState}
 use Rattle.nc_number.specs.declared.both.Both.{Both}
@@ -30,6 +30,7 @@ use Rattle.lathe_top.specs.Lathe.{LatheState, lathe_with}
 use Rattle.lathe_top.specs.Ran.{IsResumed, resumed, reported, unprepared}
 use Rattle.lathe_top.specs.Session.{Session, GoesOn, IsLeast, EndsBy, over}
 use Rattle.lathe_top.specs.Turrets.{IsEnding}
+use Rattle.lathe_top.proofs.VersionsKept.{version_stays}
 use Rattle.lathe_top.proofs.Opened.{NoneIsStuck, found_keeps, ending_since, is_session, unprepared_since}
 
 -- A run was found on the disk, and its pair is accepted. `a` is the disk before the call and
@@ -122,6 +123,7 @@ module _ {D : Type 0} (state : D → DiskState) (coherent : (disk : D) → IsCoh
     left = all_left;
     moments = λ bytes reads. no_call (StandsForPrefix header (length entries) entries) disk (coherent log.file.disk) (all_left bytes reads);
     over = λ over. unwritten_none disk (coherent log.file.disk);
+    version = λ bytes reads. inr (version_stays header pair entries disk log.version log.file.end (is.holds bytes reads));
     uses = uses_none (4 * (length entries - length entries)) (end_of session) disk;
     later = omega arith;
   }

@@ -1,7 +1,7 @@
 -- How a run goes on from what its journal has.
 -- For this crate alone: the contracts of src/going.rt and src/resuming.rt.
-use Rattle.std.specs.Prelude.{◌≡◌, ℕ, ◌-◌, ◌*◌, ◌≤◌, true, Result, Ok, Err, List, length}
-use Rattle.disk_model.specs.Device.{DiskState, Reads}
+use Rattle.std.specs.Prelude.{◌≡◌, ◌⊎◌, ℕ, ◌-◌, ◌*◌, ◌≤◌, true, Result, Ok, Err, List, length}
+use Rattle.disk_model.specs.Device.{DiskState, Reads, Rose}
 use Rattle.disk_model.specs.Moments.{LeavesOnly, Unwritten, Uses}
 use Rattle.nc_number.specs.declared.fault.NoMemory.{NoMemory}
 use Rattle.nc_outside.specs.declared.reason.Reason.{Reason}
@@ -13,7 +13,7 @@ use Rattle.run_table.specs.Kept.{TableView}
 use Rattle.run_table.specs.Recording.{IsJournaled, StandsForPrefix}
 use Rattle.lathe_calls.specs.Answers.{Answer, tells, nothing, Ends}
 use Rattle.lathe_looks.specs.Standing.{is_over}
-use Rattle.lathe_top.specs.Kept.{end_of}
+use Rattle.lathe_top.specs.Kept.{end_of, KeepsVersion}
 use Rattle.lathe_top.specs.Lathe.{LatheState}
 use Rattle.lathe_top.specs.Ran.{TextOf}
 use Rattle.lathe_calls.specs.Statuses.{reason_status}
@@ -46,6 +46,8 @@ pub record KeepsGoing (s : Session) (least : ℕ) (old new : DiskState) : Type 0
       → LeavesOnly (StandsForPrefix s.header (length s.found) s.history) old new
   -- to a run that was over nothing is written
   pub over : is_over (machine_found s) ≡ true → Unwritten old new
+  -- a call of the disk failed, or the journal keeps its version
+  pub version : (bytes : List ℕ) → Reads old bytes → Rose old.faults new.faults ⊎ KeepsVersion s least old new
   -- four calls at most for each record made, and how far they reach
   pub uses : Uses (4 * (length s.history - length s.found)) (end_of s) old new
   -- the count of faults doesn't sink

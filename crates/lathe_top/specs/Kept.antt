@@ -1,8 +1,8 @@
 -- What a call does to the disk and to the turrets, by the kind of its command. What it answers is
 -- in Ran, Edited, Branched and Zoned.
 -- What `top` promises is said in it; no other crate takes it.
-use Rattle.std.specs.Prelude.{◌≡◌, ◌⊎◌, ℕ, ◌+◌, ◌*◌, ◌≤◌, true, List, [], ◌++◌, length, Result, Err}
-use Rattle.disk_model.specs.Device.{DiskState, Reads}
+use Rattle.std.specs.Prelude.{◌≡◌, ◌⊎◌, ℕ, ◌+◌, ◌*◌, ◌≤◌, true, List, [], ◌++◌, length, take, Result, Err}
+use Rattle.disk_model.specs.Device.{DiskState, Reads, Rose}
 use Rattle.disk_model.specs.Moments.{LeavesOnly, Unwritten, Uses}
 use Rattle.gate_file.specs.declared.fault.GateFault.{GateFault}
 use Rattle.gate_file.specs.Chain.{IsRunThere}
@@ -12,12 +12,13 @@ use Rattle.edit_texts.specs.declared.edit_list.PathEdit.{PathEdit}
 use Rattle.run_edits.specs.Made.{edits_end, records_of}
 use Rattle.run_records.specs.Entries.{Entry}
 use Rattle.run_records.specs.declared.header.Header.{Header}
+use Rattle.run_records.specs.declared.version.Version.{Version}
 use Rattle.run_records.specs.declared.version.Version.TheVariants.{Two}
 use Rattle.run_records.specs.Headers.{header_bytes}
 use Rattle.run_journal.specs.Batches.{records_bytes}
 use Rattle.run_journal.specs.Beginning.{BeginsRun, IsRunBeginning}
 use Rattle.run_journal.specs.Meaning.{a_run}
-use Rattle.run_journal.specs.Stands.{StandsEither}
+use Rattle.run_journal.specs.Stands.{Holds, StandsEither}
 use Rattle.run_table.specs.Recording.{StandsForPrefix}
 use Rattle.nc_restart.specs.declared.fault.RestartFault.{RestartFault}
 use Rattle.nc_restart.specs.Pair.{texts_of, IsPairOf}
@@ -53,6 +54,22 @@ abbrev pub IsOfOpening : Opening → Session → (List ℕ → Type 0) → List 
 IsOfOpening anew s image c = IsRunBeginning image s.header c
 IsOfOpening again s image c = image c
 
+-- the disk holds these records of the session, in a journal of this version
+abbrev pub HoldsIn : Version → Session → List Entry → DiskState → Type 0
+HoldsIn version s entries disk = (end : ℕ) × Holds s.header version entries disk end
+
+-- The journal has the version that it had at its opening: `begun` is the disk at that moment, and
+-- `new` now.
+pub record KeepsVersion (s : Session) (least : ℕ) (begun new : DiskState) : Type 0 where
+  -- the version of the journal
+  pub version : Version
+  -- a journal that was begun with version 2 has this version
+  pub second : s.header.version ≡ Two → version ≡ Two
+  -- at its opening the journal had all that was found, and this version
+  pub opened : HoldsIn version s s.found begun
+  -- now it has `least` records, and this version
+  pub now : HoldsIn version s (take least s.history) new
+
 -- What a session does to the disk, in two spans of time. Up to the moment at which the opening
 -- answered, a crash leaves an image of the opening; from then on a prefix of the history that has
 -- all that was found; and now one of `least` records at least. A run that was over is only looked
@@ -68,6 +85,8 @@ pub record KeepsSession {D : Type 0} (state : D → DiskState) (opening : Openin
   pub left : (bytes : List ℕ) → Reads old bytes → (c : List ℕ) → new.image c → StandsForPrefix s.header least s.history c
   -- to a run that was over at its opening nothing is written from then on
   pub over : is_over (machine_found s) ≡ true → Unwritten (state begun) new
+  -- a call of the disk failed, or the journal keeps the version that it had at its opening
+  pub version : (bytes : List ℕ) → Reads old bytes → Rose old.faults new.faults ⊎ KeepsVersion s least (state begun) new
   -- how many calls of the disk there were at most, and how far they reach
   pub uses : Uses (opening_calls opening + 4 * length s.history) (end_of s) old new
   -- the count of faults doesn't sink

@@ -1,5 +1,5 @@
 -- A table is still a table after each part of a step, and the parts together are the step.
--- EndsTold and the proofs of `ended`, `prepare` and `step_into` (src/table.rt) use it.
+-- EndsTold and the proofs of `ended`, `into_parts`, `prepare` and `step_into` (src/table.rt) use it.
 use Rattle.std.proofs.Common.{◌≡◌, ℕ, ◌+◌, ◌≤◌, ◌<◌, ◌==◌, Bool, true, false, List, ◌++◌, length, refl, sym, ◌∙◌, ap, subst, arith, length-append, Option, Some, None}
 use Rattle.std.specs.Prelude.{IsTrue, nat_lt, if◌then◌else◌}
 use Rattle.disk_model.specs.Device.{DiskState}
@@ -61,6 +61,16 @@ reason_kept state m r r' made t answer is live few history one (flushed was_due 
     subst (λ (a : TableStep). HasReason m r' (reason_of a)) (sym same) (turned_reason m r' t is still (omega (arith, all)))
 reason_kept state m r r' made t answer is live few history one (failed was_due same dead stays rose) =
     subst (λ (a : TableStep). HasReason m r' (reason_of a)) (sym same) dead
+
+-- the journal may be written unless the reason that is kept is a fault of the disk
+pub live_by : {D : Type 0} (m : MachineView) (r : RecordingView D) (why : Option Halt) → HasReason m r why → (why ≡ Some halt.Disk → ⊥)
+    → IsTrue r.log.file.live
+live_by m r None has other = has.live
+live_by m r (Some (halt.Alarm alarm)) has other = has.1
+live_by m r (Some halt.Disk) has other = absurd (other refl)
+live_by m r (Some (halt.Turret path)) has other = has.live
+live_by m r (Some halt.Full) has other = absurd has
+live_by m r (Some halt.Budget) has other = absurd has
 
 -- a turn that is answered as a wait of the path is that wait
 turned_is : (t : Turn) (code : ℕ) → Turned t ≡ Turned (turn.Waiting code) → t ≡ turn.Waiting code

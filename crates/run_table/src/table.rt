@@ -1,7 +1,7 @@
 //! The table of a run. The pair, the machine, the history with its journal, and why it stopped. A
 //! step's parts are in stepping.rt.
 //! held.rt holds it; lathe_top and turret_run use what it exports.
-ghost use Rattle.std.specs.Prelude.{◌≡◌, ℕ, ◌+◌, ◌≤◌, false, length, IfOk};
+ghost use Rattle.std.specs.Prelude.{◌≡◌, ◌≢◌, ℕ, ◌+◌, ◌≤◌, false, length, IfOk, IsTrue, Some};
 ghost use Rattle.gate_file.specs.Creation.{without_disk};
 ghost use Rattle.nc_number.specs.declared.limits.TheConstants.{MOST_PENDING};
 ghost use Rattle.nc_number.specs.declared.path.Path.{Path};
@@ -337,6 +337,7 @@ impl<D: Disk> Table<D> {
         ensures kept { IsKept (tapes_in self.verified) (opening_of self.verified) self.recording.history self.machine }
         ensures few { length self.recording.history ≤ self.verified.settings.records }
         ensures pending { length self.recording.history ≤ self.recording.flushed + MOST_PENDING }
+        ensures live { self.halt ≢ Some halt.Disk → IsTrue self.recording.log.file.live }
     {
         let Table {
             verified,

@@ -46,13 +46,13 @@ returns g c = λ header journaled.
     (g.K.Sink.state c.args.out.now) (g.K.Sink.state c.tell_run-status.new.out) c.tell_run-status.result)
     header old.recording.history new.verified old.verified new.recording.log.file.disk left.result.disk
     (pair_is state disks.coherent c.a_held_journal_is_small.ensures c.args.asked.limit old new c.requires.may c.requires.behind
-    c.requires.unended left.ensures.kept left.ensures.few left.ensures.pending header journaled before after missed run.end c.run_with_turrets-table.ensures.run)
+    c.requires.unended left.ensures.kept left.ensures.few left.ensures.pending left.ensures.live header journaled before after missed run.end c.run_with_turrets-table.ensures.run)
     left.ensures.parts.disk_is
     (ends_just _ _
     (subst (IsReport c.args.asked.limit text_of _ _ _)
     (sym (told_same text_of left.result.verified new.verified left.result.entries.items new.recording.history run.end
     left.ensures.parts.verified_is left.ensures.parts.entries_are))
     (told_report state disks.coherent c.a_held_journal_is_small.ensures c.args.asked.limit old new c.requires.may
-    c.requires.behind c.requires.unended left.ensures.kept left.ensures.few left.ensures.pending header journaled before after missed text_of run.end
+    c.requires.behind c.requires.unended left.ensures.kept left.ensures.few left.ensures.pending left.ensures.live header journaled before after missed text_of run.end
     c.run_with_turrets-table.ensures.run))
     c.tell_run-status.ensures)
