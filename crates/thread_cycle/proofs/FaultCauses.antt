@@ -7,6 +7,8 @@ use Rattle.std.proofs.lemmas.Bool.Decides.{nat_tests}
 use Rattle.std.proofs.lemmas.Int.{ints}
 use Rattle.nc_number.specs.declared.limits.TheConstants.{LONGEST_SAID, LARGEST_MICRO}
 use Rattle.nc_number.specs.declared.point.Point.{Point}
+use Rattle.nc_number.proofs.Bools.{both}
+use Rattle.nc_number.proofs.Counts.{lt_true, lt_false}
 use Rattle.nc_number.proofs.Integers.{le_is}
 use Rattle.thread_cycle.specs.declared.cycle.ThreadCycle.{ThreadCycle}
 use Rattle.thread_cycle.specs.declared.fault.ThreadFault.{ThreadFault}
@@ -19,11 +21,6 @@ use Rattle.thread_cycle.specs.Sides.{IsOnSide, is_on_both}
 use Rattle.thread_cycle.proofs.MadeDepths.{le_passes, gt_fails}
 
 -- tests
-
--- both pass if their conjunction does
-both : (a b : Bool) → (a && b) ≡ true → (a ≡ true) × (b ≡ true)
-both true b e = (refl, e)
-both false b e = absurd (let wrong : false ≡ true = e in cc)
 
 -- a point that passes is written
 written_is : (p : Point) → is_written p ≡ true → IsWritten p
@@ -111,14 +108,6 @@ some_fails n some = grind (arith, nat_tests)
 none_passes : (n : ℕ) → n ≡ 0 → (n == 0) ≡ true
 none_passes n none = grind (arith, nat_tests)
 
--- a number above another passes the test of less
-lt_passes : (a b : ℕ) → a < b → nat_lt a b ≡ true
-lt_passes a b lt = grind (arith, nat_tests)
-
--- one at most another fails it
-ge_fails : (a b : ℕ) → b ≤ a → nat_lt a b ≡ false
-ge_fails a b ge = grind (arith, nat_tests)
-
 -- what is found
 
 -- of passes that literals can write
@@ -162,11 +151,11 @@ pass_told t (Some TooLarge) far = ap (goes_on t) (far_fails t far)
 pass_told t (Some NoPass) (near, none) = ap (goes_on t) (near_passes t near) ∙ rw (none_passes t.finishing none) refl
 pass_told t (Some Short) (near, some, short) = ap (goes_on t) (near_passes t near) ∙ rw (some_fails t.finishing some, le_passes _ _ short) refl
 pass_told t (Some Steep) (near, (some, long), steep) =
-    ap (goes_on t) (near_passes t near) ∙ rw (some_fails t.finishing some, gt_fails _ _ long, lt_passes _ _ steep) refl
+    ap (goes_on t) (near_passes t near) ∙ rw (some_fails t.finishing some, gt_fails _ _ long, lt_true _ _ steep) refl
 pass_told t (Some BelowCrest) (near, (some, long), gentle, below) =
-    ap (goes_on t) (near_passes t near) ∙ rw (some_fails t.finishing some, gt_fails _ _ long, ge_fails _ _ gentle, below_fails t below) refl
+    ap (goes_on t) (near_passes t near) ∙ rw (some_fails t.finishing some, gt_fails _ _ long, lt_false _ _ gentle, below_fails t below) refl
 pass_told t None (near, (some, long), gentle, off) =
-    ap (goes_on t) (near_passes t near) ∙ rw (some_fails t.finishing some, gt_fails _ _ long, ge_fails _ _ gentle, off_passes t off) refl
+    ap (goes_on t) (near_passes t near) ∙ rw (some_fails t.finishing some, gt_fails _ _ long, lt_false _ _ gentle, off_passes t off) refl
 
 -- of the cycle
 pub found : (t : ThreadCycle) → IsFault t (fault_of t)
