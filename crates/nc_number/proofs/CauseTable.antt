@@ -1,10 +1,9 @@
 -- Each row of the table of causes has a number of its own: for the law `a_number_has_one_cause`
--- (src/laws.rt) and `of_number` (src/cause.rt). A new cause is a line of `every_row`. block_forms,
--- text_pieces, move_list and 2 more crates above take facts too.
+-- (src/laws.rt) and `of_number` (src/cause.rt). A new cause is a line of `every_row`.
 use Rattle.std.proofs.Common.{◌≡◌, ◌≢◌, ℕ, Option, Some, None, IfSome, IsNone, All, Contains, lit<, refl, ap, sym, ◌∙◌}
 use Rattle.std.proofs.lemmas.List.Elements.{All-contains}
 use Rattle.nc_number.specs.declared.cause.Cause.{Cause}
-use Rattle.nc_number.specs.declared.cause.Cause.TheVariants.{Overflow, ZeroDivide, NegativeRoot, NotWhole, TooManyDigits, BadCharacter, NoNumber, OpenComment, NoProgramNumber, NoEnd, LineTooLong, TooManyBlocks, TapeTooLong, BadExpression, TooManyBrackets, BadCondition, UnknownFunction, BadLoopNumber, TooManyVariables, VariableRange, Protected, TooDeep, MacroAlarm, OffsetNumber, PositionRange, ArcRadius, NoCentre, FeedZero, NoSequence, NoProgram, LoopMismatch, IntoLoop, NotFixed, UnknownCode, WaitNotAlone, WaitPaths, TwoM, ProgramTwice, BadCall, AxisTwice, RanOff, WordRange, BranchAtWait, WaitTooDeep, TooManyLabels, WaitMismatch, WaitDiffers, BadRecord, DiskFault, NoRun, RunThere, Cut, JournalFull, BadSetting}
+use Rattle.nc_number.specs.declared.cause.Cause.TheVariants.{Overflow, ZeroDivide, NegativeRoot, NotWhole, TooManyDigits, BadCharacter, NoNumber, OpenComment, NoProgramNumber, NoEnd, LineTooLong, TooManyBlocks, TapeTooLong, BadExpression, TooManyBrackets, BadCondition, UnknownFunction, BadLoopNumber, TooManyVariables, VariableRange, Protected, TooDeep, MacroAlarm, OffsetNumber, PositionRange, ArcRadius, NoCentre, FeedZero, NoSequence, NoProgram, LoopMismatch, IntoLoop, NotFixed, UnknownCode, WaitNotAlone, WaitPaths, TwoM, ProgramTwice, BadCall, AxisTwice, RanOff, WordRange, BranchAtWait, WaitTooDeep, TooManyLabels, WaitMismatch, WaitDiffers, BadRecord, DiskFault, NoRun, RunThere, Cut, JournalFull, BadSetting, BadEdit, BadZone, BadCycle, TooLarge, NoMeeting, NotPlain}
 use Rattle.nc_number.specs.Causes.{cause_number, every_cause, cause_of}
 
 -- each cause is in the table, and no row before it has its number
@@ -63,6 +62,12 @@ every_row RunThere = ((50, lit< tt, refl), refl)
 every_row Cut = ((51, lit< tt, refl), refl)
 every_row JournalFull = ((52, lit< tt, refl), refl)
 every_row BadSetting = ((53, lit< tt, refl), refl)
+every_row BadEdit = ((54, lit< tt, refl), refl)
+every_row BadZone = ((55, lit< tt, refl), refl)
+every_row BadCycle = ((56, lit< tt, refl), refl)
+every_row TooLarge = ((57, lit< tt, refl), refl)
+every_row NoMeeting = ((58, lit< tt, refl), refl)
+every_row NotPlain = ((59, lit< tt, refl), refl)
 
 -- each cause has a row in the table
 pub cause_is_listed : (cause : Cause) → Contains every_cause cause

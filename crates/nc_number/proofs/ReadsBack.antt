@@ -133,6 +133,10 @@ length_is_written a range =
       some_digit = (let first = decimal_nonempty (unsigned_abs a / 1000) small in omega arith);
     }
 
+-- what is printed of a length is a literal
+pub length_is_literal : (a : ℤ) → unsigned_abs a ≤ 2 ^ 63 → IsLiteral (length_text a)
+length_is_literal a range = (parts_of_written _ _ _ _ (length_is_written a range)).literal
+
 -- a minus is printed exactly for a length below 0
 pub length_minus : (a : ℤ) → unsigned_abs a ≤ 2 ^ 63 → has_minus (length_text a) ≡ is_negative a
 length_minus a range = (parts_of_written _ _ _ _ (length_is_written a range)).minus_is ∙ printed_minus (is_negative a)

@@ -1,12 +1,11 @@
--- The table of causes: numbers and printed names of refusals, alarms and faults of the journal, 1
--- to 90. src/cause.rt has the same rows, and says when each is raised; a new row also needs its
--- line in proofs/CauseTable.antt. docs/ERRORS.md explains them. 91 to 95 are in the crates that
--- answer them. block_forms, macro_eval, motion_track and 21 more crates above cite this.
+-- The table of causes: numbers and printed names of refusals, alarms and faults of the journal.
+-- src/cause.rt has the same rows, and says when each is raised; a new row also needs its line in
+-- proofs/CauseTable.antt. docs/ERRORS.md explains them.
 use Rattle.std.specs.Prelude.{ℕ, ◌==◌, List, [], ◌∷◌, Option, find, codes}
 use Rattle.nc_number.specs.declared.cause.Cause.{Cause}
 use Rattle.nc_number.specs.declared.fault.NumberFault.{NumberFault}
 use Rattle.nc_number.specs.declared.fault.NumberFault.TheVariants as fault
-use Rattle.nc_number.specs.declared.cause.Cause.TheVariants.{Overflow, ZeroDivide, NegativeRoot, NotWhole, TooManyDigits, BadCharacter, NoNumber, OpenComment, NoProgramNumber, NoEnd, LineTooLong, TooManyBlocks, TapeTooLong, BadExpression, TooManyBrackets, BadCondition, UnknownFunction, BadLoopNumber, TooManyVariables, VariableRange, Protected, TooDeep, MacroAlarm, OffsetNumber, PositionRange, ArcRadius, NoCentre, FeedZero, NoSequence, NoProgram, LoopMismatch, IntoLoop, NotFixed, UnknownCode, WaitNotAlone, WaitPaths, TwoM, ProgramTwice, BadCall, AxisTwice, RanOff, WordRange, BranchAtWait, WaitTooDeep, TooManyLabels, WaitMismatch, WaitDiffers, BadRecord, DiskFault, NoRun, RunThere, Cut, JournalFull, BadSetting}
+use Rattle.nc_number.specs.declared.cause.Cause.TheVariants.{Overflow, ZeroDivide, NegativeRoot, NotWhole, TooManyDigits, BadCharacter, NoNumber, OpenComment, NoProgramNumber, NoEnd, LineTooLong, TooManyBlocks, TapeTooLong, BadExpression, TooManyBrackets, BadCondition, UnknownFunction, BadLoopNumber, TooManyVariables, VariableRange, Protected, TooDeep, MacroAlarm, OffsetNumber, PositionRange, ArcRadius, NoCentre, FeedZero, NoSequence, NoProgram, LoopMismatch, IntoLoop, NotFixed, UnknownCode, WaitNotAlone, WaitPaths, TwoM, ProgramTwice, BadCall, AxisTwice, RanOff, WordRange, BranchAtWait, WaitTooDeep, TooManyLabels, WaitMismatch, WaitDiffers, BadRecord, DiskFault, NoRun, RunThere, Cut, JournalFull, BadSetting, BadEdit, BadZone, BadCycle, TooLarge, NoMeeting, NotPlain}
 
 -- the number of an alarm or a refusal, as it is printed and stored
 abbrev pub cause_number : Cause → ℕ
@@ -64,6 +63,12 @@ cause_number RunThere = 83
 cause_number Cut = 84
 cause_number JournalFull = 85
 cause_number BadSetting = 90
+cause_number BadEdit = 91
+cause_number BadZone = 92
+cause_number BadCycle = 93
+cause_number TooLarge = 94
+cause_number NoMeeting = 95
+cause_number NotPlain = 96
 
 -- the name that is printed beside the number
 abbrev pub cause_name : Cause → List ℕ
@@ -121,6 +126,12 @@ cause_name RunThere = codes "RunThere"
 cause_name Cut = codes "Cut"
 cause_name JournalFull = codes "JournalFull"
 cause_name BadSetting = codes "BadSetting"
+cause_name BadEdit = codes "BadEdit"
+cause_name BadZone = codes "BadZone"
+cause_name BadCycle = codes "BadCycle"
+cause_name TooLarge = codes "TooLarge"
+cause_name NoMeeting = codes "NoMeeting"
+cause_name NotPlain = codes "NotPlain"
 
 -- all causes, in the order of their numbers
 abbrev pub every_cause : List Cause
@@ -131,7 +142,8 @@ every_cause =
     MacroAlarm ∷ OffsetNumber ∷ PositionRange ∷ ArcRadius ∷ NoCentre ∷ FeedZero ∷ NoSequence ∷ NoProgram ∷
     LoopMismatch ∷ IntoLoop ∷ NotFixed ∷ UnknownCode ∷ WaitNotAlone ∷ WaitPaths ∷ TwoM ∷ ProgramTwice ∷
     BadCall ∷ AxisTwice ∷ RanOff ∷ WordRange ∷ BranchAtWait ∷ WaitTooDeep ∷ TooManyLabels ∷ WaitMismatch ∷
-    WaitDiffers ∷ BadRecord ∷ DiskFault ∷ NoRun ∷ RunThere ∷ Cut ∷ JournalFull ∷ BadSetting ∷ []
+    WaitDiffers ∷ BadRecord ∷ DiskFault ∷ NoRun ∷ RunThere ∷ Cut ∷ JournalFull ∷ BadSetting ∷ BadEdit ∷
+    BadZone ∷ BadCycle ∷ TooLarge ∷ NoMeeting ∷ NotPlain ∷ []
 
 -- the cause of a number, if there is one
 abbrev pub cause_of : ℕ → Option Cause

@@ -14,6 +14,7 @@ pub mod Path
 pub mod Position
 pub mod Printed
 pub mod Range
+pub mod Refusals
 pub mod Results
 pub mod Rising
 pub mod Signs

@@ -1,7 +1,6 @@
-//! The table of alarms and refusals 1 to 90: the one place in code of their numbers and names. Each
-//! crate that raises one takes it from here; what raises it is in that crate. specs/Causes.antt has
-//! the same rows, and proofs/CauseTable.antt a line for each. The crates that answer 91 to 95 name
-//! these themselves (edit_texts, zone_cell, cycle_form, lathe_top).
+//! The table of alarms and refusals: the one place in code of their numbers and names. Each crate
+//! that raises one takes it from here; what raises it is in that crate. specs/Causes.antt has the
+//! same rows, and proofs/CauseTable.antt a line for each.
 ghost use Rattle.std.specs.Prelude.{◌≡◌, ◌≢◌, Some, IsNone, IfSome, All};
 ghost use Rattle.nc_number.specs.Causes.{cause_number, cause_name, every_cause};
 
@@ -120,6 +119,19 @@ pub enum Cause {
     JournalFull,
     /// A line of the settings that is none, or is out of its range.
     BadSetting,
+    /// A line of an operator's edits that is none, or is out of its range.
+    BadEdit,
+    /// A line of a text of zones that is none, or is out of its range.
+    BadZone,
+    /// A roughing cycle that stands in no form that can be written out, or on a tape with G91 or
+    /// G20.
+    BadCycle,
+    /// A tape that would have more than 20,000 blocks once it is written out.
+    TooLarge,
+    /// The run has no such meeting.
+    NoMeeting,
+    /// A block that can't be written out in plain blocks.
+    NotPlain,
 }
 
 // The table: the number of each cause. What is printed as its name is the variant's.
@@ -181,6 +193,12 @@ macro_rules! cause_table {
             84 Cut,
             85 JournalFull,
             90 BadSetting,
+            91 BadEdit,
+            92 BadZone,
+            93 BadCycle,
+            94 TooLarge,
+            95 NoMeeting,
+            96 NotPlain,
         }
     };
 }
@@ -211,7 +229,7 @@ macro_rules! every {
 }
 
 /// All causes, in the order of their numbers.
-const EVERY_CAUSE: [Cause; 54] = cause_table!(every);
+const EVERY_CAUSE: [Cause; 60] = cause_table!(every);
 
 /// One of these causes that has the number, if there is one.
 fn of_number(causes: &[Cause], number: u8) -> Option<Cause>

@@ -102,6 +102,7 @@ pub fn a_printed_value_reads_back()
 /// What is printed of a length of up to 99,999,999.999 mm reads back as that length; a minus
 /// stands only before a length below 0.
 pub fn a_printed_length_reads_back()
+    ensures literal { (a : ℤ) → unsigned_abs a ≤ 2 ^ 63 → IsLiteral (length_text a) }
     ensures value { (a : ℤ) → unsigned_abs a ≤ 99999999999
         → word_literal (length_text a) ≡ Ok (record { value = a *ℤ pos 1000; point = true }) }
     ensures minus { (a : ℤ) → unsigned_abs a ≤ 2 ^ 63 → has_minus (length_text a) ≡ is_negative a }

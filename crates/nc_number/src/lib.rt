@@ -23,6 +23,7 @@ mod options;
 mod path;
 mod point;
 mod printing;
+mod refused;
 mod rounding;
 mod value;
 
@@ -43,6 +44,7 @@ pub use options::lesser;
 pub use path::Path;
 pub use point::{Point, TOOL_OFFSETS, TRAVEL};
 pub use printing::{length_text, text};
+pub use refused::Refused;
 pub use rounding::{fix, fup, round, to_increment};
 pub use value::{Value, Var};
 
