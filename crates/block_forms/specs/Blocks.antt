@@ -1,5 +1,4 @@
--- A block that was read, as contracts see it: apart from where it lies in memory. tape_flow,
--- path_state, race_report, nc_restart and lathe_top cite `block_form`.
+-- A block that was read, as contracts see it: apart from where it lies in memory.
 use Rattle.block_forms.specs.declared.block.FlowBlock.{FlowBlock}
 use Rattle.block_forms.specs.Forms.{BlockForm}
 use Rattle.block_forms.specs.Views.{form_of}

@@ -1,5 +1,4 @@
--- What a block that reads does to the order of blocks. open_forms and path_state cite this; the
--- open reading of a block has its own definition in open_forms.
+-- What a block that reads does to the order of blocks.
 use Rattle.std.specs.Prelude.{ℕ, ◌/◌, ◌%◌, nat_le, Bool, true, ◌&&◌, ◌||◌, List, Option, Some, None, codes, if◌then◌else◌}
 use Rattle.nc_number.specs.declared.limits.TheConstants.{LAST_SEQUENCE}
 use Rattle.block_order.specs.declared.control.Control.{Control}

@@ -1,5 +1,4 @@
 -- What a block's text says, or the number of its refusal: the definition that `read_block` answers.
--- tape_flow, open_forms, flow_laws, nc_restart, race_report and wait_verify cite it.
 use Rattle.std.specs.Prelude.{ℕ, Bool, ◌+◌, nat_lt, nat_le, List, [], ◌∷◌, ◌++◌, Option, Some, None, Result, Ok, Err, if◌then◌else◌}
 use Rattle.nc_number.specs.declared.cause.Cause.{Cause}
 use Rattle.nc_number.specs.declared.cause.Cause.TheVariants.{TooManyDigits, TooManyVariables}

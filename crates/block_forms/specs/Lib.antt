@@ -1,6 +1,4 @@
--- The words in which contracts speak of what a block says. tape_flow, open_forms, path_state and
--- five more crates above cite Refusals, Controls, Forms, Views, Blocks and Variables; Texts is
--- cited in this crate alone.
+-- The words in which contracts speak of what a block says. Texts is cited in this crate alone.
 pub mod Refusals
 pub mod Controls
 pub mod Forms

@@ -1,6 +1,6 @@
 -- When a block of words is refused. Each refusal is a condition of the whole block, apart from the
 -- others; `refusal_of` answers the least. Refusals of words that don't read, and of too many
--- variables, are in Forms. open_forms and wait_verify cite this.
+-- variables, are in Forms.
 use Rattle.std.specs.Prelude.{◌≡◌, ◌≤◌, ℕ, Bool, true, false, not, ◌&&◌, ◌||◌, nat_lt, nat_le, List, [], ◌∷◌, length, map, Option, Some, None, codes, if◌then◌else◌}
 use Rattle.std.specs.List.{list_any}
 use Rattle.nc_number.specs.Causes.{cause_number}

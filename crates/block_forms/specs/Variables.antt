@@ -1,5 +1,5 @@
--- How many variables a block names; they are at most 32. FlowBlock keeps this bound (src/block.rt),
--- and path_state rests on it: a block asks for no more values.
+-- How many variables a block names; they are at most 32. FlowBlock keeps this bound (src/block.rt):
+-- a block asks for no more values.
 use Rattle.std.specs.Prelude.{ℕ, ◌+◌, List, [], ◌∷◌}
 use Rattle.macro_expr.specs.Tree.{variables, variables_in, trees_of_sentence, sentence_of}
 use Rattle.block_words.specs.declared.word.FlowWord.{FlowWord}

@@ -1,5 +1,4 @@
 -- What contracts see of the body of a block that was read: its form, its control and its call.
--- path_state, race_report and nc_restart cite it.
 use Rattle.std.specs.Prelude.{Option, Some, None}
 use Rattle.nc_number.specs.declared.cause.Cause.{Cause}
 use Rattle.macro_expr.specs.Tree.{sentence_of}

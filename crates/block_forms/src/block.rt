@@ -1,5 +1,4 @@
-//! A block that is not refused, and the call that it is. tape_flow keeps these, path_state runs
-//! them, race_report reads which variables they use.
+//! A block that is not refused, and the call that it is.
 ghost use Rattle.std.specs.Prelude.{◌≡◌, ◌≤◌, true, None};
 ghost use Rattle.nc_number.specs.declared.limits.TheConstants.{MOST_READS};
 ghost use Rattle.block_forms.specs.Controls.{is_allowed};

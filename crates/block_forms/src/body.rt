@@ -1,5 +1,4 @@
-//! What stands in a block: words or a statement. The block around it is in block.rt; path_state and
-//! race_report match on it.
+//! What stands in a block: words or a statement. The block around it is in block.rt.
 use crate::statement::FlowStatement;
 use crate::words::FlowWords;
 

@@ -1,5 +1,4 @@
-//! The call that a block makes: which program, how often, and by G65 or by M98. path_state opens
-//! it.
+//! The call that a block makes: which program, how often, and by G65 or by M98.
 
 /// How a program is called.
 #[derive(Clone, Copy, Debug, Default, PartialEq, Eq)]

@@ -1,5 +1,4 @@
-//! Why a block is refused, as a number of the table of refusals in nc_number. open_forms answers it
-//! too; tape_flow and open_order tell it with its line.
+//! Why a block is refused, as a number of the table of refusals in nc_number.
 ghost use Rattle.std.specs.Prelude.{◌≡◌};
 ghost use Rattle.nc_number.specs.Causes.{cause_number};
 

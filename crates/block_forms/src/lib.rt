@@ -3,11 +3,6 @@
 //! The words of a block are read into literals and expressions, or its statement into its tree, and
 //! the block is refused if the control does not know or allow what it says: of several refusals
 //! the one of the least number. What it does to the order of blocks is its `Control`.
-//!
-//! tape_flow reads each block of a tape by `read_block`. path_state and block_values run what was
-//! read, and race_report looks for its variables. open_forms and open_order, which read a block for
-//! its control alone, take `Dialect`, `FormFault`, `is_one_of` and `row_of`; wait_verify takes
-//! `Dialect`.
 #![tactic(auto)]
 
 mod block;

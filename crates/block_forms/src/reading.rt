@@ -1,5 +1,5 @@
-//! A block read from its text, or the least of the refusals that hold of it. tape_flow calls
-//! `read_block` for each block of a tape; the definition is `block_or_refusal` (specs/Forms.antt).
+//! A block read from its text, or the least of the refusals that hold of it. The definition is
+//! `block_or_refusal` (specs/Forms.antt).
 ghost use Rattle.std.specs.Prelude.{◌≡◌, ◌≤◌, IfOk, None, true};
 ghost use Rattle.nc_number.specs.Answers.{GivesBy};
 ghost use Rattle.nc_number.specs.declared.limits.TheConstants.{MOST_READS};

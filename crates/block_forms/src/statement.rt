@@ -1,5 +1,4 @@
 //! A statement in a block: its tree, as macro_expr reads it, with the codes of what it evaluates.
-//! path_state runs it, race_report reads its variables.
 ghost use Rattle.std.specs.Prelude.{◌≡◌};
 ghost use Rattle.macro_expr.specs.Tree.{sentence_of, trees_of_sentence};
 

@@ -1,6 +1,5 @@
 //! The words of a block that is not refused, with what its codes make of them: what the block is
-//! for, and which codes it gives. Why words are refused is in refusals.rt. block_values and
-//! path_state ask these.
+//! for, and which codes it gives. Why words are refused is in refusals.rt.
 ghost use Rattle.std.specs.Prelude.{◌≡◌};
 ghost use Rattle.nc_number.specs.declared.limits.TheConstants.{LARGEST_WHOLE};
 ghost use Rattle.block_words.specs.Codes.{rows as rows_in, one_shot as one_shot_in, purpose_of};

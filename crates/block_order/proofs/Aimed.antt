@@ -1,6 +1,5 @@
 -- That the first fault of the first stage that has one is the tape's, and that the tables of a
--- program are found at its place. For the proofs of src/draft.rt and src/order.rt; wait_order takes
--- `first_of`.
+-- program are found at its place. For the proofs of src/draft.rt and src/order.rt.
 use Rattle.std.proofs.Common.{◌≡◌, ℕ, zero, suc, ◌<◌, [], ◌∷◌, List, length, Option, Some, slice_get, slice_index_or, refl, subst, sym, ◌∙◌, arith}
 use Rattle.block_order.specs.declared.fault.OrderFault.{OrderFault}
 use Rattle.block_order.specs.declared.program.ControlProgram.{ControlProgram}

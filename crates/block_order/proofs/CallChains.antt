@@ -1,6 +1,5 @@
 -- Chains of calls of loud programs, which have a wait or an end or call one that has, and the
--- frames of a place: the open programs of a path, the running one first. For KeepsLabels; flow_laws
--- takes `chain_before`, part_order `counts_below` and `main_below`.
+-- frames of a place: the open programs of a path, the running one first. For KeepsLabels.
 use Rattle.std.proofs.Common.{◌≡◌, ◌≢◌, ℕ, zero, suc, ◌+◌, true, List, [], ◌∷◌, length, Some, refl, sym, subst, arith}
 use Rattle.block_order.specs.declared.control.Control.TheVariants.{Call}
 use Rattle.block_order.specs.declared.frame.Frame.{Frame}

@@ -1,8 +1,7 @@
 -- A tape without faults of waits has one list of labels: the law
--- `a_tape_without_faults_is_unforked`. path_state takes `faultless_unforked`, flow_laws
--- `nothing_strays` and `chains_are_short`, wait_order `block_of_control`. A program counts if it is
--- the main one or loud: it has a wait or an end, or calls one that has. A stretch is the run of its
--- blocks up to and with a wait, an end, an M99 without a number or a call of a loud program.
+-- `a_tape_without_faults_is_unforked`. A program counts if it is the main one or loud: it has a
+-- wait or an end, or calls one that has. A stretch is the run of its blocks up to and with a wait,
+-- an end, an M99 without a number or a call of a loud program.
 use Rattle.std.proofs.Common.{◌≡◌, ◌≢◌, ℕ, zero, suc, ◌+◌, Bool, true, false, ◌==◌, List, [], ◌∷◌, Some, slice_get, refl, sym, subst, arith, eqb-true}
 use Rattle.std.proofs.lemmas.Bool.{eqb-false}
 use Rattle.nc_number.specs.declared.cause.Cause.TheVariants.{BranchAtWait, WaitTooDeep}

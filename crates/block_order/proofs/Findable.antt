@@ -1,5 +1,5 @@
 -- What a block's jump or call finds, and the first fault of the second stage. For the proofs of
--- src/finding.rt and src/tables.rt; open_order takes `seek-within`, wait_order takes `own_blocks`.
+-- src/finding.rt and src/tables.rt.
 use Rattle.std.proofs.Common.{◌≡◌, ◌≢◌, ℕ, zero, suc, ◌+◌, ◌<◌, ◌≤◌, ◌⊎◌, ◌↔◌, IsTrue, inl, inr, Bool, true, false, cond, eqb, List, [], ◌∷◌, length, map, drop, take, get_or, Option, Some, None, Result, Err, refl, sym, ap, ◌∙◌, arith, subst, ⊎_elim}
 use Rattle.std.specs.List.{slice_get, Contains}
 use Rattle.std.specs.Option.{is_some}

@@ -1,7 +1,6 @@
 -- Flags of programs at their places, asked by O numbers, and when one round more finds no loud
 -- program more. A program is loud if it has a wait or an end, or calls one that has (specs/Loud). A
--- round looks at all programs by what the round before it knew. For HeardFirst; wait_order takes
--- `flag_set`.
+-- round looks at all programs by what the round before it knew. For HeardFirst.
 use Rattle.std.proofs.Common.{◌≡◌, ◌≢◌, ◌↔◌, ◌⊎◌, inl, inr, ℕ, zero, suc, ◌+◌, ◌-◌, ◌<◌, ◌≤◌, length, Bool, true, false, ◌==◌, List, [], ◌∷◌, map, drop, find, slice_index_or, slice_set, Option, Some, None, refl, ap, sym, ◌∙◌, arith}
 use Rattle.std.proofs.lemmas.Grind.{get_or-set_at}
 use Rattle.std.proofs.lemmas.List.{get_or-set_other}

@@ -1,7 +1,6 @@
 -- On an unforked tape each step keeps the labels ahead, but for an M99 of the main program, at
--- which the whole list begins anew. For OnePath; part_order takes `Counts-from`. A program is loud
--- if it has a wait or an end, or calls one that has. A mark is a block at which a program's labels
--- change.
+-- which the whole list begins anew. For OnePath. A program is loud if it has a wait or an end, or
+-- calls one that has. A mark is a block at which a program's labels change.
 use Rattle.std.proofs.Common.{◌≡◌, ℕ, zero, suc, ◌<◌, inl, inr, Bool, true, false, List, [], ◌∷◌, length, Some, Ok, refl, ap, sym, subst, ◌∙◌, arith}
 use Rattle.block_order.specs.declared.control.Control.{Control}
 use Rattle.block_order.specs.declared.control.Control.TheVariants.{Next, Goto, While, Do, EndLoop, Wait, End, Call, Back, BackTo}

@@ -1,5 +1,4 @@
--- The lemmas of this crate. The head of each file says its subject and who takes it: wait_order,
--- part_order, part_lines, path_state, flow_laws and open_order take some.
+-- The lemmas of this crate. The head of each file says its subject; crates above take some of them.
 pub mod Items
 pub mod Sought
 pub mod Opened

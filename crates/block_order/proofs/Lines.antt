@@ -1,6 +1,5 @@
 -- The lines of a tape rise, so a later program or block has a greater line. For Located and
--- Findable, and for the proofs of src/fitting.rt and src/tables.rt (`blocks-few`). wait_order takes
--- `rise-own`, `block-order` and `blocks-few`.
+-- Findable, and for the proofs of src/fitting.rt and src/tables.rt (`blocks-few`).
 use Rattle.std.proofs.Common.{◌≡◌, ℕ, zero, suc, ◌<◌, ◌≤◌, ◌⊎◌, inl, inr, List, [], ◌∷◌, ◌++◌, length, map, Some, sym, ap, arith, subst}
 use Rattle.std.specs.List.{slice_get}
 use Rattle.std.proofs.lemmas.List.{length-append}

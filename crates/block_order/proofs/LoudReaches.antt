@@ -2,7 +2,7 @@
 -- an end. A round looks at all programs by what the round before it knew: a program with a wait, an
 -- end, or a call of one that is known is known from then on. For the law
 -- `being_loud_is_reaching_a_wait_or_an_end`, HeardFirst, src/loud.rt and the law of one path
--- (CallChains, KeepsLabels, StepsStay, OnePath); part_order takes `AreLoud` and `are_loud`.
+-- (CallChains, KeepsLabels, StepsStay, OnePath).
 use Rattle.std.proofs.Common.{◌≡◌, ℕ, zero, suc, ◌≤◌, ◌⊎◌, inl, inr, Bool, true, false, ◌==◌, ◌||◌, List, [], ◌∷◌, length, None, Some, refl, ap, sym, subst, ◌∙◌, arith, eqb-true}
 use Rattle.std.proofs.lemmas.Bool.{eqb-false}
 use Rattle.block_order.specs.declared.control.Control.{Control}

@@ -1,6 +1,6 @@
 -- The marks of a program before and behind one of its blocks. A mark is a block at which a
 -- program's labels change: a wait, an end, an M99 without a number or a call that leads to a wait
--- or an end. For LabelsAhead; part_order takes `marks-drop` and `marks-at`.
+-- or an end. For LabelsAhead.
 use Rattle.std.proofs.Common.{◌≡◌, ℕ, zero, suc, Bool, List, [], ◌∷◌, ◌++◌, take, drop, Some, refl, ap, sym, ◌∙◌, append_assoc}
 use Rattle.std.proofs.lemmas.List.{take-append-drop}
 use Rattle.std.proofs.Math.Seq.{drop-append_seam}

@@ -1,6 +1,5 @@
 -- The pass over a program's blocks in src/mismatch.rt finds its first mismatch: the first block
--- that does not fit with the program's loops. For the proof of that file and for Located;
--- wait_order takes `mismatch-within`.
+-- that does not fit with the program's loops. For the proof of that file and for Located.
 use Rattle.std.proofs.Common.{◌≡◌, ℕ, zero, suc, ◌+◌, ◌<◌, ◌≤◌, ◌⊎◌, inl, inr, min, Bool, true, false, not, ◌||◌, cond, eqb, List, [], ◌∷◌, length, get_or, take, Option, Some, None, refl, sym, ap, ◌∙◌, arith, subst, ⊎_elim}
 use Rattle.std.specs.List.{Contains}
 use Rattle.std.proofs.lemmas.Bool.{cases_lt, eqb-true}

@@ -1,6 +1,5 @@
 -- What each move of a place comes to, frame by frame. A frame is an open program of a path: its
--- number, its block and its repeats left. For KeepsLabels and StepsStay; part_order takes the
--- public lemmas.
+-- number, its block and its repeats left. For KeepsLabels and StepsStay.
 use Rattle.std.proofs.Common.{◌≡◌, ℕ, zero, suc, ◌-◌, ◌<◌, ◌==◌, ◌||◌, Bool, true, false, nat_lt, List, ◌∷◌, length, Option, Some, None, Result, Ok, Err, refl, arith, if◌then◌else◌}
 use Rattle.std.proofs.lemmas.Bool.Decides.{nat_tests}
 use Rattle.nc_number.specs.declared.cause.Cause.{Cause}

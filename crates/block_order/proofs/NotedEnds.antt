@@ -1,5 +1,5 @@
 -- The ENDs and the innermost loops that src/loops.rt notes, one block further. For the proofs of
--- that file, and MoreTables; part_lines takes `control-get`.
+-- that file, and MoreTables.
 use Rattle.std.proofs.Common.{◌≡◌, ◌≢◌, ℕ, zero, suc, ◌<◌, ◌↔◌, List, [], ◌∷◌, ◌++◌, length, get_or, set, Option, Some, None, refl, sym, ap, ◌∙◌, arith, subst, ⊎_elim}
 use Rattle.std.specs.List.{slice_get}
 use Rattle.std.proofs.lemmas.Bool.{cases_eq}

@@ -1,5 +1,5 @@
 -- The law of one path, put together from its parts. For the law `each_step_keeps_the_labels` of
--- src/laws.rt; path_state takes it too.
+-- src/laws.rt.
 use Rattle.std.proofs.Common.{List}
 use Rattle.block_order.specs.declared.program.ControlProgram.{ControlProgram}
 use Rattle.block_order.specs.Labels.{IsUnforked}

@@ -1,7 +1,6 @@
 -- Which loops are open where, in a program whose heads and ends fit together: an invariant of each
 -- block. For the proofs of src/loops.rt and src/order.rt, and for Mismatched, Nested and NotedEnds.
--- wait_order, part_lines and path_state take `within_control`, wait_order `close_within` too. The
--- file's name stands for the loops that were opened.
+-- The file's name stands for the loops that were opened.
 use Rattle.std.proofs.Common.{◌≡◌, ◌≢◌, ℕ, zero, suc, ◌+◌, ◌-◌, ◌<◌, ◌≤◌, ◌↔◌, ◌⊎◌, inl, inr, Bool, true, false, cond, eqb, List, [], ◌∷◌, length, take, Option, Some, None, refl, sym, ap, ◌∙◌, arith, subst, ⊎_elim}
 use Rattle.std.specs.List.{Contains}
 use Rattle.std.proofs.lemmas.Bool.{cases_eq, cases_lt}

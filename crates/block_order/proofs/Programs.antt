@@ -1,6 +1,5 @@
 -- The program of an O number stands at the number's place on the tape. For the proofs of
--- src/numbers.rt, src/order.rt and src/finding.rt, and for Aimed, Findable and Flags. wait_order
--- takes `stands` and `place_within`, part_lines `found_stands`.
+-- src/numbers.rt, src/order.rt and src/finding.rt, and for Aimed, Findable and Flags.
 use Rattle.std.proofs.Common.{◌≡◌, ℕ, zero, suc, ◌+◌, ◌<◌, Bool, true, false, cond, ◌==◌, List, [], ◌∷◌, length, find, Option, Some, None, slice_get, slice_index_or, refl, ap, sym, ◌∙◌, arith}
 use Rattle.nc_number.proofs.Counts.{equal}
 use Rattle.block_order.specs.declared.program.ControlBlock.{ControlBlock}

@@ -1,7 +1,6 @@
 -- What the searches for loops and jumps find. For the law `a_loop_ends_at_its_nearest_end`, for the
 -- proof of `loop_head` (src/order.rt), and for Faultless, KeepsLabels, Moved, Nested, NotedEnds and
--- Opened. wait_order takes `control_drop`, `led`, `leads_to` and `loop_facts`, part_order
--- `loop_facts`.
+-- Opened.
 use Rattle.std.proofs.Common.{◌≡◌, ◌≢◌, ◌↔◌, ℕ, zero, suc, ◌+◌, ◌-◌, ◌<◌, ◌≤◌, inl, inr, Bool, true, false, ◌==◌, ◌&&◌, ◌||◌, not, nat_lt, nat_le, List, [], ◌∷◌, drop, Option, Some, None, Result, Ok, Err, refl, ap, sym, subst, ◌∙◌, arith}
 use Rattle.std.proofs.lemmas.Bool.Decides.{nat_tests}
 use Rattle.nc_number.specs.declared.cause.Cause.{Cause}

@@ -1,6 +1,6 @@
 -- Steps lead from place to place, and what a wait and an end say of the labels ahead. A place is
 -- the list of a path's open programs, the running one first; a program counts if its labels come.
--- For OnePath; part_order takes `step_stays`, `next_stays` and `wait_counts`.
+-- For OnePath.
 use Rattle.std.proofs.Common.{◌≡◌, ℕ, zero, suc, inl, inr, true, List, [], ◌∷◌, Some, refl, ap, sym, subst, ◌∙◌}
 use Rattle.block_order.specs.declared.control.Control.{Control}
 use Rattle.block_order.specs.declared.control.Control.TheVariants.{Next, Goto, While, Do, EndLoop, Wait, End, Call, Back, BackTo}

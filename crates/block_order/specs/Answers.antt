@@ -1,5 +1,4 @@
--- What holds of the fault of a call that may also run out of memory. The contracts of this crate,
--- wait_order, tape_flow, label_list and six more crates above say their refusals with it.
+-- What holds of the fault of a call that may also run out of memory.
 use Rattle.nc_number.specs.declared.fault.Failing.{Failing}
 use Rattle.nc_number.specs.declared.fault.Failing.TheVariants.{Fault, NoMemory}
 

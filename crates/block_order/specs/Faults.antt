@@ -1,7 +1,7 @@
 -- What is wrong with the order of a tape's blocks, apart from any code that finds it, and which
 -- fault is answered. A program is loud if it has a wait or an end, or calls one that has; a stretch
 -- is the run of its blocks up to and with a wait, an end, an M99 without a number or a call of a
--- loud program. wait_order, tape_flow, open_order and four more crates above cite this.
+-- loud program.
 use Rattle.std.specs.Prelude.{◌≡◌, ◌≢◌, ℕ, zero, suc, ◌<◌, ◌≤◌, ◌==◌, true, ◌⊎◌, List, ◌∷◌, ◌++◌, map, Option, Some, None, Err, Contains, slice_get, if◌then◌else◌}
 use Rattle.nc_number.specs.declared.cause.Cause.{Cause}
 use Rattle.nc_number.specs.declared.cause.Cause.TheVariants.{ProgramTwice, LoopMismatch, NoProgram, BranchAtWait, WaitTooDeep}

@@ -1,5 +1,5 @@
 -- The first fault of one stage of the check of a tape's order. src/fitting.rt and src/finding.rt
--- answer it, and wait_order for the stage of waits.
+-- answer it.
 use Rattle.std.specs.Prelude.{◌≡◌, ℕ, ◌≤◌, List, Option, Some, None, slice_get}
 use Rattle.nc_number.specs.declared.cause.Cause.{Cause}
 use Rattle.block_order.specs.declared.fault.OrderFault.{OrderFault}

@@ -1,5 +1,5 @@
 -- Loops whose heads and ends fit together: what holds of them, and what the table of src/loops.rt
--- has of them, place by place. What is wrong with loops is in Loops. wait_order cites this.
+-- has of them, place by place. What is wrong with loops is in Loops.
 use Rattle.std.specs.Prelude.{◌≡◌, ◌≢◌, ◌↔◌, ◌⊎◌, ℕ, ◌<◌, ◌≤◌, List, Option, Some, slice_get}
 use Rattle.block_order.specs.declared.control.Control.TheVariants.{EndLoop}
 use Rattle.block_order.specs.declared.program.ControlBlock.{ControlBlock}

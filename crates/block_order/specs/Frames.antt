@@ -1,5 +1,5 @@
 -- A place (the open programs of a path, the running one first) as src/place.rt keeps it: where a
--- path begins, the callers, and that a block's number has 32 bits. path_state cites this.
+-- path begins, the callers, and that a block's number has 32 bits.
 use Rattle.std.specs.Prelude.{ℕ, suc, ◌^◌, ◌<◌, List, [], ◌∷◌}
 use Rattle.block_order.specs.declared.frame.Frame.{Frame}
 

@@ -1,5 +1,5 @@
 -- What src/loud.rt keeps of a tape: the place of each O number, and which programs are loud. A loud
--- program comes to a wait or an end, itself or by its calls (Loud). wait_order cites this.
+-- program comes to a wait or an end, itself or by its calls (Loud).
 use Rattle.std.specs.Prelude.{◌≡◌, ℕ, Bool, true, List}
 use Rattle.block_order.specs.declared.loud.LoudPrograms.{LoudPrograms}
 use Rattle.block_order.specs.declared.numbers.ProgramNumbers.{ProgramNumbers}

@@ -1,8 +1,6 @@
 -- The labels of a tape, and which tapes have one list of them, whatever the variables hold. A
 -- program is loud if it has a wait or an end, or calls one that has; the others are quiet. A mark
 -- is a block at which a program's labels change, a stretch the run of blocks up to and with a mark.
--- label_list, path_state, pair_order and eleven more crates above cite this. wait_order judges what
--- `IsUnforked` asks.
 use Rattle.std.specs.Prelude.{◌≡◌, ℕ, zero, suc, ◌-◌, Bool, true, false, ◌⊎◌, List, [], ◌∷◌, length, drop, Some, if◌then◌else◌}
 use Rattle.block_order.specs.declared.control.Control.{Control}
 use Rattle.block_order.specs.declared.control.Control.TheVariants.{Goto, Call, BackTo}

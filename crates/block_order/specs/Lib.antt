@@ -1,7 +1,6 @@
 -- The words in which contracts speak of the order of blocks. Crates above cite all of these files
 -- but LoopFacts, Misplaced, Found and Kept; the most cited are Labels, Order, Answers, Loud, Steps
--- and Faults. Of the crates above wait_order alone cites Loops, Numbers, Heard, Places, Fitting,
--- Table, First and TapeTable.
+-- and Faults.
 pub mod Order
 pub mod LoopFacts
 pub mod Loud

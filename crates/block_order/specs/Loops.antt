@@ -1,6 +1,5 @@
 -- Which loops are open where, and when the heads and ends of a program's loops don't fit together:
--- the fault 52. src/mismatch.rt looks for it, wait_order cites this. A loop's END as a search finds
--- it is in Order.
+-- the fault 52. src/mismatch.rt looks for it. A loop's END as a search finds it is in Order.
 use Rattle.std.specs.Prelude.{◌≡◌, ◌≢◌, ℕ, suc, ◌==◌, List, [], ◌∷◌, length, map, take, Option, Some, None, Contains, if◌then◌else◌}
 use Rattle.block_order.specs.declared.control.Control.{Control}
 use Rattle.block_order.specs.declared.control.Control.TheVariants.{While, Do, EndLoop}

@@ -1,6 +1,5 @@
 -- Which programs are loud: they reach a wait or an end, themselves or by their calls. And the
--- marks, the blocks at which a program's labels change, which cut it into stretches. wait_order,
--- label_list, part_lines, loud_calls, part_order, tape_flow, open_order and wait_verify cite this.
+-- marks, the blocks at which a program's labels change, which cut it into stretches.
 use Rattle.std.specs.Prelude.{◌≡◌, ◌↔◌, ℕ, zero, suc, Bool, true, false, ◌||◌, ◌⊎◌, List, [], ◌∷◌, ◌++◌, length, take, Some, if◌then◌else◌}
 use Rattle.block_order.specs.declared.control.Control.{Control}
 use Rattle.block_order.specs.declared.control.Control.TheVariants.{Wait, End, Call, Back}

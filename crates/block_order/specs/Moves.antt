@@ -1,7 +1,6 @@
 -- Where control goes from a place: each move as a function of the place and of the tape. A place is
 -- the list of a path's open programs, the running one first. What the variables hold only chooses
 -- among the moves.
--- path_state, two_path, part_order, named_vars and zone_check cite this.
 use Rattle.std.specs.Prelude.{ℕ, zero, suc, ◌-◌, ◌==◌, ◌||◌, nat_lt, List, [], ◌∷◌, length, Option, Some, None, Result, Ok, Err, if◌then◌else◌}
 use Rattle.nc_number.specs.declared.cause.Cause.{Cause}
 use Rattle.nc_number.specs.declared.cause.Cause.TheVariants.{TooDeep, LoopMismatch}

@@ -1,5 +1,4 @@
--- What src/numbers.rt keeps of a tape's O numbers: the place of each number's program. wait_order
--- cites this.
+-- What src/numbers.rt keeps of a tape's O numbers: the place of each number's program.
 use Rattle.std.specs.Prelude.{◌≡◌, ℕ, List, Option, slice_get}
 use Rattle.std.specs.Option.{option_flatten}
 use Rattle.block_order.specs.declared.numbers.ProgramNumbers.{ProgramNumbers}

@@ -1,7 +1,6 @@
 -- The programs of a tape, as far as control goes through them: where jumps lead, and which loops
 -- hold a block. Everywhere a tape is the list of its programs, a program is known by its O number,
 -- and a block of it by its place from 0.
--- wait_order, tape_flow, path_state and eight more crates above cite this.
 use Rattle.std.specs.Prelude.{◌≡◌, ℕ, zero, suc, Bool, true, false, not, ◌==◌, ◌&&◌, ◌||◌, nat_lt, nat_le, List, [], ◌∷◌, drop, find, Option, Some, None, Result, Ok, Err, slice_get, if◌then◌else◌}
 use Rattle.nc_number.specs.declared.cause.Cause.{Cause}
 use Rattle.nc_number.specs.declared.cause.Cause.TheVariants.{NoSequence, IntoLoop}

@@ -1,5 +1,5 @@
 -- The places of the blocks of one sequence number, and from where a search comes to each: what
--- src/sequence.rt keeps and answers. wait_order cites this.
+-- src/sequence.rt keeps and answers.
 use Rattle.std.specs.Prelude.{◌≡◌, ℕ, suc, ◌<◌, ◌≤◌, ◌⊎◌, nat_eq, List, [], ◌∷◌, Some, slice_get, if◌then◌else◌}
 use Rattle.std.specs.Option.{option_map_or}
 use Rattle.indexmap.specs.IndexMap.{get}

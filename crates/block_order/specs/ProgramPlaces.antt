@@ -1,5 +1,5 @@
 -- At which place of a tape the program of an O number stands, and its flag in a list with one for
--- each place. tape_flow and wait_order cite this.
+-- each place.
 use Rattle.std.specs.Prelude.{ℕ, suc, Bool, false, ◌==◌, List, [], ◌∷◌, Option, Some, None, slice_index_or, if◌then◌else◌}
 use Rattle.block_order.specs.declared.program.ControlProgram.{ControlProgram}
 

@@ -1,7 +1,5 @@
 -- What holds of the programs of every tape that was read: where they stand in the text, and how
--- many blocks there are.
--- The readers tape_flow and open_order keep this of what they read; wait_order and path_state cite
--- it.
+-- many blocks there are. The readers of tapes keep this of what they read.
 use Rattle.std.specs.Prelude.{ℕ, ◌<◌, ◌≤◌, List, ◌∷◌, length, map}
 use Rattle.std.specs.List.{flat_map}
 use Rattle.nc_number.specs.declared.limits.TheConstants.{MOST_BLOCKS}

@@ -1,8 +1,7 @@
 -- Which places may follow a place, whatever the variables hold, and the law of one path,
 -- `KeepsLabels`. A place is the list of a path's open programs, the running one first. Its labels
 -- ahead are the waits to which the path still comes, and last an end, the main program's new
--- beginning or the place past a program's last block. path_state, two_path, part_order and four
--- more crates above cite this.
+-- beginning or the place past a program's last block.
 use Rattle.std.specs.Prelude.{◌≡◌, ℕ, ◌<◌, ◌⊎◌, List, [], ◌∷◌, length, Option, Some, None, Ok}
 use Rattle.block_order.specs.declared.control.Control.{Control}
 use Rattle.block_order.specs.declared.control.Control.TheVariants.{Next, Goto, While, Do, EndLoop, Wait, End, Call, Back, BackTo}

@@ -1,5 +1,5 @@
 -- What the table of a program's loops (src/loops.rt) says. Of one program; the tables of a whole
--- tape are in TapeTable. wait_order cites this.
+-- tape are in TapeTable.
 use Rattle.std.specs.Prelude.{ℕ, ◌≤◌, List, length}
 use Rattle.nc_number.specs.declared.limits.TheConstants.{MOST_BLOCKS}
 use Rattle.block_order.specs.declared.program.ControlBlock.{ControlBlock}

@@ -1,4 +1,4 @@
--- What the tables of a tape's programs (src/tables.rt) say. wait_order cites this.
+-- What the tables of a tape's programs (src/tables.rt) say.
 use Rattle.std.specs.Prelude.{◌≡◌, ℕ, List, length, Some, slice_get}
 use Rattle.block_order.specs.declared.program.ControlBlock.{ControlBlock}
 use Rattle.block_order.specs.declared.program.ControlProgram.{ControlProgram}

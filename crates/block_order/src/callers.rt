@@ -1,9 +1,9 @@
 //! Which programs call a program, so that a search can go from a program back to its callers. The
 //! only error here is that memory runs out.
 //!
-//! loud.rt (which programs come to a wait or an end) and part_lines look again at the callers of
-//! what they found, and that look decides. So what this table holds changes the time that they
-//! take, and not their answer.
+//! loud.rt (which programs come to a wait or an end) looks again at the callers of what it found,
+//! and that look decides. So what this table holds changes the time that they take, and not their
+//! answer.
 
 use crate::control::Control;
 use crate::program::{ControlBlock, ControlProgram};

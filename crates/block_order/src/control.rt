@@ -1,6 +1,4 @@
-//! What a block does to the order of blocks. Which words say so is in block_forms and open_forms,
-//! which make these; this crate, wait_order, tape_flow, path_state, label_list, part_lines,
-//! loud_calls and open_order match on them.
+//! What a block does to the order of blocks. Which words say so, the crates that read blocks say.
 
 /// What a block does to the order of blocks.
 #[derive(Clone, Copy, Debug, PartialEq, Eq)]

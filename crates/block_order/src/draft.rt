@@ -1,6 +1,5 @@
-//! The order of a tape's blocks before its waits are judged.
-//! wait_order judges the waits and makes a [`BlockOrder`] of the draft. A program is loud if it has
-//! a wait or an end, or calls one that has.
+//! The order of a tape's blocks before its waits are judged. A program is loud if it has a wait or
+//! an end, or calls one that has.
 ghost use Rattle.std.specs.Prelude.{◌≡◌, IfOk, IfErr};
 ghost use Rattle.block_order.specs.Answers.{IfFault};
 ghost use Rattle.block_order.specs.Faults.{Fitting, Finding, Waiting, IsClear, IsFirst};

@@ -1,5 +1,4 @@
-//! What is wrong with the order of a tape's blocks: the fault and its line. This crate and
-//! wait_order answer it; tape_flow and open_order make it the refusal of their tape.
+//! What is wrong with the order of a tape's blocks: the fault and its line.
 
 use nc_number::Cause;
 use thiserror::Error;

@@ -1,6 +1,5 @@
 //! One open call of a place. A place (place.rt) is made of frames, the running program's and those
-//! of its callers. The specs of path_state, two_path, pair_order and eight more crates above speak
-//! of frames; tape_flow's code does too.
+//! of its callers. Specs of the crates above speak of frames.
 
 /// One open call of a place, or the main program at its bottom: the program that runs, at a block,
 /// with so many repeats still to come.

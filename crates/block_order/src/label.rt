@@ -1,7 +1,5 @@
 //! What one path shows the other, a label, and what stands for it in a program, a mark. The specs
-//! define the labels of a path by the marks of its programs. tape_flow lends the label of a place
-//! and the mark of a block, label_list lists labels, wait_verify prints them, two_path and
-//! run_table ask at which label a path stands.
+//! define the labels of a path by the marks of its programs.
 
 /// What a path comes to, as far as the other path can tell.
 #[derive(Clone, Copy, Debug, PartialEq, Eq)]

@@ -1,7 +1,6 @@
 //! What holds of every tape, for the crates above. Each law is the contract of a function that does
-//! nothing: who calls it has the law. pair_order, two_path and trace_list call the first one,
-//! nc_verify, wait_verify and loud_calls `a_tape_without_faults_is_unforked`. No crate calls the
-//! other two, which say what the definitions mean.
+//! nothing: who calls it has the law. No crate calls the other two, which say what the definitions
+//! mean.
 
 ghost use Rattle.std.specs.Prelude.{List, ℕ, ◌↔◌};
 ghost use Rattle.block_order.specs.declared.program.ControlBlock.{ControlBlock};

@@ -1,6 +1,5 @@
 //! The loops of a program whose heads and ends fit together: where each ends, which one holds a
-//! block, and from where a jump to a block is permitted. order.rt answers by it for path_state;
-//! wait_order asks for the reach of a block.
+//! block, and from where a jump to a block is permitted. order.rt answers by it.
 ghost use Rattle.std.specs.Prelude.{◌≡◌, ℕ, suc, ◌<◌, ◌≤◌, ◌↔◌, List, Some, IsTrue, length, slice_set, IfOk};
 ghost use Rattle.nc_number.specs.declared.limits.TheConstants.{MOST_BLOCKS};
 ghost use Rattle.block_order.specs.Order.{IsLoop, IsPermitted, control_at, end_of_loop};

@@ -1,5 +1,5 @@
 //! Which programs are loud: they reach a wait or an end, themselves or by their calls. The meaning
-//! is in specs/Loud.antt. DraftOrder and BlockOrder keep it; wait_order asks for it too.
+//! is in specs/Loud.antt. DraftOrder and BlockOrder keep it.
 ghost use Rattle.std.specs.Prelude.{◌≡◌, [], true, map, IfOk};
 ghost use Rattle.block_order.specs.Loud.{is_loud_block, has_loud_block, known_loud, loud};
 ghost use Rattle.block_order.specs.Order.{blocks};

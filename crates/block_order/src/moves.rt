@@ -1,6 +1,5 @@
 //! Where control goes from a place (the open programs of a path, the running one first), by the
-//! order of its tape: path_state asks this, and then moves the place. What a move does to the place
-//! is in place.rt.
+//! order of its tape. Who asks moves the place then. What a move does to the place is in place.rt.
 ghost use Rattle.std.specs.Prelude.{◌≡◌, ◌∷◌};
 ghost use Rattle.block_order.specs.Moves.{place_to, place_of_jump, place_behind_loop, place_of_head};
 ghost use Rattle.block_order.specs.Moves.{place_of_caller, place_of_jump_back};

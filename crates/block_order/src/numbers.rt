@@ -1,6 +1,5 @@
 //! From O numbers to places on the tape. The functions are for this crate alone; other crates ask
 //! the order (order.rt), or LoudPrograms (loud.rt: which programs come to a wait or an end).
-//! wait_order's specs name what is kept here.
 ghost use Rattle.std.specs.Prelude.{◌≡◌, ◌==◌, ◌<◌, ℕ, Some, None, length, OnOk, IfOk, if◌then◌else◌};
 ghost use Rattle.block_order.specs.Order.{blocks, or_else};
 ghost use Rattle.block_order.specs.ProgramPlaces.{place_of};

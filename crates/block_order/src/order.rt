@@ -1,6 +1,5 @@
 //! The order of a tape's blocks, checked: what crates above ask where a jump, a loop or a call
-//! leads. wait_order makes it of a draft; tape_flow and wait_verify keep it, open_order answers it;
-//! path_state, label_list and part_lines go by it.
+//! leads.
 ghost use Rattle.std.specs.Prelude.{◌≡◌, ◌<◌, [], None, IfSome, slice_get};
 ghost use Rattle.std.specs.Option.{option_copied};
 ghost use Rattle.block_order.specs.Faults.{IsSound};

@@ -1,7 +1,6 @@
 //! Where a path stands: its open programs, the running one and those whose calls are open; and what
-//! each move makes of this place. Where a move leads on the tape is in moves.rt, the meaning of
-//! each move in specs/Moves.antt. path_state goes by places; tape_flow tells where a path starts,
-//! and the line and the label of a place.
+//! each move makes of this place. Where a move leads on the tape is in moves.rt, the meaning of each
+//! move in specs/Moves.antt.
 ghost use Rattle.std.specs.Prelude.{◌≡◌, ◌+◌, ◌≤◌, ◌↔◌, ◌∷◌, length, reverse, slice_get};
 ghost use Rattle.std.specs.Prelude.{Ok, Err, IsOk, IfErr, OnOk, OnErr};
 ghost use Rattle.nc_number.specs.declared.cause.Cause.TheVariants as Cause;

@@ -1,6 +1,4 @@
 //! Blocks and programs, as far as their order goes.
-//! tape_flow and open_order make them of what they read; wait_order, label_list and part_lines go
-//! through them.
 use crate::control::Control;
 use nc_number::ListOf;
 

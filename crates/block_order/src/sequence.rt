@@ -1,5 +1,4 @@
-//! The blocks of a program by their sequence numbers.
-//! Part of a program's tables (tables.rt); wait_order asks for the finders of a block.
+//! The blocks of a program by their sequence numbers. Part of a program's tables (tables.rt).
 ghost use Rattle.std.specs.Prelude.{◌≡◌, ℕ, ◌<◌, ◌≤◌, ◌↔◌, List, Some, length, IfOk};
 ghost use Rattle.nc_number.specs.declared.limits.TheConstants.{MOST_BLOCKS};
 ghost use Rattle.block_order.specs.Order.{seek};

@@ -1,5 +1,5 @@
-//! The tables of a tape whose programs and loops fit together.
-//! draft.rt makes them; order.rt and wait_order look up in them.
+//! The tables of a tape whose programs and loops fit together. draft.rt makes them; order.rt looks
+//! up in them.
 ghost use Rattle.std.specs.Prelude.{◌≤◌, IfOk, length};
 ghost use Rattle.nc_number.specs.declared.limits.TheConstants.{MOST_BLOCKS};
 ghost use Rattle.block_order.specs.Faults.{Fitting, IsClear};

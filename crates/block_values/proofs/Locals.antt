@@ -1,5 +1,5 @@
 -- A number from 1 to 33 names the local variable of that number, whichever code system is in force.
--- For `variable_in` (src/readings.rt); path_state takes it too.
+-- For `variable_in` (src/readings.rt).
 use Rattle.std.proofs.Common.{◌≡◌, ℕ, ◌≤◌, Some, ap}
 use Rattle.common_vars.specs.declared.variable.Variable.TheVariants.{Local}
 use Rattle.common_vars.proofs.VariableNumbers.{found_by_number}

@@ -1,6 +1,5 @@
 -- The arguments of a macro call (G65): which local variable each address sets, and to which value.
--- The contracts of src/arguments.rt cite all of it; path_state takes `argument_with` and
--- `arguments_with` into its definition of a block's effect.
+-- The contracts of src/arguments.rt cite all of it.
 use Rattle.std.specs.Prelude.{ℕ, Bool, ◌-◌, ◌==◌, ◌&&◌, not, List, [], ◌∷◌, Option, Some, None, Result, ℤ, pos, int_div, slice_set, codes, if◌then◌else◌}
 use Rattle.nc_number.specs.declared.literal.Literal.{Literal}
 use Rattle.nc_number.specs.declared.value.Var.{Var}

@@ -1,6 +1,5 @@
 -- How contracts read the structs of src/motion.rt as the records of Values and Motion, so that the
 -- code of a motion can be compared with its definition.
--- path_state takes `step_motion` and `step_seen`.
 use Rattle.std.specs.Prelude.{ℕ, List, Some, unwrap_or, Result, Ok, Err}
 use Rattle.motion_track.specs.Centre.{IsLengthWithin}
 use Rattle.nc_moves.specs.declared.motion.Move.{Move}

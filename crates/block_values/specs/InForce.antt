@@ -1,6 +1,4 @@
 -- Which modal state is in force behind the codes and words of a block.
--- path_state takes `modal_after` into a block's effect. The proofs of run_table, two_path and
--- zone_check take words from here too.
 use Rattle.std.specs.Prelude.{ℕ, Bool, true, false, List, Option, Some, None, Result, Ok, Err}
 use Rattle.std.specs.List.{list_any}
 use Rattle.nc_number.specs.declared.value.Var.{Var}

@@ -1,7 +1,5 @@
 -- What the motion of a block comes to: its moves, where a cycle ends, the offset that G10 sets. It
 -- goes by the block's one-shot code if it has one, else by the motion code in force.
--- path_state takes `motion_of` into a block's effect. The proofs of run_table, two_path and
--- zone_check take words from here too.
 use Rattle.std.specs.Prelude.{ℕ, Bool, true, false, List, [], ◌∷◌, Option, Some, None, unwrap_or, Result, Ok, Err, ℤ}
 use Rattle.nc_number.specs.declared.point.Point.{Point}
 use Rattle.nc_number.specs.declared.axis.Axis.{Axis}

@@ -1,7 +1,5 @@
 -- All moves that a block asks of its turret, in their order, and where the turret stands behind
 -- them.
--- path_state takes `all_moves` and `last_end` into a block's effect; run_table and zone_check take
--- words from here too.
 use Rattle.std.specs.Prelude.{ℕ, Bool, true, false, not, ◌==◌, ◌&&◌, ◌||◌, nat_le, List, [], ◌∷◌, ◌++◌, Option, Some, None, unwrap_or, ℤ, unsigned_abs, if◌then◌else◌}
 use Rattle.nc_number.specs.declared.point.Point.{Point}
 use Rattle.nc_number.specs.declared.value.Var.{Var}

@@ -1,7 +1,5 @@
 -- What the operands of a statement come to, by what a table says of each variable: the variable on
 -- the left side, a condition, the sequence number of a jump.
--- path_state takes them into the effect of a statement. The proofs of named_vars, two_path and
--- zone_check take words from here too.
 use Rattle.std.specs.Prelude.{ℕ, Bool, List, Option, Some, None, Result, Ok, Err, ℤ, pos, negsuc}
 use Rattle.nc_number.specs.declared.cause.Cause.{Cause}
 use Rattle.nc_number.specs.declared.cause.Cause.TheVariants.{VariableRange, NoSequence}

@@ -2,7 +2,6 @@
 -- variable, or with an alarm. Each definition of what words and operands say answers so. `reads`
 -- are the values of shared variables that were read for the block so far: each step takes from
 -- their front those that it needs.
--- named_vars, path_state, run_table, two_path and zone_check take words from here.
 use Rattle.std.specs.Prelude.{ℕ, List, Result, Ok, Err, ℤ, pos}
 use Rattle.nc_number.specs.declared.cause.Cause.{Cause}
 use Rattle.nc_number.specs.declared.value.Var.{Var}

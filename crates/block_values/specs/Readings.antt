@@ -1,6 +1,5 @@
 -- Which variable a number names under the code system in force, and how the value of a system
 -- variable is counted: lengths in millimetres, codes and numbers in whole units.
--- named_vars, path_state and two_path take words from here.
 use Rattle.std.specs.Prelude.{ℕ, Bool, true, Option, Some, None, is_some, ℤ, pos, if◌then◌else◌}
 use Rattle.nc_number.specs.declared.value.Var.{Var}
 use Rattle.nc_number.specs.declared.value.Var.TheVariants.{Vacant, Is}

@@ -1,6 +1,5 @@
 -- How contracts read the structs of src/values.rt, sense.rt and outcome.rt as the records of Values
 -- and Outcomes.
--- path_state takes `outcome_of`, `sense_seen` and `values_seen`.
 use Rattle.std.specs.Prelude.{List, Result, Ok, Err}
 use Rattle.nc_number.specs.declared.cause.Cause.{Cause}
 use Rattle.nc_number.specs.declared.value.Var.{Var}

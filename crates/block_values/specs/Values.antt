@@ -1,7 +1,5 @@
 -- What the words of a block say once each is evaluated, in the order of the text: which fields a
 -- word sets, and when it is refused (56, 64).
--- path_state takes `words_with` into a block's effect. The proofs of named_vars, run_table,
--- two_path and zone_check take words from here too.
 use Rattle.std.specs.Prelude.{ℕ, Bool, true, false, not, ◌&&◌, ◌||◌, List, [], ◌∷◌, Option, Some, None, Result, Ok, Err, ℤ, neg_ℤ, unsigned_abs, codes, if◌then◌else◌}
 use Rattle.nc_number.specs.declared.cause.Cause.{Cause}
 use Rattle.nc_number.specs.declared.cause.Cause.TheVariants.{UnknownCode, WordRange}

@@ -1,5 +1,4 @@
 -- How long the lengths that a block says can be, so that sums of them stay within 64 bits.
--- path_state takes `AreLengthsSaid`.
 use Rattle.std.specs.Prelude.{ℕ}
 use Rattle.nc_number.specs.declared.limits.TheConstants.{LONGEST_SAID}
 use Rattle.motion_track.specs.Centre.{IsLengthWithin}

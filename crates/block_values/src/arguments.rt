@@ -1,5 +1,4 @@
 //! The arguments of a macro call (G65): which local variable an address sets, and to which value.
-//! path_state calls `arguments_taken` when a block opens a macro program.
 ghost use Rattle.std.specs.Prelude.{◌≡◌, ◌≤◌, IfSome, pos, int_div};
 ghost use Rattle.block_values.specs.Arguments.{local_of, argument, with_argument, with_var, argument_with, arguments_with};
 ghost use Rattle.block_values.specs.Seen.{outcome_of};

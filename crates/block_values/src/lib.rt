@@ -1,12 +1,9 @@
 //! What the text of a block comes to: what its words, its arguments and its operands say, what is
 //! in force behind it, its motion and its moves.
 //!
-//! What is evaluated is generic over what is known of each variable, a
-//! [`Scope`](macro_eval::Scope), and takes the reads of shared variables one by one; the parts of a
-//! block are given what they depend on. So nothing here knows the state of a path. path_state, in
-//! which a path is such a scope, leans on [`words_taken`], [`arguments_taken`], [`value_taken`] and
-//! its like for statements, on [`modal_after`], [`motion_behind`] and [`moves_behind`], and on the
-//! readings of a variable.
+//! What is evaluated is generic over what is known of each variable, a [`Scope`](macro_eval::Scope),
+//! and takes the reads of shared variables one by one; the parts of a block are given what they
+//! depend on. So nothing here knows the state of a path.
 #![tactic(auto)]
 
 mod arguments;

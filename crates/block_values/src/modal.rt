@@ -1,5 +1,4 @@
-//! Which modal state is in force behind the codes and words of a block.
-//! path_state calls `modal_after`; tests call `modal_of_rows`.
+//! Which modal state is in force behind the codes and words of a block. Tests call `modal_of_rows`.
 ghost use Rattle.std.specs.Prelude.{◌≡◌};
 ghost use Rattle.block_words.specs.Codes.{rows};
 ghost use Rattle.block_values.specs.InForce.{modal_after, speed_word, settings_said, has_limit, modal_of_rows};

@@ -1,6 +1,5 @@
 //! The motion of a block: its moves, where a cycle ends, the offset that G10 sets. It goes by the
-//! block's one-shot code if it has one, else by the motion code in force.
-//! path_state calls `motion_behind`; tests call `motion_of`.
+//! block's one-shot code if it has one, else by the motion code in force. Tests call `motion_of`.
 ghost use Rattle.std.specs.Prelude.{ℕ, ◌≡◌, ◌≤◌, ◌∷◌, [], codes, length, None, IfOk, IfSome, unsigned_abs};
 ghost use Rattle.nc_number.specs.Axes.{IsAxisWithin};
 ghost use Rattle.nc_number.specs.Position.{IsPosition};

@@ -1,6 +1,5 @@
 //! All moves that a block asks of its turret, in their order, and where the turret stands behind
-//! them.
-//! path_state calls `moves_behind` and `last_end`; tests call `all_moves`.
+//! them. Tests call `all_moves`.
 ghost use Rattle.std.specs.Prelude.{Option, ◌≡◌, ◌≤◌, ◌<◌, ◌+◌, ◌++◌, length};
 ghost use Rattle.nc_number.specs.declared.value.Var.TheVariants.{Vacant};
 ghost use Rattle.nc_number.specs.Arithmetic.{whole_of};

@@ -1,7 +1,6 @@
 //! What the operands of a statement come to: the variable on its left side, a value, a condition,
 //! and the sequence number of a jump. Each is evaluated over a scope and takes the reads that it
 //! needs.
-//! path_state runs statements with it.
 ghost use Rattle.std.specs.Prelude.{◌≡◌, List, IfOk};
 ghost use Rattle.nc_number.specs.declared.value.Var.{Var};
 ghost use Rattle.common_vars.specs.Variables.{IsVariable};

@@ -1,6 +1,5 @@
 //! Why a step of a block gives no value: it needs a shared variable, or raises an alarm. Every call
 //! of this crate that evaluates answers so.
-//! path_state hands it on as the answer of the block.
 ghost use Rattle.std.specs.Prelude.{◌≡◌, pos};
 ghost use Rattle.nc_number.specs.Causes.{cause_number};
 

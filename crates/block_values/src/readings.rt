@@ -1,6 +1,5 @@
 //! Which variable a number names under the code system in force, and how a variable gives what it
 //! holds: lengths in millimetres, codes and numbers in whole units.
-//! path_state reads the variables of a path with it.
 ghost use Rattle.std.specs.Prelude.{◌≡◌, ℕ, ◌≤◌, ◌-ℤ◌, unsigned_abs, IfSome};
 ghost use Rattle.nc_number.specs.Position.{IsPosition, IsWithin, travel};
 ghost use Rattle.offset_store.specs.Offsets.{shift_travel};

@@ -1,6 +1,5 @@
 //! What decides the meaning of a word in its block: the block's purpose, and whether its motion is
 //! an arc or its code sets an offset.
-//! path_state makes it of a block and its modal state, and hands it to `words_taken`.
 ghost use Rattle.std.specs.Prelude.{◌≡◌, false};
 ghost use Rattle.block_words.specs.Codes.{is_macro};
 

@@ -1,6 +1,5 @@
 //! What the words of a block say once each is evaluated: lengths in 0.001 mm, F, S, T and P; and
 //! when a word is refused (56, 64).
-//! path_state hands it from `words_taken` to the motion, the modal state and the moves of a block.
 ghost use Rattle.std.specs.Prelude.{◌≡◌, ◌≤◌, true, codes, unsigned_abs, Ok, Err, IfOk, IfErr, OnOk};
 ghost use Rattle.block_words.specs.Ranges.{fits, range_of};
 ghost use Rattle.block_words.specs.Words.{is_one_of};

@@ -1,5 +1,4 @@
 //! The words of a block, evaluated one by one in the order of the text and taken into its values.
-//! path_state calls `words_taken` for every block of words.
 ghost use Rattle.std.specs.Prelude.{◌≡◌, Result, Ok, Err, IfOk, IfErr, OnOk};
 ghost use Rattle.nc_number.specs.declared.cause.Cause.{Cause};
 ghost use Rattle.block_values.specs.Values.{Values as Said, nothing_said, computed_literal, taken_var, word_with, words_with};

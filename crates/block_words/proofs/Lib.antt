@@ -1,5 +1,4 @@
--- The lemmas of this crate, which its functions name where they need them. open_forms takes Waiting
--- too.
+-- The lemmas of this crate, which its functions name where they need them.
 pub mod LastWord
 pub mod TableEnds
 pub mod Waiting

@@ -1,5 +1,5 @@
 -- A waiting code is at most the last one of the settings, so it fits 16 bits. For `first_waiting`
--- (src/codes.rt), and for the function of the same name in open_forms.
+-- (src/codes.rt).
 use Rattle.std.proofs.Common.{◌≡◌, ℕ, ◌≤◌, true, List, Some, arith}
 use Rattle.std.proofs.lemmas.Bool.Decides.{nat_tests}
 use Rattle.code_tables.proofs.FoundPasses.{found_passes}

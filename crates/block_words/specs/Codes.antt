@@ -1,5 +1,4 @@
--- The G and M codes of a block, and what they make of P and L. block_forms, open_forms,
--- block_values and six more crates above cite this.
+-- The G and M codes of a block, and what they make of P and L.
 use Rattle.std.specs.Prelude.{ℕ, Bool, true, false, ◌==◌, ◌&&◌, nat_le, List, [], ◌∷◌, Option, Some, None, ℤ, pos, negsuc, codes, find, if◌then◌else◌}
 use Rattle.std.specs.List.{list_any, filter_map}
 use Rattle.code_tables.specs.declared.row.Row.{Row}

@@ -1,5 +1,4 @@
 -- What the purpose of a block asks of its words, and which P of a wait names both paths.
--- block_forms, open_forms and wait_verify read this.
 use Rattle.std.specs.Prelude.{ℕ, Bool, true, false, ◌==◌, ◌||◌, List, codes}
 use Rattle.block_words.specs.declared.purpose.Purpose.{Purpose}
 use Rattle.block_words.specs.declared.purpose.Purpose.TheVariants.{MacroCall, Subprogram, Return, Wait, Dwell, Setting, Other}

@@ -1,5 +1,4 @@
--- Which numbers the words of a block may have if they are written out. block_forms, open_forms,
--- block_values and two_path read this.
+-- Which numbers the words of a block may have if they are written out.
 use Rattle.std.specs.Prelude.{ℕ, Bool, true, false, not, ◌&&◌, nat_le, Option, Some, None, ℤ, pos, negsuc, codes, if◌then◌else◌}
 use Rattle.std.specs.Int.{is_negative}
 use Rattle.std.specs.Option.{is_some}

@@ -1,5 +1,4 @@
--- The words of a block, looked at by their letters. block_forms, open_forms, block_values and four
--- more crates above read this.
+-- The words of a block, looked at by their letters.
 use Rattle.std.specs.Prelude.{ℕ, Bool, true, false, ◌==◌, List, Option, Some, None, ℤ, filter}
 use Rattle.std.specs.List.{list_any}
 use Rattle.nc_number.specs.Arithmetic.{whole_of}

@@ -1,5 +1,5 @@
 //! The G and M codes of a block, and what they make of its P and L. What a code does is not known
-//! here; the tables are in code_tables. block_forms makes its blocks of words by these functions.
+//! here; the tables are in code_tables.
 ghost use Rattle.std.specs.Prelude.{◌≡◌, ◌≤◌, IfSome, IfOk};
 ghost use Rattle.std.specs.List.{list_any};
 ghost use Rattle.nc_number.specs.declared.limits.TheConstants.{LARGEST_WHOLE};

@@ -1,6 +1,4 @@
-//! How a tape is read, as the settings say: which M codes wait, and of which system its G codes
-//! are. tape_flow and wait_verify make it of the settings; block_forms, open_forms and open_order
-//! read words by it.
+//! How a tape is read, as the settings say: which M codes wait, and of which system its G codes are.
 ghost use Rattle.std.specs.Prelude.{◌≡◌};
 ghost use Rattle.code_tables.specs.Codes.{row_of};
 ghost use Rattle.code_tables.specs.Systems.{rows_of_system};

@@ -1,6 +1,4 @@
-//! The words of a block by their letters. A letter is its byte, in upper case. block_forms calls
-//! these; codes.rt of this crate, block_values, open_forms and open_order call `is_one_of` alone.
-//! open_forms/src/letters.rt has the others over the words of a text.
+//! The words of a block by their letters. A letter is its byte, in upper case.
 ghost use Rattle.std.specs.Prelude.{◌≡◌, ◌≤◌, IfSome, length, if◌then◌else◌};
 ghost use Rattle.nc_number.specs.declared.limits.TheConstants.{LARGEST_WHOLE};
 ghost use Rattle.block_words.specs.Words.{is_one_of, words_of, has, has_computed, whole_value, last_whole};

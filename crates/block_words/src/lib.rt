@@ -1,9 +1,8 @@
 //! The words of one block, and what its codes make of them.
 //!
-//! A word is a letter with a literal or the code of an expression. The M and G codes among the
-//! words are looked up in the tables of the cell's system, and decide what P and L mean, which
-//! words must be written out and which numbers they may have. block_forms and block_values call
-//! this; open_forms, open_order, path_state and others take its types from block_forms.
+//! A word is a letter with a literal or the code of an expression. The M and G codes among the words
+//! are looked up in the tables of the cell's system, and decide what P and L mean, which words must
+//! be written out and which numbers they may have.
 #![tactic(auto)]
 
 mod codes;

@@ -1,6 +1,6 @@
-//! What a block is for, which decides the meaning of its P and L. Which purpose a block has is
-//! found in block_forms (src/words.rt), by the functions of codes.rt; block_values and path_state
-//! go by it. The meaning of each purpose is in specs/Purposes.antt and specs/Ranges.antt.
+//! What a block is for, which decides the meaning of its P and L. Which purpose a block has is found
+//! by the functions of codes.rt. The meaning of each purpose is in specs/Purposes.antt and
+//! specs/Ranges.antt.
 ghost use Rattle.std.specs.Prelude.{◌≡◌};
 
 /// What decides the meaning of the addresses P and L, and in a dwell of X and U.

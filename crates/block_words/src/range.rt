@@ -1,5 +1,5 @@
-//! Which numbers a word may write out: block_forms refuses a block with one that is out of its
-//! range (64). Calculated values are judged in the run, in block_values.
+//! Which numbers a word may write out: one that is out of its range is refused (64). Calculated
+//! values are judged in the run.
 ghost use Rattle.std.specs.Prelude.{◌≡◌};
 ghost use Rattle.block_words.specs.Ranges.{fits, range_of_p, range_of_l, range_of_way, range_of_letter, range_of_argument, range_of, is_between, is_in_range};
 

@@ -1,5 +1,5 @@
-//! The rows of a block's G codes, as a list that is a value: block_forms keeps it with the words of
-//! a block. What a row says is in code_tables.
+//! The rows of a block's G codes, as a list that is a value, which is kept with the words of a
+//! block. What a row says is in code_tables.
 use code_tables::Row;
 use nc_number::ListOf;
 

@@ -1,5 +1,4 @@
-//! A word of a block: its letter and its value. How its text is read is in block_forms;
-//! block_values and race_report read the values.
+//! A word of a block: its letter and its value.
 ghost use Rattle.std.specs.Prelude.{◌≡◌, ◌≤◌, Some, IfSome, unsigned_abs};
 ghost use Rattle.nc_number.specs.declared.limits.TheConstants.{LARGEST_WHOLE};
 

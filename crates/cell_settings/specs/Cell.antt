@@ -1,5 +1,4 @@
--- The settings that a text gives, line by line, or its first line that is not allowed. nc_verify,
--- wait_verify, nc_restart, lathe_calls and lathe_top cite it.
+-- The settings that a text gives, line by line, or its first line that is not allowed.
 use Rattle.std.specs.Prelude.{ℕ, ◌^◌, Bool, true, List, [], ◌∷◌, Result, slice_index, slice_set, bit_or}
 use Rattle.std.specs.Str.Lines.{lines}
 use Rattle.nc_number.specs.declared.path.Path.{Path}

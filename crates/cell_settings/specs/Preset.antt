@@ -1,5 +1,5 @@
 -- The offsets that the paths begin with: their ranges, and a list with one at most for each path,
--- kind and number. edit_texts and path_state cite `IsPreset`.
+-- kind and number.
 use Rattle.std.specs.Prelude.{ℕ, Bool, true, false, not, ◌&&◌, ◌==◌, ◌≤◌, List, [], ◌∷◌, ◌++◌, filter}
 use Rattle.cell_settings.specs.declared.preset.Preset.{Preset}
 use Rattle.cell_settings.specs.declared.preset.PresetKind.{PresetKind}

@@ -1,5 +1,5 @@
 -- The offset that the name and the values of a line set, in the settings and in a text of edits:
--- src/preset_line.rt reads it. Entry and edit_texts cite `preset_of`.
+-- src/preset_line.rt reads it.
 use Rattle.std.specs.Prelude.{ℕ, ◌-◌, List, [], ◌∷◌, Option, Some, None, codes, if◌then◌else◌}
 use Rattle.std.specs.Str.{bytes_eq}
 use Rattle.nc_number.specs.Options.{◌>>=◌}

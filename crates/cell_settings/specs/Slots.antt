@@ -1,5 +1,4 @@
--- The offset of offset_store that a line of the settings or of edits speaks of. edit_texts and
--- path_state cite `preset_slot`.
+-- The offset of offset_store that a line of the settings or of edits speaks of.
 use Rattle.std.specs.Prelude.{ℕ}
 use Rattle.offset_store.specs.declared.slot.Slot.{Slot}
 use Rattle.offset_store.specs.declared.slot.Slot.TheVariants as slot

@@ -1,5 +1,4 @@
--- The settings and the fault of a line, as contracts see them. nc_verify, nc_restart, run_table and
--- wait_verify cite `view`.
+-- The settings and the fault of a line, as contracts see them.
 use Rattle.std.specs.Prelude.{ℕ}
 use Rattle.cell_settings.specs.declared.reading.SettingFault.{SettingFault}
 use Rattle.cell_settings.specs.declared.settings.Settings.{Settings}

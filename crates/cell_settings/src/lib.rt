@@ -4,7 +4,7 @@
 //!
 //! To the crates above it promises that [`Settings`] are what the text says, by the rules of the
 //! settings file, that they keep the ranges of those rules, and that a refusal names the first line
-//! that the rules don't allow. nc_verify reads the settings of a pair by it.
+//! that the rules don't allow.
 #![tactic(auto)]
 
 mod entry;

@@ -1,5 +1,4 @@
-//! Which offset of offset_store a line of the settings or of edits sets. path_state sets the
-//! opening offsets by it, edit_texts makes an edit of it.
+//! Which offset of offset_store a line of the settings or of edits sets.
 ghost use Rattle.std.specs.Prelude.{◌≡◌};
 ghost use Rattle.cell_settings.specs.Preset.{IsPreset};
 ghost use Rattle.cell_settings.specs.Slots.{preset_slot};

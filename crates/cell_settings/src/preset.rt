@@ -1,5 +1,4 @@
-//! The offsets that the paths begin with, as a list with one at most for each path, kind and
-//! number. path_state begins with them; edit_texts reads its lines of offsets as presets too.
+//! The offsets that the paths begin with, as a list with one at most for each path, kind and number.
 ghost use Rattle.std.specs.Prelude.{◌≡◌, List, [], All, OnOk};
 ghost use Rattle.cell_settings.specs.Preset.{with_preset, without_place, is_same_place, IsPreset};
 

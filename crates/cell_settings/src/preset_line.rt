@@ -1,5 +1,5 @@
 //! The lines of the settings that give offsets; a line of edits has the same form. named.rt reads
-//! them here, and so does edit_texts: a change here changes both texts.
+//! them here. The lines of an operator's edits are read by it too: a change here changes both texts.
 ghost use Rattle.std.specs.Prelude.{◌≡◌, ◌≢◌, ◌≤◌, IfSome};
 ghost use Rattle.field_lines.specs.Field.{texts};
 ghost use Rattle.cell_settings.specs.Preset.{IsPreset};

@@ -1,5 +1,5 @@
-//! From a text to the settings of the cell, or to its first bad line. nc_verify reads settings by
-//! it. What a line says is in named.rt.
+//! From a text to the settings of the cell, or to its first bad line. What a line says is in
+//! named.rt.
 ghost use Rattle.std.specs.Prelude.{◌≡◌, ◌<◌, ◌^◌, length};
 ghost use Rattle.nc_number.specs.Answers.{GivesBy};
 ghost use Rattle.nc_number.specs.Causes.{cause_number};

@@ -1,5 +1,5 @@
 //! The settings of the cell, as a type that keeps their ranges, and what one line more makes of
-//! them. block_words, tape_flow, path_state and 8 more crates above read its fields.
+//! them.
 ghost use Rattle.std.specs.Prelude.{◌≡◌, ◌^◌, ◌<◌, ◌≤◌, bit_or, All, OnOk};
 ghost use Rattle.cell_settings.specs.Settings.{IsWaitRange, IsSwitches};
 ghost use Rattle.nc_number.specs.declared.limits.TheConstants.{MOST_RECORDS};

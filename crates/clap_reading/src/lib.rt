@@ -1,9 +1,9 @@
 //! The words of the command line, read by `clap`.
 //!
 //! The rows of `command_words` are made into one `clap` command with one level of subcommands, and
-//! `read_words` reads the program's words through it. A law says that what this command reads in
-//! any words, as `clap`'s contracts have it, is what the listed grammar reads, so `read_words`
-//! promises the command of that grammar. lathe_top and twin_lathe call it.
+//! `read_words` reads the program's words through it. A law says that what this command reads in any
+//! words, as `clap`'s contracts have it, is what the listed grammar reads, so `read_words` promises
+//! the command of that grammar.
 #![tactic(auto)]
 
 mod grammar;

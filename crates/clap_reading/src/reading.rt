@@ -1,5 +1,5 @@
 //! The program's words, read by `clap`: from the words to the command. What a command does is not
-//! known here. lathe_top, twin_lathe and word_vectors call `read_words`.
+//! known here.
 ghost use Rattle.std.specs.Prelude.{◌≡◌, ◌++◌, IfOk, IsErrOf, OnOk, map, option_map, string_bytes};
 ghost use Rattle.clap.specs.Words.{first_of, found_of, rows_of};
 ghost use Rattle.clap.specs.Simple.{subcommand_rows_of};

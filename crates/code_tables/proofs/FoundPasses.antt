@@ -1,5 +1,5 @@
--- What a search finds in a list, such as a row in a table of codes, passes its test. block_forms,
--- block_words and move_list take it; this crate does not.
+-- What a search finds in a list, such as a row in a table of codes, passes its test. This crate
+-- does not.
 use Rattle.std.proofs.Common.{◌≡◌, Bool, true, false, List, [], ◌∷◌, Some, refl}
 use Rattle.std.specs.List.{find}
 

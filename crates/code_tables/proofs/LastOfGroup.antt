@@ -1,5 +1,5 @@
 -- Of several rows of one group the last one counts: for `last_of_group` (src/row.rt) and
--- `group_last` (src/table.rt). block_words and open_forms take `last_of_push`.
+-- `group_last` (src/table.rt).
 use Rattle.std.proofs.Common.{◌≡◌, ◌≢◌, ℕ, ◌+◌, ◌<◌, Bool, true, false, cond, ◌==◌, List, [], ◌∷◌, ◌++◌, length, get_or, take, Option, Some, None, unwrap_or, IsNone, IfSome, All, Contains, filter, ◌↔◌, append-nil, refl, sym, ◌∙◌, ap, arith}
 use Rattle.std.specs.Option.{option_map}
 use Rattle.std.proofs.lemmas.Bool.{true≢false, eq-eqb}

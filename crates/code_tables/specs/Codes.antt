@@ -1,6 +1,5 @@
 -- Looking up a code in a table, and of the codes of a block the one that counts: what the functions
--- of src/table.rt and src/row.rt answer. block_words, block_forms, open_forms and modal_state cite
--- it.
+-- of src/table.rt and src/row.rt answer.
 use Rattle.std.specs.Prelude.{ℕ, Bool, true, false, ◌&&◌, ◌||◌, not, ◌==◌, nat_le, List, [], ◌∷◌, Option, Some, None, unwrap_or, find, filter}
 use Rattle.std.specs.List.{list_any, list_all, filter_map}
 use Rattle.std.specs.Option.{option_map, option_map_or}

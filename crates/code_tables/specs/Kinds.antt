@@ -1,5 +1,5 @@
 -- Which kinds of codes are refused, are arcs, or are canned cycles: for the functions of these
--- names (src/kind.rt). block_forms, path_state and open_order cite it.
+-- names (src/kind.rt).
 use Rattle.std.specs.Prelude.{Bool, true, false}
 use Rattle.code_tables.specs.declared.kind.CodeKind.{CodeKind}
 use Rattle.code_tables.specs.declared.kind.CodeKind.TheVariants.{ArcCw, ArcCcw, CycleTurn, CycleThread, CycleFace, Inch, NoseOn}

@@ -1,4 +1,4 @@
--- The table of each G-code system. block_words and open_forms take it.
+-- The table of each G-code system.
 use Rattle.std.specs.Prelude.{List}
 use Rattle.code_tables.specs.declared.row.Row.{Row}
 use Rattle.code_tables.specs.declared.system.System.{System}

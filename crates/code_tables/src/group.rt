@@ -1,5 +1,4 @@
 //! The modal groups, by Fanuc's numbers. Which code is of which group is in system.rt.
-//! block_words, modal_state and move_list use it.
 
 /// Codes that count in their own block alone.
 pub const ONE_SHOT_GROUP: u8 = 0;

@@ -1,5 +1,4 @@
 //! What a G code does, as a kind. Which number stands for which kind in a system is in system.rt.
-//! block_values, motion_track, modal_state and 4 more crates above go by it.
 ghost use Rattle.std.specs.Prelude.{◌≡◌};
 ghost use Rattle.code_tables.specs.Kinds.{is_refused, is_arc, is_cycle};
 

@@ -1,12 +1,11 @@
 //! What a G code means, as tables that a machine builder can read: one for each of Fanuc's systems
 //! A and B.
 //!
-//! A `CodeTable` has a row for each code of a system: the code, its modal group, and its kind,
-//! which is what the code does whatever its number. No code stands twice. Looking up a code gives
-//! its row, and of several codes of one group the last one counts. These contracts hold for a table
-//! of any number of rows, so that a system is a table and nothing else. `row_of_code` looks a code
-//! up in the table of a system. block_words, modal_state, motion_track and 7 more crates above use
-//! this one.
+//! A `CodeTable` has a row for each code of a system: the code, its modal group, and its kind, which
+//! is what the code does whatever its number. No code stands twice. Looking up a code gives its row,
+//! and of several codes of one group the last one counts. These contracts hold for a table of any
+//! number of rows, so that a system is a table and nothing else. `row_of_code` looks a code up in
+//! the table of a system.
 #![tactic(auto)]
 
 mod group;

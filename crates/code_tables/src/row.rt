@@ -1,5 +1,4 @@
-//! A row of a code table, and which of several rows of a block counts. block_words and modal_state
-//! take the row that counts; block_forms, block_values, open_forms and open_order look at rows too.
+//! A row of a code table, and which of several rows of a block counts.
 ghost use Rattle.std.specs.Prelude.{◌≡◌, ◌≢◌, ◌↔◌, ◌==◌, if◌then◌else◌, IsNone, IfSome, Some, All, Contains};
 ghost use Rattle.code_tables.specs.Codes.{last_of_group};
 

@@ -1,6 +1,5 @@
 //! The two G-code systems as tables. A further code is a row here and in specs/SystemA.antt or
 //! SystemB.antt.
-//! block_words looks codes up here; cell_settings reads which system is in force.
 ghost use Rattle.std.specs.Prelude.{◌≡◌, IsTrue};
 ghost use Rattle.code_tables.specs.Codes.{codes_stand_once, names_work_offsets, row_of};
 ghost use Rattle.code_tables.specs.SystemA.{system_a_rows};

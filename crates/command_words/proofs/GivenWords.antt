@@ -1,5 +1,4 @@
--- How the grammar of specs/Listed.antt reads words, one after another. For PlainWords.antt; and
--- clap_reading proves by these that clap reads the same.
+-- How the grammar of specs/Listed.antt reads words, one after another. For PlainWords.antt.
 use Rattle.std.proofs.Common.{◌≡◌, ℕ, Bool, true, false, ◌&&◌, List, [], ◌∷◌, take, Some, None, refl, sym, ap, subst, ◌∙◌, arith, suc, codes, inl, inr}
 use Rattle.std.specs.Prelude.{nat_eq, length, nat_le}
 use Rattle.std.specs.List.{before_first, position_or_len}

@@ -1,4 +1,4 @@
--- The lemmas of this crate, each file by its subject. clap_reading takes GivenWords.
+-- The lemmas of this crate, each file by its subject.
 pub mod GivenWords
 pub mod Lengths
 pub mod Numbers

@@ -1,5 +1,5 @@
 -- The command line: its rows (Table), its grammar (Listed), its numbers (Number), and what a call
--- that makes a command answers (Making). clap_reading and lathe_top cite them.
+-- that makes a command answers (Making).
 pub mod Listed
 pub mod Making
 pub mod Number

@@ -1,5 +1,4 @@
--- The grammar of the command line, word by word, over the list of commands (Table). clap_reading
--- proves its reading exact by it, lathe_top cites `listed_command`.
+-- The grammar of the command line, word by word, over the list of commands (Table).
 use Rattle.std.specs.Prelude.{◌≡◌, ℕ, ◌+◌, Bool, true, false, ◌&&◌, ◌==◌, not, if◌then◌else◌, List, [], ◌∷◌, ◌++◌, find, length, nat_le, Option, Some, None, is_some, map, option_and_then, option_map, codes}
 use Rattle.std.specs.List.{after_first, before_first, list_any, slice_index}
 use Rattle.std.specs.Str.{IsUtf8, bytes_eq}

@@ -1,6 +1,6 @@
 -- What a call that makes a command answers: the command of the grammar, `Usage`, or out of memory.
--- src/making.rt and clap_reading state their calls by this; the grammar is in Listed. A further
--- option needs its line in `texts_seen` (src/option_texts.rt names the other places).
+-- src/making.rt states its calls by this; the grammar is in Listed. A further option needs its line
+-- in `texts_seen` (src/option_texts.rt names the other places).
 use Rattle.std.specs.Prelude.{◌≡◌, ⊤, Option, Some, None, Result, Ok, Err, option_map}
 use Rattle.command_words.specs.Listed.{OptionTextsView}
 use Rattle.command_words.specs.declared.option_texts.OptionTexts.{OptionTexts}

@@ -1,5 +1,5 @@
 -- Numbers on the command line, such as `14` of `--blocks 14`. The grammar (Listed) and
--- src/number.rt go by this; lathe_top cites it too.
+-- src/number.rt go by this.
 use Rattle.std.specs.Prelude.{ℕ, Bool, ◌&&◌, if◌then◌else◌, List, length, nat_le, Option, Some, None}
 use Rattle.std.specs.Char.{is_ascii_digit}
 use Rattle.std.specs.List.{list_all}

@@ -1,6 +1,5 @@
 -- The commands of the program, as one list of rows. What the words after a command's name mean is
--- in Listed. clap_reading and lathe_top cite this; src/table.rt has the same rows, and a further
--- command is a row in both.
+-- in Listed. Src/table.rt has the same rows, and a further command is a row in both.
 use Rattle.std.specs.Prelude.{ℕ, Bool, true, ◌&&◌, not, List, [], ◌∷◌, map, find, Option, Some, None, codes}
 use Rattle.std.specs.List.{list_any}
 use Rattle.std.specs.Str.{bytes_eq}

@@ -1,5 +1,5 @@
-//! A command of the program, with its names and numbers. making.rt makes it of the words, and
-//! lathe_top performs it. A further command is a variant here and a row in table.rt.
+//! A command of the program, with its names and numbers. making.rt makes it of the words. A further
+//! command is a variant here and a row in table.rt.
 ghost use Rattle.std.specs.Prelude.{◌≡◌, ℕ, List, IfOk, option_map, string_bytes};
 
 use std::alloc::{AllocError, Global};

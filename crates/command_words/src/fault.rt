@@ -1,5 +1,4 @@
-//! Why words give no command. clap_reading answers it; lathe_top ends with status 2 for `Usage` and
-//! 12 for `NoMemory`.
+//! Why words give no command.
 ghost use Rattle.std.specs.Prelude.{◌≡◌};
 ghost use Rattle.command_words.specs.declared.fault.WordsFault.TheVariants.{NoMemory};
 

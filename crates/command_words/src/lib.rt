@@ -2,8 +2,8 @@
 //!
 //! The commands of the program stand in one list of rows: a command's name, what its words are
 //! called, the options that it takes, what it does with the journal, and what it asks for. The
-//! grammar in `specs/` says by these rows which command any words give. clap_reading reads words by
-//! it and lathe_top performs the command; a further command is a row and the arm that makes it.
+//! grammar in `specs/` says by these rows which command any words give. A further command is a row
+//! and the arm that makes it.
 #![tactic(auto)]
 
 mod command;

@@ -1,6 +1,6 @@
-//! The command that a row's task makes of the words and options that were given. specs/Listed.antt
-//! defines it, mostly by functions of the same names; clap_reading calls [`command_of`]. A further
-//! command is an arm of `plain_command`, `word_command` or `pair_command` in both.
+//! The command that a row's task makes of the words and options that were given. Specs/Listed.antt
+//! defines it, mostly by functions of the same names. A further command is an arm of
+//! `plain_command`, `word_command` or `pair_command` in both.
 ghost use Rattle.std.specs.Prelude.{◌≡◌, ◌≤◌, IfSome, map, option_map};
 ghost use Rattle.nc_number.specs.declared.limits.TheConstants.{MOST_RECORDS};
 ghost use Rattle.command_words.specs.declared.making.TheConstants.{LAST_MADE, LAST_PROGRAM};

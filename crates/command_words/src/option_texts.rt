@@ -1,7 +1,7 @@
-//! The texts of the options of a command, as clap_reading found them; making.rt makes the command
-//! of them. A further option is a field here, and has its line in specs/Listed.antt
-//! (`OptionTextsView`, `texts_for`), in specs/Making.antt (`texts_seen`) and in clap_reading
-//! (`texts_at` in src/reading.rt and specs/ClapReading.antt, proofs/Subcommands).
+//! The texts of the options of a command, as they were found in its words; making.rt makes the
+//! command of them. A further option is a field here, and has its line in specs/Listed.antt
+//! (`OptionTextsView`, `texts_for`), in specs/Making.antt (`texts_seen`), and where the words are
+//! read (`texts_at`).
 
 /// The text of each option, if it was given.
 #[derive(Clone, Copy, Debug)]

@@ -1,6 +1,6 @@
-//! The commands as one list of rows. What a task makes of its words is in making.rt.
-//! clap_reading and twin_lathe look commands up here. A further command is a row here and in
-//! specs/Table.antt; the launcher has the same commands in scripts/words.sh.
+//! The commands as one list of rows. What a task makes of its words is in making.rt. A further
+//! command is a row here and in specs/Table.antt; the launcher has the same commands in
+//! scripts/words.sh.
 ghost use Rattle.std.specs.Prelude.{◌≡◌, map, option_map, string_bytes};
 ghost use Rattle.std.specs.List.{list_any};
 ghost use Rattle.std.specs.Str.{bytes_eq};

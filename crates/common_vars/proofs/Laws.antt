@@ -1,5 +1,5 @@
 -- What the common variables hold after writes, the own ones of a path and the shared ones: for the
--- laws of src/own.rt and src/shared.rt. race_order and two_path take `seen_from_its_stamp`.
+-- laws of src/own.rt and src/shared.rt.
 use Rattle.std.proofs.Common.{◌≡◌, ℕ, ◌<◌, ◌≤◌, nat_le, All, ◌==◌, List, [], ◌∷◌, ◌++◌, true, false, cond, Option, None, Some, length, arith, refl, sym, ◌∙◌, ap, inl, inr, unwrap_or, eq-eqb}
 use Rattle.std.specs.Option.{option_or}
 use Rattle.std.proofs.lemmas.Bool.{cases_eq, ne_eqb, and_right, lt-leb, le-leb}

@@ -1,5 +1,4 @@
--- What proves the clauses of this crate. race_order and two_path take Laws; block_values,
--- named_vars and path_state take VariableNumbers.
+-- What proves the clauses of this crate.
 pub mod Grown
 pub mod Latest
 pub mod Laws

@@ -1,6 +1,5 @@
 -- The rows of the variables' table and the numbers of the variables say the same. For
--- `a_variable_has_one_number` and `variable_of` (src/variable.rt); block_values, named_vars and
--- path_state take it too.
+-- `a_variable_has_one_number` and `variable_of` (src/variable.rt).
 use Rattle.std.proofs.Common.{◌≡◌, ◌≢◌, ℕ, zero, suc, ◌≤◌, Bool, true, false, List, [], ◌∷◌, find, cond, Option, Some, None, IfSome, IsNone, inl, inr, refl, ap, sym, subst, ◌∙◌, arith}
 use Rattle.std.specs.Prelude.{option_map, ◌↔◌}
 use Rattle.std.proofs.lemmas.Bool.{leb-true, and_parts}

@@ -1,6 +1,5 @@
 -- The common variables #100 to #199 and #500 to #999 of one path: which numbers they have, what
--- they hold, and what a write makes of them. Those that the paths share are in Writes. path_state,
--- run_records, edit_texts and 2 more crates above cite this.
+-- they hold, and what a write makes of them. Those that the paths share are in Writes.
 use Rattle.std.specs.Prelude.{ℕ, ◌≤◌, ◌==◌, ◌⊎◌, Bool, ◌&&◌, ◌||◌, nat_le, List, [], ◌∷◌, Option, None, Some, replicate, slice_index_or, slice_set, if◌then◌else◌}
 use Rattle.std.specs.Option.{option_or}
 use Rattle.nc_number.specs.declared.value.Var.{Var}

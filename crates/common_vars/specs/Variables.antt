@@ -1,5 +1,4 @@
--- The variables of the control, and their numbers. block_values reads and path_state writes
--- variables by it; src/variable.rt has the same table.
+-- The variables of the control, and their numbers. Src/variable.rt has the same table.
 use Rattle.std.specs.Prelude.{◌≡◌, ℕ, ◌+◌, ◌*◌, ◌≤◌, ◌⊎◌, Bool, true, false, ◌&&◌, nat_le, List, [], ◌∷◌, find, Option, option_map}
 use Rattle.common_vars.specs.declared.variable.AxisLetter.{AxisLetter}
 use Rattle.common_vars.specs.declared.variable.AxisLetter.TheVariants.{X, Z}

@@ -1,5 +1,5 @@
 -- The shared variables as the list of their writes, earliest first, and what each holds after so
--- many records. two_path, race_order and move_list cite it.
+-- many records.
 use Rattle.std.specs.Prelude.{ℕ, Bool, ◌+◌, ◌<◌, ◌≤◌, ◌==◌, ◌&&◌, ◌⊎◌, nat_le, List, [], ◌∷◌, Option, None, Some, unwrap_or, if◌then◌else◌}
 use Rattle.std.specs.Option.{option_or}
 use Rattle.nc_number.specs.declared.value.Var.{Var}

@@ -1,9 +1,9 @@
 //! The variables of the lathe: what each number names, and the common variables.
 //!
 //! [`variable_of`] is the table of numbers. [`Own`] holds the common variables of one path.
-//! [`Shared`] holds those that both paths share, and keeps every write with the number of records
-//! at it, so that each variable's value after any number of records can be told: contracts see it
-//! as the list of its writes. path_state holds the variables of a path, two_path the shared ones.
+//! [`Shared`] holds those that both paths share, and keeps every write with the number of records at
+//! it, so that each variable's value after any number of records can be told: contracts see it as
+//! the list of its writes.
 
 #![tactic(auto)]
 

@@ -1,5 +1,4 @@
-//! The number of a common variable, as a type. edit_texts and run_records name by it the variable
-//! that an operator's edit sets.
+//! The number of a common variable, as a type.
 ghost use Rattle.std.specs.Prelude.{◌≡◌, ◌↔◌, IsSome};
 ghost use Rattle.common_vars.specs.Common.{IsCommon};
 

@@ -1,5 +1,4 @@
-//! The common variables of one path, which path_state reads and writes. Those that both paths share
-//! are in shared.rt.
+//! The common variables of one path. Those that both paths share are in shared.rt.
 ghost use Rattle.std.specs.Prelude.{◌≡◌, ◌↔◌, ℕ, List, IsTrue, IfOk, unwrap_or};
 ghost use Rattle.nc_number.specs.declared.value.Var.{Var};
 ghost use Rattle.common_vars.specs.Common.{IsCommon, AreCommon, none_written, value_of, with_value, after_writes, latest_of};

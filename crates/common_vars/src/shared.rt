@@ -1,6 +1,5 @@
-//! The common variables that the paths share, with every write of the run. two_path holds them, so
-//! that a record can be done again with the values that it read. The laws at the end speak of the
-//! list of writes; race_order and two_path take the lemma of the first (proofs/Laws.antt).
+//! The common variables that the paths share, with every write of the run. The laws at the end speak
+//! of the list of writes.
 ghost use Rattle.std.specs.Prelude.{◌≡◌, ◌↔◌, ◌+◌, ◌<◌, ◌≤◌, ℕ, List, [], ◌∷◌, ◌++◌, if◌then◌else◌, All, IsTrue, IfOk, IsOk, OnOk};
 ghost use Rattle.common_vars.specs.declared.links.Write.{Write};
 ghost use Rattle.common_vars.specs.Writes.{IsShared, is_write_of, value_after};

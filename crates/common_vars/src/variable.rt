@@ -1,5 +1,4 @@
-//! What the number of a variable names, for all numbers after `#`: one table. block_values reads
-//! variables by it and path_state writes them.
+//! What the number of a variable names, for all numbers after `#`: one table.
 ghost use Rattle.std.specs.Prelude.{◌≡◌, ◌≢◌, ◌↔◌, ◌+◌, ◌≤◌, ℕ, Some, IsNone, IfSome};
 ghost use Rattle.common_vars.specs.declared.variable.Variable.{Variable};
 ghost use Rattle.common_vars.specs.Variables.{IsVariable, IsWorkOffset, number_of, variable_of, is_protected, is_readable};

@@ -1,5 +1,4 @@
 -- The refusals of roughing cycles: their numbers, names and lines, as src/fault.rt has them.
--- tape_expand hands them on, and lathe_looks prints them.
 use Rattle.std.specs.Prelude.{ℕ, List, codes}
 use Rattle.cycle_form.specs.declared.fault.CycleFault.{CycleFault}
 use Rattle.cycle_form.specs.declared.fault.CycleFault.TheVariants.{BadCycle, TooLarge}

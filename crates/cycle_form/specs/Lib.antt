@@ -1,6 +1,5 @@
--- What the forms of G71 and G70 are, in the blocks of a tape. tape_expand cites Walk, Parts, Marks,
--- Sizes and Faults, lathe_looks Faults. Words, Contour, Head and Forms are cited in this crate
--- alone; what Walk answers rests on them.
+-- What the forms of G71 and G70 are, in the blocks of a tape. Words, Contour, Head and Forms are
+-- cited in this crate alone; what Walk answers rests on them.
 pub mod Faults
 pub mod Marks
 pub mod Words

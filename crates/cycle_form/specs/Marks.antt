@@ -1,5 +1,5 @@
 -- Which lines of a text have a skip sign or a comment, called a mark here: such a line is in no
--- form. src/marks.rt computes it; tape_expand cites `marks_of`.
+-- form. Src/marks.rt computes it.
 use Rattle.std.specs.Prelude.{ℕ, ◌-◌, Bool, false, not, ◌||◌, ◌==◌, List, [], ◌∷◌, Option, Some, None, slice_get, if◌then◌else◌}
 use Rattle.nc_text.specs.declared.tape.Block.{Block}
 

@@ -1,5 +1,5 @@
 -- The parts of a tape that are written out, and when one is sound and clear: what contracts see of
--- the type `Part` (src/part.rt). tape_expand cites it.
+-- the type `Part` (src/part.rt).
 use Rattle.std.specs.Prelude.{ℕ, Bool, true, false, ◌&&◌, ◌==◌, List, ℤ}
 use Rattle.rough_cycle.specs.declared.form.TheConstants.{TRIED}
 use Rattle.rough_cycle.specs.declared.block.PlainBlock.{PlainBlock}

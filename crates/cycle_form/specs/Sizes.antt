@@ -1,5 +1,5 @@
 -- How many blocks a tape has once its parts are written out, and the part with which it first has
--- more than 20,000. src/sizes.rt computes `size_verdict`; tape_expand cites it.
+-- more than 20,000. Src/sizes.rt computes `size_verdict`.
 use Rattle.std.specs.Prelude.{ℕ, ◌+◌, ◌-◌, ⊤, nat_lt, List, [], ◌∷◌, length, Result, Ok, Err, if◌then◌else◌}
 use Rattle.nc_number.specs.declared.limits.TheConstants.{MOST_BLOCKS}
 use Rattle.cycle_form.specs.declared.fault.CycleFault.{CycleFault}

@@ -1,5 +1,5 @@
 -- The parts of a tape that are written out, in the order of the text, or the first block with a
--- cycle that is part of no form, or with G91 or G20. src/walk.rt computes `parts_of`; tape_expand cites it.
+-- cycle that is part of no form, or with G91 or G20. Src/walk.rt computes `parts_of`.
 use Rattle.std.specs.Prelude.{ℕ, zero, suc, ◌-◌, Bool, false, ◌||◌, List, [], ◌∷◌, ◌++◌, length, drop, Option, Some, None, Result, Ok, Err, slice_get, ℤ, pos, if◌then◌else◌}
 use Rattle.std.specs.List.{list_any}
 use Rattle.nc_number.specs.Options.{◌>>=◌}

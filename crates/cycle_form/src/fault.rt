@@ -1,5 +1,5 @@
 //! Why the roughing cycles of a tape can't be written out: 93 and 94. walk.rt and sizes.rt refuse
-//! with it, and tape_expand hands it on. The numbers and names stand in specs/Faults too.
+//! with it. The numbers and names stand in specs/Faults too.
 ghost use Rattle.std.specs.Prelude.{◌≡◌};
 
 use thiserror::Error;

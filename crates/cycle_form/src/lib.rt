@@ -3,7 +3,6 @@
 //! `parts_of` finds the parts of a tape that its roughing cycles stand for, in the order of the
 //! text, or the first block with G70 or G71 that is part of no form, or with G91 or G20. A `Part` is
 //! sound by its type: the moves of its blocks never enter its contour (`a_sound_part_is_clear`).
-//! tape_expand writes these parts out; lathe_looks prints the refusals.
 #![tactic(auto)]
 
 mod contour;

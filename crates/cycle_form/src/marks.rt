@@ -1,6 +1,6 @@
-//! Which lines of a text have a skip sign or a comment. A form with such a line is none: to write
-//! it out would lose the comment, and the sign would skip only a part of it. tape_expand makes the
-//! marks of a text; form.rt and finish.rt ask them.
+//! Which lines of a text have a skip sign or a comment. A form with such a line is none: to write it
+//! out would lose the comment, and the sign would skip only a part of it. form.rt and finish.rt ask
+//! them.
 ghost use Rattle.std.specs.Prelude.{◌≡◌, ◌||◌, IfOk};
 ghost use Rattle.std.specs.List.{list_all};
 ghost use Rattle.cycle_form.specs.Marks.{is_mark, marks_of, is_plain};

@@ -1,6 +1,5 @@
 //! A part of a tape that stands for plain blocks, and the law that its moves stay out of its
-//! contour. form.rt and finish.rt make parts, tape_expand writes them. How its moves are made is in
-//! rough_cycle.
+//! contour. form.rt and finish.rt make parts. How its moves are made is in rough_cycle.
 ghost use Rattle.std.specs.Prelude.{◌≡◌, IfOk};
 ghost use Rattle.rough_cycle.specs.Form.{rough_of};
 ghost use Rattle.cycle_form.specs.Parts.{PartView, IsSoundPart, IsClearPart, part_blocks, is_called};

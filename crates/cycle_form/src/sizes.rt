@@ -1,5 +1,4 @@
-//! How many blocks a tape has with its cycles written out: the check of refusal 94. tape_expand
-//! calls it after `parts_of`.
+//! How many blocks a tape has with its cycles written out: the check of refusal 94.
 ghost use Rattle.std.specs.Prelude.{◌≡◌, ◌≤◌, IfOk};
 ghost use Rattle.nc_number.specs.Answers.{Gives};
 ghost use Rattle.nc_number.specs.declared.limits.TheConstants.{MOST_BLOCKS};

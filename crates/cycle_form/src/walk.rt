@@ -1,5 +1,5 @@
 //! The parts of a tape, found from its first block to its last. What makes a form is judged in
-//! form.rt and finish.rt. tape_expand calls `parts_of`.
+//! form.rt and finish.rt.
 ghost use Rattle.std.specs.Prelude.{◌≡◌, [], IfOk, IfSome, All, length, drop};
 ghost use Rattle.cycle_form.specs.Parts.{IsSoundPart};
 ghost use Rattle.std.specs.List.{list_any};

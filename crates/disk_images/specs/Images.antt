@@ -1,6 +1,5 @@
 -- What a disk in memory holds that keeps every image, and what each call makes of it. An image is
--- the bytes of the whole file that a crash may leave. No other crate cites it; the tests of
--- disk_vectors and journal_vectors use the disk itself and meet these words in its contracts.
+-- the bytes of the whole file that a crash may leave. No other crate cites it.
 use Rattle.std.specs.Prelude.{◌⊎◌, ℕ, zero, suc, ◌+◌, ◌-◌, ◌^◌, ◌<◌, ◌==◌, ◌||◌, nat_le, nat_lt, Bool, List, [], ◌∷◌, ◌++◌, length, take, max, Some, if◌then◌else◌}
 use Rattle.std.specs.List.{flat_map, list_any}
 use Rattle.disk_model.specs.Device.{DiskState, written_over}

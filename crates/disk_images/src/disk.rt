@@ -1,5 +1,4 @@
-//! A disk in memory that keeps every image, and what each of its calls does. disk_vectors and
-//! journal_vectors test with it.
+//! A disk in memory that keeps every image, and what each of its calls does.
 
 ghost use Rattle.std.specs.Prelude.{◌≡◌, ◌+◌, ◌-◌, ◌^◌, ◌<◌, ◌==◌, length, IfOk, IsOk, IsErr, is_err};
 ghost use Rattle.std.specs.List.{list_any};

@@ -1,5 +1,5 @@
 //! An image: the bytes of the whole file that a crash may leave. The disk of src/disk.rt lists
-//! images; the tests of disk_vectors and journal_vectors open a journal from each.
+//! images.
 
 ghost use Rattle.std.specs.Prelude.{◌≡◌, ◌+◌, ◌-◌, ◌^◌, ◌≤◌, ◌<◌, ◌++◌, List, ℕ, length, take, drop, replicate, IfOk};
 ghost use Rattle.disk_model.specs.Device.{written_over};

@@ -1,5 +1,5 @@
 //! A disk in memory that keeps every image: for tests of what a crash at any moment may leave, over
-//! any number of syncs. disk_vectors and journal_vectors test with it.
+//! any number of syncs.
 //!
 //! [`ImagesDisk`] is proved against the trait `Disk` of disk_model. The disks there forget what a
 //! crash before the last sync but one may have left; this one forgets nothing, and lists it. A

@@ -1,5 +1,5 @@
--- The lemmas of this crate. Runs is for the crates of the journal, Written for this crate and
--- disk_images, the rest for the disks in memory.
+-- The lemmas of this crate. Runs is for crates that keep a journal, Written for all disks that list
+-- what was written, the rest for the disks in memory.
 pub mod Copies
 pub mod Filled
 pub mod Fused

@@ -1,5 +1,4 @@
 -- How runs of calls of a disk (Moments) are joined, widened and gone on with, call by call.
--- gate_file, run_journal, run_table, run_branch, run_edits and lathe_top build their runs by these.
 use Rattle.std.proofs.Common.{◌≡◌, inl, inr, ⊎_elim, ℕ, ◌+◌, ◌≤◌, max, List, arith, refl, sym, subst, ◌∙◌, Option, Some, None}
 use Rattle.disk_model.specs.Device.{DiskState, Elapses, Looks, IsCoherent, IsSettled, Reads, Stays}
 use Rattle.nc_number.specs.Faults.{Rose}

@@ -1,5 +1,5 @@
 -- What a read gives after a write, and that a write done or not done leaves no more than a torn one
--- may. For Kept.antt and the proofs of src/memory.rt; disk_images takes facts of it too.
+-- may. For Kept.antt and the proofs of src/memory.rt.
 use Rattle.std.proofs.Common.{◌≡◌, ◌⊎◌, inl, inr, ℕ, ◌+◌, ◌-◌, ◌≤◌, ◌<◌, max, List, ◌++◌, length, take, drop, replicate, get_or, refl, sym, ◌∙◌, ap, arith, append_assoc, length-append, length-drop}
 use Rattle.std.proofs.lemmas.Bool.{cases_lt}
 use Rattle.std.proofs.lemmas.List.{take_at, take_all, drop_all, take-append-le, length-take, length-replicate, replicate-append-replicate, append-nil, get_or_append_left, get_or-append_right, get_or-take, get_or-drop}

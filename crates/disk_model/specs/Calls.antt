@@ -1,5 +1,5 @@
--- What each call of a disk does, from its state before to its state after.
--- The trait Disk states its calls by these; real_outside and disk_images prove them of their disks.
+-- What each call of a disk does, from its state before to its state after. The trait Disk states
+-- its calls by these.
 use Rattle.std.specs.Prelude.{◌≡◌, ℕ, ◌+◌, ◌-◌, ◌^◌, ◌≤◌, ◌<◌, min, List, ◌++◌, length, take, drop, Result, IfOk, OnOk}
 use Rattle.disk_model.specs.Device.{DiskState, Reads, written_over, Looks, Tears, HasCause, IsSettled}
 

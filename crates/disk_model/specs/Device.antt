@@ -1,5 +1,4 @@
 -- What a disk holds, and what a crash may leave of it. Runs of several calls are in Moments.
--- gate_file, run_journal, run_table and 8 more crates above cite this.
 use Rattle.std.specs.Prelude.{◌≡◌, ◌⊎◌, ℕ, ◌+◌, ◌-◌, ◌≤◌, ◌<◌, max, List, ◌++◌, length, take, drop, slice_index, replicate, Option, Some, None, Result, IsOk, IsErr}
 pub use Rattle.nc_number.specs.Faults.{next, Rose}
 

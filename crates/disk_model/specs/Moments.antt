@@ -1,7 +1,6 @@
--- What a run of calls did, for the layers above.
--- A run is here some calls of a disk, one after another; `old` is the disk before and `new` after
--- them. gate_file, run_journal, run_table and 4 more crates above speak of several calls by these.
--- The lemmas that join runs are in proofs/Runs.
+-- What a run of calls did, for the layers above. A run is here some calls of a disk, one after
+-- another; `old` is the disk before and `new` after them. The lemmas that join runs are in
+-- proofs/Runs.
 use Rattle.std.specs.Prelude.{◌≡◌, ◌⊎◌, ℕ, ◌+◌, ◌≤◌, max, List, None}
 use Rattle.disk_model.specs.Device.{DiskState, Reads}
 

@@ -1,6 +1,5 @@
 //! A disk as the journal sees it: a trait, whose contract says what each call does and what a crash
-//! may leave. gate_file, run_journal and 8 more crates above use it; who writes a disk keeps it.
-//! Disks in memory are in memory.rt and fuse.rt and in disk_images, the real file in real_outside.
+//! may leave. Who writes a disk keeps it. Disks in memory are in memory.rt and fuse.rt.
 
 ghost use Rattle.std.specs.Prelude.{◌≡◌};
 ghost use Rattle.disk_model.specs.Device.{DiskState, IsCoherent};

@@ -1,5 +1,5 @@
 //! A disk that fails every call after a number of calls, as if the machine had stopped there. Only
-//! tests use it: journal_vectors and restart_vectors stop a run between any two calls.
+//! tests use it: they stop a run between any two calls.
 
 ghost use Rattle.std.specs.Prelude.{◌≡◌, ◌+◌, ◌-◌, ◌^◌, ◌<◌, ◌==◌, length, is_err, not, IsTrue};
 ghost use Rattle.disk_model.specs.Calls.{Measures, Fetches, Writes, Syncs};

@@ -5,8 +5,7 @@
 //! inside a call too. The layer above leans on this: between two syncs every written range, and all
 //! behind the old end, may hold any bytes; every other byte stays; after a sync that answered Ok a
 //! crash leaves what a read gives. [`MemoryDisk`] and [`FuseDisk`] are disks for tests, proved
-//! against the trait. gate_file, run_journal and 8 more crates above use disks; real_outside and
-//! disk_images have more of them.
+//! against the trait.
 #![tactic(auto)]
 
 mod device;

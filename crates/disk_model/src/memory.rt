@@ -1,6 +1,6 @@
 //! A disk in memory, whose calls can be made to fail, and which can crash. It keeps where it was
 //! written since the last sync but one: that is enough to say what a crash since then may leave.
-//! Only tests and fuse.rt use it (journal_vectors, restart_vectors), and disk_images `read_into`.
+//! Only tests, fuse.rt and other disks in memory use it.
 
 ghost use Rattle.std.specs.Prelude.{◌≡◌, ◌⊎◌, slice_index, ◌+◌, ◌-◌, ◌^◌, ◌≤◌, ◌<◌, ◌++◌, ◌==◌, [], ℕ, length, take, drop, min, IfOk, is_err, vec_capacity, replicate, max};
 ghost use Rattle.std.specs.List.{list_any};

@@ -1,5 +1,4 @@
 -- What a turret got in several calls, one after another: the calls and what came in them add up.
--- Serving.antt and turret_run take these.
 use Rattle.std.proofs.Common.{arith, ◌≡◌, ◌+◌, ℕ, zero, suc, List, [], ◌++◌, refl, ap, sym, ◌∙◌, append_assoc, Option, Some, None}
 use Rattle.std.proofs.lemmas.List.{append-nil}
 use Rattle.nc_outside.specs.declared.got.Got.{Got}

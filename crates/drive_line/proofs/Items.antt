@@ -1,7 +1,6 @@
 -- The items of a line, one after the other: their moves, their marks (each asks the drive how many
 -- moves it took) and the end, and what both ends of the line keep with one item more. The functions
--- of line.rt, line_in.rt and line_out.rt (src) rest on it; path_worker takes the lemmas on two
--- lists of items.
+-- of line.rt, line_in.rt and line_out.rt (src) rest on it.
 use Rattle.std.proofs.Common.{arith, ◌≡◌, ◌≤◌, ◌+◌, ℕ, suc, Bool, List, true, false, true≢false, [], ◌∷◌, ◌++◌, length, take, refl, ap, sym, ◌∙◌, subst, All, Contains}
 use Rattle.std.proofs.lemmas.List.{append-nil, take-append-le, length-append}
 use Rattle.std.proofs.lemmas.List.Elements.{All-nil, All-cons, All-append, All-weaker, All-contains, Contains-append_left, Contains-append_right, Contains-push}

@@ -1,5 +1,5 @@
 -- A turret that served the moves so far serves those that come behind them: what each call of a
--- turret keeps. `hand` and `settle` (src/driven.rt) rest on it; path_worker takes `serves_none`.
+-- turret keeps. `hand` and `settle` (src/driven.rt) rest on it.
 use Rattle.std.proofs.Common.{arith, ◌≡◌, ◌+◌, ◌≤◌, ℕ, true, false, true≢false, IsTrue, List, [], ◌∷◌, ◌++◌, length, map, take, refl, ap, sym, ◌∙◌, subst}
 use Rattle.std.proofs.lemmas.List.{append-nil, length-append, map-append, take_all, take-append-le}
 use Rattle.nc_outside.specs.declared.got.Got.{Got}

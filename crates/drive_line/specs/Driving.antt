@@ -1,5 +1,5 @@
 -- What the drive of a turret knows of it: what it took and missed, and how it stands (`Driven`,
--- src/driven.rt). path_worker and turret_run cite it.
+-- src/driven.rt).
 use Rattle.std.specs.Prelude.{◌≡◌, ◌⊎◌, ◌≤◌, ℕ, ◌+◌, Bool, true, false, IsTrue, List, length, map, take}
 use Rattle.nc_outside.specs.declared.got.Got.TheVariants.{Moved}
 use Rattle.nc_outside.specs.declared.lined_move.LinedMove.{LinedMove}

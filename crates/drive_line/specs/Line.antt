@@ -1,6 +1,6 @@
 -- What the two ends of a drive line mean: what was sent, taken and answered (src/line_in.rt,
 -- src/line_out.rt). A mark is an item at which the drive answers how many moves it took, once its
--- turret is at rest. path_worker and turret_run cite this file.
+-- turret is at rest.
 use Rattle.std.specs.Prelude.{◌≡◌, ◌≤◌, ℕ, ◌+◌, suc, Bool, true, false, MatchBool, List, [], ◌∷◌, ◌++◌, length, take, All, Contains, if◌then◌else◌}
 use Rattle.nc_outside.specs.declared.lined_move.LinedMove.{LinedMove}
 use Rattle.drive_line.specs.declared.item.Item.{Item}

@@ -1,5 +1,5 @@
 //! A turret as its drive has it: it is handed moves, told to settle, and called no more once it has
-//! failed. path_worker drives one for each path; turret_run makes them and asks how they stand.
+//! failed.
 ghost use Rattle.std.specs.Prelude.{◌≡◌, ◌⊎◌, ◌+◌, ◌++◌, ◌∷◌, [], true, false, List};
 ghost use Rattle.nc_outside.specs.Calls.{IsCalled};
 ghost use Rattle.nc_outside.specs.declared.halt.Halt.TheVariants.{Turret as OfTurret};

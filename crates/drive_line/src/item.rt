@@ -1,5 +1,5 @@
-//! What goes along a drive line, from the worker of a path to the drive of its turret.
-//! The drive of path_worker does one thing for each kind of item.
+//! What goes along a drive line, from the worker of a path to the drive of its turret. The drive
+//! does one thing for each kind of item.
 use nc_outside::LinedMove;
 
 /// What the worker of a path sends to the drive of its turret.

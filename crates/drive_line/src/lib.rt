@@ -2,13 +2,12 @@
 //! worker that is far ahead waits, and first in, first out.
 //!
 //! The worker sends moves and the end, and can drain the line: it sends a mark, and waits for the
-//! drive's answer to that. The drive takes these one by one, and answers a mark only with its
-//! turret (`Driven`): that stands still behind every move that was taken, or it failed and the run
-//! was halted. Each end means what went through it. `close_line` puts both ends together: what was
-//! taken is a beginning of what was sent, in order, each once, all of it where the end was taken,
-//! and every move that was sent before a drain that returned was taken. path_worker leans on that,
-//! and turret_run makes a line for each path. A call that waits sleeps; each promises what it says
-//! if it returns.
+//! drive's answer to that. The drive takes these one by one, and answers a mark only with its turret
+//! (`Driven`): that stands still behind every move that was taken, or it failed and the run was
+//! halted. Each end means what went through it. `close_line` puts both ends together: what was taken
+//! is a beginning of what was sent, in order, each once, all of it where the end was taken, and
+//! every move that was sent before a drain that returned was taken. A call that waits sleeps; each
+//! promises what it says if it returns.
 #![tactic(auto)]
 
 mod counting;

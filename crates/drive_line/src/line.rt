@@ -1,5 +1,5 @@
 //! A drive line, made and put together again: `Line::new` gives its two ends, `close_line` tells
-//! what came through. turret_run makes one for each path; path_worker closes it behind the run.
+//! what came through.
 ghost use Rattle.std.specs.Prelude.{◌≡◌, ◌<◌, ℕ, List, false, [], ◌++◌, All, IfOk, IsTrue};
 ghost use Rattle.nc_outside.specs.declared.lined_move.LinedMove.{LinedMove};
 ghost use Rattle.drive_line.specs.declared.item.Item.{Item as Sent};

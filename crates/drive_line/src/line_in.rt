@@ -1,5 +1,4 @@
 //! The end of a line at which the worker of a path sends. The other end is in line_out.rt.
-//! path_worker sends the moves of a path here, and drains the line before a wait.
 ghost use Rattle.std.specs.Prelude.{◌≡◌, ℕ, List, false, [], ◌∷◌, ◌+◌, ◌++◌, All, Contains};
 ghost use Rattle.drive_line.specs.Line.{has_end, mark_counts, EndIsLast, IsDrained};
 

@@ -1,6 +1,6 @@
-//! The end of a line at which the drive of a turret takes. The other end is in line_in.rt.
-//! The drive of path_worker takes items here, and answers each mark (the item by which a drain asks
-//! how many moves were taken) once its turret is at rest.
+//! The end of a line at which the drive of a turret takes. The other end is in line_in.rt. The drive
+//! takes items here, and answers each mark (the item by which a drain asks how many moves were
+//! taken) once its turret is at rest.
 ghost use Rattle.std.specs.Prelude.{◌≡◌, ◌++◌, [], true, false, length, List, ℕ};
 ghost use Rattle.drive_line.specs.Driving.{IsAtRest};
 ghost use Rattle.drive_line.specs.Line.{moves_among, mark_counts, has_end, is_mark, Takes};

@@ -1,5 +1,4 @@
-//! How a turret stands: what its drive knows between two calls. path_worker halts the run for a
-//! turret that failed; turret_run tells a path drained if its turret stands still.
+//! How a turret stands: what its drive knows between two calls.
 
 /// How a turret stands, as its drive knows it.
 #[derive(Clone, Copy, Debug, PartialEq, Eq)]

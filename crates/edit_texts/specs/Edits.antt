@@ -1,5 +1,5 @@
 -- The edits that a text gives, line by line, or its first line that is not allowed. What one line
--- says is in Lines. lathe_looks and lathe_top cite it.
+-- says is in Lines.
 use Rattle.std.specs.Prelude.{ℕ, ◌+◌, nat_lt, List, [], ◌∷◌, ◌++◌, length, Option, Some, None, Result, Ok, Err, if◌then◌else◌}
 use Rattle.std.specs.Str.Lines.{lines}
 use Rattle.edit_texts.specs.declared.edit_list.PathEdit.{PathEdit}

@@ -1,5 +1,5 @@
 -- The refusal of a text of edits: 91 BadEdit, with its line; src/reading.rt has the same number and
--- name. Which line is the first bad one is in Given. lathe_looks cites it.
+-- name. Which line is the first bad one is in Given.
 use Rattle.std.specs.Prelude.{ℕ, List, codes}
 use Rattle.edit_texts.specs.declared.reading.EditFault.{EditFault}
 

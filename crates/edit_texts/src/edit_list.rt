@@ -1,5 +1,4 @@
-//! The edits of a text, each with its path, 64 at most. reading.rt makes the list; lathe_looks and
-//! lathe_top hand it on, and run_edits makes its edits in a run.
+//! The edits of a text, each with its path, 64 at most. reading.rt makes the list.
 ghost use Rattle.std.specs.Prelude.{◌≡◌, ◌≤◌, [], length, Some, None, if◌then◌else◌, IfOk};
 ghost use Rattle.edit_texts.specs.Edits.{with_said};
 

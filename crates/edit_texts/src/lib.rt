@@ -4,8 +4,7 @@
 //! [`read_edits`] reads a text of lines. Offsets are written as in the settings: `work`, `tool` and
 //! `wear`; a variable is `var p v` and a number, or `vacant`. The layer above leans on this: the
 //! text gives exactly the edits of its definition, in order, or the first line that is not allowed.
-//! Each line is an edit, also if an earlier one sets the same. lathe_looks reads the text of the
-//! command `edit`, and run_edits makes its edits.
+//! Each line is an edit, also if an earlier one sets the same.
 #![tactic(auto)]
 
 mod edit_list;

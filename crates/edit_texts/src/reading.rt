@@ -1,5 +1,4 @@
-//! From a text to the edits, or to its first bad line (refusal 91). What a line says is in
-//! named.rt. lathe_looks reads the text of the command `edit` by it.
+//! From a text to the edits, or to its first bad line (refusal 91). What a line says is in named.rt.
 ghost use Rattle.std.specs.Prelude.{◌≡◌, ◌<◌, ◌^◌, length, Some, None, if◌then◌else◌, IfOk};
 ghost use Rattle.nc_number.specs.Answers.{GivesBy};
 ghost use Rattle.edit_texts.specs.Edits.{edits_of, with_said};

@@ -1,5 +1,5 @@
 -- How a reader of a text line by line ends: at a refused line, or after all lines. The proofs of
--- `read_settings` (cell_settings) and `read_zones` (zone_cell) end with these.
+-- readers of such texts end with these.
 use Rattle.std.proofs.Common.{◌≡◌, ℕ, List, ◌∷◌, Option, Some, None, Ok, Err, refl}
 use Rattle.field_lines.specs.Line.{first_refused, unless_refused}
 

@@ -1,5 +1,4 @@
 -- The fields of a line, and the numbers and paths in them. Bytes: 32 is the blank, 48 is 0.
--- cell_settings, edit_texts and zone_cell cite it.
 use Rattle.std.specs.Prelude.{ℕ, ◌+◌, ◌-◌, ◌*◌, Bool, not, ◌&&◌, ◌==◌, nat_lt, nat_le, slice_index, List, length, map, fold, filter, Option, Some, None, codes, if◌then◌else◌}
 use Rattle.std.specs.List.{slice_split, list_all}
 use Rattle.std.specs.Str.{bytes_eq}

@@ -1,5 +1,5 @@
 -- The lengths of a line, in 0.001 mm, and the points of two fields. 88 and 90 are the letters X and
--- Z. cell_settings and zone_cell cite it.
+-- Z.
 use Rattle.std.specs.Prelude.{ℕ, nat_le, if◌then◌else◌, List, [], ◌∷◌, Option, Some, None, Result, Ok, Err, ℤ, unsigned_abs, ◌==◌}
 use Rattle.nc_number.specs.declared.point.Point.{Point}
 use Rattle.nc_number.specs.declared.literal.Literal.{Literal}

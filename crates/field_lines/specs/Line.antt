@@ -1,5 +1,4 @@
 -- The lines of a text, and what they say together. Bytes: 13 is the carriage return, 40 is `(`.
--- cell_settings, edit_texts and zone_cell cite it, each with what its own fields say.
 use Rattle.std.specs.Prelude.{ℕ, ◌+◌, Bool, false, ◌==◌, List, [], ◌∷◌, Option, Some, None, Result, Ok, Err, if◌then◌else◌}
 use Rattle.std.specs.List.{list_any}
 use Rattle.nc_number.specs.Options.{◌>>=◌}

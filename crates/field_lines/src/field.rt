@@ -1,5 +1,4 @@
 //! Fields of a line, and the whole numbers and paths in them; lengths are in length.rt.
-//! cell_settings, edit_texts and zone_cell read fields by it.
 ghost use Rattle.std.specs.Prelude.{◌≡◌, ◌-◌, ◌^◌, ◌<◌, ◌≤◌, min, IfOk, IfSome};
 ghost use Rattle.field_lines.specs.Field.{texts, fields_of, value_of, is_number, number_in, path_of};
 ghost use Rattle.std.specs.Char.{is_ascii_digit};

@@ -1,5 +1,4 @@
 //! Lengths and points in fields, in 0.001 mm: `X..` and `Z..` of a position or an offset.
-//! cell_settings and zone_cell read points by it.
 ghost use Rattle.std.specs.Prelude.{◌≡◌, ◌≤◌, IfSome, unsigned_abs};
 ghost use Rattle.field_lines.specs.Length.{within_travel, length_of, axis_of, point_of};
 ghost use Rattle.nc_number.specs.Position.{travel, IsPosition};

@@ -1,5 +1,4 @@
-//! Lines of a text, their ends, and the fields that count: comments have none. cell_settings,
-//! edit_texts and zone_cell read their texts line by line with it, and know what a line means.
+//! Lines of a text, their ends, and the fields that count: comments have none.
 ghost use Rattle.std.specs.Prelude.{◌≡◌, ◌<◌, ◌+◌, ◌∷◌, ◌==◌, length, position, option_map, IfOk};
 ghost use Rattle.std.specs.Str.Lines.{lines, strip_carriage_return};
 ghost use Rattle.field_lines.specs.Field.{texts};

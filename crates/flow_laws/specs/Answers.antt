@@ -1,5 +1,4 @@
--- The statements of the laws on answers: that there is just one, and that there is one. nc_verify
--- and wait_verify say their own laws by the same words.
+-- The statements of the laws on answers: that there is just one, and that there is one.
 use Rattle.std.specs.Prelude.{◌≡◌, ℕ, List, map}
 use Rattle.nc_number.specs.declared.cause.Cause.{Cause}
 use Rattle.nc_text.specs.declared.tape.Program.{Program}

@@ -1,6 +1,5 @@
 -- The words of the laws. What a fault, a refusal and a label are is in block_order and tape_flow.
--- nc_verify and wait_verify cite Answers; OneList and Waits are cited in this crate alone, in laws
--- that readers meet.
+-- OneList and Waits are cited in this crate alone, in laws that readers meet.
 pub mod Answers
 pub mod OneList
 pub mod Waits

@@ -1,10 +1,9 @@
 //! The laws of the refusals of a tape: each has one, none lacks one, and 65 and 66 are exactly what
 //! keeps a tape from having one list of labels.
 //!
-//! Each law is the contract of a function that does nothing: who calls it has the law. They speak
-//! of definitions alone, of what is read, accepted and refused, whatever code finds it. nc_verify
-//! and wait_verify call most of them; the two laws on one list of labels are for readers, and no
-//! other crate calls them.
+//! Each law is the contract of a function that does nothing: who calls it has the law. They speak of
+//! definitions alone, of what is read, accepted and refused, whatever code finds it. The two laws on
+//! one list of labels are for readers, and no other crate calls them.
 #![tactic(auto)]
 
 mod lines;

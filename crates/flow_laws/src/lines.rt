@@ -1,5 +1,4 @@
-//! Where the blocks of a tape stand in its text: on rising lines. nc_verify calls this law, so that
-//! a refused tape has one line.
+//! Where the blocks of a tape stand in its text: on rising lines.
 ghost use Rattle.std.specs.Prelude.{◌≡◌, ℕ, List, Ok};
 ghost use Rattle.nc_text.specs.declared.tape.Program.{Program};
 ghost use Rattle.nc_text.specs.Tape.{tape_of};

@@ -1,6 +1,5 @@
-//! What is so of the faults of the order of blocks, whatever code looks for them: 65 and 66 deny
-//! one list of labels, and a tape has one first fault or none. wait_verify calls the laws on first
-//! faults; tape.rt calls all.
+//! What is so of the faults of the order of blocks, whatever code looks for them: 65 and 66 deny one
+//! list of labels, and a tape has one first fault or none. tape.rt calls all.
 ghost use Rattle.std.specs.Prelude.{List};
 ghost use Rattle.block_order.specs.declared.program.ControlProgram.{ControlProgram};
 ghost use Rattle.flow_laws.specs.Answers.{HasOneFirst, HasSomeFirst};

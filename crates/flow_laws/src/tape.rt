@@ -1,5 +1,4 @@
-//! The answers that a tape has: its programs, or one refusal. nc_verify calls the last two of these
-//! laws; the first is for readers.
+//! The answers that a tape has: its programs, or one refusal. The first is for readers.
 ghost use Rattle.std.specs.Prelude.{◌≡◌, ◌↔◌, ℕ, List};
 ghost use Rattle.nc_text.specs.declared.tape.Program.{Program};
 ghost use Rattle.block_words.specs.declared.dialect.Dialect.{Dialect};

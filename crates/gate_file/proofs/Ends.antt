@@ -1,5 +1,5 @@
 -- Where a file of gates ends: its shut gate stands at the offset that its bodies give.
--- `a_file_ends_behind_its_bodies` (src/laws.rt) rests on it, and run_journal takes `keeps_end`.
+-- `a_file_ends_behind_its_bodies` (src/laws.rt) rests on it.
 use Rattle.std.proofs.Common.{◌≡◌, ℕ, ◌+◌, List, [], ◌∷◌, length, ap, arith}
 use Rattle.disk_model.specs.Device.{DiskState}
 use Rattle.gate_file.specs.Chain.{Opens, ends_at}

@@ -1,5 +1,4 @@
--- The lemmas of this crate, each file by its subject. run_journal takes Ends and Unique, and no
--- other file is taken.
+-- The lemmas of this crate, each file by its subject.
 pub mod Appending
 pub mod Beginning
 pub mod Bodies

@@ -1,5 +1,5 @@
 -- A file of gates is read in one way: it has one list of bodies, or none, or one entry cut short.
--- `a_file_stands_for_one_thing` (src/laws.rt) rests on it, and run_journal takes it.
+-- `a_file_stands_for_one_thing` (src/laws.rt) rests on it.
 use Rattle.std.proofs.Common.{◌≡◌, ◌⊎◌, inl, inr, ℕ, ◌+◌, ◌<◌, List, [], ◌∷◌, ◌++◌, length, take, drop, refl, sym, ◌∙◌, ap, subst, arith, append_assoc, length-append}
 use Rattle.std.proofs.lemmas.List.{take_at, drop_at}
 use Rattle.std.proofs.lemmas.Nat.{from_be_bytes-to_be_bytes_4}

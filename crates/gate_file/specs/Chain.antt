@@ -1,7 +1,6 @@
 -- What a file of gates spells: gate, length, body, gate, length, body, and so on, up to the first
--- shut gate. A gate is shut if its byte is 0, and open if it is any other byte, since a write
--- that was stopped may leave any byte. What stands after the first shut gate counts for nothing.
--- run_journal, run_branch, nc_restart and lathe_top say their journals by it.
+-- shut gate. A gate is shut if its byte is 0, and open if it is any other byte, since a write that
+-- was stopped may leave any byte. What stands after the first shut gate counts for nothing.
 use Rattle.std.specs.Prelude.{◌≡◌, ◌≢◌, ◌⊎◌, ℕ, ◌+◌, ◌^◌, ◌≤◌, ◌<◌, List, [], ◌∷◌, ◌++◌, length, take}
 use Rattle.std.specs.Int.{w32, to_be_bytes, from_be_bytes}
 

@@ -1,5 +1,5 @@
 -- How a file of gates is begun: what a call promises, made or refused, and what a crash leaves. The
--- gates that it looks at are in First. run_journal, run_branch and run_table rely on it.
+-- gates that it looks at are in First.
 use Rattle.std.specs.Prelude.{ℕ, ◌+◌, ◌≤◌, List, Result, Ok, Err, OnOk, IfErr}
 use Rattle.disk_model.specs.Device.{DiskState, Reads, IsSettled}
 use Rattle.nc_number.specs.Faults.{Rose}

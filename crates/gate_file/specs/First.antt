@@ -1,6 +1,6 @@
 -- What may stand at the front of a file of gates and at each gate (`FirstGate` of src/create.rt,
--- `Head` of src/open.rt), and what a crash may leave of a file that is being begun. The latter,
--- `IsBeginning`, is cited by Creation and by the proofs of run_journal and run_branch.
+-- `Head` of src/open.rt), and what a crash may leave of a file that is being begun. Creation cites
+-- the latter, `IsBeginning`.
 use Rattle.std.specs.Prelude.{◌≡◌, ◌≢◌, ◌⊎◌, ℕ, ◌^◌, ◌≤◌, ◌<◌, List, ◌∷◌, length}
 use Rattle.std.specs.Int.{w32, to_be_bytes}
 use Rattle.gate_file.specs.declared.create.FirstGate.{FirstGate}

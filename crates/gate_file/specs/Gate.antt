@@ -1,6 +1,4 @@
--- A file of gates on a disk: what callers see of it, and when the disk holds bodies. run_journal,
--- run_table and nc_restart say their disks by it, and the proofs of 4 more crates above
--- (run_branch, run_edits, turret_run and lathe_top) cite it.
+-- A file of gates on a disk: what callers see of it, and when the disk holds bodies.
 use Rattle.std.specs.Prelude.{◌≡◌, ℕ, ◌+◌, ◌*◌, ◌≤◌, Bool, List, ◌∷◌, length, Result, Ok, Err}
 use Rattle.gate_file.specs.declared.fault.GateFault.{GateFault}
 use Rattle.gate_file.specs.declared.fault.GateFault.TheVariants.{DiskFault}

@@ -1,6 +1,6 @@
--- How a file of gates is opened: what a call promises, found or refused. The proofs of run_journal
--- cite `Finds` and `RefusesOpening`; src/open.rt says by the words after `found_with` how it reads
--- on from one gate to the next.
+-- How a file of gates is opened: what a call promises, found or refused. Proofs above cite `Finds`
+-- and `RefusesOpening`; src/open.rt says by the words after `found_with` how it reads on from one
+-- gate to the next.
 use Rattle.std.specs.Prelude.{◌≡◌, ℕ, ◌+◌, ◌*◌, ◌≤◌, List, [], length, take, drop, Option, Some, None, Result, Ok, Err, IfOk, IfErr}
 use Rattle.disk_model.specs.Device.{DiskState, Reads, IsSettled}
 use Rattle.nc_number.specs.Faults.{Rose}

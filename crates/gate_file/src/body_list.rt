@@ -1,6 +1,5 @@
-//! A list of bodies, which takes no memory for each: all stand in one list of bytes, as in a file
-//! of gates. Opening a file gives one, which run_journal reads; it also puts the bodies of a whole
-//! journal into one, and run_branch begins a file with that.
+//! A list of bodies, which takes no memory for each: all stand in one list of bytes, as in a file of
+//! gates. Opening a file gives one, and a file may begin with one.
 
 ghost use Rattle.std.specs.Prelude.{◌≡◌, ◌+◌, ◌*◌, ◌^◌, ◌<◌, ◌≤◌, ◌++◌, ◌==◌, [], ◌∷◌, List, ℕ, length, take, drop, get_or, IfOk, IfSome, IfNone, OnOk, OnErr, vec_capacity};
 ghost use Rattle.gate_file.specs.Bodies.{bytes_between, bodies_from, AreEnds};

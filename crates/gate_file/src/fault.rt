@@ -1,5 +1,5 @@
 //! What can go wrong with a file of gates: why it is not begun or not opened, and that an append
-//! failed. run_journal, run_branch, run_table, run_edits and lathe_top tell these faults on.
+//! failed.
 
 ghost use Rattle.std.specs.Prelude.{◌≡◌};
 ghost use Rattle.gate_file.specs.declared.fault.GateFault.TheVariants.{NoMemory};

@@ -1,6 +1,5 @@
 //! A file of bodies, each after a gate: it is begun, opened and appended to. The bytes are in
-//! specs/Chain.antt. What a body says is not known here: run_journal gives it a header and batches
-//! of records, and run_branch begins one with all bodies at once.
+//! specs/Chain.antt. What a body says is not known here.
 
 ghost use Rattle.std.specs.Prelude.{◌≡◌, ◌*◌, ◌+◌, ◌^◌, ◌≤◌, ◌<◌, ◌++◌, [], ◌∷◌, List, ℕ, length, true, IsTrue, OnOk, IfOk, is_ok, vec_capacity, Bool};
 ghost use Rattle.disk_model.specs.Device.{HasCause};

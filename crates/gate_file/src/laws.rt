@@ -1,5 +1,4 @@
-//! What holds of files of gates, and of many appends. nc_restart takes the first law; no crate
-//! calls the other two.
+//! What holds of files of gates, and of many appends. No crate calls the other two.
 
 ghost use Rattle.std.specs.Prelude.{◌≡◌, ◌+◌, ◌≤◌, ◌<◌, ◌++◌, [], ◌∷◌, List, ℕ};
 ghost use Rattle.disk_model.specs.Moments.{LeavesOnly};

@@ -1,8 +1,8 @@
 //! What is known of a path before each block of its tape, by the text alone: where the tool is as
 //! the program counts, which codes are in force, the feed and the tool.
 //!
-//! `known_behind` takes what is known over one block. That it is so in each run is the law of
-//! known_state.
+//! `known_behind` takes what is known over one block. That it is so in each run is a law of its own,
+//! above.
 #![tactic(auto)]
 
 mod aims;

@@ -1,6 +1,5 @@
 -- A path's list of labels has one `End`, `Again` or `Off`, and that is the last label. For the
--- proofs of `labels` (src/listing.rt) and `labels_of_order` (src/ordered.rt); nc_verify takes
--- `path_ended`.
+-- proofs of `labels` (src/listing.rt) and `labels_of_order` (src/ordered.rt).
 use Rattle.std.proofs.Common.{◌≡◌, ℕ, zero, suc, Bool, true, false, List, [], ◌∷◌, refl}
 use Rattle.block_order.specs.declared.control.Control.{Control}
 use Rattle.block_order.specs.declared.control.Control.TheVariants.{Next, Goto, While, Do, EndLoop, Wait, End, Call, Back, BackTo}

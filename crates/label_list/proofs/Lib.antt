@@ -1,5 +1,4 @@
--- The lemmas of this crate, each file by its subject. nc_verify takes `path_ended` of Ended; no
--- other crate takes any.
+-- The lemmas of this crate, each file by its subject. No other crate takes any.
 pub mod Bare
 pub mod Levels
 pub mod Ended

@@ -1,6 +1,5 @@
 -- Which pairs of tapes are accepted: whatever their variables hold, both paths come to the same
--- labels (waits and ends that the other path can notice) in the same order. nc_verify, race_report
--- and wait_verify cite `IsAcceptedPair`, nc_verify `AgreeOnLabels` too.
+-- labels (waits and ends that the other path can notice) in the same order.
 use Rattle.std.specs.Prelude.{◌≡◌, ◌≤◌, List, length}
 use Rattle.nc_number.specs.declared.limits.TheConstants.{MOST_LABELS}
 use Rattle.block_order.specs.declared.program.ControlProgram.{ControlProgram}

@@ -1,5 +1,5 @@
 -- Why two tapes make no pair, as a value of PairFault: a path has too many labels, 70, or the
--- labels of the paths differ, 72. nc_verify cites `IsMismatch`.
+-- labels of the paths differ, 72.
 use Rattle.std.specs.Prelude.{◌≡◌, ◌≢◌, ℕ, List, take, Some, slice_get}
 use Rattle.nc_number.specs.declared.cause.Cause.TheVariants.{TooManyLabels, WaitMismatch}
 use Rattle.nc_number.specs.Causes.{cause_number}

@@ -1,6 +1,6 @@
 -- The labels of a path with their lines, in the order in which the path comes to them: the
 -- definition that src/listing.rt answers. A loud program has a wait or an end, or calls one that
--- has; a call of any other gives no label. nc_verify, wait_verify and lathe_top cite this.
+-- has; a call of any other gives no label.
 use Rattle.std.specs.Prelude.{◌≡◌, ℕ, zero, suc, ◌≤◌, Bool, List, [], ◌∷◌, length, map, Option, Some, None, if◌then◌else◌}
 use Rattle.nc_number.specs.declared.limits.TheConstants.{MOST_LABELS}
 use Rattle.block_order.specs.declared.control.Control.{Control}

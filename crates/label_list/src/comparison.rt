@@ -1,5 +1,4 @@
-//! Where the labels of two paths differ, lines aside. nc_verify calls `compare` on the lists of a
-//! pair, its own or one of wait_verify; 72 is the refusal.
+//! Where the labels of two paths differ, lines aside. 72 is the refusal.
 ghost use Rattle.std.specs.Prelude.{◌≡◌, ◌≤◌, length, IsOk, IfErr, IfSome, IfNone};
 ghost use Rattle.nc_number.specs.declared.limits.TheConstants.{MOST_LABELS};
 ghost use Rattle.label_list.specs.Lists.{bare_labels, IsEnded};

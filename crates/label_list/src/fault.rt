@@ -1,5 +1,4 @@
-//! Why two tapes make no pair: too many labels, 70, or labels that differ, 72. nc_verify tells it
-//! as the refusal of the pair.
+//! Why two tapes make no pair: too many labels, 70, or labels that differ, 72.
 use nc_number::Cause;
 use thiserror::Error;
 

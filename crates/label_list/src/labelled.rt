@@ -1,5 +1,4 @@
-//! A label and the line of its block. What a label is, is in block_order. wait_verify prints these;
-//! a refusal of nc_verify tells the lines of two.
+//! A label and the line of its block. What a label is, is in block_order.
 use block_order::Label;
 
 /// A label, and the line of its block. The place past a program's last block has that block's line,

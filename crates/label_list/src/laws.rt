@@ -1,6 +1,6 @@
-//! What holds of the labels of every tape: a caller of the function has the law. nc_verify and
-//! wait_verify call `a_pair_is_accepted_by_its_lists`. No crate calls the other two, which say what
-//! the list is. A loud program has a wait or an end, or calls one that has.
+//! What holds of the labels of every tape: a caller of the function has the law. No crate calls the
+//! other two, which say what the list is. A loud program has a wait or an end, or calls one that
+//! has.
 ghost use Rattle.std.specs.Prelude.{◌≡◌, ◌≤◌, ◌↔◌, ℕ, List};
 ghost use Rattle.block_order.specs.declared.program.ControlProgram.{ControlProgram};
 ghost use Rattle.block_order.specs.Labels.{IsUnforked, list};

@@ -1,9 +1,9 @@
 //! The labels of a path: what its tape comes to that the other path can tell, in order.
 //!
 //! [`labels`] and [`labels_of_order`] unfold the calls of loud programs (a loud program has a wait
-//! or an end, or calls one that has), and make the labels of each program once. [`compare`]
-//! tells whether two paths come to the same labels, and where they first differ. Two tapes whose
-//! lists agree are an accepted pair: nc_verify and wait_verify rest on that.
+//! or an end, or calls one that has), and make the labels of each program once. [`compare`] tells
+//! whether two paths come to the same labels, and where they first differ. Two tapes whose lists
+//! agree are an accepted pair.
 #![tactic(auto)]
 
 mod comparison;

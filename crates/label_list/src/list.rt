@@ -1,5 +1,5 @@
 //! The list of the labels of a path, as a type: it is never too long, and only its last label ends
-//! the path. nc_verify and wait_verify keep such lists.
+//! the path.
 ghost use Rattle.std.specs.Prelude.{◌≡◌, ◌≤◌, length};
 ghost use Rattle.nc_number.specs.declared.limits.TheConstants.{MOST_LABELS};
 ghost use Rattle.label_list.specs.Lists.{IsEnded, IsListed};

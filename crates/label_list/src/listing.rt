@@ -1,6 +1,6 @@
 //! The list of labels of a path: that of the main program and of each loud one that is called (a
 //! loud program has a wait or an end, or calls one that has) is made once, and they are joined as
-//! the calls lead. No other crate calls `labels`; nc_verify takes the same list from ordered.rt.
+//! the calls lead. No other crate calls `labels`.
 ghost use Rattle.std.specs.Prelude.{◌≡◌, ◌≤◌, ◌++◌, ◌∷◌, [], Some, length, IfOk, IfErr, OnOk};
 ghost use Rattle.nc_number.specs.declared.limits.TheConstants.{MOST_LABELS};
 ghost use Rattle.block_order.specs.declared.control.Control.TheVariants as Control;

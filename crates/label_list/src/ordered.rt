@@ -1,6 +1,5 @@
 //! The labels of a path from the order of its blocks alone, also if nothing else is known of the
-//! blocks. nc_verify calls it, for its own pairs and for those of wait_verify. The file's name
-//! stands for blocks whose order is known.
+//! blocks. The file's name stands for blocks whose order is known.
 ghost use Rattle.std.specs.Prelude.{◌≡◌, IfOk, IfErr};
 ghost use Rattle.block_order.specs.Answers.{IfFault};
 ghost use Rattle.label_list.specs.Lists.{path_labels};

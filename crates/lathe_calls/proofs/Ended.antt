@@ -1,5 +1,4 @@
 -- How a call ends, from what was put and from what is due.
--- lathe_looks, lathe_top and the proofs of this crate take lemmas from here.
 use Rattle.std.proofs.Common.{ℕ, List, Result, Ok, Err, refl, sym, subst}
 use Rattle.std.proofs.KnownBytes.{Appends-nil}
 use Rattle.nc_outside.specs.declared.sink.PutFault.{PutFault}

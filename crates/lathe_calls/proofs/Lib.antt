@@ -1,5 +1,4 @@
--- The lemmas of this crate, each file by its subject. lathe_looks and lathe_top take Ended; the
--- others are for the proofs of this crate.
+-- The lemmas of this crate, each file by its subject. The others are for the proofs of this crate.
 pub mod Ended
 pub mod VerdictTold
 pub mod TurnsTold

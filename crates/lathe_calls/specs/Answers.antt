@@ -1,6 +1,5 @@
 -- How a call ends: what there is to tell, and what came of it at the sink. Each command says its
 -- text and status in these words.
--- lathe_looks and lathe_top cite it.
 use Rattle.std.specs.Prelude.{◌≡◌, ℕ, Ok, Err, Result, List, [], take}
 use Rattle.nc_outside.specs.declared.sink.PutFault.{PutFault}
 use Rattle.nc_outside.specs.declared.sink.PutFault.TheVariants.{Failed, NoMemory}

@@ -1,6 +1,5 @@
 -- What is due to three texts and a question, whoever asks: a caller, or a command of the program
 -- over files with these texts.
--- lathe_c takes `IsAnswerTo`, lathe_looks `IsDueTo` and lathe_top `IsDueTo` and `IsOfPair`.
 use Rattle.std.specs.Prelude.{ℕ, min, List, Some}
 use Rattle.nc_restart.specs.Pair.{IsPairOf, tapes_in, opening_of}
 use Rattle.nc_verify.specs.declared.refusal.Refusal.{Refusal}

@@ -1,7 +1,6 @@
 -- The events of a turn, as C has them: which event comes of which move and turn, and which of its
--- fields are set.
--- No other crate cites it; lathe_c leans on it by `AreToldOf` of Order. The numbers are those of
--- `Kind` (src/event.rt), of `include/lathe.h` and of examples/simulator.py: all change together.
+-- fields are set. No other crate cites it. The numbers are those of `Kind` (src/event.rt), of
+-- `include/lathe.h` and of examples/simulator.py: all change together.
 use Rattle.std.specs.Prelude.{ℕ, Bool, true, false, pos, List, [], ◌∷◌, ◌++◌, map}
 use Rattle.nc_number.specs.declared.path.Path.{Path}
 use Rattle.nc_number.specs.declared.point.Point.{Point}

@@ -1,5 +1,4 @@
--- The verdict that is due to three texts.
--- Due says by it what `verify` answers; lathe_top takes `IsJudged` and `IsRefusing`.
+-- The verdict that is due to three texts. Due says by it what `verify` answers.
 use Rattle.std.specs.Prelude.{◌≡◌, ℕ, List, Some, None}
 use Rattle.nc_number.specs.declared.fault.Failing.{Failing}
 use Rattle.nc_number.specs.declared.fault.Failing.TheVariants.{Fault, NoMemory}

@@ -1,5 +1,4 @@
 -- The events of a run whose paths get their turns in the order that a caller gives.
--- lathe_c takes `AreToldOf`.
 use Rattle.std.specs.Prelude.{◌≡◌, ℕ, ◌==◌, ◌||◌, Bool, true, false, if◌then◌else◌, nat_le, List, [], ◌∷◌, ◌++◌, unwrap_or, map}
 use Rattle.std.specs.List.{list_all}
 use Rattle.nc_number.specs.declared.path.Path.{Path}

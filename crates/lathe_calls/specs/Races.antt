@@ -1,6 +1,5 @@
 -- The races that are due to the pair of three texts: src/racing.rt answers `IsRaceAnswer`, and
--- src/running.rt takes `AreRaces`.
--- Due and Traced cite it; lathe_top takes `AreRaces`, `IsRaceAnswer`, `listed` and `unlisted`.
+-- src/running.rt takes `AreRaces`. Due and Traced cite it.
 use Rattle.std.specs.Prelude.{List}
 use Rattle.nc_verify.specs.declared.verified.Verified.{Verified}
 use Rattle.race_report.specs.declared.race.Race.{Race}

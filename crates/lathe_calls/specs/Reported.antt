@@ -1,5 +1,5 @@
--- The texts of a history of a pair: its report, and the state of the machine after it.
--- Due cites it; lathe_looks takes `report_of` and `state_of`, and lathe_top `report_of`.
+-- The texts of a history of a pair: its report, and the state of the machine after it. Due cites
+-- it.
 use Rattle.std.specs.Prelude.{ℕ, List}
 use Rattle.nc_outside.specs.declared.reason.Reason.{Reason}
 use Rattle.move_list.specs.Report.{report_text}

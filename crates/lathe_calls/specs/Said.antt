@@ -1,5 +1,4 @@
--- What a call says beside its text, and what it leaves in the caller's room.
--- Due and Order cite it; lathe_c takes `answer_with`.
+-- What a call says beside its text, and what it leaves in the caller's room. Due and Order cite it.
 use Rattle.std.specs.Prelude.{◌≡◌, ◌≢◌, ℕ, true, false, List, ◌++◌, length, take, drop}
 use Rattle.nc_verify.specs.Verdict.{Texts}
 use Rattle.lathe_calls.specs.Statuses as exit

@@ -1,7 +1,6 @@
 -- The statuses of calls and of the program, as `Status` (src/ending.rt) has them. A new one needs
--- its line there, and in include/lathe.h if a call of C can give it. 12 has a copy in
--- twin_lathe/src/ending.rt and one in page/judge/worker.js besides: they change together.
--- lathe_looks and lathe_top cite them.
+-- its line there, and in include/lathe.h if a call of C can give it. 12 has copies in the program's
+-- main file and in page/judge/worker.js besides: they change together.
 use Rattle.std.specs.Prelude.{ℕ}
 use Rattle.nc_outside.specs.declared.reason.Reason.{Reason}
 

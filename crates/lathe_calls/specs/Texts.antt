@@ -1,5 +1,4 @@
 -- The three texts of a call, two tapes and the settings, and whether the call takes them.
--- lathe_c takes `three_texts`, and lathe_looks `texts_of` and `three_texts`.
 use Rattle.std.specs.Prelude.{ℕ, Bool, ◌&&◌, nat_le, List, length, Some}
 use Rattle.nc_number.specs.declared.limits.TheConstants.{LONGEST_TAPE}
 use Rattle.nc_outside.specs.Written.{SinkState}

@@ -1,5 +1,4 @@
--- The trace that is due to three texts.
--- Due cites it; lathe_top takes `IsTraceOf` and `IsTraced`.
+-- The trace that is due to three texts. Due cites it.
 use Rattle.std.specs.Prelude.{ℕ, min, List, ◌++◌, Some}
 use Rattle.nc_outside.specs.declared.reason.Reason.{Reason}
 use Rattle.nc_restart.specs.Pair.{IsPairOf, tapes_in, opening_of}

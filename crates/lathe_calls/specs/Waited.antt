@@ -1,5 +1,4 @@
--- The meetings that are due to three texts read for their waits alone (`waits`).
--- Due cites it; lathe_top takes `AreWaits` and `asked_of`.
+-- The meetings that are due to three texts read for their waits alone (`waits`). Due cites it.
 use Rattle.std.specs.Prelude.{ℕ, List, Option, Some}
 use Rattle.label_list.specs.declared.labelled.Labelled.{Labelled}
 use Rattle.nc_verify.specs.declared.refusal.Refusal.{Refusal}

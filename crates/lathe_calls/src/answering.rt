@@ -1,7 +1,6 @@
 //! What is answered to three texts and a question: into a sink (`tell`), or into a caller's room
 //! (`answer`). What is due to a question is told in judging.rt, running.rt, waiting.rt and
 //! racing.rt.
-//! lathe_looks calls `tell`, lathe_c `answer`.
 ghost use Rattle.std.specs.Prelude.{◌<◌, ◌^◌, length};
 ghost use Rattle.lathe_calls.specs.Answers.{Ends};
 ghost use Rattle.lathe_calls.specs.Due.{IsAnswerTo, IsDueTo};

@@ -1,7 +1,7 @@
 //! How a call ends: a text is written, and there is a status. The numbers are those of
-//! specs/Statuses.antt. They have copies, which change with them: those that a call of C can give
-//! in include/lathe.h, and 12 in twin_lathe/src/ending.rt and page/judge/worker.js too.
-//! The modules of this crate that answer, lathe_looks and lathe_top use it.
+//! specs/Statuses.antt. They have copies, which change with them: those that a call of C can give in
+//! include/lathe.h, and 12 in the program's main file and page/judge/worker.js too. The modules of
+//! this crate that answer use it, and the commands.
 ghost use Rattle.std.specs.Prelude.{◌≡◌};
 ghost use Rattle.lathe_calls.specs.Answers.{Ends, IsJust, status_behind, tells};
 ghost use Rattle.lathe_calls.specs.Statuses.{reason_status};

@@ -1,7 +1,7 @@
-//! The events of a run, as C has them: the layout and the numbers are those of `include/lathe.h`
-//! and of examples/simulator.py, and change with them. How each event comes of a turn is defined in
-//! specs/Events.antt, with the numbers once more.
-//! handing.rt, happening.rt, listing.rt and ordering.rt use it, and lathe_c hands the events out.
+//! The events of a run, as C has them: the layout and the numbers are those of `include/lathe.h` and
+//! of examples/simulator.py, and change with them. How each event comes of a turn is defined in
+//! specs/Events.antt, with the numbers once more. handing.rt, happening.rt, listing.rt and
+//! ordering.rt use it.
 ghost use Rattle.std.specs.Prelude.{◌≡◌};
 ghost use Rattle.lathe_calls.specs.Events.{alarm_event, arc_event, bare_event, coded_event, counting_event, flag, move_event, moving_event, placed_event};
 

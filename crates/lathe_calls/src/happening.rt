@@ -1,6 +1,5 @@
 //! The events of a run in the order of turns that the caller gives, and what is due if the texts or
 //! the order are no good.
-//! lathe_c calls `events`.
 ghost use Rattle.std.specs.Prelude.{◌≡◌, true, [], IfOk, map};
 ghost use Rattle.nc_number.specs.declared.fault.Failing.TheVariants.{Fault};
 ghost use Rattle.two_path.specs.Turns.{tapes_of};

@@ -1,5 +1,5 @@
-//! The verdict on three texts: the line of an accepted pair, or of the refusal.
-//! For answering.rt; the other questions and lathe_top write their refusals by `refuse`.
+//! The verdict on three texts: the line of an accepted pair, or of the refusal. For answering.rt;
+//! the other questions write their refusals by `refuse`.
 ghost use Rattle.std.specs.Prelude.{◌<◌, ◌^◌, length};
 ghost use Rattle.lathe_calls.specs.Answers.{Ends};
 ghost use Rattle.lathe_calls.specs.Judged.{IsAcceptance, IsJudged, IsRefusing};

@@ -1,11 +1,10 @@
-//! What is due to three texts and a question, for programs that call (lathe_c) and for the commands
-//! (lathe_looks, lathe_top): over texts in memory, with no thread, no file and no disk.
+//! What is due to three texts and a question, for programs that call and for the commands: over
+//! texts in memory, with no thread, no file and no disk.
 //!
 //! [`tell`] writes the text that is due to a sink and gives its status: a command that has fetched
-//! its files answers so. [`answer`] hands the same to a caller; [`events`] gives the events of a
-//! run whose paths get their turns in an order that the caller gives. Both write the front of what
-//! they have into the caller's room, leave what lies behind it as it was, and tell how long the
-//! whole is.
+//! its files answers so. [`answer`] hands the same to a caller; [`events`] gives the events of a run
+//! whose paths get their turns in an order that the caller gives. Both write the front of what they
+//! have into the caller's room, leave what lies behind it as it was, and tell how long the whole is.
 #![tactic(auto)]
 
 mod answering;

@@ -1,6 +1,5 @@
-//! The three texts of a pair, as a caller lends them, and whether a call takes them.
-//! The modules that answer, lathe_c and lathe_looks use it, and clauses of lathe_top the bound of
-//! the settings.
+//! The three texts of a pair, as a caller lends them, and whether a call takes them. The modules
+//! that answer use it.
 ghost use Rattle.std.specs.Prelude.{◌≡◌};
 ghost use Rattle.lathe_calls.specs.Texts.{are_fit, texts_of, three_texts};
 

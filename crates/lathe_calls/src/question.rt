@@ -1,6 +1,5 @@
 //! What is asked of three texts: a variant for each question. A new one needs its line in
 //! specs/Due.antt and its arm in answering.rt.
-//! lathe_c, lathe_looks and lathe_top use it.
 use open_order::Outside;
 
 /// What is asked of three texts.

@@ -1,5 +1,5 @@
-//! What a call says beside its text: its status, and how long the whole is.
-//! answering.rt, handing.rt and happening.rt make it, and lathe_c uses it.
+//! What a call says beside its text: its status, and how long the whole is. answering.rt, handing.rt
+//! and happening.rt make it.
 ghost use Rattle.std.specs.Prelude.{◌≡◌};
 ghost use Rattle.lathe_calls.specs.Said.{answer_with};
 

@@ -1,5 +1,4 @@
--- The lemmas of this crate, each file by its subject. lathe_top takes NotHad; the others are for
--- the proofs of this crate.
+-- The lemmas of this crate, each file by its subject. The others are for the proofs of this crate.
 pub mod NotHad
 pub mod TextsLent
 pub mod OfFiles

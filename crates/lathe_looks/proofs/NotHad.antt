@@ -1,6 +1,5 @@
 -- The first file of a list that can't be read: how it follows from one file, that no file with a
--- text is one, and that there is at most one.
--- The proofs of this crate use it, and lathe_top takes the lemmas on lists.
+-- text is one, and that there is at most one. The proofs of this crate use it.
 use Rattle.std.proofs.Common.{◌≡◌, ℕ, zero, suc, ◌≤◌, ◌<◌, Option, Some, None, List, [], ◌∷◌, ◌++◌, length, map, take, IsSomeAnd, Result, Ok, Err, refl, sym, ap, subst, arith, ◌∙◌, append_assoc}
 use Rattle.std.specs.Prelude.{IfOk, IfErr, OnOk}
 use Rattle.std.proofs.lemmas.List.{append-nil, map-append}

@@ -1,6 +1,5 @@
--- What `edit` answers if the text of edits is no good, and which edits a file has. A file that can't
--- be read is in Fetched; what edits do to a run is in run_edits.
--- lathe_top cites it.
+-- What `edit` answers if the text of edits is no good, and which edits a file has. A file that
+-- can't be read is in Fetched; what edits do to a run is in run_edits.
 use Rattle.std.specs.Prelude.{◌≡◌, ℕ, List, [], ◌∷◌, ◌++◌, codes, decimal, Ok, Err}
 use Rattle.edit_texts.specs.declared.edit_list.PathEdit.{PathEdit}
 use Rattle.edit_texts.specs.Edits.{edits_of}

@@ -1,6 +1,5 @@
 -- What `expand` answers over the text of its tape: the status and the text. How cycles are written
 -- out is in tape_expand.
--- lathe_top cites it.
 use Rattle.std.specs.Prelude.{◌≡◌, ℕ, List, ◌++◌, codes, Option, Ok, Err}
 use Rattle.nc_number.specs.declared.cause.Cause.{Cause}
 use Rattle.cycle_form.specs.Faults.{fault_name}

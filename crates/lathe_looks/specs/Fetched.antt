@@ -1,6 +1,5 @@
 -- The texts of the files of a command, or the first file that can't be read: what the shelf must
 -- have, what it was asked for, and what is answered.
--- lathe_top cites it for each command that names files.
 use Rattle.std.specs.Prelude.{◌≡◌, ℕ, zero, suc, ◌≤◌, Option, Some, None, List, [], ◌∷◌, ◌++◌, length, map, take, codes}
 use Rattle.nc_number.specs.declared.fault.Failing.{Failing}
 use Rattle.nc_number.specs.declared.fault.Failing.TheVariants.{Fault, NoMemory}

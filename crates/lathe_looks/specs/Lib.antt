@@ -1,4 +1,4 @@
--- What the commands answer that only look. lathe_top cites all files but Texts in its specs.
+-- What the commands answer that only look.
 pub mod Named
 pub mod Fetched
 pub mod Standing

@@ -1,6 +1,5 @@
 -- The files that a command names: which kinds there are, how long each may be, and the lists in
 -- which they are read.
--- lathe_top cites it.
 use Rattle.std.specs.Prelude.{ℕ, List, [], ◌∷◌, Option, Some, None, get_or}
 use Rattle.nc_number.specs.declared.limits.TheConstants.{LONGEST_TAPE}
 use Rattle.nc_verify.specs.Verdict.{Texts}

@@ -1,6 +1,5 @@
 -- What a command answers that shows the run whose journal is on a disk (`moves`, `state`, `zones`),
 -- or why there is none.
--- lathe_top cites it, and takes `unfound_answer` also for `resume`, `branch` and `edit`.
 use Rattle.std.specs.Prelude.{ℕ, List, ◌++◌, codes, decimal, Ok, Err}
 use Rattle.disk_model.specs.Device.{DiskState}
 use Rattle.nc_restart.specs.declared.fault.RestartFault.{RestartFault}

@@ -1,6 +1,5 @@
--- Why the machine of a run stands where it does, and the report of its history so far.
--- Shown and lathe_top cite it; which end a machine has by itself is `end_by` of nc_outside
--- (specs/Reasons).
+-- Why the machine of a run stands where it does, and the report of its history so far. Shown cites
+-- it; which end a machine has by itself is `end_by` of nc_outside (specs/Reasons).
 use Rattle.std.specs.Prelude.{ℕ, Bool, ◌&&◌, ◌||◌, is_some, List, Option, unwrap_or}
 use Rattle.nc_moves.specs.declared.alarm.Alarm.{Alarm}
 use Rattle.nc_outside.specs.declared.reason.Reason.{Reason}

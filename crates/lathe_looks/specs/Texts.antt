@@ -1,5 +1,4 @@
--- The names and texts that the code keeps, as clauses see them.
--- Clauses of this crate and of lathe_top cite it.
+-- The names and texts that the code keeps, as clauses see them. Clauses of this crate cite it.
 use Rattle.std.specs.Prelude.{◌≤◌, ℕ, List, length, option_map}
 use denote.Ref.{Bor}
 use Rattle.nc_number.specs.declared.both.Both.{Both}

@@ -1,6 +1,5 @@
--- What `zones` answers if the text of zones is no good, which zones a file has, and the text that is
--- shown. A file that can't be read is in Fetched; how zones are found is in zone_check.
--- lathe_top cites it.
+-- What `zones` answers if the text of zones is no good, which zones a file has, and the text that
+-- is shown. A file that can't be read is in Fetched; how zones are found is in zone_check.
 use Rattle.std.specs.Prelude.{◌≡◌, ℕ, List, [], ◌∷◌, ◌++◌, codes, decimal, Ok, Err}
 use Rattle.nc_outside.specs.Files.{ShelfState}
 use Rattle.nc_restart.specs.Pair.{opening_of, tapes_in}

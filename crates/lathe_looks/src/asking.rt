@@ -1,6 +1,5 @@
 //! The commands that answer a question of the files of a pair: `verify`, `waits`, `races` and
 //! `trace`. What is due to the texts is in lathe_calls.
-//! lathe_top calls `ask` for each of them.
 ghost use Rattle.std.specs.Prelude.{◌≡◌};
 ghost use Rattle.lathe_calls.specs.Answers.{Ends};
 ghost use Rattle.lathe_calls.specs.Due.{IsDueTo};

@@ -1,6 +1,5 @@
 //! The edits that an operator makes, read from a file of `edit`; a bad line is refused as 91. What
 //! edits do to a run is in run_edits.
-//! lathe_top calls `edits_of_file`.
 ghost use Rattle.std.specs.Prelude.{◌≡◌, ◌<◌, ◌^◌, Ok, length, IfOk, IfErr};
 ghost use Rattle.edit_texts.specs.Edits.{edits_of};
 ghost use Rattle.lathe_calls.specs.Answers.{Ends, IsJust, tells};

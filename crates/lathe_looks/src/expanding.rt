@@ -1,6 +1,5 @@
 //! The command `expand`: a tape with its roughing cycles written out as plain blocks. How they are
 //! written out is in tape_expand.
-//! lathe_top calls `expand`.
 ghost use Rattle.std.specs.Prelude.{◌≡◌, ◌++◌, OnOk, codes};
 ghost use Rattle.text_pieces.specs.Pieces.{name_text};
 ghost use Rattle.lathe_calls.specs.Answers.{Ends, IsJust, tells};

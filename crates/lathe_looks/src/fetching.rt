@@ -1,6 +1,5 @@
 //! The texts of the files of a command, or the first file that can't be read, with its line of
 //! output. The commands of this crate read their files so.
-//! lathe_top calls `fetch_texts` and `tell_unfetched` for a run.
 ghost use Rattle.std.specs.Prelude.{◌≡◌, ◌≤◌, ◌<◌, ◌^◌, [], ◌∷◌, ◌++◌, length, option_map, OnOk, IfOk, IfErr};
 ghost use Rattle.block_order.specs.Answers.{IfFault};
 ghost use Rattle.nc_outside.specs.Files.{HoldsOn};

@@ -1,6 +1,5 @@
 //! The files that a command names: their kinds, and how many bytes each may have. fetching.rt reads
 //! them.
-//! lathe_top makes `FileNames` of the words.
 ghost use Rattle.std.specs.Prelude.{◌≡◌};
 ghost use Rattle.lathe_looks.specs.Named.{most_bytes};
 

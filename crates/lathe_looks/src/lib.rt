@@ -2,11 +2,11 @@
 //! shelf's files, or show what the journal on a disk holds, and write nothing but their text.
 //!
 //! [`ask`] answers a question of crate `lathe_calls` over the files of a pair: `verify`, `waits`,
-//! `races` and `trace`. [`expand`] writes a tape with its roughing cycles as plain blocks. [`show`] writes
-//! a text of the run whose journal the disk has, [`show_zones`] its zones by a file that
+//! `races` and `trace`. [`expand`] writes a tape with its roughing cycles as plain blocks. [`show`]
+//! writes a text of the run whose journal the disk has, [`show_zones`] its zones by a file that
 //! [`zones_of_file`] reads; [`edits_of_file`] reads the file of `edit`. No function here starts a
 //! thread or waits: each call returns. What running a pair has in common with looking stands here
-//! too: the texts of files, and why there is no run to go on with. lathe_top leans on this.
+//! too: the texts of files, and why there is no run to go on with.
 #![tactic(auto)]
 
 mod asking;

@@ -1,7 +1,5 @@
 //! What is written if a command can't begin: its words are no command, or there is no run to go on
-//! with or to show.
-//! showing.rt and zoning.rt use it, and lathe_top for `resume`, `branch` and `edit` and for words
-//! that are no command.
+//! with or to show. showing.rt and zoning.rt use it.
 ghost use Rattle.std.specs.Prelude.{◌≡◌, codes};
 ghost use Rattle.lathe_calls.specs.Answers.{Ends, IsJust, tells};
 ghost use Rattle.lathe_looks.specs.Shown.{bad_text, unfound_answer};

@@ -1,6 +1,5 @@
 //! The commands that show the run whose journal is on the disk: `moves` and `state`. They write
 //! nothing to the disk. The zones of a run are in zoning.rt.
-//! lathe_top calls `show`, and answers `edit` by a `Shown` too.
 ghost use Rattle.nc_restart.specs.Recovered.{IsRecovered};
 ghost use Rattle.nc_verify.specs.Printed.{IsPut};
 ghost use Rattle.lathe_calls.specs.Answers.{Ends};

@@ -1,5 +1,5 @@
-//! Whether a run is over, and why its machine stands where it does.
-//! showing.rt uses it for the report, and lathe_top before a run goes on.
+//! Whether a run is over, and why its machine stands where it does. showing.rt uses it for the
+//! report.
 ghost use Rattle.std.specs.Prelude.{◌≡◌};
 ghost use Rattle.lathe_looks.specs.Standing.{are_finished, is_over, reason_of};
 

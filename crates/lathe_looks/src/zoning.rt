@@ -1,6 +1,5 @@
 //! The command `zones`: its file, whose bad line is refused as 92, and the zones of the run whose
 //! journal is on the disk. How zones are found is in zone_check.
-//! lathe_top calls both public functions.
 ghost use Rattle.std.specs.Prelude.{◌≡◌, ◌<◌, ◌^◌, Ok, length, IfOk, IfErr};
 ghost use Rattle.nc_restart.specs.Recovered.{IsRecovered};
 ghost use Rattle.nc_verify.specs.Printed.{IsPut};

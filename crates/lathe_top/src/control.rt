@@ -1,7 +1,6 @@
 //! The call that the program makes: words in, text and status out. Each command has its own module
 //! beside this one; `perform` and `perform_no_run` (returning.rt) say which, and a new command needs
 //! its arm in one of them.
-//! own_turret and twin_lathe call `top`.
 ghost use Rattle.std.specs.Prelude.{◌≡◌, map};
 ghost use Rattle.std.specs.String.{string_bytes};
 ghost use Rattle.lathe_top.specs.Done.{GetsItsStatus, IsDone, Performs, top_state, call_of};

@@ -13,8 +13,6 @@
 //!
 //! [`look_or_edit`] does the same for words that make no run. It takes no threads, and it always
 //! returns.
-//!
-//! twin_lathe is this command over the real files; own_turret shows it with a turret of one's own.
 #![tactic(auto)]
 
 mod beginning;

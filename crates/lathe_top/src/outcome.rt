@@ -1,5 +1,4 @@
 //! How a call of `top` or `look_or_edit` ended, for the program that made it.
-//! twin_lathe and own_turret read it.
 ghost use Rattle.std.specs.Prelude.{◌≡◌};
 ghost use Rattle.nc_number.specs.Both.{of_path};
 

@@ -1,7 +1,6 @@
 //! That what the table of commands says of the journal is what the commands do. The law is the
-//! contract of a function that does nothing.
-//! No crate calls it. It says that a program that locks the journal by `journal_of`
-//! (command_words), as twin_lathe does, locks it rightly.
+//! contract of a function that does nothing. No crate calls it. It says that a program that locks
+//! the journal by `journal_of` (command_words) locks it rightly.
 ghost use Rattle.std.specs.Prelude.{◌≡◌, ℕ, List, Some};
 ghost use Rattle.command_words.specs.declared.command.Command.{Command};
 ghost use Rattle.command_words.specs.Listed.{listed_command};

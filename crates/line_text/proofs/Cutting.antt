@@ -1,5 +1,5 @@
 -- The first word of the signs of a tape's line, and the words after it. For the loop of `pieces`
--- (src/cut.rt); tape_relation takes `depth_stays`.
+-- (src/cut.rt).
 use Rattle.std.proofs.Common.{◌≡◌, ◌==◌, ℕ, suc, ◌+◌, Bool, true, false, cond, List, [], ◌∷◌, ◌++◌, map, take, drop, refl, sym, ap, subst, ◌∙◌, append_assoc, arith}
 use Rattle.std.specs.Char.{is_ascii_uppercase}
 use Rattle.std.proofs.lemmas.Bool.{and_parts, eqb-true}

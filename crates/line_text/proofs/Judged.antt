@@ -1,5 +1,5 @@
--- A line of a tape that no refusal by itself refuses has allowed bytes and whole words.
--- For ShapeOfLine; open_forms and tape_relation take `judged_ok`, tape_relation also `least`.
+-- A line of a tape that no refusal by itself refuses has allowed bytes and whole words. For
+-- ShapeOfLine.
 use Rattle.std.proofs.Common.{◌≡◌, Bool, true, false, cond, not, ◌&&◌, Result, Ok, Err, refl}
 use Rattle.line_text.specs.declared.refusal.Refusal.{Refusal}
 use Rattle.line_text.specs.declared.refusal.Refusal.TheVariants.{TooManyDigits, BadCharacter, NoNumber, OpenComment}

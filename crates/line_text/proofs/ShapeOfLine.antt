@@ -1,6 +1,6 @@
 -- What a line of a tape says, if nothing by itself refuses it, has the shape of a block or of an O
--- number (`IsSaid`), and its texts are no longer than the line. nc_text takes `line_said`. The
--- first facts are on lengths, then come numbers, words and statements, as a line is read.
+-- number (`IsSaid`), and its texts are no longer than the line. The first facts are on lengths,
+-- then come numbers, words and statements, as a line is read.
 use Rattle.std.proofs.Common.{◌≡◌, ℕ, ◌+◌, ◌-◌, ◌≤◌, ◌==◌, Bool, true, false, cond, not, ◌&&◌, ltb, leb, List, [], ◌∷◌, length, take, drop, map, filter, get_or, slice_index, Option, Some, None, is_some, Result, Ok, Err, refl, sym, subst, ◌∙◌, arith, ℤ, pos, negsuc}
 use Rattle.std.specs.Prelude.{All, IfSome}
 use Rattle.std.specs.Char.{is_ascii_uppercase}

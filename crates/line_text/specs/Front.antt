@@ -1,5 +1,5 @@
 -- The head of a block of a tape: comments, the skip sign, N before a statement, and how a statement
--- begins. src/front.rt answers with these functions; open_forms and tape_relation cite them too.
+-- begins. Src/front.rt answers with these functions.
 use Rattle.std.specs.Prelude.{ℕ, ◌-◌, Bool, false, not, ◌&&◌, ◌||◌, ◌==◌, nat_le, nat_eq, codes, List, [], ◌∷◌, filter, take, drop, Option, Some, None, if◌then◌else◌}
 use Rattle.std.specs.Char.{is_ascii_digit}
 use Rattle.std.specs.List.{prefix_len, starts_with}

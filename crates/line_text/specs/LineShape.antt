@@ -1,6 +1,5 @@
--- The shape of what a line of a tape says. nc_text makes the shape of a tape of it (`IsTapeShape`),
--- on which the crates above count; proofs/ShapeOfLine shows it of each line that is not refused by
--- itself.
+-- The shape of what a line of a tape says. Proofs/ShapeOfLine shows it of each line that is not
+-- refused by itself.
 use Rattle.std.specs.Prelude.{◌≡◌, ℕ, ◌≤◌, ◌==◌, true, false, List, length, All, Option, None, Some, IfSome}
 use Rattle.std.specs.Char.{is_ascii_uppercase}
 use Rattle.std.specs.List.{list_any}

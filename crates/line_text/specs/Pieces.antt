@@ -1,5 +1,5 @@
 -- The words that the signs of a line of a tape are cut into: each letter outside square brackets
--- begins one. src/cut.rt answers with these functions; open_forms and tape_relation cite them too.
+-- begins one. Src/cut.rt answers with these functions.
 use Rattle.std.specs.Prelude.{ℕ, ◌+◌, ◌-◌, Bool, true, false, ◌&&◌, ◌==◌, List, [], ◌∷◌, length, map, drop, if◌then◌else◌}
 use Rattle.std.specs.Char.{is_ascii_uppercase}
 use Rattle.std.specs.List.{list_all, before_first}

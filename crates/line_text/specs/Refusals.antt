@@ -1,5 +1,5 @@
--- The refusals of a tape's text in the table of causes. nc_text, open_forms and tape_relation cite
--- them. A new refusal needs its line here; src/refusal.rt names what else it needs.
+-- The refusals of a tape's text in the table of causes. A new refusal needs its line here;
+-- src/refusal.rt names what else it needs.
 use Rattle.std.specs.Prelude.{ℕ}
 use Rattle.nc_number.specs.declared.cause.Cause.{Cause}
 use Rattle.nc_number.specs.declared.cause.Cause.TheVariants as causes

@@ -1,7 +1,4 @@
--- What a line between the `%` lines of a tape says, and what makes it unreadable. nc_text builds
--- `tape_of` on `line_says`; open_forms, flow_laws and tape_relation cite these words too.
--- 78 is the letter N, 79 the letter O; tape_relation (specs/Numbers) has the ranges of both numbers
--- once more.
+-- What a line between the `%` lines of a tape says, and what makes it unreadable.
 use Rattle.std.specs.Prelude.{◌≡◌, ℕ, ◌<◌, ◌+◌, ◌/◌, ◌%◌, ◌^◌, Bool, true, false, not, ◌&&◌, ◌||◌, ◌==◌, nat_lt, List, [], ◌∷◌, length, map, filter, take, All, Option, Some, None, Result, Ok, Err, is_some, if◌then◌else◌}
 use Rattle.std.specs.List.{list_all, list_any, prefix_len}
 use Rattle.std.specs.Global.{Vec}

@@ -1,6 +1,5 @@
 -- The bytes of a line of a tape that count: its signs. Of a comment only the opening bracket
--- counts. src/sign.rt computes `signs_of`; nc_text, open_forms and tape_relation cite these words
--- too.
+-- counts. Src/sign.rt computes `signs_of`.
 use Rattle.std.specs.Prelude.{ℕ, ◌+◌, ◌-◌, Bool, true, false, not, ◌&&◌, ◌||◌, ◌==◌, List, [], ◌∷◌, length, take, slice_index, if◌then◌else◌}
 use Rattle.std.specs.Char.{is_ascii_digit, is_ascii_uppercase, to_ascii_uppercase}
 use Rattle.std.specs.List.{list_all, suffix_len}

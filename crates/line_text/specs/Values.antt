@@ -1,6 +1,5 @@
 -- What may stand after an address letter of a tape's block, and which numbers are in range.
--- src/values.rt computes it; tape_relation cites it, and shows that its own grammar says the same.
--- 91 and 93 are square brackets, 35 is `#`, 46 the point.
+-- Src/values.rt computes it.
 use Rattle.std.specs.Prelude.{ℕ, ◌+◌, Bool, false, ◌&&◌, ◌||◌, ◌==◌, nat_le, List, [], ◌∷◌, length, take, drop, Option, Some, None, Result, Ok, Err, ℤ, pos, negsuc, if◌then◌else◌}
 use Rattle.std.specs.Char.{is_ascii_digit}
 use Rattle.std.specs.List.{list_all, prefix_len}

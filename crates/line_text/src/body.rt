@@ -1,5 +1,4 @@
-//! What stands in a block of a tape: words or a statement. nc_text puts it into its `Block`, by
-//! which block_forms, open_forms and cycle_form read it; what a word means is left to them.
+//! What stands in a block of a tape: words or a statement. What a word means is not known here.
 use nc_number::{ByteList, ListOf};
 
 /// An address letter and its value.

@@ -1,5 +1,4 @@
-//! What one line of a tape says, for nc_text, which reads a tape line by line and passes the types
-//! on to the crates above.
+//! What one line of a tape says.
 //!
 //! `read_line` takes the bytes of a line between the `%` lines, and answers with what it says
 //! (nothing, an O number or a block), or with the least refusal of the line by itself. What stands

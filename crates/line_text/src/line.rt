@@ -1,5 +1,5 @@
 //! A whole line of a tape: whether it is words, a statement or no block, and its least refusal by
-//! itself. nc_text calls `read_line` for each line between the `%` lines.
+//! itself.
 ghost use Rattle.std.specs.Prelude.{◌≡◌, ◌-◌, ◌^◌, ◌<◌, length, IfOk, IfSome, ◌≤◌};
 ghost use Rattle.nc_number.specs.Answers.{Gives};
 ghost use Rattle.line_text.specs.Places.{ArePlaced};

@@ -1,4 +1,4 @@
-//! The room in which `read_line` reads a line. nc_text keeps one for all lines of a tape.
+//! The room in which `read_line` reads a line.
 use crate::sign::Sign;
 use std::alloc::Global;
 

@@ -1,6 +1,5 @@
 //! A letter of a tape's line with what may be its value: a word before it is checked. cut.rt makes
-//! pieces of signs, words.rt makes words of pieces. The grammar of tape_relation and proofs of
-//! open_forms speak of them too.
+//! pieces of signs, words.rt makes words of pieces. Laws of the crates above speak of them too.
 use nc_number::ByteList;
 
 /// A letter and what may be its value, which ends before the first comment.

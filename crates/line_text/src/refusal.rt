@@ -1,10 +1,8 @@
-//! Why a tape can't be read, and the number of each refusal. This crate raises the first four,
-//! which a line has by itself. nc_text raises the others: those that need more than the line, and
-//! those for its length and for the range of its number, whose numbers rank behind them.
+//! Why a tape can't be read, and the number of each refusal. This crate raises the first four, which
+//! a line has by itself.
 //!
-//! open_forms, flow_laws and tape_relation cite the type too. A new variant needs its line in
-//! `cause` here and in `cause_of` (specs/Refusals), and in tape_relation in `Holds`
-//! (specs/Conditions), and in `order` and `each_in` (proofs/LeastNumber).
+//! A new variant needs its line in `cause` here and in `cause_of` (specs/Refusals), and in the
+//! relation of tapes that the law of reading is about (`Holds`).
 ghost use Rattle.std.specs.Prelude.{◌≡◌};
 ghost use Rattle.line_text.specs.Refusals.{cause_of, refusal_number};
 

@@ -1,5 +1,4 @@
-//! What a line of a tape says: nothing, an O number or a block. `read_line` answers it, and nc_text
-//! puts the blocks into programs. Laws of open_forms, flow_laws and tape_relation speak of it too.
+//! What a line of a tape says: nothing, an O number or a block. `read_line` answers it.
 use crate::body::Body;
 
 /// A block without the number of its line, which nc_text adds.

@@ -1,6 +1,6 @@
 //! The bytes of a line of a tape that count: its signs. line.rt reads them into the line's buffer;
 //! front.rt and cut.rt cut blocks and words out of them. specs/Signs defines what is computed here;
-//! its table of characters has a copy in tape_relation (specs/Characters).
+//! its table of characters stands once more, apart, in the relation of tapes.
 ghost use Rattle.std.specs.Prelude.{◌≡◌, ◌+◌, ◌-◌, ◌^◌, ◌<◌, ◌≤◌, ◌++◌, ◌&&◌, false, not, length, IfOk, OnOk};
 ghost use Rattle.line_text.specs.Signs.{is_blank, is_allowed, inside_behind, counted_sign, scan_of, without_return, without_blanks, without_last, signs_of, are_allowed};
 ghost use Rattle.line_text.specs.Places.{ArePlaced};

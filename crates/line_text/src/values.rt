@@ -1,6 +1,5 @@
 //! What may stand after an address letter of a tape: a literal, a variable or an expression in
-//! brackets. words.rt checks the value of each word with it, line.rt a sequence number. macro_expr
-//! reads what stands in the brackets.
+//! brackets. words.rt checks the value of each word with it, line.rt a sequence number.
 ghost use Rattle.std.specs.Prelude.{◌≡◌, ◌+◌, ◌^◌, ◌<◌, ◌≤◌, length, IfSome};
 ghost use Rattle.std.specs.Char.{is_ascii_digit};
 ghost use Rattle.std.specs.List.{list_all};

@@ -1,8 +1,6 @@
 //! A block of words of a tape: its sequence number, its words, or the O number that it is. line.rt
 //! calls `read_pieces` for each block that is no statement and has nothing before its first letter.
-//! The ranges of both numbers stand in specs/Said and specs/LineShape too, that of N in line.rt,
-//! that of O in nc_text (src/progress.rt), both in nc_text (specs/Shape) and tape_relation
-//! (specs/Numbers).
+//! The ranges of both numbers stand in specs/Said and specs/LineShape too, that of N in line.rt.
 ghost use Rattle.std.specs.Prelude.{◌≡◌, ◌^◌, ◌<◌, ◌≤◌, None, ◌+◌, length, take, if◌then◌else◌, IfOk, IsTrue};
 ghost use Rattle.std.specs.List.{list_all, list_any, prefix_len};
 ghost use Rattle.nc_number.specs.declared.limits.TheConstants.{LAST_SEQUENCE};

@@ -1,5 +1,5 @@
 -- The local variables of a path as a stack of levels, the running level first: what each call of
--- src/stack.rt makes of it. path_state, two_path, move_list and 3 more crates above cite it.
+-- src/stack.rt makes of it.
 use Rattle.std.specs.Prelude.{ℕ, ◌-◌, List, [], ◌∷◌, replicate, slice_index_or, slice_set}
 use Rattle.nc_number.specs.declared.value.Var.{Var}
 use Rattle.nc_number.specs.declared.value.Var.TheVariants.{Vacant}

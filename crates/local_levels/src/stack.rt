@@ -1,5 +1,4 @@
-//! The levels of local variables `#1` to `#33` of one path. path_state opens, repeats and closes
-//! them as macro calls do, and says which call does what; block_values takes `LOCALS`.
+//! The levels of local variables `#1` to `#33` of one path.
 ghost use Rattle.std.specs.Prelude.{◌≡◌, ◌+◌, ◌<◌, ◌≤◌, ◌∷◌, [], length};
 ghost use Rattle.local_levels.specs.Stack.{base_level, opened_level, local, with_local, reopened_stack, stack_below};
 

@@ -1,6 +1,5 @@
 -- Calls of loud programs, which have a wait or an end or call one that has, and what is known of
--- them. For the proof of src/calling.rt (`ready_by`); label_list and part_lines take `call_of`,
--- `ready_by` and `short_some`.
+-- them. For the proof of src/calling.rt (`ready_by`).
 use Rattle.std.proofs.Common.{◌≡◌, ℕ, zero, suc, ◌<◌, true, List, Option, Some, refl, sym, subst, ◌∙◌, arith}
 use Rattle.block_order.specs.declared.control.Control.{Control}
 use Rattle.block_order.specs.declared.control.Control.TheVariants.{Call}

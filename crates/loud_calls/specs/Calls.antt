@@ -1,6 +1,6 @@
 -- Which chains of calls of loud programs are short, and which loud program a block calls. A program
--- is loud if it, or one that it calls, has a wait or an end. label_list and part_lines cite these
--- words; their recursion from program to program ends by `IsShort`.
+-- is loud if it, or one that it calls, has a wait or an end. Their recursion from program to
+-- program ends by `IsShort`.
 use Rattle.std.specs.Prelude.{◌≡◌, ℕ, ◌<◌, true, List, Option, Some}
 use Rattle.block_order.specs.declared.control.Control.{Control}
 use Rattle.block_order.specs.declared.control.Control.TheVariants.{Call}

@@ -1,5 +1,5 @@
 -- What src/known.rt keeps of the programs of a tape, a piece of each that was made, as contracts
--- see it. label_list and part_lines cite it.
+-- see it.
 use Rattle.std.specs.Prelude.{ℕ, Option, nat_eq}
 use Rattle.indexmap.specs.IndexMap.{get}
 use Rattle.loud_calls.specs.declared.known.KnownPrograms.{KnownPrograms}

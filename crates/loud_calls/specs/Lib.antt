@@ -1,3 +1,3 @@
--- The words of the contracts of loud_calls. label_list and part_lines cite them.
+-- The words of the contracts of loud_calls.
 pub mod Calls
 pub mod Known

@@ -1,6 +1,5 @@
-//! The loud program that a block calls, and whether its piece is still to be made: what label_list
-//! and part_lines ask before they read a block. A program is loud if it, or one that it calls, has
-//! a wait or an end. What a piece is, the reader says (known.rt).
+//! The loud program that a block calls, and whether its piece is still to be made. A program is loud
+//! if it, or one that it calls, has a wait or an end. What a piece is, the reader says (known.rt).
 ghost use Rattle.std.specs.Prelude.{ℕ, IfSome, IfNone};
 ghost use Rattle.loud_calls.specs.Calls.{IsCallOf, IsReady};
 ghost use Rattle.loud_calls.specs.Known.{piece_known};

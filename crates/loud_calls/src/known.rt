@@ -1,5 +1,5 @@
 //! The pieces that were made of programs so far, one for each O number. What a piece is, the caller
-//! says: label_list keeps labels, part_lines least lines.
+//! says.
 ghost use Rattle.std.specs.Prelude.{◌≡◌, ◌≢◌, ℕ, Some, None, OnOk};
 ghost use Rattle.std.specs.Option.{option_copied};
 ghost use Rattle.loud_calls.specs.Known.{piece_known};

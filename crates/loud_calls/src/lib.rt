@@ -2,8 +2,8 @@
 //! one.
 //!
 //! A reader of a whole path unfolds these calls, and makes its piece of each program once:
-//! [`KnownPrograms`] keeps what was made, and [`unknown_call`] tells what is still to be made
-//! before a block can be read. label_list and part_lines are such readers.
+//! [`KnownPrograms`] keeps what was made, and [`unknown_call`] tells what is still to be made before
+//! a block can be read.
 #![tactic(auto)]
 
 mod calling;

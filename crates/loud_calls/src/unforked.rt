@@ -1,5 +1,4 @@
-//! The one list of labels that all runs of an order come to. label_list and part_lines call the
-//! function, so that no chain of calls is too long for them.
+//! The one list of labels that all runs of an order come to.
 ghost use Rattle.block_order.specs.Labels.{IsUnforked};
 
 use block_order::{BlockOrder, a_tape_without_faults_is_unforked};

@@ -1,5 +1,4 @@
--- The lemmas of macro_eval. Compiled and Short are for this crate alone; path_state takes
--- TakenReads too.
+-- The lemmas of macro_eval. Compiled and Short are for this crate alone.
 pub mod Compiled
 mod Short
 pub mod TakenReads

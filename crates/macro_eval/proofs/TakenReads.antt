@@ -1,6 +1,5 @@
 -- Each variable of a macro expression takes at most one read of a shared variable, and a read is
--- needed only if fewer were given than it names variables. For the law of src/running.rt;
--- path_state takes it too.
+-- needed only if fewer were given than it names variables. For the law of src/running.rt.
 use Rattle.std.proofs.Common.{◌≡◌, ℕ, suc, ◌+◌, ◌<◌, ◌≤◌, List, [], ◌∷◌, length, Result, Ok, Err, ℤ, ap, arith}
 use Rattle.nc_number.specs.declared.cause.Cause.{Cause}
 use Rattle.nc_number.specs.declared.fault.NumberFault.{NumberFault}

@@ -1,7 +1,6 @@
 -- What a macro expression means: its value, the shared variable that must be read next, or an
 -- alarm; and the reads (values of shared variables that were read and not yet taken) that are left.
--- Numbers are in 0.000001. The contract of `evaluate` (src/running.rt); path_state, block_values,
--- named_vars and two_path cite it.
+-- Numbers are in 0.000001. The contract of `evaluate` (src/running.rt).
 use Rattle.std.specs.Prelude.{ℕ, Bool, List, [], ◌∷◌, Option, Some, None, Result, Ok, Err, ℤ, pos, unsigned_abs, if◌then◌else◌}
 use Rattle.std.specs.Int.{is_negative}
 use Rattle.nc_number.specs.declared.cause.Cause.{Cause}

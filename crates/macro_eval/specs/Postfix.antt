@@ -1,6 +1,6 @@
 -- Postfix code of macro expressions (each operator after its operands), and what a machine with a
 -- stack of operands makes of it. The contracts of src/code.rt, code_list.rt, stepping.rt and
--- running.rt; race_report cites it. A new instruction needs its row in each function here.
+-- running.rt. A new instruction needs its row in each function here.
 use Rattle.std.specs.Prelude.{◌≡◌, ℕ, ◌+◌, ◌-◌, ◌==◌, ◌&&◌, nat_le, Bool, true, List, [], ◌∷◌, Result, pos, refl}
 use Rattle.std.proofs.Common.{◌∙◌, ap}
 use Rattle.nc_number.specs.declared.value.Var.{Var}

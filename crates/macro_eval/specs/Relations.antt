@@ -1,5 +1,5 @@
 -- When a condition of a macro statement holds. Vacant equals vacant alone in EQ and NE, and counts
--- as 0 in the others. The contract of `holds` (src/compare.rt); block_values cites it.
+-- as 0 in the others. The contract of `holds` (src/compare.rt).
 use Rattle.std.specs.Prelude.{Bool, true, false, not, int_lt, int_le}
 use Rattle.std.specs.Ordering.{int_eq}
 use Rattle.nc_number.specs.declared.value.Var.{Var}

@@ -1,6 +1,5 @@
-//! A macro expression as code for a stack, and its making from a tree of macro_expr. running.rt
-//! runs it. block_forms makes the codes of a tape, block_words keeps those of words, block_values
-//! evaluates them, and race_report reads their instructions.
+//! A macro expression as code for a stack, and its making from a tree of macro_expr. running.rt runs
+//! it.
 ghost use Rattle.std.specs.Prelude.{◌≡◌, ◌-◌, ◌<◌, nat_le, ◌∷◌, reverse, true, IfOk, OnOk};
 ghost use Rattle.macro_expr.specs.Tree.{tree_of, right_depth};
 ghost use Rattle.macro_eval.specs.Postfix.{postfix, code_before, fits};

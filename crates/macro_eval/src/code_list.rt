@@ -1,6 +1,4 @@
-//! The codes of a macro statement, in the order in which they are evaluated. block_forms makes
-//! them, a list for each statement of a tape; path_state runs the statement, and block_values
-//! evaluates its codes.
+//! The codes of a macro statement, in the order in which they are evaluated.
 ghost use Rattle.std.specs.Prelude.{◌≡◌, ◌≤◌, [], ◌∷◌, ◌++◌, length, IfOk, OnOk};
 ghost use Rattle.macro_expr.specs.Tree.{tree_of, variable_of, test_of, aim_of, sentence_of, trees_of_sentence, evaluated_name, evaluated_test, evaluated_aim};
 

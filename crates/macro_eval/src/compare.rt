@@ -1,4 +1,4 @@
-//! The comparisons of macro conditions: EQ, NE, GT, GE, LT, LE. block_values calls `holds`.
+//! The comparisons of macro conditions: EQ, NE, GT, GE, LT, LE.
 ghost use Rattle.std.specs.Prelude.{◌≡◌};
 ghost use Rattle.macro_eval.specs.Relations.{are_same, holds_of};
 

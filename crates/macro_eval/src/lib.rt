@@ -3,9 +3,7 @@
 //! [`compile`] and [`compile_statement`] make code of trees, and [`evaluate`] runs it. A shared
 //! variable takes the next of the values that were read so far, and if none is left, the answer is
 //! the variable that is needed next. Contracts see code as its tree, and the answer as the meaning
-//! of the tree. Evaluation takes no memory. block_forms makes code, block_words keeps it,
-//! block_values evaluates it by the variables that path_state knows, and race_report reads its
-//! instructions.
+//! of the tree. Evaluation takes no memory.
 
 #![tactic(auto)]
 

@@ -1,6 +1,5 @@
-//! The evaluation of the code of a macro expression; stepping.rt does one instruction. block_values
-//! calls `evaluate` for each word, each argument of a call and each operand of a statement that is
-//! computed; `eval` and `count_reads` are for tests.
+//! The evaluation of the code of a macro expression; stepping.rt does one instruction. `eval` and
+//! `count_reads` are for tests.
 ghost use Rattle.std.specs.Prelude.{◌≡◌, ◌+◌, ◌-◌, ◌<◌, ◌≤◌, ℕ, List, [], true, length, Result};
 ghost use Rattle.nc_number.specs.declared.value.Var.{Var};
 ghost use Rattle.macro_expr.specs.Tree.{Tree, variables};

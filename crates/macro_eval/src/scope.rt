@@ -1,5 +1,4 @@
-//! What the evaluation of a macro expression asks of its variables, and what it answers. path_state
-//! knows the variables of a path and implements `Scope`; block_values passes it on.
+//! What the evaluation of a macro expression asks of its variables, and what it answers.
 ghost use Rattle.std.specs.Prelude.{◌≡◌, ℕ, Result};
 ghost use Rattle.macro_eval.specs.declared.scope.Look.{Look};
 ghost use Rattle.macro_eval.specs.declared.scope.VarFault.{VarFault};

@@ -1,6 +1,5 @@
 //! Calculated values of macro expressions as whole numbers and as numbers of variables. stepping.rt
-//! calls it for a variable whose number is calculated; block_values for the target of a jump and
-//! for the variable of an assignment.
+//! calls it for a variable whose number is calculated.
 ghost use Rattle.std.specs.Prelude.{◌≡◌, ◌≤◌, unsigned_abs, IfOk};
 ghost use Rattle.nc_number.specs.declared.limits.TheConstants.{LARGEST_WHOLE};
 ghost use Rattle.macro_eval.specs.Meaning.{whole_number, variable_number};

@@ -1,5 +1,5 @@
 -- A chain of operators of a macro expression reads exactly the chains of the grammar. For Sound and
--- Complete; macro_limits takes `chained`.
+-- Complete.
 use Rattle.std.proofs.Common.{◌≡◌, ℕ, zero, suc, ◌+◌, ◌-◌, ◌≤◌, List, ◌++◌, length, None, Ok, ◌∙◌, ap, arith, append_assoc, length-append}
 use Rattle.std.proofs.lemmas.Bool.{leb-true}
 use Rattle.macro_expr.specs.declared.tree.Op.{Op}

@@ -1,5 +1,5 @@
 -- A macro expression that has a tree by the grammar is read as that tree. For StatementsComplete
--- and Sound; macro_limits takes `first_at`, `looked` and `sum_is`.
+-- and Sound.
 use Rattle.std.proofs.Common.{◌≡◌, ℕ, zero, suc, ◌/◌, ◌==◌, Bool, true, false, cond, List, [], ◌∷◌, ◌++◌, None, Some, Result, Ok, Err, ℤ, unsigned_abs, refl, sym, ◌∙◌, ap, arith, append_assoc}
 use Rattle.std.specs.Prelude.{codes}
 use Rattle.std.specs.Char.{is_ascii_digit}

@@ -1,6 +1,5 @@
 -- Words and runs at the head of the text of a macro expression or statement: what a search in a
--- table of words finds. For the other lemmas of this crate; macro_limits and open_forms take lemmas
--- from here.
+-- table of words finds. For the other lemmas of this crate.
 use Rattle.std.proofs.Common.{◌≡◌, ℕ, suc, ◌+◌, ◌==◌, ◌&&◌, not, Bool, true, false, cond, List, [], ◌∷◌, ◌++◌, length, take, drop, Option, None, Some, refl, sym, ◌∙◌, ap, subst, arith, inl, inr, eqb-true}
 use Rattle.std.specs.Prelude.{nat_le}
 use Rattle.std.specs.Option.{option_or, option_map}

@@ -1,6 +1,6 @@
 -- What holds of each tree of a macro expression or statement by the grammar: how deep its right
 -- operands stand, and how many variables it names. For `parse_expr` and `parse_statement`
--- (src/parse.rt); path_state takes `variables-append`.
+-- (src/parse.rt).
 use Rattle.std.proofs.Common.{◌≡◌, ℕ, zero, suc, ◌+◌, ◌*◌, ◌≤◌, List, [], ◌∷◌, ◌++◌, arith}
 use Rattle.std.specs.Prelude.{codes}
 use Rattle.std.specs.List.{All}

@@ -1,5 +1,5 @@
 -- In the text of a macro expression the code's prefix search finds what the specs say stands after
--- a word. For `text_behind` (src/words.rt); open_forms takes `behind_prefix`.
+-- a word. For `text_behind` (src/words.rt).
 use Rattle.std.proofs.Common.{◌≡◌, ℕ, ◌+◌, true, false, ◌==◌, ◌&&◌, nat_eq, List, [], ◌∷◌, length, take, drop, Option, None, Some, MatchOption, refl, cond, sym, ◌∙◌, ap, Bor}
 use Rattle.std.specs.Option.{option_map}
 use lib.Pointwise.{pointwise}

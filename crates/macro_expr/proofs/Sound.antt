@@ -1,5 +1,4 @@
--- What is read of a macro expression has its tree by the grammar. For StatementsSound; macro_limits
--- takes lemmas from here.
+-- What is read of a macro expression has its tree by the grammar. For StatementsSound.
 use Rattle.std.proofs.Common.{◌≡◌, ℕ, zero, suc, ◌/◌, ◌==◌, Bool, true, false, cond, List, [], ◌++◌, Ok, Err, ℤ, unsigned_abs, refl, sym, subst, append_assoc}
 use Rattle.std.specs.Prelude.{codes}
 use Rattle.std.specs.Char.{is_ascii_digit}

@@ -1,5 +1,4 @@
--- A macro statement of the grammar is read as that statement. For the clauses of src/parse.rt;
--- macro_limits takes `condition_read`, `digits_target`, `looping` and `test_read`.
+-- A macro statement of the grammar is read as that statement. For the clauses of src/parse.rt.
 use Rattle.std.proofs.Common.{◌≡◌, ℕ, ◌==◌, true, false, cond, List, [], ◌++◌, Some, Ok, Err, refl, sym, ◌∙◌, ap, append_assoc}
 use Rattle.std.specs.Prelude.{codes}
 use Rattle.std.specs.Char.{is_ascii_digit}

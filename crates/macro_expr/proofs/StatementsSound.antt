@@ -1,5 +1,4 @@
--- A macro statement that is read is one of the grammar. For the clauses of src/parse.rt;
--- macro_limits and open_forms take lemmas from here.
+-- A macro statement that is read is one of the grammar. For the clauses of src/parse.rt.
 use Rattle.std.proofs.Common.{◌≡◌, ℕ, ◌==◌, nat_lt, Bool, true, false, cond, List, [], ◌∷◌, ◌++◌, length, Ok, Err, refl, sym, ◌∙◌, ap, subst, arith, append_assoc}
 use Rattle.std.specs.Prelude.{codes}
 use Rattle.std.specs.Char.{is_ascii_digit}

@@ -1,6 +1,5 @@
 -- Steps of the reading of a macro expression: what is read stands at the head of the text by the
--- grammar. For ChainLaws, Sound and StatementsSound; macro_limits takes `Reads`, `Sound`, `found`
--- and `stops`.
+-- grammar. For ChainLaws, Sound and StatementsSound.
 use Rattle.std.proofs.Common.{◌≡◌, ℕ, List, ◌++◌, Ok, Err, append_assoc}
 use Rattle.macro_expr.specs.declared.stop.Stop.{Stop}
 use Rattle.macro_expr.specs.declared.stop.Stop.TheVariants as stop

@@ -1,6 +1,5 @@
 -- What is answered for the text of a macro expression or statement, as it stands on the tape: the
--- contract of `parse_expr` and `parse_statement` (src/parse.rt). block_forms, macro_limits and
--- open_forms cite it.
+-- contract of `parse_expr` and `parse_statement` (src/parse.rt).
 use Rattle.std.specs.Prelude.{◌≤◌, ℕ, false, List, Result}
 use Rattle.nc_number.specs.declared.limits.TheConstants.{MOST_READS}
 use Rattle.macro_expr.specs.declared.tree.ExprFault.{ExprFault}

@@ -1,6 +1,5 @@
 -- The grammar of macro expressions and statements: which trees a cleaned text has. The reader gives
 -- exactly these trees (proofs/Sound, Complete, StatementsSound and StatementsComplete).
--- block_forms, macro_limits and open_forms cite it.
 use Rattle.std.specs.Prelude.{◌≡◌, ℕ, zero, suc, ◌/◌, ◌≤◌, Bool, true, false, List, [], ◌∷◌, ◌++◌, ℤ, unsigned_abs, codes, ◌⊎◌}
 use Rattle.std.specs.Char.{is_ascii_digit}
 use Rattle.std.specs.List.{list_all}

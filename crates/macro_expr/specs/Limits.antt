@@ -1,7 +1,6 @@
 -- The limits of the text of a macro expression or statement, and which refusal is answered if
--- several hold. src/limits.rt, parse.rt and stop.rt compute it; block_forms, macro_limits and
--- open_forms cite it.
--- Bytes: 9 is the tab, 32 the space, 35 `#`, 40 `(`, 41 `)`, 46 the point, 91 `[`, 93 `]`.
+-- several hold. Src/limits.rt, parse.rt and stop.rt compute it. Bytes: 9 is the tab, 32 the space,
+-- 35 `#`, 40 `(`, 41 `)`, 46 the point, 91 `[`, 93 `]`.
 use Rattle.std.specs.Prelude.{ℕ, suc, Bool, true, false, ◌-◌, ◌==◌, ◌&&◌, ◌||◌, not, nat_eq, nat_lt, List, [], ◌∷◌, ◌++◌, length, slice_index, count_by, codes, Result, Ok, Err, if◌then◌else◌}
 use Rattle.std.specs.Char.{is_ascii_digit, to_ascii_uppercase}
 use Rattle.std.specs.List.{starts_with, ends_with}

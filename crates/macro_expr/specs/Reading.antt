@@ -1,7 +1,6 @@
 -- Reading a macro expression from left to right: its tree, or the cause at the first place where
 -- reading fails. src/reading.rt computes it. The proofs of this crate show that the trees are
--- exactly those of the grammar; macro_limits cites it, and says what stands where reading stops.
--- Bytes: 35 is `#`, 91 `[`.
+-- exactly those of the grammar. Bytes: 35 is `#`, 91 `[`.
 use Rattle.std.specs.Prelude.{ℕ, zero, suc, ◌/◌, ◌==◌, Bool, List, length, Option, Some, None, Result, Ok, Err, ℤ, unsigned_abs, codes, if◌then◌else◌}
 use Rattle.std.specs.Char.{is_ascii_digit}
 use Rattle.nc_number.specs.Literals.{is_literal, has_too_many_digits, literal_micro}

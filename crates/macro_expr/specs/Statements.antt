@@ -1,6 +1,5 @@
 -- Reading a macro statement from left to right: its tree, or the cause at the first place where
--- reading fails. src/statements.rt computes it; block_forms, macro_limits and open_forms cite it.
--- Byte 35 is `#`.
+-- reading fails. Src/statements.rt computes it. Byte 35 is `#`.
 use Rattle.std.specs.Prelude.{ℕ, suc, ◌==◌, nat_lt, List, length, Option, Some, None, Result, Ok, Err, codes, if◌then◌else◌}
 use Rattle.std.specs.Char.{is_ascii_digit}
 use Rattle.nc_number.specs.declared.limits.TheConstants.{LAST_SEQUENCE, MOST_BRACKETS}

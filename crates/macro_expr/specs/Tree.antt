@@ -1,6 +1,5 @@
 -- Trees of macro expressions and statements, without where they lie in memory: what contracts see
--- of src/tree.rt. macro_eval says what they mean; macro_eval, block_forms, path_state and 8 more
--- crates above cite them.
+-- of src/tree.rt.
 use Rattle.std.specs.Prelude.{ℕ, suc, ◌+◌, ◌≤◌, max, ℤ, Bool, List, [], ◌∷◌, ◌++◌}
 use Rattle.nc_number.specs.declared.limits.TheConstants.{LAST_SEQUENCE}
 use Rattle.macro_expr.specs.declared.tree.Fun.{Fun}

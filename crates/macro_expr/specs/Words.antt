@@ -1,7 +1,7 @@
 -- The words of macro expressions and statements as tables, and runs of letters and digits.
--- src/words.rt finds them at the head of a text, by tables of its own; macro_limits and open_forms
--- cite them. A keyword stands in line_text too (specs/Front, src/front.rt), which tells a statement
--- by it, and in tape_relation. 65 is A, 90 Z, 46 the point.
+-- Src/words.rt finds them at the head of a text, by tables of its own. A keyword stands in
+-- line_text too (specs/Front, src/front.rt), which tells a statement by it, and in tape_relation.
+-- 65 is A, 90 Z, 46 the point.
 use Rattle.std.specs.Prelude.{ℕ, Bool, true, false, ◌==◌, ◌&&◌, ◌||◌, nat_le, List, [], ◌∷◌, length, take, drop, not, Option, None, Some, codes, if◌then◌else◌}
 use Rattle.std.specs.Option.{option_or, option_map}
 use Rattle.std.specs.List.{position_or_len}

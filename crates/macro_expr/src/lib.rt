@@ -1,10 +1,9 @@
 //! Macro expressions and statements of the tape.
 //!
 //! [`parse_expr`] and [`parse_statement`] read a text and give its tree. The grammar stands in the
-//! specs as a relation between texts and trees; a tree is given exactly if there is one and the
-//! text names at most 32 variables, and else the number of the refusal. Left operands stand in a
-//! tree as deep as its text is long, and are walked in a loop; right operands stand at most twelve
-//! deep. block_forms parses the texts of blocks; macro_eval makes code of the trees.
+//! specs as a relation between texts and trees; a tree is given exactly if there is one and the text
+//! names at most 32 variables, and else the number of the refusal. Left operands stand in a tree as
+//! deep as its text is long, and are walked in a loop; right operands stand at most twelve deep.
 
 #![tactic(auto)]
 

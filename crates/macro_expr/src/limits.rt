@@ -1,6 +1,5 @@
 //! The limits of a macro expression or statement (digits of a number, brackets, variables), and the
-//! text as it is read, without blanks and comments. parse.rt asks them of a text; macro_limits
-//! shows that each has its refusal.
+//! text as it is read, without blanks and comments. parse.rt asks them of a text.
 ghost use Rattle.std.specs.Prelude.{◌≡◌, ◌==◌, nat_eq, false, IfOk};
 ghost use Rattle.std.specs.Char.{is_ascii_digit};
 ghost use Rattle.macro_expr.specs.Limits.{clean_text, ends, is_loop_head, are_too_many, begins_long, has_long_number, has_deep_brackets, has_many_variables};

@@ -1,6 +1,5 @@
 //! From the text of a macro expression or statement to its tree, or to the least refusal that holds
-//! of it: the public functions of this crate. block_forms calls them for each value and each
-//! statement of a block; tests do too.
+//! of it: the public functions of this crate. Tests do too.
 ghost use Rattle.std.specs.Prelude.{◌≡◌, ◌≤◌, ◌==◌, ℕ, List, false, length, IfOk, Ok, Err, if◌then◌else◌};
 ghost use Rattle.std.specs.List.{All};
 ghost use Rattle.nc_number.specs.declared.fault.Failing.TheVariants.{Fault};

@@ -1,7 +1,6 @@
 //! Why the reading of a macro expression or statement stops, and the refusal that this is.
-//! reading.rt and statements.rt stop so, parse.rt makes the refusal of it. macro_limits says of
-//! each `Stop` what stands there, for the laws of block_forms. A new one needs its row in
-//! specs/Limits and in macro_limits/specs/Refusals.
+//! reading.rt and statements.rt stop so, parse.rt makes the refusal of it. A new one needs its row
+//! in specs/Limits and in the laws of refusals.
 ghost use Rattle.std.specs.Prelude.{◌≡◌};
 ghost use Rattle.macro_expr.specs.Limits.{refusal, cause_beside};
 

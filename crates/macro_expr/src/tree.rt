@@ -1,7 +1,6 @@
-//! The trees of expressions and statements of a tape. macro_eval makes code of them; block_forms,
-//! block_values, path_state and race_report go by their variants. A new variant needs its line in
-//! specs/Tree and specs/Grammar, in the readers (specs/Reading, Statements and Words, and src), and
-//! in macro_eval.
+//! The trees of expressions and statements of a tape. A new variant needs its line in specs/Tree and
+//! specs/Grammar, in the readers (specs/Reading, Statements and Words, and src), and in their
+//! evaluation.
 ghost use Rattle.std.specs.Prelude.{◌≡◌};
 ghost use Rattle.macro_expr.specs.Limits.{refusal};
 

@@ -1,7 +1,7 @@
 //! The words of macro expressions and statements at the head of a text: keywords, operators,
 //! functions, and runs of letters or digits. reading.rt, statements.rt and limits.rt read with it;
-//! proofs of macro_limits and open_forms speak of `Keyword` and `Rank`. Each table of words stands
-//! in specs/Words too.
+//! laws of the crates above speak of `Keyword` and `Rank`. Each table of words stands in specs/Words
+//! too.
 ghost use Rattle.std.specs.Prelude.{◌≡◌, ◌≤◌, ◌==◌, not, length, take, drop, position, unwrap_or, IfSome};
 ghost use Rattle.std.specs.Option.{option_map};
 ghost use Rattle.std.specs.Char.{is_ascii_digit};

@@ -1,6 +1,5 @@
 -- Why a macro expression or statement does not read, over the grammar of macro_expr: what stands
--- where reading stops. For the law `reading_stops_for_a_cause` (src/refusals.rt); block_forms cites
--- it in its own laws.
+-- where reading stops. For the law `reading_stops_for_a_cause` (src/refusals.rt).
 use Rattle.std.specs.Prelude.{◌≡◌, ◌<◌, ℕ, true, false, List, ◌++◌, codes}
 use Rattle.std.specs.Char.{is_ascii_digit}
 use Rattle.std.specs.List.{list_all}

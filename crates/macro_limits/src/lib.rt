@@ -1,9 +1,8 @@
 //! The laws of the refusals of a macro expression or statement, over its grammar: each limit has
 //! its refusal, and no other text has it; and where reading stops its cause stands.
 //!
-//! No code stands on this crate; block_forms takes `reading_stops_for_a_cause` for its own laws.
-//! The parser of `macro_expr` looks for a number with too many digits and for a sixth open bracket
-//! only if a text does not read: a text that reads has neither.
+//! No code stands on this crate. The parser of `macro_expr` looks for a number with too many digits
+//! and for a sixth open bracket only if a text does not read: a text that reads has neither.
 #![tactic(auto)]
 
 mod law;

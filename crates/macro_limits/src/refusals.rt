@@ -1,5 +1,5 @@
 //! The law of readings of macro expressions and statements that stop: refusals 20, 22, 23, 24 and
-//! 64, the range of a sequence number. block_forms takes it for its laws on refused blocks.
+//! 64, the range of a sequence number.
 ghost use Rattle.std.specs.Prelude.{◌≡◌, ℕ, List, Err};
 ghost use Rattle.macro_expr.specs.declared.stop.Stop.{Stop};
 ghost use Rattle.macro_expr.specs.Grammar.{IsExpression, IsStatement};

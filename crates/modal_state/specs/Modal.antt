@@ -1,6 +1,5 @@
--- What the G codes of a block leave in force: of each group the last code of the block.
--- block_values, path_state, two_path, move_list and nc_restart cite it. Which code is of which
--- group is in code_tables.
+-- What the G codes of a block leave in force: of each group the last code of the block. Which code
+-- is of which group is in code_tables.
 use Rattle.std.specs.Prelude.{ℕ, Bool, true, false, ◌+◌, ◌-◌, List, Option, Some, None, unwrap_or, ◌==◌, if◌then◌else◌}
 use Rattle.std.specs.Option.{option_map, option_map_or}
 use Rattle.nc_number.specs.declared.value.Var.TheVariants.{Vacant}

@@ -1,5 +1,5 @@
 -- The modal state of a path: what one block leaves in force for the next. A code stands as its
--- number: 54 is G54. block_values, path_state, two_path and 3 more crates above cite it.
+-- number: 54 is G54.
 use Rattle.std.specs.Prelude.{◌≡◌, ℕ, Bool, ◌≤◌, IsTrue, Option, IfSome}
 use Rattle.nc_number.specs.declared.value.Var.{Var}
 use Rattle.nc_number.specs.declared.point.Point.{Point}

@@ -1,4 +1,4 @@
--- What the F, S and T words of a block leave in force. block_values and two_path cite it.
+-- What the F, S and T words of a block leave in force.
 use Rattle.std.specs.Prelude.{ℕ, Bool, true, nat_le, if◌then◌else◌, Option, Some, None, unwrap_or}
 use Rattle.std.specs.Option.{option_map_or}
 use Rattle.nc_number.specs.declared.value.Var.{Var}

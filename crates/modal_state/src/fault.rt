@@ -1,5 +1,4 @@
-//! Why a block's words were not taken: the tool offset of T does not exist. block_values makes the
-//! alarm of the path of it.
+//! Why a block's words were not taken: the tool offset of T does not exist.
 ghost use Rattle.std.specs.Prelude.{◌≡◌};
 
 use nc_number::Cause;

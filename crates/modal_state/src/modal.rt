@@ -1,6 +1,5 @@
-//! What is in force for a path: the type, and what a block's G codes and words make of it.
-//! path_state keeps it and block_values takes a block's codes and words; the words F, S and T
-//! themselves are in words.rt.
+//! What is in force for a path: the type, and what a block's G codes and words make of it. The words
+//! F, S and T themselves are in words.rt.
 ghost use Rattle.std.specs.Prelude.{◌≡◌, ◌≤◌, ◌∷◌, [], IsTrue, IfSome, OnOk, OnErr};
 ghost use Rattle.std.specs.Result.{result_err};
 ghost use Rattle.nc_number.specs.Position.{IsPosition};

@@ -1,4 +1,4 @@
-//! The F, S and T words of a block: what they set. block_values gives them; modal.rt takes them.
+//! The F, S and T words of a block: what they set. modal.rt takes them.
 ghost use Rattle.std.specs.Prelude.{◌≡◌};
 ghost use Rattle.std.specs.Result.{result_err};
 ghost use Rattle.modal_state.specs.Said.{said_or, tool_offset};

@@ -1,6 +1,4 @@
--- The moves of a block, by the kind of its code. The moves of cycles (G90, G92, G94) are in
--- turn_cycles.
--- block_values, run_table, turn_cycles and two_path use these words.
+-- The moves of a block, by the kind of its code. The moves of cycles (G90, G92, G94) are not here.
 use Rattle.std.specs.Prelude.{◌≡◌, ℕ, Bool, true, false, ◌||◌, if◌then◌else◌, List, [], ◌∷◌, All, is_some, IfSome, Result, Ok}
 use Rattle.code_tables.specs.declared.kind.CodeKind.{CodeKind}
 use Rattle.code_tables.specs.declared.kind.CodeKind.TheVariants.{Rapid, Feed, ArcCw, ArcCcw, Thread, Home, Machine}

@@ -1,5 +1,4 @@
 -- The centre of an arc, as I and K or as R gives it.
--- block_values, two_path and zone_area use these words.
 use Rattle.std.specs.Prelude.{ℕ, ◌≤◌, ℤ, pos, unsigned_abs, Option, Some, None, IfSome, unwrap_or}
 use Rattle.nc_moves.specs.declared.motion.Centre.{Centre}
 use Rattle.nc_moves.specs.declared.motion.Centre.TheVariants.{Offset, Radius}

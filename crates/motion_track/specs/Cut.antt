@@ -1,5 +1,4 @@
 -- Straight cuts and threads, which need a feed that is not 0.
--- turn_cycles and two_path use these words.
 use Rattle.std.specs.Prelude.{Bool, if◌then◌else◌, ℤ, Result, Ok, Err}
 use Rattle.nc_number.specs.declared.point.Point.{Point}
 use Rattle.nc_number.specs.Arithmetic.{is_zero}

@@ -1,5 +1,4 @@
 -- Why a block has no move: an alarm, by its cause.
--- run_table and two_path use these words.
 use Rattle.nc_number.specs.declared.cause.Cause.{Cause}
 use Rattle.nc_number.specs.Causes.{cause_number}
 use Rattle.motion_track.specs.declared.fault.MotionFault.{MotionFault}

@@ -1,5 +1,4 @@
 -- Where the axis words of a block lead, in 0.001 mm, X a diameter.
--- turn_cycles and two_path use these words.
 use Rattle.std.specs.Prelude.{if◌then◌else◌, ℤ, ◌+ℤ◌, Result, Ok, Err}
 use Rattle.nc_number.specs.declared.point.Point.{Point}
 use Rattle.nc_number.specs.Position.{is_position}

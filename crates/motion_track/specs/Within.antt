@@ -1,5 +1,4 @@
 -- How far the moves of a block reach. A bound for the numbers of the machine, in 0.001 mm.
--- block_values, path_state, turn_cycles, two_path, zone_area and zone_check use these words.
 use Rattle.std.specs.Prelude.{ℕ, List, All, Option, Some, None, IfSome}
 use Rattle.nc_number.specs.Position.{IsPosition}
 use Rattle.nc_moves.specs.declared.motion.Move.{Move}

@@ -1,5 +1,4 @@
-//! The moves of a block. The moves of cycles (G90, G92, G94) are in turn_cycles.
-//! block_values calls `track`, and turn_cycles reads a `BlockMotion`; tests call `return_home`.
+//! The moves of a block. The moves of cycles (G90, G92, G94) are not here. Tests call `return_home`.
 ghost use Rattle.std.specs.Prelude.{◌≡◌, ◌≤◌, [], ◌∷◌, length, IfOk};
 ghost use Rattle.nc_number.specs.Position.{IsPosition};
 ghost use Rattle.motion_track.specs.Block.{IsBlockWithin, AllEnd, KeepsUnnamed, moves_due, moves_of};

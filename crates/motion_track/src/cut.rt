@@ -1,6 +1,5 @@
-//! Straight cuts: lines (G01) and threads (G32).
-//! block.rt of this crate calls `line` and `thread`; circle.rt and turn_cycles call `is_feed_zero`.
-//! turn_cycles and two_path cite the definitions (specs/Cut.antt).
+//! Straight cuts: lines (G01) and threads (G32). block.rt of this crate calls `line` and `thread`;
+//! circle.rt calls `is_feed_zero`.
 ghost use Rattle.std.specs.Prelude.{◌≡◌};
 ghost use Rattle.nc_number.specs.Arithmetic.{is_zero};
 ghost use Rattle.motion_track.specs.Cut.{line_of, thread_of};

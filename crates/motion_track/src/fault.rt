@@ -1,5 +1,4 @@
 //! Why a block has no move: an alarm, by its number. The causes are in nc_number.
-//! turn_cycles and block_values answer it too.
 ghost use Rattle.std.specs.Prelude.{◌≡◌};
 
 use nc_number::Cause;

@@ -5,10 +5,7 @@
 //! its path to its moves, or to the alarm that comes first. Points are machine positions in 0.001
 //! mm, X a diameter. No call overflows at any length that it may be given. An arc by its centre is
 //! refused exactly where its end is farther than 0.010 mm from the circle through its start, and
-//! `arcs_end_on_their_circle` is the law that says so. block_values calls `track`, and leans on its
-//! first clause, which is that table, and on its last: every move ends at a position. turn_cycles
-//! takes `target` and `is_feed_zero` for the moves of cycles. path_state, two_path, zone_area and
-//! zone_check take `LONGEST`.
+//! `arcs_end_on_their_circle` is the law that says so.
 #![tactic(auto)]
 
 mod block;

@@ -1,6 +1,4 @@
 //! Where a move ends, in 0.001 mm, X a diameter.
-//! turn_cycles calls `target`; block_values, path_state, turn_cycles, two_path, zone_area and
-//! zone_check take `LONGEST`.
 ghost use Rattle.std.specs.Prelude.{◌≡◌, ◌≤◌, unsigned_abs, IfOk};
 ghost use Rattle.nc_number.specs.Position.{IsWithin, IsPosition};
 ghost use Rattle.nc_number.specs.Axes.{IsAxisWithin};

@@ -1,5 +1,5 @@
--- The lemmas of this crate, each file after those that it uses. lathe_top takes Streams; the others
--- are for the proofs of this crate.
+-- The lemmas of this crate, each file after those that it uses. The others are for the proofs of
+-- this crate.
 pub mod CauseByNumber
 pub mod EachFrom
 pub mod Fixed

@@ -1,5 +1,4 @@
 -- The lines of moves, as a turret writes them and as a report has them.
--- lathe_top (proofs/StreamsWritten) and the proofs of src/laws.rt take these facts.
 use Rattle.std.proofs.Common.{◌≡◌, List, [], ◌∷◌, ◌++◌, map, refl, sym, ap, ◌∙◌, append_assoc}
 use Rattle.std.specs.List.{flat_map}
 use Rattle.nc_number.specs.declared.path.Path.{Path}

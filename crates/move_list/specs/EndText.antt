@@ -1,6 +1,6 @@
--- The last lines of a report: how many records there are, and how the run ended.
--- A report and a trace (trace_list) end with both lines; Summary and State take the line of the
--- records, and a trace tells an alarm by `cause_text`.
+-- The last lines of a report: how many records there are, and how the run ended. A report and a
+-- trace end with both lines; Summary and State take the line of the records, and a trace tells an
+-- alarm by `cause_text`.
 use Rattle.std.specs.Prelude.{ℕ, ◌==◌, if◌then◌else◌, List, [], ◌++◌, codes, decimal}
 use Rattle.nc_number.specs.declared.cause.Cause.TheVariants.{MacroAlarm}
 use Rattle.nc_number.specs.declared.path.Path.{Path}

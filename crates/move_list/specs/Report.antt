@@ -1,5 +1,5 @@
 -- The report of a history: for each path its records' moves in order, the number of records, and
--- how the run ended. lathe_calls, lathe_top and trace_list cite it.
+-- how the run ended.
 use Rattle.std.specs.Prelude.{ℕ, List, ◌++◌, length, codes, decimal}
 use Rattle.std.specs.List.{flat_map}
 use Rattle.nc_number.specs.declared.path.Path.{Path}

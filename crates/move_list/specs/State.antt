@@ -1,6 +1,5 @@
 -- The text of a machine, the answer to `state`: of each path where it stands and what it holds,
 -- then what both share.
--- lathe_calls, lathe_looks and lathe_top cite it.
 use Rattle.std.specs.Prelude.{◌≡◌, ℕ, ◌+◌, ◌-◌, ◌≤◌, ◌<◌, ◌==◌, Bool, ◌&&◌, if◌then◌else◌, List, [], ◌∷◌, ◌++◌, length, Option, Some, None, unsigned_abs, codes, decimal}
 use Rattle.std.specs.List.{flat_map}
 use Rattle.nc_number.specs.declared.point.TheConstants.{TOOL_OFFSETS}

@@ -1,5 +1,5 @@
 -- The summary of a history: how long the tapes of the pair are, what the history comes to, and
--- where both paths end. It is the answer to `make N` if both paths have ended; lathe_top cites it.
+-- where both paths end. It is the answer to `make N` if both paths have ended.
 use Rattle.std.specs.Prelude.{ℕ, List, ◌++◌, length, filter, codes, decimal}
 use Rattle.std.specs.List.{sum_by}
 use Rattle.nc_number.specs.declared.path.Path.{Path}

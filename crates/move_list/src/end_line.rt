@@ -1,7 +1,5 @@
 //! The last lines of a report: how many records there are, and how the run ended. Their text is
-//! defined in specs/EndText.antt.
-//! report.rt, summary.rt and state.rt use them. trace_list ends a trace with them, and tells an
-//! alarm's cause by `add_cause`.
+//! defined in specs/EndText.antt. report.rt, summary.rt and state.rt use them.
 ghost use Rattle.std.specs.Prelude.{◌≡◌, ◌+◌, ◌≤◌, ◌++◌, length};
 ghost use Rattle.text_pieces.specs.declared.piece.TheConstants.{MOST_BYTES};
 ghost use Rattle.nc_number.specs.Causes.{cause_of};

@@ -1,5 +1,4 @@
-//! Laws of the report's lines, each the contract of a function that does nothing. The proofs of
-//! lathe_top take the lemmas behind them (proofs/Streams.antt).
+//! Laws of the report's lines, each the contract of a function that does nothing.
 ghost use Rattle.std.specs.Prelude.{◌≡◌, ◌∷◌, ◌++◌, List, length, map};
 ghost use Rattle.nc_number.specs.declared.path.Path.{Path};
 ghost use Rattle.nc_number.specs.declared.point.Point.{Point};

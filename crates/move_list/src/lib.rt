@@ -3,9 +3,7 @@
 //!
 //! [`write_report`] does the records of a legal history again, once, and puts for each path its
 //! records' moves, the number of records and how the run ended. [`write_state`] puts what a machine
-//! holds. lathe_calls, lathe_looks and lathe_top lean on this: on Ok the sink holds what it held,
-//! followed by exactly that text; on an error it holds a prefix of it. trace_list takes the last
-//! lines and the text of an alarm's cause.
+//! holds. On an error it holds a prefix of it.
 #![tactic(auto)]
 
 mod condition;

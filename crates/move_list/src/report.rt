@@ -1,6 +1,5 @@
 //! The report of a history, the answer to `moves` and the end of `run`. Its text is defined in
 //! specs/Report.antt, the line of a move in move_text.
-//! lathe_calls, lathe_looks and lathe_top write it.
 ghost use Rattle.std.specs.Prelude.{◌≡◌, ◌≤◌, ◌++◌, length};
 ghost use Rattle.std.specs.List.{flat_map};
 ghost use Rattle.nc_number.specs.declared.limits.TheConstants.{MOST_RECORDS};

@@ -1,6 +1,5 @@
 //! The text of a machine, put in order; its single lines are in standing.rt and listing.rt. It is
 //! defined in specs/State.antt.
-//! lathe_calls and lathe_looks write it.
 ghost use Rattle.std.specs.Prelude.{◌++◌};
 ghost use Rattle.nc_number.specs.declared.path.Path.TheVariants.{One, Two};
 ghost use Rattle.nc_number.specs.Both.{of_path};

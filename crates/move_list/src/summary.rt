@@ -1,6 +1,5 @@
 //! The summary of a history of a made pair: the answer to `make N` if both paths have ended. Its
 //! text is defined in specs/Summary.antt.
-//! lathe_top writes it.
 ghost use Rattle.std.specs.Prelude.{◌≡◌, ◌+◌, ◌≤◌, ◌++◌, length, codes};
 ghost use Rattle.text_pieces.specs.declared.piece.TheConstants.{MOST_BYTES};
 ghost use Rattle.nc_number.specs.declared.limits.TheConstants.{MOST_RECORDS};

@@ -1,2 +1,2 @@
--- How a move is printed. move_list, trace_list, turret_lines and lathe_top cite it.
+-- How a move is printed.
 pub mod MoveText

@@ -1,6 +1,5 @@
--- How a place is printed, and a move with the line of the tape whose block made it.
--- move_list, trace_list, turret_lines and lathe_top cite this. Lengths and numbers are written as
--- text_pieces says.
+-- How a place is printed, and a move with the line of the tape whose block made it. Lengths and
+-- numbers are written as text_pieces says.
 use Rattle.std.specs.Prelude.{ℕ, Bool, if◌then◌else◌, List, ◌++◌, ℤ, codes, decimal}
 use Rattle.nc_number.specs.declared.point.Point.{Point}
 use Rattle.nc_number.specs.Printed.{value_text, length_text, last_digits}

@@ -1,8 +1,8 @@
 //! How a turret's moves are printed.
 //!
 //! A place and a move are each a line: where a turret begins, and what a block asked for, after the
-//! line of the tape whose block it was. The report of a run (move_list), its trace (trace_list) and
-//! a turret that writes what it gets (turret_lines) print the same lines.
+//! line of the tape whose block it was. The report of a run, its trace and a turret that writes what
+//! it gets print the same lines.
 #![tactic(auto)]
 
 mod line;

@@ -1,6 +1,5 @@
-//! How a place and a move are printed, each as a line.
-//! A piece holds at most 512 bytes; the numbers in the clauses are the room that a text may take.
-//! move_list, trace_list and turret_lines print with these.
+//! How a place and a move are printed, each as a line. A piece holds at most 512 bytes; the numbers
+//! in the clauses are the room that a text may take.
 ghost use Rattle.std.specs.Prelude.{◌≡◌, ◌+◌, ◌≤◌, [], ◌++◌, length};
 ghost use Rattle.text_pieces.specs.declared.piece.TheConstants.{MOST_BYTES};
 ghost use Rattle.move_text.specs.MoveText.{centre_text, feed_text, line_text, move_text, placed_text};

@@ -1,7 +1,6 @@
 -- A block asks only for variables that its text names: the first half of the law
 -- `a_block_does_as_its_text_says` (src/laws.rt). Each lemma says of one part of a block: what holds
 -- (P) of each variable that the part names holds of the one that it needs.
--- race_order takes the last lemma.
 use Rattle.std.proofs.Common.{◌≡◌, ℕ, ◌||◌, Bool, true, false, List, [], ◌∷◌, ◌++◌, Option, Some, None, Result, Ok, Err, ℤ, refl, subst, if◌then◌else◌}
 use Rattle.std.proofs.lemmas.Bool.{eq-eqb, or_right}
 use Rattle.nc_number.specs.declared.cause.Cause.{Cause}

@@ -1,7 +1,6 @@
 -- A block writes only variables that it may write by its text: the second half of the law
 -- `a_block_does_as_its_text_says` (src/laws.rt). Each lemma says of one part of a block: what holds
 -- (P) of each variable that the part may write holds of the one that it writes.
--- race_order takes the last lemma.
 use Rattle.std.proofs.Common.{◌≡◌, ◌==◌, ℕ, Bool, true, false, List, [], ◌∷◌, Option, Some, None, Result, Ok, Err, refl, subst}
 use Rattle.std.proofs.lemmas.Bool.{eq-eqb}
 use Rattle.nc_number.specs.declared.cause.Cause.{Cause}

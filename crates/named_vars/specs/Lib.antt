@@ -1,3 +1,3 @@
 -- The words of the contract of named_vars: which variables a block names and may write, by its text
--- alone. race_order and race_report cite them.
+-- alone.
 pub mod Names

@@ -1,8 +1,6 @@
 -- Which variables a block names and which it may write, by its text alone. A variable whose number
 -- is computed may be any. As the block runs it reads and writes no other shared variable: the law
 -- of src/laws.rt.
--- race_order defines races by these words; race_report looks for the blocks that name a variable or
--- may write it.
 use Rattle.std.specs.Prelude.{ℕ, ◌==◌, ◌||◌, Bool, true, false, List, [], ◌∷◌, Option, Some, None}
 use Rattle.macro_expr.specs.Tree.{Tree, Number, Variable, VariableOf, Signed, Applied, Joined, Named, Fixed, Computed, Sentence, Assign, IfThen, trees_of_sentence, sentence_of}
 use Rattle.block_words.specs.declared.word.FlowWord.{FlowWord}

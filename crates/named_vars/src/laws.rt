@@ -1,6 +1,5 @@
 //! The law that a block reads and writes only the shared variables that its text names: on it rests
-//! that races can be found without running a pair.
-//! No crate calls the function; race_order takes the two lemmas of its proof.
+//! that races can be found without running a pair. No crate calls the function.
 ghost use Rattle.std.specs.Prelude.{◌≡◌, ◌∷◌, ℕ, true, List, Some};
 ghost use Rattle.nc_number.specs.declared.value.Var.{Var};
 ghost use Rattle.nc_moves.specs.declared.motion.Move.{Move};

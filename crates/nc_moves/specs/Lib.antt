@@ -1,3 +1,2 @@
--- What callers read: where a move ends. block_values, motion_track, zone_area and zone_check take
--- it.
+-- What callers read: where a move ends.
 pub mod Motion

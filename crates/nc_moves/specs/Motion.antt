@@ -1,5 +1,4 @@
--- Where a turret stands after a move, in machine coordinates. block_values, motion_track, zone_area
--- and zone_check cite it.
+-- Where a turret stands after a move, in machine coordinates.
 use Rattle.std.specs.Prelude.{Option, Some, None}
 use Rattle.nc_number.specs.declared.point.Point.{Point}
 use Rattle.nc_moves.specs.declared.motion.Move.{Move}

@@ -1,5 +1,4 @@
-//! The alarm that ended a path. Its numbers are those of nc_number. two_path keeps it, nc_outside
-//! ends a run by it, and move_list, trace_list and lathe_calls tell it.
+//! The alarm that ended a path. Its numbers are those of nc_number.
 use nc_number::{Path, Value};
 
 /// The alarm that ended a path.

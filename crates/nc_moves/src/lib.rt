@@ -1,8 +1,7 @@
 //! What a block asks a turret to do (`Move`), the moves of one block (`MoveList`, and with its line
 //! `Moves`), and the alarm that ends a path (`Alarm`).
 //!
-//! motion_track, path_state and two_path answer these; who takes them is said in the contracts of
-//! the outside (nc_outside).
+//! Who takes them is said in the contracts of the outside.
 #![tactic(auto)]
 
 mod alarm;

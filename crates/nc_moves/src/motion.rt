@@ -1,5 +1,5 @@
-//! What a block asks a turret to do, and the moves of one block, at most eight. motion_track,
-//! turn_cycles and block_values make them; turrets, reports, traces and zones take them.
+//! What a block asks a turret to do, and the moves of one block, at most eight. Turrets, reports,
+//! traces and zones take them.
 ghost use Rattle.std.specs.Prelude.{◌≡◌, ◌+◌, ◌<◌, ◌≤◌, [], ◌∷◌, ◌++◌, length};
 ghost use Rattle.nc_moves.specs.Motion.{end_of};
 

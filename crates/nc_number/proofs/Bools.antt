@@ -1,5 +1,4 @@
--- Facts of truth values. block_order, line_text, two_path and 16 more crates above take them, and
--- LiteralsThatRead.antt of this crate.
+-- Facts of truth values.
 use Rattle.std.proofs.Common.{◌≡◌, ◌⊎◌, inl, inr, Bool, true, false, ◌&&◌, ◌||◌, not, refl}
 
 -- an `or` is true if its left side is

@@ -1,5 +1,4 @@
--- Facts of counts and of their tests, and of numbers that may be missing. block_order, two_path,
--- tape_relation and 11 more crates above take them; this crate takes none.
+-- Facts of counts and of their tests, and of numbers that may be missing. This crate takes none.
 use Rattle.std.proofs.Common.{◌≡◌, ◌==◌, ◌+◌, ◌<◌, ◌≤◌, ◌⊎◌, inl, inr, ℕ, Bool, true, false, nat_lt, nat_le, min, Option, Some, None, refl, arith}
 use Rattle.std.proofs.lemmas.Bool.Decides.{nat_tests}
 use Rattle.nc_number.specs.Options.{lesser}

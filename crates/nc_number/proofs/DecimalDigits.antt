@@ -1,5 +1,5 @@
 -- Runs of decimal digits, and the numbers that they write: for the loop of `number`
--- (src/literal.rt) and the laws on literals. tape_relation takes some facts too.
+-- (src/literal.rt) and the laws on literals.
 use Rattle.std.proofs.Common.{◌≡◌, ◌==◌, ℕ, ◌+◌, ◌-◌, ◌*◌, ◌^◌, ◌<◌, ◌≤◌, true, false, not, List, [], ◌∷◌, length, get_or, take, drop, refl, ap, length-drop, ◌∙◌, sym, subst, inl, inr, arith, rules, suc}
 use Rattle.std.specs.List.{position_or_len}
 use Rattle.std.specs.Char.{digit_value, is_ascii_digit}

@@ -1,5 +1,4 @@
--- Facts of the tests of whole numbers. cycle_form, rough_cycle and zone_area take them; this crate
--- takes none.
+-- Facts of the tests of whole numbers. This crate takes none.
 use Rattle.std.proofs.Common.{◌≡◌, true, ℤ, ◌≤ℤ◌, ◌<ℤ◌, arith}
 use Rattle.std.specs.Prelude.{int_lt, int_le}
 use Rattle.std.proofs.lemmas.Int.{ints}

@@ -1,5 +1,5 @@
 -- The last digits of a number, and what is left of them without the zeros at their end: for the
--- laws on printing (ReadsBack.antt). tape_relation takes some facts too.
+-- laws on printing (ReadsBack.antt).
 use Rattle.std.proofs.Common.{◌≡◌, ◌&&◌, ◌<◌, ◌≤◌, ◌+◌, ◌-◌, ◌*◌, ◌/◌, ◌%◌, ◌^◌, ℕ, zero, suc, Bool, true, false, cond, List, [], ◌∷◌, length, refl, ◌∙◌, arith, length-append}
 use Rattle.std.specs.List.{list_all}
 use Rattle.std.specs.Char.{digit_value, is_ascii_digit}

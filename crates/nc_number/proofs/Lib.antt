@@ -1,6 +1,6 @@
 -- The lemmas of this crate, by name. Those of literals, printing and arithmetic serve the laws of
 -- src/laws.rt. Counts, Integers and Points are for other crates alone; Bools, CauseTable and Roots
--- are for them too, and tape_relation takes facts of DecimalDigits, LastDigits and Spellings.
+-- are for them too.
 pub mod Bools
 pub mod CauseTable
 pub mod Counts

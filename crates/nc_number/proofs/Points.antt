@@ -1,5 +1,5 @@
--- When two points are equal, and that a point which passes the test of a position is one.
--- motion_track, rough_cycle and zone_area take them; this crate takes none.
+-- When two points are equal, and that a point which passes the test of a position is one. This
+-- crate takes none.
 use Rattle.std.proofs.Common.{◌≡◌, true, ℤ, ap, ◌∙◌, arith}
 use Rattle.std.proofs.lemmas.Bool.Decides.{nat_tests}
 use Rattle.nc_number.specs.declared.point.Point.{Point}

@@ -1,5 +1,5 @@
 -- The greatest number whose square is at most another: for the root of the control (`sqrt`) and the
--- law on it. motion_track and zone_area take `root_le`.
+-- law on it.
 use Rattle.std.proofs.Common.{◌≡◌, ◌<◌, ◌≤◌, ◌*◌, ◌+◌, ℕ, zero, suc, Bool, true, false, cond, refl, arith, inl, inr}
 use Rattle.std.specs.Prelude.{nat_le}
 use Rattle.std.proofs.lemmas.Bool.{cases_lt, leb-true, leb-false}

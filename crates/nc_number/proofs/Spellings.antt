@@ -1,6 +1,6 @@
 -- A literal is what the grammar spells (specs/Spelling.antt), and its parts are those of the
 -- spelling: for the law `a_literal_is_a_sign_digits_and_a_fraction` (src/laws.rt), ReadsBack and
--- LiteralsThatRead. A body is what stands after the sign. tape_relation takes some facts too.
+-- LiteralsThatRead. A body is what stands after the sign.
 use Rattle.std.proofs.Common.{◌≡◌, ◌==◌, ◌≤◌, ℕ, Bool, true, false, cond, List, [], ◌∷◌, ◌++◌, length, drop, get_or, refl, ap, sym, subst, ◌∙◌, arith, inl, inr, Option, Some, None, is_some, nat_lt}
 use Rattle.std.specs.List.{list_any, position_or_len, before_first, after_first}
 use Rattle.std.specs.Char.{is_ascii_digit}

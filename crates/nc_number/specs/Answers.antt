@@ -1,6 +1,4 @@
--- A call answers what its definition answers, unless memory ran out. macro_expr, nc_text,
--- tape_expand and 10 more crates above say so by these words in their contracts; proofs of
--- lathe_looks take `Fails` and `FailsBy`.
+-- A call answers what its definition answers, unless memory ran out.
 use Rattle.std.specs.Prelude.{◌≡◌, Result, Ok, Err}
 use Rattle.nc_number.specs.declared.fault.Failing.{Failing}
 use Rattle.nc_number.specs.declared.fault.Failing.TheVariants.{Fault, NoMemory}

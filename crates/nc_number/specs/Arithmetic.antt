@@ -1,6 +1,6 @@
 -- The arithmetic of values, as mathematics on whole counts of millionths. A value is such a count
 -- in the range of Range.antt; the functions of src/arithmetic.rt, bits.rt and rounding.rt compute
--- these. macro_eval, block_values, motion_track and 8 more crates above cite it.
+-- these.
 use Rattle.std.specs.Prelude.{ℕ, zero, suc, ◌+◌, ◌*◌, ◌/◌, ◌%◌, Bool, not, ◌==◌, ◌&&◌, nat_le, if◌then◌else◌, ℤ, pos, ◌+ℤ◌, ◌-ℤ◌, ◌*ℤ◌, unsigned_abs, int_div, int_rem, bit_and, bit_or, bit_xor, Option, Some, None, Result, Ok, Err}
 use Rattle.std.specs.Int.{is_negative, div_ceil}
 use Rattle.nc_number.specs.declared.fault.NumberFault.{NumberFault}

@@ -1,5 +1,4 @@
 -- What a block says of an axis: nothing, an absolute length or an incremental one, in 0.001 mm.
--- block_values, motion_track and turn_cycles cite it.
 use Rattle.std.specs.Prelude.{ℕ, ◌≤◌, Bool, true, false, ℤ, unsigned_abs, Option, Some, None}
 use Rattle.nc_number.specs.declared.axis.Axis.{Axis}
 use Rattle.nc_number.specs.declared.axis.Axis.TheVariants.{Keep, To, By}

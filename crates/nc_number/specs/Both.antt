@@ -1,5 +1,5 @@
--- One thing for each path, such as its tape, its place or its turret. two_path, seat_table,
--- run_table and 7 more crates above, tests apart, cite it; src/both.rt computes `of_path`.
+-- One thing for each path, such as its tape, its place or its turret. Src/both.rt computes
+-- `of_path`.
 use Rattle.nc_number.specs.declared.path.Path.{Path}
 use Rattle.nc_number.specs.declared.path.Path.TheVariants.{One, Two}
 use Rattle.nc_number.specs.declared.both.Both.{Both}

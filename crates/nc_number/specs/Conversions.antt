@@ -1,5 +1,4 @@
--- What a literal counts where its address is a length or a time, in thousandths. block_values,
--- cycle_form and field_lines cite it.
+-- What a literal counts where its address is a length or a time, in thousandths.
 use Rattle.std.specs.Prelude.{ℤ, pos, if◌then◌else◌}
 use Rattle.nc_number.specs.declared.literal.Literal.{Literal}
 use Rattle.nc_number.specs.Arithmetic.{nearest_quotient}

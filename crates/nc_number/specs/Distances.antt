@@ -1,5 +1,4 @@
--- How far two lengths are apart, and whether a length lies between two others. rough_cycle and
--- zone_area cite it.
+-- How far two lengths are apart, and whether a length lies between two others.
 use Rattle.std.specs.Prelude.{ℕ, ◌⊎◌, ℤ, ◌-ℤ◌, ◌≤ℤ◌, unsigned_abs}
 
 -- how far two lengths are apart

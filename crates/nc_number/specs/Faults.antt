@@ -1,5 +1,4 @@
--- Counts of the faults of a device of the outside, such as a disk: they never fall. disk_model,
--- nc_outside, real_outside and 4 more crates above cite them.
+-- Counts of the faults of a device of the outside, such as a disk: they never fall.
 use Rattle.std.specs.Prelude.{ℕ, ◌+◌, ◌-◌, ◌^◌, ◌≤◌, min}
 
 -- a count of faults after one more, which stays at the greatest that it can be

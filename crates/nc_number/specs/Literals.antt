@@ -1,6 +1,5 @@
 -- A literal of the tape is an optional sign, digits, and optionally a point and digits, with a
 -- digit in all. Here is when a text is one and what it means; Spelling.antt has the grammar.
--- line_text, macro_expr, field_lines and 6 more crates above cite it.
 use Rattle.std.specs.Prelude.{ℕ, ◌+◌, ◌-◌, ◌*◌, ◌^◌, Bool, false, not, ◌==◌, ◌&&◌, ◌||◌, nat_lt, if◌then◌else◌, List, [], ◌∷◌, length, drop, ℤ, IsTrue, Option, Some, None, Result, Ok, Err}
 use Rattle.std.specs.Char.{is_ascii_digit}
 use Rattle.std.specs.List.{list_any, list_all, position_or_len, before_first, after_first}

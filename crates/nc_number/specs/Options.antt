@@ -1,6 +1,5 @@
 -- Steps that may have no value, one after the other: `do` over options. And numbers that may be
--- missing. For steps that may fail see Results.antt. field_lines, cell_settings, block_order and 5
--- more crates above cite it.
+-- missing. For steps that may fail see Results.antt.
 use Rattle.std.specs.Prelude.{ℕ, Bool, false, ◌==◌, min, Option, Some, None, option_and_then}
 
 -- the second step goes on with the first one's value; if that is missing, so is that of both

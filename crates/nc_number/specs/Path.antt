@@ -1,5 +1,4 @@
--- The two paths of the machine: their numbers 1 and 2, and which is the other. cell_settings,
--- run_records, two_path and 13 more crates above cite it.
+-- The two paths of the machine: their numbers 1 and 2, and which is the other.
 use Rattle.std.specs.Prelude.{ℕ, Bool, true, false, ◌==◌, Option, Some, None, if◌then◌else◌}
 use Rattle.nc_number.specs.declared.path.Path.{Path}
 use Rattle.nc_number.specs.declared.path.Path.TheVariants.{One, Two}

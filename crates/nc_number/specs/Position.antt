@@ -1,5 +1,4 @@
--- Points of the X and Z plane in 0.001 mm, and which may be a position or an offset. offset_store,
--- motion_track, cell_settings and 9 more crates above cite it.
+-- Points of the X and Z plane in 0.001 mm, and which may be a position or an offset.
 use Rattle.std.specs.Prelude.{ℕ, pos, ◌≤◌, Bool, ◌&&◌, nat_le, unsigned_abs}
 use Rattle.nc_number.specs.declared.point.Point.{Point}
 

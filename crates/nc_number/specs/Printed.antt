@@ -1,6 +1,5 @@
 -- How values and lengths are printed, as bytes: 45 is the minus, 46 the point, 48 the digit 0.
 -- src/printing.rt prints so (`value_text` is its `text`), and the laws of src/laws.rt read it back.
--- text_pieces, move_text, tape_expand and 3 more crates above cite it.
 use Rattle.std.specs.Prelude.{ℕ, zero, suc, ◌+◌, ◌/◌, ◌%◌, Bool, ◌==◌, ◌&&◌, if◌then◌else◌, List, [], ◌∷◌, ◌++◌, ℤ, unsigned_abs, decimal}
 use Rattle.std.specs.Fmt.{sign_text}
 use Rattle.std.specs.Int.{is_negative}

@@ -1,5 +1,4 @@
--- The range of a value, in millionths. The type of values keeps it (src/value.rt), and run_records
--- reads no number outside it.
+-- The range of a value, in millionths. The type of values keeps it (src/value.rt).
 use Rattle.std.specs.Prelude.{ℤ, Bool, ◌≤◌, nat_le, unsigned_abs}
 use Rattle.nc_number.specs.declared.limits.TheConstants.{LARGEST_MICRO}
 

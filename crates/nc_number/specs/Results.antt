@@ -1,5 +1,4 @@
--- Steps that may fail, one after the other: `do` over results. macro_expr, tape_flow, motion_track
--- and 7 more crates above cite it.
+-- Steps that may fail, one after the other: `do` over results.
 use Rattle.std.specs.Prelude.{Result, Ok, Err}
 
 -- the second step goes on with what the first gave; a failure of the first is that of both

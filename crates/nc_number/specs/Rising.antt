@@ -1,5 +1,4 @@
--- Lists of rising numbers, such as the lines of a tape's blocks. nc_text, block_order, tape_flow,
--- flow_laws and open_order cite it.
+-- Lists of rising numbers, such as the lines of a tape's blocks.
 use Rattle.std.specs.Prelude.{ℕ, ◌<◌, List, [], ◌∷◌}
 
 -- the numbers rise, and all are above n

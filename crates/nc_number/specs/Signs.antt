@@ -1,5 +1,5 @@
 -- Signs of numbers, where true is a minus. The arithmetic and the literals of this crate are made
--- with them; macro_eval and zone_area cite them too.
+-- with them.
 use Rattle.std.specs.Prelude.{ℕ, Bool, true, false, not, if◌then◌else◌, ℤ, pos, neg_ℤ}
 
 -- z, or -z where the sign is a minus

@@ -1,5 +1,4 @@
--- What a variable (#1, #100 ..) counts as in arithmetic. macro_eval, block_values, path_state,
--- named_vars and two_path cite it.
+-- What a variable (#1, #100 ..) counts as in arithmetic.
 use Rattle.std.specs.Prelude.{ℤ, pos}
 use Rattle.nc_number.specs.declared.value.Var.{Var}
 use Rattle.nc_number.specs.declared.value.Var.TheVariants.{Vacant, Is}

@@ -1,5 +1,5 @@
-//! The arithmetic of the control on values: sum to root, exact or rounded to the millionth.
-//! macro_eval computes with it. Rounding to whole numbers is in rounding.rt, bits are in bits.rt.
+//! The arithmetic of the control on values: sum to root, exact or rounded to the millionth. Rounding
+//! to whole numbers is in rounding.rt, bits are in bits.rt.
 ghost use Rattle.std.specs.Prelude.{◌≡◌, pos, neg_ℤ, unsigned_abs};
 ghost use Rattle.nc_number.specs.Arithmetic.{sum_of, difference_of, product_of, quotient_of, remainder_of, root_of};
 

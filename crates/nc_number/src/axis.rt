@@ -1,6 +1,4 @@
-//! What a block says of an axis: nothing, an absolute length or an incremental one. block_values
-//! makes it of the words; motion_track and turn_cycles make moves of it, offset_store and
-//! path_state offsets.
+//! What a block says of an axis: nothing, an absolute length or an incremental one.
 ghost use Rattle.std.specs.Prelude.{◌≡◌, ◌≤◌, ℕ, IfSome, unsigned_abs};
 
 /// What a block says of an axis, in 0.001 mm.

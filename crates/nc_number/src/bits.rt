@@ -1,5 +1,4 @@
-//! Bit operations (AND, OR, XOR) on whole numbers from 0 to 2,147,483,647. macro_eval computes with
-//! them.
+//! Bit operations (AND, OR, XOR) on whole numbers from 0 to 2,147,483,647.
 ghost use Rattle.std.specs.Prelude.{◌≡◌, ◌*◌, ◌&&◌, pos, Some, None, Ok, Err, if◌then◌else◌};
 ghost use Rattle.nc_number.specs.Arithmetic.{checked_value, has_bits, units, and_of, or_of, xor_of};
 

@@ -1,5 +1,4 @@
-//! One thing for each path, such as its tape or its turret. zone_cell, nc_verify, two_path and 10
-//! more crates above use it.
+//! One thing for each path, such as its tape or its turret.
 ghost use Rattle.std.specs.Prelude.{◌≡◌};
 ghost use Rattle.nc_number.specs.Both.{of_path};
 

@@ -1,5 +1,5 @@
 //! What a run, a tape and a block may have at most: limits that crates above and their contracts
-//! keep. nc_text, macro_expr, label_list, run_journal and run_table do, and others above.
+//! keep.
 
 /// Records of a run.
 pub const MOST_RECORDS: u32 = 4_000_000;

@@ -1,6 +1,5 @@
-//! An owned list whose contract sees nothing but its things in order. Crates that give a list to
-//! the crate above use it, of blocks, words and others: line_text, nc_text, block_words,
-//! block_order, tape_flow and run_journal, and `ByteList` here.
+//! An owned list whose contract sees nothing but its things in order. Crates that give a list to the
+//! crate above use it, of blocks, words and others, and `ByteList` here.
 ghost use Rattle.std.specs.Prelude.{◌≡◌};
 
 use std::marker::Model;

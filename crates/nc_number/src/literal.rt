@@ -1,5 +1,5 @@
 //! The literals of a tape: when a text is one, what it writes, and what it counts for a length or a
-//! time. line_text, macro_expr, field_lines and 6 more crates above use it.
+//! time.
 ghost use Rattle.std.specs.Prelude.{◌≡◌, ◌==◌, ◌^◌, ◌<◌, ◌≤◌, not, length, position, IsTrue, IfSome, unsigned_abs};
 ghost use Rattle.std.specs.List.{before_first, after_first};
 ghost use Rattle.std.specs.Str.Parse.{digits_value};

@@ -1,5 +1,4 @@
-//! Numbers that may be missing, such as lines: the lesser of two. block_order, part_lines and
-//! wait_order use it.
+//! Numbers that may be missing, such as lines: the lesser of two.
 ghost use Rattle.std.specs.Prelude.{◌≡◌};
 ghost use Rattle.nc_number.specs.Options.{lesser};
 

@@ -1,5 +1,5 @@
-//! Points of the X and Z plane in 0.001 mm, how far from 0 they may lie, and how many tool offsets
-//! a path has. nc_moves, offset_store, cell_settings and more crates above use it.
+//! Points of the X and Z plane in 0.001 mm, how far from 0 they may lie, and how many tool offsets a
+//! path has.
 ghost use Rattle.std.specs.Prelude.{◌≡◌, ◌↔◌, IsTrue};
 
 /// How far from 0 a position or an offset may be, in 0.001 mm.

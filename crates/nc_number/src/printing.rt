@@ -1,5 +1,4 @@
-//! How values and lengths are printed, into 24 bytes of the caller's. text_pieces and tape_expand
-//! print with it.
+//! How values and lengths are printed, into 24 bytes of the caller's.
 ghost use Rattle.std.specs.Prelude.{◌≡◌, ◌+◌, ◌++◌, ◌∷◌, ◌%◌, ◌≤◌, length, take, decimal};
 ghost use Rattle.std.specs.Fmt.{sign_text};
 ghost use Rattle.nc_number.specs.Printed.{last_digits, without_trailing_zeros, fraction_text, value_text, length_text};

@@ -1,5 +1,4 @@
-//! Rounding of values to whole numbers (ROUND, FIX, FUP, which macro_eval computes) and to
-//! increments of 0.001 (which block_values computes).
+//! Rounding of values to whole numbers (ROUND, FIX, FUP) and to increments of 0.001.
 ghost use Rattle.std.specs.Prelude.{◌≡◌, ◌≢◌, ◌^◌, ◌<◌, ◌≤◌, unsigned_abs};
 ghost use Rattle.nc_number.specs.declared.limits.TheConstants.{LONGEST_SAID};
 ghost use Rattle.nc_number.specs.Arithmetic.{nearest, nearest_quotient, rounded_value, value_toward_zero, value_from_zero, increments_of};

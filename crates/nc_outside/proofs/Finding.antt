@@ -1,5 +1,5 @@
 -- A list from a place on, and a search through the files of a shelf in memory, one file at a time.
--- For the loop of `find` (src/memory_shelf.rt); trace_list takes `at_place`.
+-- For the loop of `find` (src/memory_shelf.rt).
 use Rattle.std.proofs.Common.{refl, ◌≡◌, ℕ, ◌+◌, ◌<◌, true, false, List, length, drop, get_or, Some, String, Vec, string_bytes, ◌∷◌, add-one, drop-cons}
 use Rattle.std.specs.Str.{bytes_eq}
 use Rattle.nc_outside.specs.Files.{file_named}

@@ -1,5 +1,4 @@
--- What proves the clauses of this crate. seat_table takes Listed, and trace_list `at_place` of
--- Finding.
+-- What proves the clauses of this crate.
 pub mod Coming
 pub mod Counted
 pub mod Finding

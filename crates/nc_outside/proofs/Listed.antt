@@ -1,5 +1,5 @@
 -- Two lists of calls of a stepper in a row: the moves answered, and the last answer. For the law
--- `calls_add_up` (src/laws.rt); seat_table takes both lemmas.
+-- `calls_add_up` (src/laws.rt).
 use Rattle.std.proofs.Common.{◌≡◌, refl, ap, sym, ◌∙◌, List, [], ◌∷◌, ◌++◌, Option, Some, append_assoc}
 use Rattle.nc_outside.specs.declared.halt.Next.{Next}
 use Rattle.nc_outside.specs.declared.stepper.Call.{Call}

@@ -1,6 +1,5 @@
 -- The calls of a stepper, which gives a path its steps (src/stepper.rt), in order: its steps with
--- what they answered, its drains and its halts. A stepper may tell them or not. path_worker,
--- seat_table, run_table, drive_line and turret_run cite these.
+-- what they answered, its drains and its halts. A stepper may tell them or not.
 use Rattle.std.specs.Prelude.{◌≡◌, List, [], ◌∷◌, ◌++◌, Option, Some, None}
 use Rattle.nc_outside.specs.declared.lined_move.LinedMove.{LinedMove}
 use Rattle.nc_outside.specs.Lined.{lined_moves}

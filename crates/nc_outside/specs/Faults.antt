@@ -1,6 +1,5 @@
 -- The count of faults that each object of the outside keeps: shelf, sink, turret and line. The
--- contracts of these traits cite it, and drive_line, turret_run, turret_lines and 4 more crates
--- above.
+-- contracts of these traits cite it.
 use Rattle.std.specs.Prelude.{◌≡◌, ℕ, ◌≤◌}
 pub use Rattle.nc_number.specs.Faults.{next, Rose}
 

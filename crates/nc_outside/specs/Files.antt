@@ -1,5 +1,5 @@
--- What a shelf holds: files, each a name and its bytes. A shelf may tell them or not.
--- The trait Shelf says its call by it; lathe_looks and lathe_top say what a command reads.
+-- What a shelf holds: files, each a name and its bytes. A shelf may tell them or not. The trait
+-- Shelf says its call by it.
 use Rattle.std.specs.Prelude.{◌≡◌, ℕ, ◌<◌, List, [], ◌∷◌, ◌++◌, length, ⊤, IsSomeAnd}
 use Rattle.std.specs.Prelude.{Option, Some, None}
 use Rattle.std.specs.Str.{bytes_eq}

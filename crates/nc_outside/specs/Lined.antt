@@ -1,5 +1,5 @@
 -- The moves of a block, each with the line of the block: the form in which turrets get moves and
--- reports and traces list them. two_path, seat_table, path_worker and 5 more crates above cite it.
+-- reports and traces list them.
 use Rattle.std.specs.Prelude.{ℕ, List, map}
 use Rattle.nc_moves.specs.declared.motion.Move.{Move}
 use Rattle.nc_moves.specs.declared.motion.Moves.{Moves}

@@ -1,6 +1,4 @@
 -- Why a run ended, and which of several causes is told.
--- run_table, turret_run and turn_order end a run by these words; two_path, lathe_looks and
--- lathe_top cite them too. lathe_calls gives each reason a status.
 use Rattle.std.specs.Prelude.{Bool, true, false, Option, Some, None}
 use Rattle.nc_number.specs.declared.path.Path.{Path}
 use Rattle.nc_moves.specs.declared.alarm.Alarm.{Alarm}

@@ -1,6 +1,4 @@
--- What a turret got. A turret may tell it or not. The trait Turret says its calls by it;
--- drive_line, path_worker, turret_run and lathe_top say by it what a turret got, turret_lines and
--- real_outside what their turrets do.
+-- What a turret got. A turret may tell it or not. The trait Turret says its calls by it.
 use Rattle.std.specs.Prelude.{◌≡◌, ℕ, zero, suc, List, [], ◌++◌, Option, Some, None}
 use Rattle.nc_outside.specs.declared.got.Got.{Got}
 use Rattle.nc_number.specs.Faults.{next}

@@ -1,5 +1,4 @@
--- What was written to a sink. A sink may tell it or not. The trait Sink says its call by it; so do
--- nc_verify, move_list, lathe_calls and 5 more crates above that write texts.
+-- What was written to a sink. A sink may tell it or not. The trait Sink says its call by it.
 use Rattle.std.specs.Prelude.{◌≡◌, ℕ, List, Option, is_some}
 use Rattle.std.specs.Io.KnownBytes.{Appends}
 

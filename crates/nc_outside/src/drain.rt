@@ -1,5 +1,4 @@
-//! A proof that a line of moves was drained. drive_line has the lines, and its drains alone make
-//! such proofs; path_worker hands them on, and seat_table takes them and tells the table.
+//! A proof that a line of moves was drained.
 ghost use Rattle.std.specs.Prelude.{◌≡◌, ℕ};
 
 /// A line was drained after so many moves: its turret was handed all of them, and stands still.

@@ -1,5 +1,4 @@
-//! What a turret got: its place, or a move. The contracts of lines, workers and runs list it;
-//! turret_lines writes it as a line.
+//! What a turret got: its place, or a move. The contracts of lines, workers and runs list it.
 use crate::LinedMove;
 use nc_number::Point;
 

@@ -1,5 +1,4 @@
-//! Why a run stops early, and what a step of a path answers. run_table and seat_table answer so,
-//! path_worker reads it; drive_line, turret_run and turn_order name halts too.
+//! Why a run stops early, and what a step of a path answers.
 ghost use Rattle.std.specs.Prelude.{◌≡◌};
 
 use nc_moves::{Alarm, Moves};

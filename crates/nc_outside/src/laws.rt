@@ -1,5 +1,4 @@
-//! A law of the lists of calls that a stepper had: how two of them add up. seat_table takes its
-//! lemmas (proofs/Listed.antt).
+//! A law of the lists of calls that a stepper had: how two of them add up.
 ghost use Rattle.std.specs.Prelude.{◌≡◌, ◌++◌, List, Option};
 ghost use Rattle.nc_outside.specs.declared.halt.Next.{Next};
 ghost use Rattle.nc_outside.specs.declared.stepper.Call.{Call};

@@ -1,15 +1,14 @@
 //! The outside of a lathe: where tapes and other texts come from (`Shelf`), where reports go
 //! (`Sink`), who takes the moves of a path (`Turret`), and what gives a path its steps (`Stepper`).
 //!
-//! An object of the outside has one state for contracts: what it holds or got, if it tells that,
-//! and its count of faults. It answers that it failed only if that count rose, so that the
-//! layers above can say of every failure that the outside was its cause; a call that did not fail
-//! leaves the count as it was. A shelf tells what it was asked for. A turret may queue what it
-//! gets, and `settle` waits until it stands still. A stepper tells its calls: its steps with their
-//! answers, its drains and its halts. The forms in memory (`MemoryShelf`, `VecSink`,
-//! `MemoryTurret`, `ListStepper`) tell all, and fail exactly as planned; if an object tells
-//! nothing, as a real file, no clause speaks of what it holds. nc_verify, seat_table, turret_run
-//! and 16 more crates above use this one.
+//! An object of the outside has one state for contracts: what it holds or got, if it tells that, and
+//! its count of faults. It answers that it failed only if that count rose, so that the layers above
+//! can say of every failure that the outside was its cause; a call that did not fail leaves the
+//! count as it was. A shelf tells what it was asked for. A turret may queue what it gets, and
+//! `settle` waits until it stands still. A stepper tells its calls: its steps with their answers,
+//! its drains and its halts. The forms in memory (`MemoryShelf`, `VecSink`, `MemoryTurret`,
+//! `ListStepper`) tell all, and fail exactly as planned; if an object tells nothing, as a real file,
+//! no clause speaks of what it holds.
 #![tactic(auto)]
 
 mod asked;

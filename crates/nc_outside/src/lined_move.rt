@@ -1,5 +1,4 @@
-//! A move and the line that it comes from. path_worker and drive_line hand these on, turrets get
-//! them, and reports and traces list them.
+//! A move and the line that it comes from.
 use nc_moves::Move;
 
 /// A move, and the line of its block in the tape.

@@ -1,5 +1,4 @@
-//! A stepper that answers a stated list, for tests of what is over a stepper. That of a run is in
-//! seat_table.
+//! A stepper that answers a stated list, for tests of what is over a stepper.
 ghost use Rattle.std.specs.Prelude.{◌≡◌, ◌<◌, [], ◌∷◌, ◌++◌, Some, drop, vec_len, vec_capacity};
 ghost use Rattle.nc_outside.specs.Kept.{next_answer};
 

@@ -1,5 +1,5 @@
-//! A shelf in memory, for tests (motion_vectors). The shelf of real files is in real_outside. What
-//! clauses see of it: specs/Kept and Plan, which no other crate cites.
+//! A shelf in memory, for tests. What clauses see of it: specs/Kept and Plan, which no other crate
+//! cites.
 ghost use Rattle.std.specs.Prelude.{◌≡◌, ◌≢◌, ℕ, ◌<◌, ◌≤◌, List, [], ◌∷◌, ◌++◌, length, Some, None, Err, OnOk, OnErr, IfOk, IsSomeAnd, IsErrOf, MatchOption};
 ghost use Rattle.nc_outside.specs.Files.{file_named};
 ghost use Rattle.nc_outside.specs.Kept.{files_of, shelf_of};

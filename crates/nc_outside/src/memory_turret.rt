@@ -1,4 +1,4 @@
-//! A turret in memory, for tests. The turret that writes lines is in turret_lines.
+//! A turret in memory, for tests.
 ghost use Rattle.std.specs.Prelude.{◌≡◌, [], ◌∷◌, IfOk, OnOk, OnErr, is_err, IsErr, IsTrue};
 ghost use Rattle.nc_outside.specs.Faults.{CountsFault};
 ghost use Rattle.nc_outside.specs.Kept.{after_handing, refuses_next, turret_of, when_counted, when_settled};

@@ -1,5 +1,4 @@
-//! Why a run ended, and which of several causes is told. run_table, turret_run and turn_order end a
-//! run by it; the statuses of the reasons are in lathe_calls, their texts in move_list.
+//! Why a run ended, and which of several causes is told.
 ghost use Rattle.std.specs.Prelude.{◌≡◌};
 ghost use Rattle.nc_outside.specs.Reasons.{end_or_bound, first_cause, reason_of};
 

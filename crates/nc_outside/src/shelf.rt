@@ -1,5 +1,4 @@
 //! Where tapes and other texts come from: the trait of named files.
-//! lathe_looks and lathe_top read by it; real_outside has that of real files.
 ghost use Rattle.std.specs.Prelude.{◌≡◌, ℕ, ◌≤◌, List, ◌++◌, length, OnOk, OnErr, IsErrOf};
 ghost use Rattle.nc_outside.specs.declared.shelf.FetchFault.TheVariants.{NoMemory};
 ghost use Rattle.nc_outside.specs.Faults.{CountsFault};

@@ -1,6 +1,4 @@
-//! Where reports go: the trait of an output. nc_verify, move_list, turret_lines and 6 more crates
-//! above write to a sink. nc_outside has one in memory, lathe_calls one for the texts of calls,
-//! real_outside those of standard output and of a turret's file.
+//! Where reports go: the trait of an output.
 ghost use Rattle.std.specs.Prelude.{◌≡◌, ℕ, take, OnOk, OnErr, IsErrOf};
 ghost use Rattle.nc_outside.specs.declared.sink.PutFault.TheVariants.{NoMemory};
 ghost use Rattle.nc_outside.specs.Faults.{CountsFault};

@@ -1,5 +1,4 @@
 //! What stands between the worker of a path and the table that both paths share: a stepper.
-//! path_worker calls it; seat_table has the one of a run, list_stepper.rt one for tests.
 ghost use Rattle.std.specs.Prelude.{◌≡◌, [], ◌∷◌, List, Option};
 
 use crate::{Drain, Halt, Next};

@@ -1,5 +1,4 @@
-//! What makes the moves of a path: the trait of a turret. drive_line and turret_run call it, and
-//! turret_lines is one; a machine builder writes their own, see the crate `own_turret`.
+//! What makes the moves of a path: the trait of a turret. A machine builder writes their own.
 ghost use Rattle.std.specs.Prelude.{◌≡◌, [], ◌∷◌, IsErr, OnOk, OnErr};
 ghost use Rattle.nc_outside.specs.Faults.{CountsFault};
 

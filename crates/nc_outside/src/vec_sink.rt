@@ -1,4 +1,4 @@
-//! A sink in memory, for tests. Standard output is in real_outside.
+//! A sink in memory, for tests.
 ghost use Rattle.std.specs.Prelude.{◌≡◌, [], ◌++◌, is_ok, if◌then◌else◌, IfOk, IsErrOf};
 ghost use Rattle.nc_outside.specs.Kept.{sink_of};
 ghost use Rattle.nc_outside.specs.Plan.{FailsAsPlanned, plan_after_call, fresh_plan};

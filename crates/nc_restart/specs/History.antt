@@ -1,5 +1,5 @@
 -- Which lists of records are a history of a pair, and which record is the first that may not stand
--- where it stands. lathe_looks, lathe_top and run_edits cite `IsHistory`.
+-- where it stands.
 use Rattle.std.specs.Prelude.{◌≡◌, ℕ, ◌≤◌, List, ◌∷◌, ◌++◌, length}
 use Rattle.run_records.specs.declared.bad_record.BadRecord.{BadRecord}
 use Rattle.run_records.specs.declared.bad_record.BadRecord.TheVariants.{NotLegal, TooManyRecords}

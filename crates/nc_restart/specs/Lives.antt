@@ -1,6 +1,5 @@
 -- A run over stops and restarts: what each restart finds in the journal, and what a stop leaves of
--- it. The law `restarts_make_one_history` (src/laws.rt) is said by it; lathe_top cites
--- `AreOneHistory`.
+-- it. The law `restarts_make_one_history` (src/laws.rt) is said by it.
 use Rattle.std.specs.Prelude.{◌≡◌, ℕ, ◌≤◌, List, [], ◌∷◌, ◌++◌, length, take}
 use Rattle.run_records.specs.Entries.{Entry}
 use Rattle.run_records.specs.declared.header.Header.{Header}

@@ -1,6 +1,6 @@
 -- What the journal of a run stands for, where it counts too whether the texts of its header are
 -- accepted and its records are a history of their pair. Meaning.antt of run_journal says what the
--- bytes alone stand for. lathe_top cites `HasHistory` and `StandsForRun`.
+-- bytes alone stand for.
 use Rattle.std.specs.Prelude.{ℕ, ◌+◌, List, length, get_or}
 use Rattle.gate_file.specs.Chain.{Spells, IsNoRun, IsCutAt}
 use Rattle.run_records.specs.declared.bad_record.BadRecord.{BadRecord}

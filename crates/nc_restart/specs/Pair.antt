@@ -1,5 +1,5 @@
 -- The pair of tapes that a run is made with, and its machine: before the first turn, and behind
--- records. lathe_calls, lathe_looks, lathe_top and run_edits cite it.
+-- records.
 use Rattle.std.specs.Prelude.{◌≡◌, List, map}
 use Rattle.run_records.specs.Entries.{Entry}
 use Rattle.run_records.specs.declared.header.Header.{Header}

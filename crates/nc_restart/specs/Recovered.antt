@@ -1,5 +1,4 @@
 -- What the recovery of a run from its journal promises, of the run that it answers and of the disk.
--- lathe_looks, lathe_top, run_edits and tests cite it.
 use Rattle.std.specs.Prelude.{◌≡◌, ℕ, ◌+◌, ◌*◌, ◌≤◌, List, length, Result, Ok, Err, IfOk, IfErr}
 use Rattle.disk_model.specs.Device.{DiskState, Reads, Rose, IsSettled}
 use Rattle.disk_model.specs.Moments.{Unwritten, Uses}

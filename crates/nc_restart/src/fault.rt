@@ -1,5 +1,5 @@
-//! Why a run can't be recovered: the disk, the journal, its texts or a record out of place.
-//! lathe_looks makes a text and a status of each cause; tests read them too.
+//! Why a run can't be recovered: the disk, the journal, its texts or a record out of place. Tests
+//! read them too.
 ghost use Rattle.std.specs.Prelude.{◌≡◌};
 ghost use Rattle.nc_restart.specs.Recovered.{fault_of};
 

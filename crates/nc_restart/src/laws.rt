@@ -1,6 +1,4 @@
-//! What holds of every run and of its restarts: a caller of the function has the law. lathe_top
-//! takes them, but for `restarts_make_one_history` and `no_accepted_pair_is_stuck`, which are for
-//! readers.
+//! What holds of every run and of its restarts: a caller of the function has the law.
 ghost use Rattle.std.specs.Prelude.{◌≡◌, List, ℕ, take};
 ghost use Rattle.run_records.specs.Entries.{Entry};
 ghost use Rattle.run_records.specs.declared.header.Header.{Header};

@@ -1,5 +1,4 @@
 //! The recovery of a run: its journal opened, its pair judged anew, its records done again.
-//! lathe_looks, lathe_top and tests call `recover`; run_edits writes edits into what it answers.
 ghost use Rattle.std.specs.Prelude.{IfOk};
 ghost use Rattle.run_records.specs.Headers.{IsShort};
 ghost use Rattle.nc_restart.specs.Recovered.{IsRecovered, Recovers, disk_recovered, run_found};

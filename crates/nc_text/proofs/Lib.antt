@@ -1,5 +1,4 @@
--- The lemmas of nc_text, each file by its subject. tape_relation takes LineEnds, flow_laws Shaping,
--- nc_verify and tape_expand RefusedAtEnd; the others are for this crate alone.
+-- The lemmas of nc_text, each file by its subject. The others are for this crate alone.
 pub mod LineEnds
 pub mod Counted
 pub mod Standing

@@ -1,5 +1,5 @@
 -- How a line feed or the end of a tape's text ends a line, and what is kept of a line with further
--- bytes. For Standing and Deciding; tape_relation takes `line_ends` and `text_ends`.
+-- bytes. For Standing and Deciding.
 use Rattle.std.proofs.Common.{◌≡◌, ◌==◌, ℕ, Bool, true, false, cond, not, ◌&&◌, List, [], ◌∷◌, ◌++◌, refl, ap}
 use Rattle.std.proofs.lemmas.List.Elements.{All-head, All-tail}
 use Rattle.nc_text.specs.Lines.{Line, IsOneLine, lines_of, onto_line}

@@ -1,5 +1,4 @@
 -- A tape's text that a reader refuses in `feed`, whatever follows, has this refusal as its answer.
--- nc_verify and tape_expand take it for a text that they read in one piece.
 use Rattle.std.proofs.Common.{ℕ, List, [], ◌++◌, sym, ◌∙◌, ap}
 use Rattle.std.proofs.lemmas.List.{append-nil}
 use Rattle.nc_number.specs.declared.fault.Failing.{Failing}

@@ -1,5 +1,5 @@
 -- What is read keeps its shape (`IsReadShape`) with each line, and makes a tape of its shape at the
--- end. For the proofs of src/progress.rt; flow_laws takes the lemmas on rising lines and blocks.
+-- end. For the proofs of src/progress.rt.
 use Rattle.std.proofs.Common.{◌≡◌, ℕ, ◌+◌, ◌<◌, ◌≤◌, List, [], ◌∷◌, ◌++◌, length, Option, Some, None, refl, ap, sym, subst, ◌∙◌, arith, append_assoc}
 use Rattle.std.specs.Prelude.{All}
 use Rattle.std.specs.Option.{option_to_list}

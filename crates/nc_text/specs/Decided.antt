@@ -1,6 +1,5 @@
 -- What the lines of a tape that have ended decide: the contract of `feed` (src/reader.rt) says that
--- it refuses such a text at once. No other crate cites it; nc_verify and tape_expand meet it in
--- that contract.
+-- it refuses such a text at once. No other crate cites it.
 use Rattle.std.specs.Prelude.{◌≡◌, ℕ, List, [], ◌∷◌, ◌++◌, Result, Ok, Err}
 use Rattle.nc_number.specs.declared.fault.Failing.{Failing}
 use Rattle.nc_text.specs.declared.fault.TextFault.{TextFault}

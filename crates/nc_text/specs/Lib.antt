@@ -1,6 +1,6 @@
 -- The words in which contracts speak of a text and its tape. Lines, Tape and Shape are for all
--- crates. flow_laws takes ReadShape too, tape_relation Mark. No other crate cites the rest; callers
--- of `Reader` meet Reading, FeedView and Decided in its contract.
+-- crates. No other crate cites the rest; callers of `Reader` meet Reading, FeedView and Decided in
+-- its contract.
 pub mod Lines
 pub mod Tape
 pub mod Shape

@@ -1,5 +1,4 @@
--- The text of a tape as lines: how bytes are cut at line feeds. `tape_of` reads these lines;
--- tape_expand, tape_relation, open_forms and flow_laws cite them too.
+-- The text of a tape as lines: how bytes are cut at line feeds. `tape_of` reads these lines.
 use Rattle.std.specs.Prelude.{◌≡◌, All, ℕ, ◌+◌, Bool, true, false, ◌==◌, List, [], ◌∷◌, if◌then◌else◌}
 
 -- the bytes before a line feed, or before the end of the text

@@ -1,6 +1,6 @@
 -- What was read of a tape up to a mark, the moment of the reading to which the reader goes back if
 -- memory runs out in a piece, and what was read since. The contracts of src/going_back.rt,
--- progress.rt, step.rt and feed.rt speak of it; tape_relation takes `with_blocks`.
+-- progress.rt, step.rt and feed.rt speak of it.
 use Rattle.std.specs.Prelude.{◌≡◌, ℕ, List, [], ◌∷◌, ◌++◌, length, take, Option, Some, None}
 use Rattle.std.specs.Option.{option_to_list}
 use Rattle.nc_text.specs.declared.tape.Block.{Block}

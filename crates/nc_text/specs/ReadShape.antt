@@ -1,5 +1,5 @@
 -- The shape of what was read so far of a tape: an invariant of `Progress` (src/progress.rt). At the
--- end it makes the shape of a whole tape, which is in Shape. flow_laws cites `RiseTo` too.
+-- end it makes the shape of a whole tape, which is in Shape.
 use Rattle.std.specs.Prelude.{ℕ, ◌<◌, ◌≤◌, List, [], ◌∷◌, ◌++◌, length, All, Option}
 use Rattle.std.specs.Coded.{×_prop, le_prop}
 use Rattle.std.proofs.Props.{props}

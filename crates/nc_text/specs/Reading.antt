@@ -1,7 +1,6 @@
 -- A reader of a tape stands for the bytes that it was given, whatever pieces they came in.
 -- `HasRead` is what the contracts of src/reader.rt and src/feed.rt keep, `LeadsTo` what those of
--- src/step.rt add. No other crate cites these words, but nc_verify and tape_expand meet them in the
--- contract of `Reader`, and take RefusedAtEnd (proofs), which speaks in them.
+-- src/step.rt add. No other crate cites these words, but they stand in the contract of `Reader`.
 use Rattle.std.specs.Prelude.{◌≡◌, ℕ, ◌+◌, Bool, true, false, not, ◌&&◌, ◌==◌, List, [], ◌∷◌, ◌++◌, length, take, min, Option, Some, None, Result, Ok, Err, if◌then◌else◌}
 use Rattle.nc_number.specs.declared.fault.Failing.{Failing}
 use Rattle.nc_number.specs.declared.fault.Failing.TheVariants.{Fault, NoMemory}

@@ -1,5 +1,5 @@
 -- The shape of every tape that was read: the type `Tape` (src/tape.rt) keeps it, so nobody asks
--- again. tape_flow, open_order, wait_verify, tape_expand and flow_laws rest on it.
+-- again.
 use Rattle.std.specs.Prelude.{ℕ, ◌<◌, ◌≤◌, List, ◌∷◌, length, map, All}
 use Rattle.std.specs.List.{flat_map}
 use Rattle.nc_number.specs.declared.limits.TheConstants.{LONGEST_LINE, MOST_BLOCKS}

@@ -1,9 +1,7 @@
 -- A tape: lines before the first that begins with `%`, that line, the lines of the programs, the
 -- next line that begins with `%`, and lines after it. The answer is the programs, or the fault of
--- the first line that has one, and there of the least number.
--- The reader computes `tape_of`; nc_verify, wait_verify, tape_expand, open_forms, flow_laws and
--- tape_relation cite it. What a single line says is defined in line_text; tape_relation says
--- without a reader what tape a text is, and shows that it is `tape_of`.
+-- the first line that has one, and there of the least number. The reader computes `tape_of`. What a
+-- single line says is defined in line_text.
 use Rattle.std.specs.Prelude.{ℕ, ◌+◌, Bool, true, false, not, ◌&&◌, nat_lt, nat_le, List, [], ◌∷◌, ◌++◌, length, Option, Some, None, Result, Ok, Err, is_some, if◌then◌else◌}
 use Rattle.std.specs.Option.{option_to_list, is_none}
 use Rattle.nc_number.specs.declared.limits.TheConstants.{LONGEST_LINE, LONGEST_TAPE, MOST_BLOCKS}

@@ -1,5 +1,5 @@
-//! A refusal of a tape: its number and its line. docs/ERRORS.md explains each number.
-//! A reader answers it; nc_verify, wait_verify and tape_expand pass it on.
+//! A refusal of a tape: its number and its line. docs/ERRORS.md explains each number. A reader
+//! answers it.
 use thiserror::Error;
 
 /// A refusal of a tape's text: its number, and the line that it is about.

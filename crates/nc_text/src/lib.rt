@@ -1,9 +1,7 @@
 //! The text of a tape, read into blocks.
 //!
 //! `Reader` takes the bytes of a tape in any pieces, and answers with its programs and blocks or
-//! with the one refusal and its line. nc_verify, tape_expand and tests read tapes with it.
-//! tape_flow, open_order, wait_verify and cycle_form read the tape that it answers, block_forms and
-//! open_forms its blocks.
+//! with the one refusal and its line.
 #![tactic(auto)]
 
 mod fault;

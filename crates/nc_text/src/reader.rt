@@ -1,5 +1,5 @@
-//! A reader of tapes that come in pieces: the only way to a [`Tape`](crate::Tape).
-//! nc_verify and tape_expand read tapes with it. What it keeps between pieces is in feed.rt.
+//! A reader of tapes that come in pieces: the only way to a [`Tape`](crate::Tape). What it keeps
+//! between pieces is in feed.rt.
 ghost use Rattle.std.specs.Prelude.{◌≡◌, [], ◌++◌, ℕ, List, IfOk, IsOk, OnOk};
 ghost use Rattle.nc_number.specs.Answers.{Gives};
 ghost use Rattle.nc_text.specs.declared.fault.TextFault.{TextFault};

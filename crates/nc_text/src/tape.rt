@@ -1,5 +1,4 @@
-//! A tape: its programs and their blocks, as a reader answers them. tape_flow, open_order,
-//! wait_verify and cycle_form go through it; block_forms and open_forms read what its blocks say.
+//! A tape: its programs and their blocks, as a reader answers them.
 ghost use Rattle.std.specs.Prelude.{◌≡◌};
 
 use line_text::Body;

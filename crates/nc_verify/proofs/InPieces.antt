@@ -1,6 +1,5 @@
 -- Texts that are put into a sink in pieces: none at all, and one piece for each element of a list.
 -- Two pieces are in Put.
--- lathe_looks, move_list, race_report and trace_list use these lemmas for the loops that write.
 use Rattle.std.proofs.Common.{◌≡◌, ℕ, ◌+◌, ◌≤◌, ◌<◌, List, [], ◌∷◌, ◌++◌, length, take, drop, get_or, Result, Ok, Err, refl, sym, subst, ap, ◌∙◌, append-nil, take-append-drop, take_all, arith}
 use Rattle.std.specs.List.{flat_map}
 use Rattle.std.proofs.KnownBytes.{Appends-nil}

@@ -1,6 +1,5 @@
 -- The cause that a search finds for a number is the one of that number, or there is none: for the
 -- name in the line of a verdict (src/writing.rt).
--- lathe_looks uses this lemma.
 use Rattle.std.proofs.Common.{◌≡◌, ℕ, Option, Some, None}
 use Rattle.std.specs.Prelude.{IfSome}
 use Rattle.nc_number.specs.declared.cause.Cause.{Cause}

@@ -1,5 +1,4 @@
 -- No three texts are both accepted and refused: for the law `accepted_texts_are_not_refused`.
--- lathe_top, nc_restart and wait_verify use the lemmas on the way to it.
 use Rattle.std.proofs.Common.{◌≡◌, ℕ, zero, suc, ◌↔◌, List, [], ◌∷◌, slice_get, Result, Ok, Err, Some, sym, subst, ap, ◌∙◌, arith}
 use Rattle.nc_number.specs.declared.path.Path.{Path}
 use Rattle.nc_number.specs.declared.path.Path.TheVariants.{One, Two}

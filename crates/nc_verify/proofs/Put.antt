@@ -1,6 +1,5 @@
 -- Texts that are put into a sink in two pieces, one after another; texts of many pieces are in
 -- InPieces.
--- lathe_calls, move_list, race_report, trace_list and zone_check use these lemmas.
 use Rattle.std.proofs.Common.{◌≡◌, ℕ, ◌+◌, ◌≤◌, min, List, ◌++◌, length, take, Result, Ok, Err, sym, subst, ◌∙◌, arith}
 use Rattle.std.proofs.KnownBytes.{Appends-trans}
 use Rattle.std.proofs.Math.Seq.{take-append-add}

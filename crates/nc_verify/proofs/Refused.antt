@@ -1,6 +1,5 @@
 -- A refusal of a part is one of the whole: of a path's tape by its reading or its flow
 -- (src/tape.rt), of a pair by its labels (src/meeting.rt).
--- wait_verify uses `by_refusal`.
 use Rattle.std.proofs.Common.{◌≡◌, ℕ, ◌≤◌, List, length, Ok, Err, subst}
 use Rattle.nc_number.specs.declared.fault.Failing.{Failing}
 use Rattle.nc_number.specs.declared.fault.Failing.TheVariants.{Fault, NoMemory}

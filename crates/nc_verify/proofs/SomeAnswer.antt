@@ -1,6 +1,5 @@
 -- No three texts are neither accepted nor refused: for the law `no_texts_are_without_an_answer`.
 -- `CantBothFail` says that it can't be that neither of the two holds.
--- wait_verify uses `OneList`, `ByLists` and `pair_answer`.
 use Rattle.std.proofs.Common.{◌≡◌, ◌≢◌, ℕ, suc, ◌<◌, ◌≤◌, ◌⊎◌, inl, inr, ◌↔◌, List, [], ◌∷◌, length, take, slice_get, Some, Result, Ok, Err, refl, ap, sym, ◌∙◌, arith}
 use Rattle.nc_number.specs.declared.path.Path.{Path}
 use Rattle.nc_number.specs.declared.path.Path.TheVariants.{One, Two}

@@ -1,7 +1,5 @@
 -- The line of a verdict as it is printed (src/writing.rt); and what it means that a text is put
 -- into a sink, whole or up to a fault.
--- Every crate that writes a text states so by `IsPut`: lathe_calls, lathe_looks, lathe_top,
--- move_list, race_report, trace_list and zone_check.
 use Rattle.std.specs.Prelude.{◌≡◌, ◌≢◌, ℕ, List, ◌++◌, take, Option, Some, None, Result, OnOk, OnErr, IsErrOf, codes}
 use Rattle.nc_number.specs.declared.cause.Cause.{Cause}
 use Rattle.nc_number.specs.declared.cause.Cause.TheVariants.{BadSetting, TooManyLabels, WaitMismatch}

@@ -1,6 +1,5 @@
 -- The refusals of a pair, each as a record of its number, its path and its lines. Which texts they
 -- refuse is in Verdict; src/refusal.rt makes them.
--- wait_verify tells its refusals by the same records.
 use Rattle.std.specs.Prelude.{ℕ}
 use Rattle.nc_number.specs.declared.cause.Cause.TheVariants.{BadSetting, TooManyLabels}
 use Rattle.nc_number.specs.declared.path.Path.{Path}

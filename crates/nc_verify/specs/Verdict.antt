@@ -1,7 +1,5 @@
 -- Which three texts are accepted, and the one refusal of all others: what `verdict`
 -- (src/verifying.rt) promises, and what `verify` tells.
--- lathe_calls, lathe_top, nc_restart and run_table say by `AreAccepted` which pairs run; lathe_c,
--- lathe_looks and wait_verify use words from here too.
 use Rattle.std.specs.Prelude.{◌≡◌, ℕ, ◌<◌, ◌≤◌, List, length, Ok, Err, slice_index}
 use Rattle.nc_number.specs.declared.path.Path.{Path}
 use Rattle.nc_number.specs.declared.path.Path.TheVariants.{One, Two}

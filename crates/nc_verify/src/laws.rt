@@ -1,6 +1,5 @@
 //! Any three texts have exactly one answer: they are accepted, or they have one refusal. Who calls
 //! such a function has its law; it does nothing when it runs.
-//! lathe_top calls the first two, nc_restart the first.
 ghost use Rattle.std.specs.Prelude.{◌≡◌, List};
 ghost use Rattle.cell_settings.specs.Cell.{Cell};
 ghost use Rattle.flow_laws.specs.Answers.{CantBothFail};

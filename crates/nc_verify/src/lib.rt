@@ -4,8 +4,7 @@
 //! flows are an accepted pair, and else tells their one refusal. [`Verified`] is what was accepted:
 //! whoever holds one need not ask again. [`write_verdict`] prints the answer.
 //!
-//! Every crate that runs a pair or tells of one takes a [`Verified`]; lathe_calls answers `verify`;
-//! wait_verify takes the parts that its own verdict shares.
+//! Every crate that runs a pair or tells of one takes a [`Verified`].
 #![tactic(auto)]
 
 mod laws;

@@ -1,6 +1,5 @@
 //! Whether two orders of blocks are an accepted pair: it lists the labels of each path and compares
-//! the lists.
-//! verifying.rt calls `meet` for `verify`, and wait_verify for `waits`.
+//! the lists. verifying.rt calls `meet` for `verify`.
 ghost use Rattle.std.specs.Prelude.{◌≡◌, ◌≤◌, length, IfOk, IfErr};
 ghost use Rattle.nc_number.specs.declared.limits.TheConstants.{MOST_LABELS};
 ghost use Rattle.block_order.specs.Answers.{IfFault};

@@ -1,6 +1,5 @@
 //! Puts one piece of a text into a sink: the one call by which the lines of a verdict, a report, a
-//! trace, races and zones are written.
-//! writing.rt, move_list, race_report, trace_list and zone_check call it.
+//! trace, races and zones are written. writing.rt calls it.
 ghost use Rattle.nc_verify.specs.Printed.{IsPut};
 
 use nc_outside::{PutFault, Sink};

@@ -1,5 +1,4 @@
 //! Why a pair is refused: the number, the path and the lines. writing.rt writes it as a line.
-//! lathe_calls answers it; wait_verify refuses by the same struct.
 ghost use Rattle.std.specs.Prelude.{◌≡◌};
 ghost use Rattle.nc_verify.specs.Refusals.{at_setting, at_line, too_long, mismatch};
 

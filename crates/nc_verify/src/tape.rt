@@ -1,5 +1,4 @@
 //! The tape of one path, from its text to its flow. The settings and the pair are in verifying.rt.
-//! wait_verify takes `read_tape` and `skips_of`.
 ghost use Rattle.std.specs.Prelude.{◌≡◌, map, IfOk, IfErr};
 ghost use Rattle.block_order.specs.Answers.{IfFault};
 ghost use Rattle.cell_settings.specs.View.{view};

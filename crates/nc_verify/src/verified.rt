@@ -1,7 +1,5 @@
-//! An accepted pair, by its type: only verifying.rt makes one. So who holds it knows that both
-//! tapes read, and that no path will wait in vain.
-//! The crates that run a pair or tell of one take it: lathe_calls, lathe_top, move_list,
-//! nc_restart, race_report, run_table, trace_list, turn_order and zone_check.
+//! An accepted pair, by its type: only verifying.rt makes one. So who holds it knows that both tapes
+//! read, and that no path will wait in vain.
 ghost use Rattle.std.specs.Prelude.{◌≡◌};
 ghost use Rattle.label_list.specs.Accepted.{IsAcceptedPair};
 

@@ -1,5 +1,4 @@
 //! From three texts to an accepted pair, or to its one refusal.
-//! lathe_calls, lathe_top and nc_restart call `verdict`; wait_verify calls `settings_of`.
 ghost use Rattle.std.specs.Prelude.{◌≡◌, ◌<◌, ◌^◌, Ok, length, map, IfOk, IfErr};
 ghost use Rattle.block_order.specs.Answers.{IfFault};
 ghost use Rattle.cell_settings.specs.Cell.{settings_of};

@@ -1,6 +1,5 @@
 //! The line of a verdict, `accepted` or `refused ..`, into a sink. Its definition is in
 //! specs/Printed.antt.
-//! lathe_calls calls `write_verdict`.
 ghost use Rattle.std.specs.Prelude.{◌≡◌, ◌+◌, ◌≤◌, ℕ, List, ◌++◌, length, codes};
 ghost use Rattle.std.specs.Option.{option_copied};
 ghost use Rattle.text_pieces.specs.declared.piece.TheConstants.{MOST_BYTES};

@@ -1,5 +1,4 @@
--- An offset that is read or set, and what the words of G10 make of it. block_values, path_state,
--- two_path, named_vars and zone_check cite it.
+-- An offset that is read or set, and what the words of G10 make of it.
 use Rattle.std.specs.Prelude.{if◌then◌else◌, slice_set, ℤ, ◌+ℤ◌, Option, Some, None, Result, Ok, Err}
 use Rattle.nc_number.specs.declared.point.Point.{Point}
 use Rattle.nc_number.specs.Position.{is_position}

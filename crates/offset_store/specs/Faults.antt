@@ -1,5 +1,4 @@
 -- Why an offset was not set, by its cause: alarm 40, no such offset, or 41, past the range.
--- two_path cites it.
 use Rattle.nc_number.specs.declared.cause.Cause.{Cause}
 use Rattle.nc_number.specs.Causes.{cause_number}
 use Rattle.offset_store.specs.declared.fault.OffsetFault.{OffsetFault}

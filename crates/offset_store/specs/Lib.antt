@@ -1,6 +1,5 @@
 -- The offsets of a path (Table, Lists), their numbers and slots, how they are set (Changes) and
--- what their shift is (Offsets), and the alarms (Faults). block_values, path_state, run_records and
--- two_path cite these, and 5 more crates above; to Lists they come by Table.
+-- what their shift is (Offsets), and the alarms (Faults). To Lists they come by Table.
 pub mod Offsets
 pub mod Slots
 pub mod Changes

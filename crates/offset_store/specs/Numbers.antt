@@ -1,5 +1,5 @@
 -- The ranges of the numbers of offsets: 0 to 6 of work offsets, 1 to 64 of tool offsets. Slots and
--- src/number.rt go by it; run_records reads the numbers of an edit by it.
+-- src/number.rt go by it.
 use Rattle.std.specs.Prelude.{ℕ, Bool, not, ◌&&◌, nat_le, if◌then◌else◌, Option, Some, None, ℤ, unsigned_abs}
 use Rattle.std.specs.Int.{is_negative}
 use Rattle.nc_number.specs.declared.point.TheConstants.{TOOL_OFFSETS}

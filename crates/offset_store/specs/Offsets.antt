@@ -1,5 +1,5 @@
 -- The shift of the offsets in force, the offsets at the start, and an offset that is set by its
--- number. block_values, path_state and nc_restart cite it.
+-- number.
 use Rattle.std.specs.Prelude.{ℕ, ◌==◌, if◌then◌else◌, replicate, Option, Some, ℤ, ◌+ℤ◌}
 use Rattle.std.specs.Option.{option_map_or}
 use Rattle.nc_number.specs.declared.point.Point.{Point}

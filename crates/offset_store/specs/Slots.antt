@@ -1,4 +1,4 @@
--- Which offset G10 names by its P. block_values and two_path cite it; src/slot.rt answers it.
+-- Which offset G10 names by its P. Src/slot.rt answers it.
 use Rattle.std.specs.Prelude.{◌-◌, if◌then◌else◌, Option, Some, None, Result, ok_or, ℤ, unsigned_abs}
 use Rattle.offset_store.specs.declared.fault.OffsetFault.{OffsetFault}
 use Rattle.std.specs.Option.{option_map}

@@ -1,5 +1,4 @@
--- The offsets of a path, as contracts see them, in 0.001 mm. block_values, path_state, run_records,
--- run_table, two_path and move_list cite it.
+-- The offsets of a path, as contracts see them, in 0.001 mm.
 use Rattle.std.specs.Prelude.{◌≡◌, List, Option, Some, None, if◌then◌else◌}
 use Rattle.nc_number.specs.declared.point.Point.{Point}
 use Rattle.nc_number.specs.Position.{is_position, origin}

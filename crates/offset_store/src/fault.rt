@@ -1,5 +1,4 @@
-//! Why an offset was not set: alarm 40 or 41. block_values raises it as an alarm of the path;
-//! path_state, two_path and 3 more crates above cite it.
+//! Why an offset was not set: alarm 40 or 41.
 ghost use Rattle.std.specs.Prelude.{◌≡◌};
 
 use nc_number::Cause;

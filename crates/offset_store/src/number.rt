@@ -1,5 +1,5 @@
-//! The numbers of offsets, as types: 0 to 6 for work offsets, 1 to 64 for a tool's. A slot
-//! (slot.rt) has one; cell_settings, path_state and run_records make slots of them.
+//! The numbers of offsets, as types: 0 to 6 for work offsets, 1 to 64 for a tool's. A slot (slot.rt)
+//! has one.
 ghost use Rattle.std.specs.Prelude.{◌≡◌, ◌≤◌};
 ghost use Rattle.nc_number.specs.declared.point.TheConstants.{TOOL_OFFSETS};
 ghost use Rattle.offset_store.specs.declared.number.TheConstants.{LAST_WORK};

@@ -1,5 +1,5 @@
 //! A point that may be an offset, as a type: neither axis is past the travel. An operator's edit of
-//! an offset (run_records, edit_texts) has one.
+//! an offset has one.
 ghost use Rattle.std.specs.Prelude.{◌≡◌};
 ghost use Rattle.nc_number.specs.Position.{IsPosition};
 

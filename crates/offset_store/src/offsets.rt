@@ -1,5 +1,4 @@
-//! All offsets of a path, their shift, and an offset that is changed or put. path_state keeps them
-//! for its path, block_values reads them, and G10 and an operator's edits set them.
+//! All offsets of a path, their shift, and an offset that is changed or put.
 ghost use Rattle.std.specs.Prelude.{◌≡◌, ◌≤◌, ◌+ℤ◌, unsigned_abs, IfOk, OnOk, OnErr};
 ghost use Rattle.std.specs.Result.{result_err};
 ghost use Rattle.nc_number.specs.Position.{IsPosition, IsWithin, origin};

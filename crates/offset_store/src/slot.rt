@@ -1,5 +1,4 @@
-//! Which offset of a path is meant, as a type, and which one G10 names by its number. block_values,
-//! cell_settings, path_state and run_records name offsets by it.
+//! Which offset of a path is meant, as a type, and which one G10 names by its number.
 ghost use Rattle.std.specs.Prelude.{◌≡◌};
 ghost use Rattle.offset_store.specs.Slots.{work_slot, tool_slot};
 

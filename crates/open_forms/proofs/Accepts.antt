@@ -1,6 +1,5 @@
 -- If a block of words reads in full and names no interrupt (M96, M97 or M198), no refusal of the
--- open reading holds of it, and it leads where the full reading says. For Widened; wait_verify
--- takes `IsAccepted` and `accepted`.
+-- open reading holds of it, and it leads where the full reading says. For Widened.
 use Rattle.std.proofs.Common.{◌≡◌, ℕ, Bool, true, false, cond, not, ◌&&◌, ◌||◌, ◌*◌, ◌==◌, List, [], ℤ, pos, Option, Some, None, refl, sym, ◌∙◌, ap, subst}
 use Rattle.std.specs.Prelude.{codes, if◌then◌else◌}
 use Rattle.std.specs.List.{list_any, list_all, filter_map}

@@ -1,5 +1,5 @@
 -- Words of some letters among those of more: what holds of the words of more letters holds of those
--- of fewer. For Accepts and LastWithin; wait_verify takes `fewer_computed` and `one_among`.
+-- of fewer. For Accepts and LastWithin.
 use Rattle.std.proofs.Common.{◌≡◌, ℕ, ◌==◌, Bool, true, false, cond, not, ◌&&◌, ◌||◌, List, [], ◌∷◌, ◌++◌, Option, Some, None, ℤ, pos, negsuc, refl, sym, ◌∙◌, ap, subst, arith, eqb-true}
 use Rattle.std.specs.Prelude.{nat_le}
 use Rattle.std.specs.List.{list_any, list_all, filter_map, cons_option}

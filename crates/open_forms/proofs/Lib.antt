@@ -1,5 +1,4 @@
--- The lemmas of this crate, each file by its subject. wait_verify takes lemmas of ReadWords,
--- TableRows, AmongLetters, Accepts and Widened; no other crate takes any.
+-- The lemmas of this crate, each file by its subject. No other crate takes any.
 pub mod LastWord
 pub mod Calm
 pub mod Sentences

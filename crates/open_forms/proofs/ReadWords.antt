@@ -1,5 +1,5 @@
 -- Words that read in full say the same to both readings. For Accepts, AmongLetters, TableRows and
--- Widened; wait_verify takes `AreSaid`, `are_said` and `same_words_of`.
+-- Widened.
 use Rattle.std.proofs.Common.{◌≡◌, ℕ, suc, Bool, true, false, cond, not, ◌&&◌, List, [], ◌∷◌, length, Option, Some, None, Result, Ok, Err, ℤ, refl, sym, ◌∙◌, ap, subst}
 use Rattle.std.specs.List.{list_any, filter_map}
 use Rattle.nc_number.specs.declared.fault.NumberFault.TheVariants.{TooManyDigits}

@@ -1,5 +1,4 @@
--- The G codes of a block that reads in full are those of its system's table. For Accepts;
--- wait_verify takes `in_each`, `macro_is`, `no_such_g` and `same_kind`.
+-- The G codes of a block that reads in full are those of its system's table. For Accepts.
 use Rattle.std.proofs.Common.{◌≡◌, ℕ, zero, suc, ◌*◌, ◌/◌, ◌%◌, ◌==◌, Bool, true, false, cond, not, ◌&&◌, ◌||◌, List, [], ◌∷◌, Option, Some, None, ℤ, pos, negsuc, neg_ℤ, unsigned_abs, refl, sym, ◌∙◌, ap, subst, arith, eqb-true, eq-eqb}
 use Rattle.std.specs.List.{list_any, list_all, filter_map, cons_option, find}
 use Rattle.std.proofs.lemmas.Bool.{and_parts}

@@ -1,6 +1,6 @@
 -- A block that reads in full and names no interrupt (M96, M97 or M198) leads where its open reading
--- says; a statement must be clean. For the law
--- `what_reads_in_full_leads_where_it_said` (src/laws.rt); wait_verify takes `judged_words`.
+-- says; a statement must be clean. For the law `what_reads_in_full_leads_where_it_said`
+-- (src/laws.rt).
 use Rattle.std.proofs.Common.{◌≡◌, ℕ, false, Bool, true, cond, List, Option, Some, None, Result, Ok, Err, refl, ◌∙◌, ap, subst}
 use Rattle.nc_number.specs.declared.cause.Cause.{Cause}
 use Rattle.nc_number.specs.declared.cause.Cause.TheVariants.{TooManyVariables}

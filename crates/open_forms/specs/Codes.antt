@@ -1,5 +1,5 @@
 -- The codes on which the control of a block hangs, and what they make the block. A G code counts by
--- its millionths, so that G10.1 is another code than G10. open_order and wait_verify cite this.
+-- its millionths, so that G10.1 is another code than G10.
 use Rattle.std.specs.Prelude.{ℕ, Bool, true, false, not, ◌==◌, ◌&&◌, ◌||◌, nat_lt, nat_le, List, ℤ, pos, negsuc, codes, if◌then◌else◌}
 use Rattle.std.specs.List.{list_any, filter_map}
 use Rattle.line_text.specs.declared.body.Word.{Word}

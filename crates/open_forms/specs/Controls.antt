@@ -1,5 +1,5 @@
 -- The control of a block, read for its control alone: the definition that `open_control` answers.
--- The full reading's control is in block_forms. open_order and wait_verify cite this.
+-- The full reading's control is in block_forms.
 use Rattle.std.specs.Prelude.{ℕ, List, Option, Some, None, Result, Ok, Err, codes}
 use Rattle.nc_number.specs.declared.cause.Cause.{Cause}
 use Rattle.nc_number.specs.Causes.{cause_number}

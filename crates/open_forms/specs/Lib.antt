@@ -1,6 +1,5 @@
 -- The words in which contracts speak of what a block does to the order of blocks, read for that
--- alone. open_order cites Words, Codes and Controls, wait_verify these and Widening. Refusals and
--- Statements are cited in this crate alone.
+-- alone. Refusals and Statements are cited in this crate alone.
 pub mod Words
 pub mod Codes
 pub mod Refusals

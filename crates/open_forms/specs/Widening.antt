@@ -1,5 +1,5 @@
 -- When the open reading of a block (for its control alone, Controls) must lead where its full
--- reading (block_forms) does. wait_verify rests on this, to accept what `verify` accepts.
+-- reading (block_forms) does.
 use Rattle.std.specs.Prelude.{◌≡◌, false, Bool, not, ◌&&◌, List, [], ◌∷◌, Ok}
 use Rattle.std.specs.List.{list_any}
 use Rattle.line_text.specs.declared.body.Word.{Word}

@@ -1,5 +1,5 @@
 -- The words of a block as they stand on the tape, of which only those are read that its control
--- hangs on. open_order and wait_verify cite this.
+-- hangs on.
 use Rattle.std.specs.Prelude.{ℕ, Bool, not, ◌&&◌, List, Option, Some, None, ℤ, filter, if◌then◌else◌}
 use Rattle.std.specs.List.{list_any, filter_map}
 use Rattle.nc_number.specs.Arithmetic.{whole_of}

@@ -1,5 +1,5 @@
 //! What the open reading of a block has to do with the full one of block_forms. Each law is the
-//! contract of a function that does nothing: who calls it has the law. wait_verify calls both.
+//! contract of a function that does nothing: who calls it has the law.
 ghost use Rattle.std.specs.Prelude.{◌≡◌, ℕ, List, Ok};
 ghost use Rattle.nc_text.specs.declared.tape.Block.{Block};
 ghost use Rattle.nc_text.specs.declared.tape.Program.{Program};

@@ -1,5 +1,5 @@
 //! The words of a block by their letters, as they stand on the tape. What their codes mean is in
-//! codes.rt. open_order too asks for the numbers of words.
+//! codes.rt.
 ghost use Rattle.std.specs.Prelude.{◌≡◌, ◌≤◌, ◌&&◌, not, IfSome, length, if◌then◌else◌};
 ghost use Rattle.nc_number.specs.declared.limits.TheConstants.{LARGEST_WHOLE};
 ghost use Rattle.nc_number.specs.Literals.{is_literal, has_too_many_digits};

@@ -2,8 +2,7 @@
 //!
 //! A block goes on to the next one unless its words or its statement say that it calls, returns,
 //! jumps, loops, waits or ends; what else it says is not looked into. So a block whose codes the
-//! control does not know still has its `Control`. It is refused if that can't be told. open_order
-//! reads tapes so, for wait_verify, which also calls the laws of laws.rt.
+//! control does not know still has its `Control`. It is refused if that can't be told.
 #![tactic(auto)]
 
 mod codes;

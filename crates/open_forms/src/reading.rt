@@ -1,5 +1,4 @@
 //! A block, read for its control alone: its words by controls.rt, its statement by statement.rt.
-//! open_order calls `open_control` for each block of a tape.
 ghost use Rattle.std.specs.Prelude.{◌≡◌};
 ghost use Rattle.open_forms.specs.Controls.{open_control, control_or_number};
 

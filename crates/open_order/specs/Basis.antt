@@ -1,6 +1,5 @@
 -- How contracts read two structs of the code: what a tape is read over (src/reading.rt), and what
 -- is taken on trust (src/trusting.rt).
--- wait_verify and lathe_calls take `trust_view`.
 use Rattle.open_order.specs.declared.reading.Reading.{Reading}
 use Rattle.open_order.specs.declared.trusting.Trust.{Trust}
 use Rattle.open_order.specs.Reading.{Basis}

@@ -1,8 +1,7 @@
 -- The contours of the cycles G70 to G73: which blocks P and Q name, what is wrong with a contour (a
 -- block is missing, it ends before it begins, or it has a wait or an end in it), and the first
--- fault of a tape. 50 and 65 are numbers of refusals (docs/ERRORS.md).
--- `open_order` (src/ordering.rt) refuses tapes by it; wait_verify proves that a tape which `verify`
--- accepts has no such fault.
+-- fault of a tape. 50 and 65 are numbers of refusals (docs/ERRORS.md). `open_order`
+-- (src/ordering.rt) refuses tapes by it.
 use Rattle.std.specs.Prelude.{ℕ, suc, ◌-◌, Bool, true, false, not, ◌==◌, ◌&&◌, ◌||◌, nat_le, List, [], ◌∷◌, take, drop, Option, Some, None, ℤ, codes, if◌then◌else◌}
 use Rattle.std.specs.List.{list_any}
 use Rattle.nc_number.specs.declared.cause.Cause.{Cause}

@@ -1,6 +1,5 @@
 -- Which tapes have an order of waits, and the one refusal of every other tape: what `open_order`
 -- (src/ordering.rt) promises.
--- wait_verify builds its verdict on a pair from it.
 use Rattle.std.specs.Prelude.{◌≡◌, ℕ, List, Ok, Err, Some, None}
 use Rattle.nc_text.specs.declared.tape.Program.{Program}
 use Rattle.block_order.specs.declared.program.ControlProgram.{ControlProgram}

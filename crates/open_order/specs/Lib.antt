@@ -1,7 +1,6 @@
 -- The words in which contracts speak of a tape that is read for its waits alone: what its blocks do
--- to the order, when it is refused, what it takes on trust. wait_verify cites Basis, Contours,
--- Exact, Reading and Trusted, lathe_calls Basis and Trusted, lathe_top Trusted. Gone and Least are
--- cited in this crate alone.
+-- to the order, when it is refused, what it takes on trust. Gone and Least are cited in this crate
+-- alone.
 pub mod Gone
 pub mod Reading
 pub mod Contours

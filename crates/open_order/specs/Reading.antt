@@ -1,6 +1,5 @@
 -- The blocks of a tape, each read for its control alone, or the first of them that is refused. What
 -- one block does to the order is defined in open_forms.
--- wait_verify proves over these words that a tape which `verify` accepts reads to the same order.
 use Rattle.std.specs.Prelude.{ℕ, Bool, List, [], ◌∷◌, ◌++◌, Result, Ok, Err, if◌then◌else◌}
 use Rattle.nc_number.specs.Results.{◌>>=◌}
 use Rattle.nc_text.specs.declared.tape.Block.{Block}

@@ -1,8 +1,6 @@
 -- What is taken on trust when a tape is read for its waits: G codes that this control does not run
 -- and M codes that only the machine knows, which are taken to go on to the next block, and calls of
 -- programs that the tape lacks. `waits` prints it in its line `goes on`.
--- wait_verify and lathe_top take `TrustView`, `no_trust` and `with_tape`, wait_verify also
--- `is_nothing`; lathe_calls takes `TrustView`.
 use Rattle.std.specs.Prelude.{ℕ, Bool, true, false, not, ◌==◌, ◌&&◌, ◌||◌, nat_le, List, [], ◌∷◌, Option, Some, None, ℤ, pos, negsuc, Result, Ok, Err, if◌then◌else◌}
 use Rattle.std.specs.Ordering.{nat_cmp}
 use Rattle.std.specs.BTreeSet.{insert_key}

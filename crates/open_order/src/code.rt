@@ -1,6 +1,6 @@
 //! What a block takes on trust: G codes that this control does not run, M codes that only the
-//! machine knows, and calls of programs that the tape lacks, as it may (outside.rt).
-//! trusting.rt gathers them over the blocks of a tape; wait_verify does so for both tapes.
+//! machine knows, and calls of programs that the tape lacks, as it may (outside.rt). trusting.rt
+//! gathers them over the blocks of a tape.
 ghost use Rattle.std.specs.Prelude.{◌≡◌};
 ghost use Rattle.block_words.specs.Codes.{row_of_number};
 ghost use Rattle.open_forms.specs.Words.{whole_of_word};

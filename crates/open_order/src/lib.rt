@@ -3,8 +3,7 @@
 //! Each block is read for what it does to the order of blocks, and goes on to the next one if it
 //! says nothing of that. A call of a program that the tape may lack goes on too. [`open_order`] is
 //! the order of a tape in which nothing is wrong, or its one refusal; [`add_tape`] tells what was
-//! taken on trust. wait_verify calls both for the tapes of a pair. lathe_calls, lathe_top and
-//! lathe_c hand it the range of programs that a tape may lack ([`Outside`]).
+//! taken on trust.
 #![tactic(auto)]
 
 mod code;

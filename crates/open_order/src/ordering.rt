@@ -1,6 +1,5 @@
 //! The order of the blocks of a tape, read for its waits alone, or the tape's one refusal: of a
 //! block, else of the order, else of a contour.
-//! wait_verify calls `open_order` for each tape of a pair.
 ghost use Rattle.std.specs.Prelude.{◌≡◌, IfOk, IfErr};
 ghost use Rattle.block_order.specs.Answers.{IfFault};
 ghost use Rattle.block_order.specs.Faults.{IsSound};

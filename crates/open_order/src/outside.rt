@@ -1,6 +1,5 @@
 //! The programs that the tapes of a pair may lack, as `waits --outside` names them; and whether a
 //! tape lacks one.
-//! lathe_c, lathe_calls, lathe_top and wait_verify hand the range down to this crate.
 ghost use Rattle.std.specs.Prelude.{◌≡◌};
 ghost use Rattle.open_order.specs.Gone.{is_in, is_on, is_gone};
 

@@ -1,6 +1,5 @@
-//! What a tape is read by: how its words are read under the settings of the cell, and which
-//! programs it may lack.
-//! wait_verify makes it once for a pair and hands it to `open_order` and `add_tape`.
+//! What a tape is read by: how its words are read under the settings of the cell, and which programs
+//! it may lack.
 use crate::outside::Outside;
 use block_forms::Dialect;
 

@@ -1,6 +1,5 @@
 //! What the tapes of a pair take on trust, gathered over all blocks. `waits` prints it in its line
 //! `goes on`.
-//! wait_verify calls `add_tape` for each tape of a pair and prints the `Trust`.
 ghost use Rattle.std.specs.Prelude.{◌≡◌, OnOk, Some};
 ghost use Rattle.open_order.specs.declared.code.Code.TheVariants as Code;
 ghost use Rattle.open_order.specs.Basis.{basis, trust_view};

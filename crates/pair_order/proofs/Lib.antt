@@ -1,4 +1,4 @@
--- The lemmas of this crate, each file by its subject. two_path takes lemmas of Meetings.
+-- The lemmas of this crate, each file by its subject.
 pub mod Meetings
 pub mod Machines
 mod Ways

@@ -1,6 +1,5 @@
 -- Two paths over tapes whose lists of labels are equal: the labels ahead of both agree, and each
--- step leaves it so. For the law `no_pair_waits_in_vain` and for Machines; two_path takes `Agree`
--- with `agree_swap`, `agree_waits`, `agree_end` and `step_keeps`.
+-- step leaves it so. For the law `no_pair_waits_in_vain` and for Machines.
 use Rattle.std.proofs.Common.{◌≡◌, ℕ, ◌⊎◌, inl, inr, List, [], ◌∷◌, ◌++◌, refl, sym, subst, ◌∙◌}
 use Rattle.block_order.specs.declared.control.Control.{Control}
 use Rattle.block_order.specs.declared.control.Control.TheVariants as control

@@ -1,8 +1,7 @@
 -- Two paths over the orders of their blocks: where they stand, their steps and their meetings, and
 -- that neither waits in vain. Of a block only its control counts. A label is a wait or an end that
 -- the other path can notice; `Again` stands for the main program's new beginning, `Off` for the
--- place past a last block. two_path and wait_verify use these words; the law
--- `no_pair_waits_in_vain` is said in them.
+-- place past a last block. The law `no_pair_waits_in_vain` is said in them.
 use Rattle.std.specs.Prelude.{◌≡◌, ℕ, List, [], ◌∷◌, ◌++◌, Some}
 use Rattle.block_order.specs.declared.control.Control.TheVariants.{Wait, End}
 use Rattle.block_order.specs.declared.frame.Frame.{Frame}

@@ -1,5 +1,4 @@
 //! The law of every two tapes, for the crates above: who calls the function has the law.
-//! wait_verify calls it; two_path takes its lemmas (proofs/Meetings.antt).
 ghost use Rattle.std.specs.Prelude.{List};
 ghost use Rattle.block_order.specs.declared.program.ControlProgram.{ControlProgram};
 ghost use Rattle.pair_order.specs.Pairs.{IsPair, IsNeverStuck};

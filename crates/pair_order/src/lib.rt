@@ -2,7 +2,6 @@
 //!
 //! A block is known here by its control alone, so the law holds of every machine whose blocks go
 //! where their controls lead: it speaks of no variable, no move and no machine of this repository.
-//! wait_verify and two_path lean on it.
 #![tactic(auto)]
 
 mod laws;

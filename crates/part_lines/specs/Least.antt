@@ -1,5 +1,5 @@
 -- The least of some lines of a tape, of which there may be none. `IsLine` says of a number whether
--- it is one of the lines. race_report cites `IsLeast`.
+-- it is one of the lines.
 use Rattle.std.specs.Prelude.{ℕ, ◌≤◌, Option, Some, None}
 
 -- It is one of the lines, and none is less; or it is none, and there is no line.

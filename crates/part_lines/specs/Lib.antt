@@ -1,5 +1,4 @@
--- The words of the contracts of part_lines. race_report cites PartLines and Least; Lines and Pieces
--- are for this crate alone.
+-- The words of the contracts of part_lines. Lines and Pieces are for this crate alone.
 pub mod Least
 pub mod PartLines
 pub mod Lines

@@ -1,7 +1,6 @@
 -- The least line of each part of a path (the blocks that it may run between one wait and the next),
 -- among the blocks that are looked for: what this crate answers. `line` gives, by the O number and
--- the place of a block, its line if the block is looked for. race_report cites `AreLeastLines` and
--- `LineInPart`.
+-- the place of a block, its line if the block is looked for.
 use Rattle.std.specs.Prelude.{◌≡◌, ℕ, suc, List, length, Option, Some, slice_get}
 use Rattle.block_order.specs.declared.control.Control.{Control}
 use Rattle.block_order.specs.declared.program.ControlProgram.{ControlProgram}

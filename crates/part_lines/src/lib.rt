@@ -3,7 +3,6 @@
 //! A part is the blocks that the path may run between one wait and the next. [`least_lines`] goes
 //! through a tape as the calls that lead to waits or ends are unfolded, and makes the lines of each
 //! program once. What is looked for, a [`BlockLines`] tells: this crate knows of no variable.
-//! race_report calls `least_lines` for the blocks that may use a shared variable.
 #![tactic(auto)]
 
 mod callers;

@@ -1,5 +1,4 @@
-//! The blocks that are looked for, as a trait. race_report implements it: it says of each block
-//! whether it is looked for, and its line.
+//! The blocks that are looked for, as a trait.
 ghost use Rattle.std.specs.Prelude.{◌≡◌, ℕ, Option};
 
 /// The blocks of a tape that are looked for.

@@ -1,6 +1,5 @@
 //! The least lines of a path: those of the main program and of each loud one that is called (a loud
 //! program has a wait or an end, or calls one that has) are made once and joined as the calls lead.
-//! race_report calls `least_lines`.
 ghost use Rattle.std.specs.Prelude.{◌≡◌, Some, None, Option, IfOk, OnOk};
 ghost use Rattle.block_order.specs.declared.control.Control.TheVariants as Control;
 ghost use Rattle.loud_calls.specs.Calls.{IsReady, IsShort, IsShortCall};

@@ -1,7 +1,7 @@
 -- The list of a path has as many waits as its list of labels: the law
 -- `equal_lists_have_equally_many_waits`. An item of the first list is a stretch of blocks, a wait
 -- or the new beginning; each mark (a wait, an end, an M99 without a number, a call that leads to a
--- wait or an end) ends a stretch. race_report takes `waits_of`, `list_waits` and `waits_agree`.
+-- wait or an end) ends a stretch.
 use Rattle.std.proofs.Common.{◌≡◌, ℕ, zero, suc, List, [], ◌∷◌, refl, ap}
 use Rattle.block_order.specs.declared.label.Label.{Label}
 use Rattle.block_order.specs.declared.label.Label.TheVariants as label

@@ -1,6 +1,6 @@
--- Parts repeat with the waits of the list: the law `parts_repeat_with_the_waits` (src/laws.rt).
--- The items of a path's list are stretches of blocks, waits and the new beginning; a round is one
--- way through the list. part_lines takes `folds`, race_report `parts_repeat`.
+-- Parts repeat with the waits of the list: the law `parts_repeat_with_the_waits` (src/laws.rt). The
+-- items of a path's list are stretches of blocks, waits and the new beginning; a round is one way
+-- through the list.
 use Rattle.std.proofs.Common.{◌≡◌, ℕ, suc, ◌+◌, ◌<◌, ◌⊎◌, inl, inr, List, ◌∷◌, refl, subst, arith}
 use Rattle.block_order.specs.declared.program.ControlProgram.{ControlProgram}
 use Rattle.part_order.specs.Parts.{Item, Stretch, Meets, Anew, waits_in, Follows, first, behind_stretch, behind_wait, anew, path_items, path_waits, stretch_at, IsInPart, listed, called, PartsRepeat}

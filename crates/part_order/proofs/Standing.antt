@@ -1,7 +1,6 @@
--- After n waits a path stands in part n: the law `each_block_stands_in_its_part` (src/laws.rt).
--- The items of a path's list are its stretches (runs of blocks up to a wait, an end, an M99 without
--- a number or a call that leads to a wait or an end), its waits and its new beginning. race_order
--- takes `reached_stands` and `stands_in_parts`.
+-- After n waits a path stands in part n: the law `each_block_stands_in_its_part` (src/laws.rt). The
+-- items of a path's list are its stretches (runs of blocks up to a wait, an end, an M99 without a
+-- number or a call that leads to a wait or an end), its waits and its new beginning.
 use Rattle.std.proofs.Common.{◌≡◌, ℕ, suc, Bool, true, false, List, [], ◌∷◌, drop, refl, subst, ◌∙◌}
 use Rattle.block_order.specs.declared.frame.Frame.{Frame}
 use Rattle.block_order.specs.declared.program.ControlProgram.{ControlProgram}

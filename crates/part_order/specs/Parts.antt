@@ -4,7 +4,6 @@
 -- end; others are quiet. A mark is a wait, an end, an M99 without a number or a call of a loud
 -- program. A stretch is the run of blocks, of the main program or a loud one, up to and with the
 -- next mark. The list has stretches and waits, with the calls of loud programs unfolded.
--- part_lines, race_order and race_report cite this.
 use Rattle.std.specs.Prelude.{◌≡◌, ℕ, zero, suc, ◌+◌, ◌<◌, false, List, [], ◌∷◌, drop, Some, if◌then◌else◌}
 use Rattle.block_order.specs.declared.control.Control.TheVariants.{Wait, Call}
 use Rattle.block_order.specs.declared.frame.Frame.{Frame}

@@ -1,6 +1,4 @@
-//! The laws of the parts of a path, which hold of every tape. race_order, race_report and
-//! part_lines take the proofs of these laws (proofs/Standing, Counted, Folded) instead of calling
-//! them.
+//! The laws of the parts of a path, which hold of every tape.
 ghost use Rattle.std.specs.Prelude.{◌≡◌, List};
 ghost use Rattle.block_order.specs.declared.program.ControlProgram.{ControlProgram};
 ghost use Rattle.block_order.specs.Labels.{IsUnforked, list};

@@ -4,10 +4,8 @@
 //! stretch is a run of blocks of the main program or a loud one up to and with a wait, an end, an
 //! M99 without a number or a call of a loud program. The list of a path has its stretches and its
 //! waits in the order in which they come, with the calls of loud programs unfolded. Part n is what
-//! stands after n waits of the list, and the quiet programs that are called there. race_order leans
-//! on [`each_block_stands_in_its_part`]: it takes the law's proof (proofs/Standing). race_report
-//! and part_lines take those of the other two laws (proofs/Folded, Counted). No program runs this
-//! crate.
+//! stands after n waits of the list, and the quiet programs that are called there. No program runs
+//! this crate.
 #![tactic(auto)]
 
 mod laws;

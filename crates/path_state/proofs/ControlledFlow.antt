@@ -1,7 +1,6 @@
 -- The effect of a flow's block leads where its order of blocks allows, a wait and an end stop the
 -- path, and past the last block there is an alarm: for the laws of src/control_law.rt. An effect
 -- that goes as the order allows and keeps what is fixed for its path is *steady* (ControlledWords).
--- race_order takes `steady`.
 use Rattle.std.proofs.Common.{◌≡◌, ◌≢◌, ℕ, List, [], ◌∷◌, map, slice_get, Option, Some, None, refl, ap, sym, subst, ◌∙◌}
 use Rattle.std.specs.Option.{option_map}
 use Rattle.nc_number.specs.declared.value.Var.{Var}

@@ -1,6 +1,5 @@
 -- A statement that is done leads where the order of blocks allows, and what is fixed for its path
 -- stays: for the law `control_goes_as_the_flow_orders` (src/control_law.rt).
--- named_vars takes `OnGives`, `after_any`, `behind_gives` and `either`.
 use Rattle.std.proofs.Common.{◌≡◌, ℕ, Bool, true, false, inl, inr, List, Some, Result, Ok, Err, refl, sym, subst, if◌then◌else◌}
 use Rattle.nc_number.specs.declared.cause.Cause.{Cause}
 use Rattle.nc_number.specs.declared.point.Point.{Point}

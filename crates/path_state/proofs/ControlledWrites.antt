@@ -1,6 +1,5 @@
 -- What a block writes beside its path is a variable that both paths share: for the law
 -- `what_is_written_is_shared` (src/control_law.rt).
--- race_order takes `shared_written`.
 use Rattle.std.proofs.Common.{◌≡◌, ℕ, Bool, true, false, List, [], Option, Some, None, Result, Ok, Err, refl, subst}
 use Rattle.nc_number.specs.declared.cause.Cause.{Cause}
 use Rattle.nc_number.specs.declared.point.Point.{Point}

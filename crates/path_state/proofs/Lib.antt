@@ -1,6 +1,4 @@
--- The lemmas of path_state, each file by its subject. named_vars takes lemmas of
--- ControlledStatements and NeedsShared, race_order of ControlledFlow, ControlledWrites and
--- NeedsWords; the others are for the proofs of this crate.
+-- The lemmas of path_state, each file by its subject. The others are for the proofs of this crate.
 mod ControlledPlaces
 pub mod ControlledStatements
 mod ControlledWords

@@ -1,6 +1,5 @@
 -- What an expression needs is a variable that the paths share, and fewer values were given than it
 -- names variables, each mention counted. NeedsStatements and NeedsWords build on it.
--- named_vars takes `named_in_table`.
 use Rattle.std.proofs.Common.{◌≡◌, ℕ, ◌+◌, ◌<◌, ◌≤◌, Bool, true, false, List, [], ◌∷◌, length, Option, Some, None, Result, Ok, Err, ℤ, refl, ap, subst, arith, if◌then◌else◌}
 use Rattle.nc_number.specs.declared.cause.Cause.{Cause}
 use Rattle.nc_number.specs.declared.fault.NumberFault.{NumberFault}

@@ -1,7 +1,6 @@
 -- A block asks for no more values than it names variables, each mention counted, and for shared
 -- ones alone: for the laws `a_block_asks_for_each_variable_once_at_most` and
 -- `what_is_needed_is_shared` (src/control_law.rt).
--- race_order takes `needed_shared`.
 use Rattle.std.proofs.Common.{◌≡◌, ℕ, ◌<◌, ◌≤◌, true, List, [], ◌∷◌, length, Option, Some, None, Result, Ok, Err, subst, arith}
 use Rattle.nc_number.specs.declared.cause.Cause.{Cause}
 use Rattle.nc_number.specs.declared.value.Var.{Var}

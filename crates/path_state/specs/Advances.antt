@@ -1,6 +1,5 @@
 -- How the code's answers to the turn of a block (src/advance.rt) are read as effects of the block,
 -- and what holds of the moves in them.
--- two_path takes `StaysUnlessTold`, `effect_told` and `moves_of` for its own contracts of turns.
 use Rattle.std.specs.Prelude.{◌≡◌, ◌≤◌, ℕ, List, [], length}
 use Rattle.nc_moves.specs.declared.motion.Move.{Move}
 use Rattle.nc_moves.specs.declared.motion.Moves.{Moves}

@@ -1,8 +1,6 @@
 -- What the laws of one path's control say (src/control_law.rt): a block leads to a place that the
 -- order of blocks allows, keeps what is fixed for its path, and asks for shared variables alone. A
 -- place is the open programs of a path, each with its block.
--- two_path builds its law on pairs on it; move_list, nc_restart, race_order, run_table, trace_list
--- and turn_order take words from here too.
 use Rattle.std.specs.Prelude.{◌≡◌, ◌<◌, true, List, length, Some}
 use Rattle.nc_number.specs.declared.value.Var.{Var}
 use Rattle.block_order.specs.declared.control.Control.TheVariants.{Wait, End}

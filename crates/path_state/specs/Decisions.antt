@@ -1,6 +1,5 @@
 -- How a decision of the code (src/decision.rt) is read as the effect of the block, before anything
 -- of the path changes; and when it may be done. Its moves stand apart, in a list that was lent.
--- two_path takes `MayTake` and `effect_of_decision`: when it does a record again, it decides the block first.
 use Rattle.std.specs.Prelude.{ℕ, List, [], Some, None, Result, Ok, Err}
 use Rattle.nc_number.specs.declared.value.Var.{Var}
 use Rattle.code_tables.specs.declared.system.System.{System}

@@ -1,6 +1,5 @@
 -- What an operator's edit does to a path: it sets an offset, or a common variable of the path's
 -- own, and nothing of control.
--- two_path takes `path_with_edit` and `shared_write` for an edit of its machine.
 use Rattle.std.specs.Prelude.{◌≡◌, ℕ, List, Option, Some, None, if◌then◌else◌}
 use Rattle.nc_number.specs.declared.value.Var.{Var}
 use Rattle.common_vars.specs.Common.{with_value}

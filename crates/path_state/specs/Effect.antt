@@ -1,7 +1,6 @@
 -- What a block does to its path: the whole, step by step, from the words and the statement to the
 -- moves, the new place and what is written. `effect_of` is the one definition of a block's effect.
--- The crates above build on it: two_path, run_table, named_vars, race_order, move_list, trace_list,
--- nc_restart, turn_order and zone_check take words from here, so a change here changes all runs.
+-- The crates above build on it, so a change here changes all runs.
 use Rattle.std.specs.Prelude.{ℕ, List, [], ◌∷◌, Option, Some, None, Result, Ok, Err, ℤ, pos, codes}
 use Rattle.nc_number.specs.declared.cause.Cause.{Cause}
 use Rattle.nc_number.specs.declared.cause.Cause.TheVariants.{RanOff}

@@ -1,6 +1,5 @@
 -- That what was decided of the words of a block leads turret and offset to positions, which every
 -- path keeps: the doing of a decision (src/taking.rt) requires it.
--- two_path takes `HasFitWords`.
 use Rattle.std.specs.Prelude.{IfSome}
 use Rattle.nc_number.specs.Position.{IsPosition}
 use Rattle.path_state.specs.declared.words_step.WordsStep.{WordsStep}

@@ -1,6 +1,5 @@
 -- What every path keeps at all times: the invariant of `PathState` (src/path.rt), and how its
--- fields are read as a `PathView`.
--- No other crate cites it, but every `PathState` that two_path holds keeps it.
+-- fields are read as a `PathView`. No other crate cites it, but every `PathState` keeps it.
 use Rattle.std.specs.Prelude.{◌≤◌, List}
 use Rattle.nc_number.specs.declared.point.Point.{Point}
 use Rattle.nc_number.specs.declared.value.Var.{Var}

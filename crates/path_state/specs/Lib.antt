@@ -1,7 +1,6 @@
 -- The words of the contracts of path_state. Effect says what a block does, Standing where the path
 -- goes, Statements what a statement does, Edits what an operator's edit sets, Controlled the law of
--- control. two_path, named_vars and the crates above them cite all but Routes, Writings, Kept,
--- Ahead, Worked and Protected.
+-- control.
 pub mod View
 pub mod Looks
 pub mod Said

@@ -1,7 +1,5 @@
 -- What each variable holds as a block begins: the table over which the block's expressions are
 -- evaluated. A shared variable holds nothing here, since each reading of it is an event of its own.
--- named_vars, race_order and two_path go by `is_shared`, as do move_list and zone_check; trace_list
--- takes `shift_now`.
 use Rattle.std.specs.Prelude.{ℕ, ◌+◌, ◌&&◌, ◌||◌, nat_le, nat_lt, Bool, Option, Some, None, Result, Ok, Err, ◌-ℤ◌, if◌then◌else◌}
 use Rattle.nc_number.specs.declared.value.Var.TheVariants.{Vacant, Is}
 use Rattle.nc_number.specs.declared.point.Point.{Point}

@@ -1,6 +1,4 @@
 -- A path as its tape begins: what `PathState::new` (src/path.rt) makes of a flow and the settings.
--- two_path begins its machine so. The crates that tell of whole runs take `opening_path`:
--- lathe_calls, move_list, nc_restart, race_report, run_table, trace_list, turn_order, zone_check.
 use Rattle.std.specs.Prelude.{List, [], ◌∷◌, slice_index_or, if◌then◌else◌}
 use Rattle.nc_number.specs.declared.path.Path.{Path}
 use Rattle.nc_number.specs.declared.point.Point.{Point}

@@ -1,7 +1,6 @@
 -- Where a route of the code (src/route.rt) leads a path: control behind a block of words, decided
 -- before anything changes. src/standing.rt proves that it is what Standing says of the block's
--- control.
--- No other crate cites it; Decisions, which two_path cites, is built on it.
+-- control. No other crate cites it; Decisions is built on it.
 use Rattle.std.specs.Prelude.{List, Option, Result, Ok, Err}
 use Rattle.nc_number.specs.declared.cause.Cause.{Cause}
 use Rattle.nc_number.specs.declared.value.Var.{Var}

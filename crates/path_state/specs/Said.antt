@@ -1,7 +1,5 @@
 -- What a block says, evaluated by what its path holds of each variable: the words of block_values
--- over the table of Looks.
--- Effect and Statements are built on it. The proofs of named_vars, run_table, two_path and
--- zone_check take words from here too.
+-- over the table of Looks. Effect and Statements are built on it.
 use Rattle.std.specs.Prelude.{ℕ, List}
 use Rattle.nc_number.specs.declared.value.Var.{Var}
 use Rattle.code_tables.specs.declared.system.System.{System}

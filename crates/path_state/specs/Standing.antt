@@ -1,8 +1,6 @@
 -- Where a path stands: its place, with its calls and their levels of local variables; and where it
 -- stands behind a block of words. block_order says where control may go; calls and levels are added
--- here.
--- Effect is built on it. The proofs of named_vars, run_table, two_path and zone_check take words
--- from here too.
+-- here. Effect is built on it.
 use Rattle.std.specs.Prelude.{◌≡◌, ℕ, zero, suc, ◌+◌, List, [], ◌∷◌, length, Option, Some, None, Result, Ok, Err}
 use Rattle.nc_number.specs.declared.cause.Cause.{Cause}
 use Rattle.nc_number.specs.declared.value.Var.{Var}

@@ -1,5 +1,5 @@
--- How what the code decided of a statement (src/writing.rt) is read as the statement's effect.
--- For the contracts of src/statements.rt; two_path takes `write_seen`.
+-- How what the code decided of a statement (src/writing.rt) is read as the statement's effect. For
+-- the contracts of src/statements.rt.
 use Rattle.std.specs.Prelude.{ℕ, List, [], Option, Some, None, Result, Ok, Err}
 use Rattle.nc_number.specs.declared.value.Var.{Var}
 use Rattle.block_values.specs.declared.outcome.Stop.{Stop}

@@ -1,7 +1,6 @@
 -- What a statement does: an assignment, a jump, the head or the end of a loop. `statement_effect`
--- is the one definition; where jumps and loops lead is defined in block_order.
--- Effect is built on it. named_vars, race_order and two_path take `Write`; run_table and zone_check
--- take words from here too.
+-- is the one definition; where jumps and loops lead is defined in block_order. Effect is built on
+-- it.
 use Rattle.std.specs.Prelude.{ℕ, Bool, true, false, List, Option, Some, None, Result, Ok, Err, ℤ, pos, if◌then◌else◌}
 use Rattle.nc_number.specs.declared.cause.Cause.{Cause}
 use Rattle.nc_number.specs.declared.cause.Cause.TheVariants.{Protected, MacroAlarm}

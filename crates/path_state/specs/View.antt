@@ -1,6 +1,5 @@
 -- What contracts see of one path of the machine: the state that blocks read and change. Every
--- definition of a block's effect is over it. two_path and nine more crates take it, so a new
--- field here is one of every record that is made of a path.
+-- definition of a block's effect is over it.
 use Rattle.std.specs.Prelude.{ℕ, List}
 use Rattle.nc_number.specs.declared.value.Var.{Var}
 use Rattle.nc_number.specs.declared.point.Point.{Point}

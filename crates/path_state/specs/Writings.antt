@@ -1,6 +1,5 @@
 -- What a change of the code (src/writing.rt) comes to: the path behind the write of a variable, and
--- which changes can be made.
--- No other crate cites it; StatementSteps and Decisions, which two_path cites, are built on it.
+-- which changes can be made. No other crate cites it; StatementSteps and Decisions are built on it.
 use Rattle.std.specs.Prelude.{Bool, ◌&&◌, nat_le, Some, None}
 use Rattle.nc_number.specs.Position.{is_position}
 use Rattle.common_vars.specs.Common.{is_common, with_value}

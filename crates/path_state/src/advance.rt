@@ -1,6 +1,5 @@
 //! What a path answers to the turn of its block: with the moves of the block in it, or with these
-//! apart, in a list that was lent.
-//! two_path goes by `BlockAnswer`; tests take `Advance`.
+//! apart, in a list that was lent. Tests take `Advance`.
 ghost use Rattle.std.specs.Prelude.{◌≡◌};
 ghost use Rattle.path_state.specs.Advances.{effect_told, effect_seen, StaysUnlessTold, StaysUnlessDone, AreFitMoves, AreMovesAt};
 ghost use Rattle.path_state.specs.View.{PathView};

@@ -1,7 +1,5 @@
 //! The laws of one path's control: where its blocks lead, and what they read and write. Each law is
 //! the contract of a function that does nothing.
-//! two_path, run_table, turn_order, nc_restart and move_list, and tests, call them; two_path builds
-//! its law that no pair is stuck on them.
 ghost use Rattle.std.specs.Prelude.{◌≡◌, ◌≢◌, ◌<◌, ℕ, true, List, length, map, Option, Some, None};
 ghost use Rattle.nc_number.specs.declared.value.Var.{Var};
 ghost use Rattle.nc_moves.specs.declared.motion.Move.{Move};

@@ -1,6 +1,5 @@
 //! What a block comes to, decided before anything changes: by its kind, words, a macro call or a
 //! statement. taking.rt does what was decided.
-//! two_path decides so whether a record may follow, before the record is done again.
 ghost use Rattle.std.specs.Prelude.{◌≡◌, false, List, [], None, Some, IsNone, IsSome, IfSome, IfOk};
 ghost use Rattle.nc_moves.specs.declared.motion.Move.{Move};
 ghost use Rattle.std.specs.Option.{option_copied};

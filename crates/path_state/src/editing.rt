@@ -1,6 +1,5 @@
 //! What an operator's edit does to a stopped path: it sets an offset or a common variable of the
 //! path's own. Nothing of control changes.
-//! two_path and tests call `edit`.
 ghost use Rattle.std.specs.Prelude.{◌≡◌};
 ghost use Rattle.run_records.specs.declared.edit.Edit.{Edit};
 ghost use Rattle.path_state.specs.View.{PathView};

@@ -5,11 +5,8 @@
 //! motion and the moves; of a statement its operands; of both what is written, and control. What
 //! words and operands say, and what they make of what is in force, of motion and of moves, is
 //! `block_values`. A [`PathState`] is the scope of its own variables, and takes an operator's edits.
-//! It decides what a block comes to before anything of it changes. two_path, which runs two of
-//! them, leans on [`PathState::advance_into`], and on [`PathState::decide`] and
-//! [`PathState::take`], which do the same in two calls (the kinds of blocks are told apart in
-//! both): the moves of a block are put into a list that the caller lends. Crates above that print
-//! or check a machine look at its paths, and take laws from here.
+//! It decides what a block comes to before anything of it changes. Crates above that print or check
+//! a machine look at its paths, and take laws from here.
 #![tactic(auto)]
 
 mod acting;

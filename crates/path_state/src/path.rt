@@ -1,7 +1,5 @@
 //! The state of one path, how it begins, and what may be seen of it. What its blocks do is in
 //! decision.rt and taking.rt.
-//! two_path keeps two of them in its machine and lends them; lathe_calls, move_list, run_table,
-//! trace_list and zone_check, and tests, look at them.
 ghost use Rattle.std.specs.Prelude.{◌≡◌, ◌≤◌, ◌+◌, ℕ, List, All, Some, IfOk, length};
 ghost use Rattle.nc_number.specs.Path.{is_same};
 ghost use Rattle.nc_number.specs.Position.{IsPosition};

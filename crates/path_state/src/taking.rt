@@ -1,5 +1,5 @@
-//! The turn of a block: it is decided first (decision.rt), and then done here.
-//! two_path calls `advance_into` and `take`; tests call `advance`, and nobody `peek`.
+//! The turn of a block: it is decided first (decision.rt), and then done here. Tests call `advance`,
+//! and nobody `peek`.
 ghost use Rattle.std.specs.Prelude.{◌≡◌, false, [], List};
 ghost use Rattle.nc_moves.specs.declared.motion.Move.{Move};
 ghost use Rattle.block_order.specs.Frames.{MayPass};

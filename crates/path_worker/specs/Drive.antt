@@ -1,6 +1,5 @@
 -- What the drive of a turret does at the items of its line (moves, marks that ask whether the
--- turret is at rest, and the end), and how it halts the run at a fault (src/drive.rt). turret_run
--- cites `HasSettled`, and meets `halts_at` in the clauses of `run_lane`.
+-- turret is at rest, and the end), and how it halts the run at a fault (src/drive.rt).
 use Rattle.std.specs.Prelude.{◌≡◌, ◌⊎◌, Bool, List, [], ◌∷◌, if◌then◌else◌}
 use Rattle.nc_number.specs.declared.path.Path.{Path}
 use Rattle.nc_outside.specs.declared.halt.Halt.TheVariants.{Turret}

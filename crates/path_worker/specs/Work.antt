@@ -1,6 +1,6 @@
 -- What the worker of a path does at the answers of its stepper: its calls, and what it sends along
--- the drive line (src/worker.rt, src/lane.rt). No other crate cites this file, but turret_run meets
--- `calls_made` and `IsWhole` in the clauses of `run_lane`.
+-- the drive line (src/worker.rt, src/lane.rt). No other crate cites this file, but the clauses of
+-- `run_lane` have `calls_made` and `IsWhole`.
 use Rattle.std.specs.Prelude.{◌≡◌, ℕ, ◌+◌, List, [], ◌∷◌, ◌++◌, length, map, flat_map, Option, All}
 use Rattle.nc_number.specs.declared.path.Path.{Path}
 use Rattle.nc_outside.specs.declared.halt.Next.{Next}

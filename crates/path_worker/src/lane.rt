@@ -1,5 +1,4 @@
 //! The worker and the drive of a path in a thread each, over one line, and what is left of both.
-//! turret_run and tests use it.
 ghost use Rattle.std.specs.Prelude.{◌≡◌, [], List, false, true, length};
 ghost use Rattle.nc_outside.specs.Calls.{IsCalled, moves_answered};
 ghost use Rattle.nc_outside.specs.declared.halt.Next.{Next as Answer};

@@ -1,13 +1,13 @@
 //! The two threads of a path: the worker, which sends the moves that its steps answer along a drive
-//! line, and the drive, which hands them to the turret. So a slow turret does not hold up its
-//! path's blocks until the line is full or a wait comes.
+//! line, and the drive, which hands them to the turret. So a slow turret does not hold up its path's
+//! blocks until the line is full or a wait comes.
 //!
 //! A worker (`run_path`) sends each step's moves once the step has answered, and where a step asks
 //! for that it drains the line and tells the stepper of it. A drive (`run_drive`) answers the mark
 //! of a drain once its turret stands still behind every move before it, so that a wait is recorded
-//! only then; where the turret failed it halts the run first. `run_lane` runs both, and turret_run
-//! leans on what it promises: the turret got the moves that the stepper answered, all of them, or a
-//! prefix of them if it failed, and the caller is told how many the turret missed.
+//! only then; where the turret failed it halts the run first. `run_lane` runs both, and promises:
+//! the turret got the moves that the stepper answered, all of them, or a prefix of them if it
+//! failed, and the caller is told how many the turret missed.
 #![tactic(auto)]
 
 mod drive;

@@ -1,7 +1,6 @@
 -- Two tapes, each of which comes to one list of labels: if no part of one may write a shared
 -- variable that the same part of the other names, all runs that finish agree. For the law
 -- `race_free_runs_agree` (src/laws.rt).
--- race_report takes `race_free_agree`.
 use Rattle.std.proofs.Common.{◌≡◌, ℕ, Bool, true, List, [], ◌∷◌, Option, Some, None, refl, ap, sym, subst, ◌∙◌}
 use Rattle.std.proofs.lemmas.Bool.{or_left}
 use Rattle.nc_number.specs.declared.value.Var.{Var}

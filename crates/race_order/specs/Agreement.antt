@@ -1,6 +1,5 @@
 -- When two runs of a machine come to the same, whichever path had which turn: what the law of
 -- src/laws.rt says of pairs without a race.
--- race_report takes `Agree` and `AreDone`.
 use Rattle.std.specs.Prelude.{◌≡◌, ℕ, Bool, true, List, [], ◌∷◌, ◌++◌}
 use Rattle.nc_number.specs.declared.path.Path.{Path}
 use Rattle.nc_number.specs.declared.path.Path.TheVariants.{One, Two}

@@ -1,4 +1,3 @@
 -- The words of the contract of race_order: what a race is (Races), and when runs agree (Agreement).
--- race_report cites both.
 pub mod Races
 pub mod Agreement

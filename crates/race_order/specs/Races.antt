@@ -1,6 +1,5 @@
 -- What a race is: a shared variable whose value may depend on which path comes first, by the texts
 -- of both tapes alone. Part n of a path are the blocks that it may run behind n waits.
--- race_report takes `HasNoRace`, `IsRace`, `PartMayWrite` and `PartNames`, and finds the races.
 use Rattle.std.specs.Prelude.{◌≡◌, ℕ, Bool, true}
 use Rattle.tape_flow.specs.declared.flow.Flow.{Flow}
 use Rattle.part_order.specs.Parts.{IsInPart}

@@ -1,5 +1,5 @@
-//! The law that a pair without a race comes to one outcome, whichever path has which turn.
-//! No crate calls the function; race_report takes the lemma of its proof (proofs/Flows.antt).
+//! The law that a pair without a race comes to one outcome, whichever path has which turn. No crate
+//! calls the function.
 ghost use Rattle.block_order.specs.Labels.{IsUnforked};
 ghost use Rattle.tape_flow.specs.declared.flow.Flow.{Flow};
 ghost use Rattle.race_order.specs.Agreement.{RaceFreeRunsAgree};

@@ -1,5 +1,4 @@
--- The lemmas of race_report, each file by its subject. lathe_top takes `same_list` of SameForms;
--- the others are for the proofs of this crate.
+-- The lemmas of race_report, each file by its subject. The others are for the proofs of this crate.
 mod TreeReads
 mod NoMeeting
 mod SoughtLines

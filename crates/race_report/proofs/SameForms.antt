@@ -1,6 +1,5 @@
 -- The races of a pair depend on what its tapes say (the forms of their blocks), and not on where
 -- that lies in memory.
--- lathe_top takes `same_list`.
 use Rattle.std.proofs.Common.{◌≡◌, ◌==◌, ℕ, zero, suc, Bool, true, false, find, List, [], ◌∷◌, map, Option, Some, None, slice_get, refl, ap, sym, subst, ◌∙◌}
 use Rattle.std.specs.Option.{option_map}
 use Rattle.nc_number.specs.declared.path.Path.{Path}

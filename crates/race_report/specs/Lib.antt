@@ -1,6 +1,5 @@
 -- The words of the contracts of race_report: what a list of races is (RaceLists), how it is printed
--- (Texts), what an empty one says (Outcomes); the others say how it is found. lathe_calls and
--- lathe_top cite the first two.
+-- (Texts), what an empty one says (Outcomes); the others say how it is found.
 pub mod RaceLists
 pub mod Texts
 pub mod Reads

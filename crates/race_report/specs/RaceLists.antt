@@ -2,8 +2,6 @@
 -- a race is, race_order defines; here are its lines and which race comes first. Part n of a path
 -- are the blocks that it may run behind n waits; `place` is the number of a block in its program,
 -- from 0.
--- lathe_calls takes `IsRaceList` and `shared_by` to say what is due to `races`, lathe_top
--- `shared_by`.
 use Rattle.std.specs.Prelude.{◌≡◌, ℕ, ◌<◌, ◌≤◌, ◌⊎◌, Bool, true, List, [], ◌∷◌, ◌||◌, ◌&&◌, ◌+◌, nat_le, nat_lt, Some}
 use Rattle.nc_number.specs.declared.path.Path.{Path}
 use Rattle.nc_number.specs.declared.path.Path.TheVariants.{One, Two}

@@ -1,5 +1,5 @@
--- The list of races as `races` prints it: how many there are, and a line for each.
--- lathe_calls and lathe_top take `list_text`; src/writing.rt writes it.
+-- The list of races as `races` prints it: how many there are, and a line for each. Src/writing.rt
+-- writes it.
 use Rattle.std.specs.Prelude.{ℕ, List, [], ◌∷◌, ◌++◌, length, codes}
 use Rattle.nc_number.specs.Path.{number_of, other_of}
 use Rattle.text_pieces.specs.Pieces.{text_with_number, place_text}

@@ -2,7 +2,7 @@
 //!
 //! [`races`] lists, for each shared variable that has a race, the earliest one, and [`write_races`]
 //! prints the list. If it is empty, all runs that finish come to the same:
-//! [`a_pair_without_races_has_one_outcome`]. lathe_calls answers `races` with them.
+//! [`a_pair_without_races_has_one_outcome`].
 #![tactic(auto)]
 
 mod laws;

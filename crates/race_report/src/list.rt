@@ -1,5 +1,4 @@
 //! The list of races that `races` answers; only racing.rt makes one.
-//! lathe_calls and tests take it.
 ghost use Rattle.std.specs.Prelude.{◌≡◌, ◌↔◌, [], IsTrue};
 
 use crate::race::Race;

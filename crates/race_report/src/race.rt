@@ -1,6 +1,5 @@
-//! A race: a shared variable, behind how many waits, the path that may write it, and the first
-//! lines at which both paths come to it.
-//! writing.rt prints it; contracts of lathe_calls and a proof of lathe_top name it.
+//! A race: a shared variable, behind how many waits, the path that may write it, and the first lines
+//! at which both paths come to it. writing.rt prints it; contracts above name it.
 use nc_number::Path;
 
 /// A race: one path may write the variable while the other names it.

@@ -1,6 +1,5 @@
 //! How the races of a pair are found: for each shared variable, the first among the least lines of
 //! the parts (part_lines).
-//! lathe_calls and tests call `races`.
 ghost use Rattle.std.specs.Prelude.{◌≡◌, ◌≤◌, ◌+◌, IfOk, OnOk, length, true};
 ghost use Rattle.part_lines.specs.PartLines.{AreLeastLines};
 ghost use Rattle.race_report.specs.Lines.{sought_line};

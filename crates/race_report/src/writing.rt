@@ -1,5 +1,4 @@
 //! The list of races as `races` prints it, into a sink. Its text is defined in specs/Texts.antt.
-//! lathe_calls and tests call `write_races`.
 ghost use Rattle.std.specs.Prelude.{◌≡◌, ◌+◌, ◌≤◌, ◌++◌, length};
 ghost use Rattle.nc_verify.specs.Printed.{IsPut};
 ghost use Rattle.race_report.specs.Texts.{race_text, head_text, races_text, list_text};

@@ -1,6 +1,5 @@
 //! The journal's file as the disk of a run. How the file is opened and written is in
 //! journal_file.rt.
-//! own_turret and twin_lathe use it.
 ghost use Rattle.std.specs.Prelude.{◌≡◌, ◌≤◌};
 ghost use Rattle.nc_number.specs.Faults.{Rose};
 

@@ -1,5 +1,4 @@
 //! Files of the file system as the shelf: tapes, settings, edits and zones.
-//! own_turret and twin_lathe use it.
 ghost use Rattle.std.specs.Prelude.{◌≡◌, ◌≢◌, ◌+◌, ◌≤◌, ◌++◌, List, ℕ, length, None, IfOk, OnOk, OnErr};
 ghost use Rattle.std.specs.Io.{StartsWith};
 

@@ -1,6 +1,6 @@
-//! What a journal on a disk needs of the system, as traits: a folder and its files.
-//! system_folder.rt is the real one; tests (disk_vectors) take one that fails.
-//! file_disk.rt, journal_file.rt and the files below them are written over these traits.
+//! What a journal on a disk needs of the system, as traits: a folder and its files. system_folder.rt
+//! is the real one; tests take one that fails. file_disk.rt, journal_file.rt and the files below
+//! them are written over these traits.
 use std::io;
 use std::os::unix::fs::FileExt;
 

@@ -1,8 +1,6 @@
 //! The file of the journal, as a command may use it: who may write, what is believed after a fault,
 //! and when a new file takes the place of the one that was found. How it looks to a run is in
-//! file_disk.rt.
-//! file_disk.rt uses `JournalFile`; own_turret and twin_lathe name `Access`, and twin_lathe says
-//! `Trouble` to a person.
+//! file_disk.rt. file_disk.rt uses `JournalFile`.
 ghost use Rattle.std.specs.Prelude.{◌+◌, ◌≤◌, ◌<◌, ◌^◌, IfOk, OnOk, length};
 
 use crate::chain::END;

@@ -1,14 +1,12 @@
-//! The outside of a lathe on a real machine: tapes and settings that are files, a journal on a
-//! disk, a report on standard output, files or pipes for the lines of the turrets, and a turret
-//! that does nothing. A program of one's own takes what it needs of these, and puts its own forms
-//! of the traits beside them.
+//! The outside of a lathe on a real machine: tapes and settings that are files, a journal on a disk,
+//! a report on standard output, files or pipes for the lines of the turrets, and a turret that does
+//! nothing. A program of one's own takes what it needs of these, and puts its own forms of the
+//! traits beside them.
 //!
 //! None of them tells what it holds or got, since no proof can see the system. What a call of the
 //! lathe promises of forms that tell nothing holds of these, with their counts of faults. What a
-//! real disk needs besides is kept by [`FileDisk`], over the calls of the system that [`Folder`]
-//! and [`RawFile`] name, so that it can be tried over a folder that fails (disk_vectors).
-//!
-//! twin_lathe and own_turret are made of them.
+//! real disk needs besides is kept by [`FileDisk`], over the calls of the system that [`Folder`] and
+//! [`RawFile`] name, so that it can be tried over a folder that fails.
 #![tactic(auto)]
 
 mod chain;

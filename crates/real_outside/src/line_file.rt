@@ -1,5 +1,4 @@
 //! A file or a named pipe that gets the lines of a turret.
-//! twin_lathe uses it, as the sink of a `LineTurret` (turret_lines).
 ghost use Rattle.std.specs.Prelude.{◌≡◌, None};
 
 use crate::folder::Folder;

@@ -1,5 +1,4 @@
 //! Standard output as the sink of a command's answer.
-//! own_turret and twin_lathe use it.
 ghost use Rattle.std.specs.Prelude.{◌≡◌, None};
 
 use nc_outside::{PutFault, Sink};

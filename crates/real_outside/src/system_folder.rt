@@ -1,5 +1,4 @@
 //! The folder and the files of the operating system, behind the traits of folder.rt.
-//! own_turret and twin_lathe use it.
 use crate::folder::{Folder, Identity, RawFile};
 use crate::next_name::NextName;
 use std::fs::{File, Metadata, OpenFile};

@@ -1,5 +1,5 @@
 -- A contour of lines: its first point, and the points after it. In 0.001 mm, X a diameter.
--- Roughing, src/form.rt, the laws of src/law.rt and cycle_form cite it.
+-- Roughing, src/form.rt and the laws of src/law.rt cite it.
 use Rattle.std.specs.Prelude.{ℕ, List, [], ◌∷◌, map, pos, ◌+ℤ◌, ◌≤ℤ◌}
 use Rattle.nc_number.specs.declared.point.Point.{Point}
 

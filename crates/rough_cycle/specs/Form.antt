@@ -1,5 +1,5 @@
 -- A form as the code keeps it, and the bounds within which the code computes. The contracts of
--- src/form.rt ask for them; cycle_form makes only such forms.
+-- src/form.rt ask for them.
 use Rattle.std.specs.Prelude.{◌≤◌, All, unsigned_abs}
 use Rattle.nc_number.specs.declared.limits.TheConstants.{LONGEST_SAID}
 use Rattle.nc_number.specs.declared.point.Point.{Point}

@@ -1,7 +1,6 @@
 -- What lies inside a contour: the part that may not be cut. A point is inside if each segment that
 -- its Z lies in is above it, and there is one. `inside` (src/contour.rt) computes it; the laws of
--- src/law.rt are said by it. No other crate cites it, but the parts of cycle_form rest on it
--- through Moves.
+-- src/law.rt are said by it. Crates above rest on it through Moves.
 use Rattle.std.specs.Prelude.{◌≤◌, Bool, true, false, not, ◌&&◌, ◌||◌, List, [], ◌∷◌, ℤ, pos, ◌-ℤ◌, ◌*ℤ◌, unsigned_abs, int_lt, int_le, if◌then◌else◌}
 use Rattle.std.specs.Ordering.{int_eq}
 use Rattle.nc_number.specs.declared.point.Point.{Point}

@@ -1,5 +1,5 @@
 -- The moves of blocks, and the whole points on them: how the law `no_move_enters_the_contour`
--- (src/law.rt) is said. cycle_form cites it for its parts.
+-- (src/law.rt) is said.
 use Rattle.std.specs.Prelude.{◌≡◌, ◌*◌, false, List, [], ◌∷◌, unwrap_or}
 use Rattle.nc_number.specs.declared.point.Point.{Point}
 use Rattle.nc_number.specs.Distances.{distance, IsBetween}

@@ -1,6 +1,5 @@
--- The passes of G71, and the blocks that G71 and G70 stand for. src/form.rt makes these blocks;
--- cycle_form says which forms there are, and tape_expand writes the blocks. Lengths are in 0.001
--- mm, X is a diameter.
+-- The passes of G71, and the blocks that G71 and G70 stand for. Src/form.rt makes these blocks.
+-- Lengths are in 0.001 mm, X is a diameter.
 use Rattle.std.specs.Prelude.{◌≡◌, ℕ, zero, suc, ◌+◌, ◌*◌, ◌/◌, ◌≤◌, Bool, true, false, ◌&&◌, List, [], ◌∷◌, ◌++◌, map, ℤ, pos, ◌+ℤ◌, ◌-ℤ◌, ◌≤ℤ◌, int_lt, int_le, Option, Some, None, if◌then◌else◌}
 use Rattle.std.specs.List.{flat_map}
 use Rattle.std.specs.Int.{int_min}

@@ -1,5 +1,5 @@
 //! What lies inside a contour of lines, and where a pass ends at it; in 0.001 mm, X a diameter.
-//! form.rt calls `end_at` for each pass; `inside` is for tests (expand_vectors).
+//! form.rt calls `end_at` for each pass; `inside` is for tests.
 ghost use Rattle.std.specs.Prelude.{◌≡◌, ◌≤ℤ◌, ◌<ℤ◌, ◌<◌, ◌≤◌, ◌*◌, ◌/◌, ◌-ℤ◌, ◌*ℤ◌, pos, unsigned_abs, All};
 ghost use Rattle.nc_number.specs.Distances.{distance};
 ghost use Rattle.rough_cycle.specs.Inside.{holds, is_below, is_below_line, some_holds, is_below_each, is_inside, IsNear};

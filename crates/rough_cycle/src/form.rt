@@ -1,5 +1,4 @@
-//! G71 and G70 along lines as plain blocks: the passes, and then the contour. cycle_form makes a
-//! `RoughForm` of the blocks of a tape and asks for its blocks.
+//! G71 and G70 along lines as plain blocks: the passes, and then the contour.
 ghost use Rattle.std.specs.Prelude.{◌≡◌, ◌≤◌, ◌++◌, IfOk, IfSome, OnOk, unsigned_abs, All, true, map, [], ◌∷◌};
 ghost use Rattle.std.specs.List.{flat_map};
 ghost use Rattle.nc_number.specs.declared.limits.TheConstants.{LONGEST_SAID};

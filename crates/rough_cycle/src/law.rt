@@ -1,5 +1,4 @@
-//! Laws of the passes and of the moves of G71 and G70. cycle_form takes the first for its parts;
-//! docs/GUARANTEES.md names both.
+//! Laws of the passes and of the moves of G71 and G70. Docs/GUARANTEES.md names both.
 ghost use Rattle.std.specs.Prelude.{◌≡◌, ℕ, List, ◌∷◌, true, false, ℤ, ◌≤ℤ◌, ◌<ℤ◌};
 ghost use Rattle.rough_cycle.specs.Contour.{Descends};
 ghost use Rattle.rough_cycle.specs.Inside.{some_holds, is_below_each, is_inside_from};

@@ -1,6 +1,5 @@
-//! G71 and G70 over a line contour, as plain blocks. Which blocks of a tape are such a form is in
-//! cycle_form, which rests on the law that no move enters the contour; tape_expand writes the
-//! blocks.
+//! G71 and G70 over a line contour, as plain blocks. Which blocks of a tape are such a form, the
+//! crates above say, which rest on the law that no move enters the contour.
 #![tactic(auto)]
 
 mod block;

@@ -1,5 +1,5 @@
 -- What making a branch does to its disk: it puts a second journal there, which stands for a run up
--- to its n-th meeting. lathe_top cites it.
+-- to its n-th meeting.
 use Rattle.std.specs.Prelude.{◌≡◌, ◌⊎◌, ◌↔◌, ℕ, ◌+◌, ◌*◌, ◌≤◌, ◌<◌, List, length, take, Some, Result, Ok, Err, IfOk, OnOk, IfErr}
 use Rattle.disk_model.specs.Device.{DiskState, Reads, Rose, IsSettled}
 use Rattle.disk_model.specs.Moments.{LeavesOnly, Unwritten, Uses}

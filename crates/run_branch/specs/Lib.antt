@@ -1,5 +1,5 @@
--- The words in which contracts speak of branches of a run. lathe_top cites Meetings and Branches;
--- the public law `a_branch_opens_as_its_records` (src/laws.rt) speaks by Openings.
+-- The words in which contracts speak of branches of a run. The public law
+-- `a_branch_opens_as_its_records` (src/laws.rt) speaks by Openings.
 pub mod Meetings
 pub mod Branches
 pub mod Openings

@@ -1,4 +1,4 @@
--- The meetings of a run, and how far a branch reaches. lathe_top cites it.
+-- The meetings of a run, and how far a branch reaches.
 use Rattle.std.specs.Prelude.{◌≡◌, ℕ, zero, suc, ◌+◌, ◌≤◌, ◌<◌, List, [], ◌∷◌, length, take, Option, Some, None, if◌then◌else◌}
 use Rattle.std.specs.Option.{option_map}
 use Rattle.run_records.specs.Entries.{Entry, is_meeting}

@@ -1,5 +1,5 @@
 //! How a branch of a run is made: the shortest prefix of its records with n meetings, written at
-//! once onto another disk. lathe_top calls `branch`.
+//! once onto another disk.
 ghost use Rattle.std.specs.Prelude.{◌≡◌, ◌-◌, ◌^◌, ◌<◌, length, if◌then◌else◌};
 ghost use Rattle.run_records.specs.Entries.{is_meeting};
 ghost use Rattle.run_records.specs.Headers.{IsShort};

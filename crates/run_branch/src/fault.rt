@@ -1,4 +1,4 @@
-//! Why a branch of a run is not made: four causes, of which lathe_top makes a text and a status.
+//! Why a branch of a run is not made: four causes.
 ghost use Rattle.run_branch.specs.Faults.{IsFaultOf, IsOfBeginning};
 
 use gate_file::GateFault;

@@ -1,5 +1,5 @@
--- What making an operator's edits does to the disk of a journal (Made), which lathe_top cites.
--- Writing is for this crate alone.
+-- What making an operator's edits does to the disk of a journal (Made). Writing is for this crate
+-- alone.
 pub mod Made
 -- The preconditions of private functions.
 pub mod Writing

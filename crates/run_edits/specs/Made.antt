@@ -1,5 +1,4 @@
 -- The records of an operator's edits, and what making them does to the disk of a journal.
--- lathe_top cites it.
 use Rattle.std.specs.Prelude.{◌≡◌, ℕ, ◌+◌, ◌*◌, ◌≤◌, List, [], ◌++◌, length, map, Result, IfErr, IsOk, OnOk}
 use Rattle.disk_model.specs.Device.{DiskState, Reads, Rose}
 use Rattle.disk_model.specs.Moments.{LeavesOnly, Uses}

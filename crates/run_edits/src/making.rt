@@ -1,6 +1,5 @@
-//! How edits are made in a run that was recovered: room first, then the journal raised, the
-//! records, and one batch.
-//! lathe_top asks `has_room` and calls `make_edits`.
+//! How edits are made in a run that was recovered: room first, then the journal raised, the records,
+//! and one batch.
 ghost use Rattle.std.specs.Prelude.{◌≡◌, ℕ, ◌+◌, ◌≤◌, ◌++◌, List, length, nat_le, is_ok, None, OnOk};
 ghost use Rattle.disk_model.specs.Device.{HasCause, Reads};
 ghost use Rattle.disk_model.specs.Moments.{LeavesOnly, Uses};

@@ -1,6 +1,6 @@
 -- Where a journal ends at most: five bytes and the header, six bytes beside its own for each
 -- record, and eight for the raising mark. The law `a_held_journal_is_small` (src/laws.rt) rests on
--- it, and run_branch takes `pieces_end`.
+-- it.
 use Rattle.std.proofs.Common.{◌≡◌, ℕ, ◌+◌, ◌*◌, ◌≤◌, List, [], ◌∷◌, length, map, ap, arith, length-append}
 use Rattle.std.proofs.lemmas.List.Concat.{flat_map-append}
 use Rattle.disk_model.specs.Device.{DiskState}

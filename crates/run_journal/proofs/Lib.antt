@@ -1,5 +1,4 @@
--- The lemmas of this crate, each file after those that it uses. nc_restart takes Openings,
--- run_branch takes Ends.
+-- The lemmas of this crate, each file after those that it uses.
 pub mod Batches
 pub mod Beginnings
 pub mod Places

@@ -1,6 +1,5 @@
 -- A journal is opened as its file of gates is, and its bodies are read. `open_journal`
--- (src/opening.rt) and `read_contents` (src/reading.rt) rest on it; nc_restart takes
--- `kept_settled`.
+-- (src/opening.rt) and `read_contents` (src/reading.rt) rest on it.
 use Rattle.std.proofs.Common.{◌≡◌, ℕ, ◌+◌, ◌*◌, List, [], ◌∷◌, length, take, get_or, refl, sym, ◌∙◌, ap, subst, arith, Some, Ok, Err}
 use Rattle.std.proofs.lemmas.List.{length-map}
 use Rattle.disk_model.specs.Device.{DiskState, Reads, Only}

@@ -1,5 +1,5 @@
--- Why a body is no piece, and why a file of gates is no run. nc_restart cites it too; which causes
--- a record by itself has is in run_records.
+-- Why a body is no piece, and why a file of gates is no run. Which causes a record by itself has is
+-- in run_records.
 use Rattle.std.specs.Prelude.{◌≡◌, ◌⊎◌, ℕ, ◌+◌, ◌≤◌, ◌<◌, Bool, false, not, ◌&&◌, List, [], ◌∷◌, ◌++◌, length, Option, Some, if◌then◌else◌}
 use Rattle.nc_number.specs.declared.limits.TheConstants.{MOST_PENDING}
 use Rattle.gate_file.specs.Chain.{Spells, ends_at}

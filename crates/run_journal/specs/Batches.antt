@@ -1,7 +1,6 @@
 -- Records in batches, the mark by which a journal is raised, and the bodies of a journal: its
 -- header, and then these pieces. What the header's and a record's bytes are is in run_records; the
--- gates between the bodies are in gate_file. nc_restart, run_branch, run_edits, run_table and
--- lathe_top cite it.
+-- gates between the bodies are in gate_file.
 use Rattle.std.specs.Prelude.{◌≡◌, ℕ, ◌≤◌, List, [], ◌∷◌, length, map, None}
 use Rattle.std.specs.List.{flat_map}
 use Rattle.nc_number.specs.declared.limits.TheConstants.{MOST_PENDING}

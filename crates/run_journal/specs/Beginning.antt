@@ -1,5 +1,4 @@
 -- How a journal is begun: the header is written as the first body, and no run is written over.
--- lathe_top and run_table cite it.
 use Rattle.std.specs.Prelude.{◌⊎◌, ℕ, ◌+◌, ◌≤◌, List, [], length, Result, Ok, Err, OnOk, IfErr}
 use Rattle.disk_model.specs.Device.{DiskState, Reads}
 use Rattle.disk_model.specs.Moments.{LeavesOnly, Unwritten, Uses}

@@ -1,5 +1,5 @@
 -- A journal that is written at once: a header, and records in batches of 64. `journal_bodies`
--- (src/filling.rt) makes one. run_branch writes branches so, and lathe_top cites it too.
+-- (src/filling.rt) makes one.
 use Rattle.std.specs.Prelude.{◌≡◌, ℕ, List, [], ◌∷◌, length}
 use Rattle.nc_number.specs.declared.limits.TheConstants.{MOST_PENDING}
 use Rattle.run_records.specs.declared.header.Header.{Header}

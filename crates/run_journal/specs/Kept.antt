@@ -1,5 +1,5 @@
 -- What callers see of a journal: the view of the type Journal (src/journal.rt), and what its calls
--- make of it. nc_restart, run_edits, run_table and lathe_top cite it.
+-- make of it.
 use Rattle.std.specs.Prelude.{◌≡◌, ℕ, ◌+◌, ◌*◌, ◌≤◌, List, [], ◌∷◌, length, slice_index, IsTrue, Result, OnOk, OnErr, is_ok}
 use Rattle.nc_number.specs.declared.limits.TheConstants.{MOST_PENDING}
 use Rattle.gate_file.specs.Gate.{Gate}

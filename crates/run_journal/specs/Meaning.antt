@@ -1,5 +1,4 @@
--- What an image of a journal stands for: one of four things. nc_restart, run_branch and lathe_top
--- cite it.
+-- What an image of a journal stands for: one of four things.
 use Rattle.std.specs.Prelude.{ℕ, List}
 use Rattle.gate_file.specs.Chain.{IsNoRun, IsCutAt}
 use Rattle.run_records.specs.declared.bad_record.BadRecord.{BadRecord}

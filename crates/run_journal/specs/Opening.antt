@@ -1,5 +1,4 @@
--- How a journal is opened: what is found, or the one reason why it can't be. nc_restart and
--- run_branch cite it.
+-- How a journal is opened: what is found, or the one reason why it can't be.
 use Rattle.std.specs.Prelude.{◌≡◌, ℕ, ◌+◌, ◌*◌, ◌≤◌, List, length, Result, Ok, Err, IfOk, IfErr}
 use Rattle.disk_model.specs.Device.{DiskState, Reads, IsSettled}
 use Rattle.nc_number.specs.Faults.{Rose}

@@ -1,4 +1,4 @@
--- Where the records of a journal begin. nc_restart tells the offset of a bad record by these.
+-- Where the records of a journal begin.
 use Rattle.std.specs.Prelude.{ℕ, ◌+◌, List, [], ◌∷◌, ◌++◌, length}
 use Rattle.run_records.specs.Entries.{Entry}
 use Rattle.run_records.specs.Spelling.{entry_bytes}

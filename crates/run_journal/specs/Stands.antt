@@ -1,5 +1,4 @@
--- Which records a journal holds: of an image, and of a disk that keeps it. nc_restart, run_branch,
--- run_edits, run_table and lathe_top cite it.
+-- Which records a journal holds: of an image, and of a disk that keeps it.
 use Rattle.std.specs.Prelude.{◌≡◌, ◌⊎◌, ℕ, List, ◌++◌}
 use Rattle.disk_model.specs.Device.{DiskState}
 use Rattle.gate_file.specs.Chain.{Spells}

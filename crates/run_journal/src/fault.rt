@@ -1,6 +1,5 @@
 //! What can go wrong with a journal: it is full, or can't be opened. `Journal::add` answers the
-//! first, which run_table and run_edits rule out before they call it; nc_restart tells the second
-//! on.
+//! first, which callers rule out before they call it.
 
 ghost use Rattle.std.specs.Prelude.{◌≡◌};
 ghost use Rattle.gate_file.specs.declared.fault.GateFault.TheVariants.{RunThere};

@@ -1,5 +1,4 @@
-//! The bodies of a journal that is written at once. run_branch writes a branch so; a journal that
-//! grows is in journal.rt.
+//! The bodies of a journal that is written at once. A journal that grows is in journal.rt.
 
 ghost use Rattle.std.specs.Prelude.{◌≡◌, ◌+◌, ◌-◌, ◌≤◌, ◌<◌, ℕ, List, length, take, drop, IfOk};
 ghost use Rattle.nc_number.specs.declared.limits.TheConstants.{MOST_PENDING};

@@ -1,5 +1,4 @@
 //! A journal: records that are gathered in batches, and written as bodies of a file of gates.
-//! run_table writes the records of a run so, and run_edits those of an operator's edits.
 
 ghost use Rattle.std.specs.Prelude.{◌≡◌, ◌↔◌, ◌+◌, ◌≤◌, ◌<◌, ◌++◌, [], ◌∷◌, List, ℕ, length, IsSome, IsTrue, IsErr, OnOk, OnErr, IfOk};
 ghost use Rattle.disk_model.specs.Device.{HasCause};

@@ -1,5 +1,4 @@
-//! What holds of journals, whatever made them; none of these calls does anything. nc_restart,
-//! run_branch, run_edits, run_table and lathe_top take these laws.
+//! What holds of journals, whatever made them; none of these calls does anything.
 
 ghost use Rattle.std.specs.Prelude.{◌≡◌, ◌+◌, ◌*◌, ◌≤◌, List, ℕ, length};
 ghost use Rattle.run_records.specs.Entries.{Entry};

@@ -1,5 +1,4 @@
-//! How a journal is opened: its file of gates, and then its bodies (reading.rt). nc_restart opens a
-//! run so.
+//! How a journal is opened: its file of gates, and then its bodies (reading.rt).
 
 ghost use Rattle.std.specs.Prelude.{◌≡◌, length, IfOk};
 ghost use Rattle.run_journal.specs.Kept.{IsFresh};

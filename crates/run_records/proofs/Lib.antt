@@ -1,5 +1,4 @@
--- The lemmas of this crate, each file by its subject. run_journal and two_path take OneSpelling,
--- and run_journal takes Texts.
+-- The lemmas of this crate, each file by its subject.
 pub mod EditsSpelled
 mod HeadsStand
 pub mod OneSpelling

@@ -1,5 +1,5 @@
 -- A record has one spelling, and whatever follows it there is no cause why it is none. For the law
--- `an_entry_has_one_spelling` (src/laws.rt); HeadsStand, run_journal and two_path take facts too.
+-- `an_entry_has_one_spelling` (src/laws.rt); HeadsStand takes facts too.
 use Rattle.std.proofs.Common.{◌≡◌, ℕ, ◌+◌, ◌*◌, ◌≤◌, List, ◌∷◌, ◌++◌, length, drop, get_or, refl, sym, ◌∙◌, ap, subst, arith, length-append, true, false, Some, None, Option, ◌||◌}
 use Rattle.std.specs.Prelude.{◌==◌, is_some, is_none, if◌then◌else◌}
 use Rattle.std.proofs.lemmas.Bool.{ne_eqb}

@@ -1,6 +1,5 @@
 -- Texts after their lengths, and headers of three of them: a header has one spelling. For the law
--- `a_header_has_one_spelling` (src/laws.rt) and `parts_of` (src/header.rt); run_journal takes facts
--- too.
+-- `a_header_has_one_spelling` (src/laws.rt) and `parts_of` (src/header.rt).
 use Rattle.std.proofs.Common.{◌≡◌, ℕ, ◌+◌, ◌^◌, ◌<◌, List, [], ◌++◌, length, take, drop, get_or, refl, sym, ◌∙◌, ap, arith, append_assoc, length-append}
 use Rattle.std.proofs.lemmas.List.{take_at, drop_at, append-nil}
 use Rattle.std.proofs.lemmas.Nat.{from_be_bytes-to_be_bytes_4}

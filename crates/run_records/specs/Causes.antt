@@ -1,5 +1,5 @@
 -- Why bytes begin with no record, and the numbers of all causes. How a record is spelled is in
--- Spelling. `take_entry` (src/reading.rt) answers the cause, and run_journal cites it.
+-- Spelling. `take_entry` (src/reading.rt) answers the cause.
 use Rattle.std.specs.Prelude.{ℕ, ◌+◌, ◌*◌, ◌==◌, ◌||◌, ◌&&◌, not, nat_lt, Bool, List, length, drop, slice_index, Option, Some, None, is_none, if◌then◌else◌}
 use Rattle.std.specs.Int.{w64, cast_signed}
 use Rattle.nc_number.specs.declared.limits.TheConstants.{MOST_READS}

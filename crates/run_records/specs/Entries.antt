@@ -1,7 +1,6 @@
 -- What clauses see of a record of a run. How it is spelled is in Spelling. Which records are legal
--- is in two_path. run_journal, two_path, run_table and 11 more crates
--- above, tests apart, cite it. A further kind needs its line in each function here, and in
--- `kind_number` of Spelling.
+-- is not said here. A further kind needs its line in each function here, and in `kind_number` of
+-- Spelling.
 use Rattle.std.specs.Prelude.{◌≡◌, ℕ, Bool, true, false, List, [], Option, Some, None, IsSome}
 use Rattle.nc_number.specs.declared.path.Path.{Path}
 use Rattle.run_records.specs.declared.edit.Edit.{Edit}

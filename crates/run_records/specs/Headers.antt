@@ -1,5 +1,5 @@
 -- How a header is spelled: `TWIN`, the version, and three texts, each after its length in four
--- bytes, the high byte first. run_journal, nc_restart, run_table and 3 more crates above cite it.
+-- bytes, the high byte first.
 use Rattle.std.specs.Prelude.{ℕ, ◌+◌, ◌^◌, ◌<◌, List, [], ◌∷◌, ◌++◌, length, codes}
 use Rattle.byteorder.specs.Endian.{big_bytes}
 use Rattle.run_records.specs.declared.header.Header.{Header}

@@ -1,5 +1,4 @@
 -- What callers see of a list of records: the records, and for how many of them there is room.
--- run_table makes room before a step by it, so that its record can be kept.
 use Rattle.std.specs.Prelude.{ℕ, List}
 use Rattle.run_records.specs.Entries.{Entry}
 

@@ -1,6 +1,5 @@
 -- How a record is spelled: path and kind, and then, of a step, the number of stamps, and each stamp
--- in four bytes, of an edit its four numbers. The high byte of a number comes first. run_journal
--- makes batches of it; lathe_top, run_branch, run_edits and run_table cite it too.
+-- in four bytes, of an edit its four numbers. The high byte of a number comes first.
 use Rattle.std.specs.Prelude.{ℕ, ◌≤◌, List, [], ◌∷◌, ◌++◌, length, Option, Some, None}
 use Rattle.std.specs.Int.{w64, cast_unsigned}
 use Rattle.byteorder.specs.Endian.{big_bytes}

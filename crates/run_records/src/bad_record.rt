@@ -1,5 +1,5 @@
 //! Why the bytes of a run's journal are none: the numbered causes of `Cause::BadRecord` (80). Which
-//! of them holds is found in reading.rt, in run_journal and in nc_restart.
+//! of them holds is found in reading.rt, and when a journal is opened and done again.
 
 ghost use Rattle.std.specs.Prelude.{◌≡◌};
 ghost use Rattle.run_records.specs.Causes.{cause_number};

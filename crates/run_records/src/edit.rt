@@ -1,5 +1,4 @@
 //! What an operator corrects in a run before it goes on: an offset or a common variable of a path.
-//! edit_texts reads it, path_state and two_path do it, and a record of the journal has it.
 
 ghost use Rattle.std.specs.Prelude.{◌≡◌};
 

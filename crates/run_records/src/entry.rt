@@ -1,6 +1,4 @@
-//! A record of a run, and its bytes: it is spelled here, and read in reading.rt. run_journal writes
-//! records, two_path makes them and does them again, run_table, nc_restart and 4 more crates above
-//! list them.
+//! A record of a run, and its bytes: it is spelled here, and read in reading.rt.
 
 ghost use Rattle.std.specs.Prelude.{◌≡◌, ◌↔◌, ◌+◌, ◌*◌, ◌≤◌, ◌++◌, ◌∷◌, [], ℕ, List, length, take, drop, Option, Some, None, is_none, IsTrue};
 ghost use Rattle.std.specs.Option.{option_copied};

@@ -1,6 +1,4 @@
-//! The header of a run, and its bytes: it is spelled and read here. run_journal writes it before
-//! the batches of records; nc_restart judges its texts again, run_branch begins a new journal with
-//! it, run_table and lathe_top a run.
+//! The header of a run, and its bytes: it is spelled and read here.
 
 ghost use Rattle.std.specs.Prelude.{◌≡◌, ◌+◌, ◌*◌, ◌^◌, ◌≤◌, ◌<◌, ◌++◌, [], ◌∷◌, ℕ, List, length, take, drop, IfOk, IfErr, IfSome, IfNone, OnOk};
 ghost use Rattle.run_records.specs.declared.header.Header.{Header};

@@ -1,6 +1,4 @@
-//! Laws of spelling: the bytes of a record or a header are those of one alone. No crate calls them;
-//! run_journal takes their lemmas (proofs/OneSpelling.antt, proofs/Texts.antt), so that a journal
-//! has one meaning, and two_path one lemma on edits.
+//! Laws of spelling: the bytes of a record or a header are those of one alone. No crate calls them.
 
 ghost use Rattle.std.specs.Prelude.{◌≡◌, ◌++◌, ℕ, List, None};
 ghost use Rattle.run_records.specs.Entries.{Entry};

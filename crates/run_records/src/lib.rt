@@ -4,7 +4,7 @@
 //! number of records there were at that moment. Or it is an edit, a correction of an offset or a
 //! variable that an operator made between two steps. The layer above leans on this: bytes equal
 //! entry and header both ways, each has one spelling, and a spelling is read again whatever follows
-//! it. run_journal puts records on a disk; what a record means is in two_path.
+//! it. What a record means is not known here.
 #![tactic(auto)]
 
 mod bad_record;

@@ -1,5 +1,4 @@
-//! The list of a record's stamps, and lists of records. run_table keeps a history in such a list,
-//! nc_restart reads one from a journal, and reports, traces and zones are made of it.
+//! The list of a record's stamps, and lists of records.
 
 ghost use Rattle.std.specs.Prelude.{◌≡◌, ◌+◌, ◌^◌, ◌≤◌, ◌<◌, ◌++◌, [], ◌∷◌, List, ℕ, length, get_or, OnOk, vec_len, vec_capacity};
 ghost use Rattle.nc_number.specs.declared.limits.TheConstants.{MOST_READS};

@@ -1,5 +1,5 @@
-//! A record, read from its bytes, or the cause why they begin with none. entry.rt spells it.
-//! Whether it is legal is not asked here. run_journal reads the records of a batch by it.
+//! A record, read from its bytes, or the cause why they begin with none. entry.rt spells it. Whether
+//! it is legal is not asked here.
 
 ghost use Rattle.std.specs.Prelude.{◌≡◌, ◌+◌, ◌*◌, ◌≤◌, ◌++◌, ◌∷◌, ℕ, List, length, take, drop, Some, None, Ok, IfOk, IfErr, IfSome, IsSome, ◌↔◌, ◌⊎◌};
 ghost use Rattle.nc_number.specs.declared.limits.TheConstants.{MOST_READS};

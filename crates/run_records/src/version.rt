@@ -1,5 +1,4 @@
 //! Versions of the journal, which the header begins with; docs/JOURNAL.md has what differs.
-//! run_journal opens both, run_edits raises a run to version 2 before its first edit.
 ghost use Rattle.std.specs.Prelude.{◌≡◌};
 ghost use Rattle.run_records.specs.Headers.{version_number, header_mark};
 

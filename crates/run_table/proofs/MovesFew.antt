@@ -1,8 +1,6 @@
 -- A block has seven moves at most: four of its motion, one of the speed, one of the tool, one of an
--- M code.
--- For the proof of `a_record_makes_seven_moves_at_most` (src/laws.rt). A kind of block with more
--- moves changes the bound here, in that law, and in the law of lathe_top that rests on it
--- (`a_session_hands_eight_moves_a_record_at_most`).
+-- M code. For the proof of `a_record_makes_seven_moves_at_most` (src/laws.rt). A kind of block with
+-- more moves changes the bound here, in that law, and in the laws above that rest on it.
 use Rattle.std.proofs.Common.{◌≡◌, ℕ, ◌*◌, ◌-◌, ◌≤◌, ◌==◌, Bool, true, false, List, [], ◌∷◌, ◌++◌, length, map, take, drop, refl, arith, length-append, Option, Some, None, Result, Ok, Err, ℤ}
 use Rattle.std.specs.Prelude.{if◌then◌else◌}
 use Rattle.std.proofs.lemmas.List.{length-take, length-drop, length-map}

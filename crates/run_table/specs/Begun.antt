@@ -1,6 +1,5 @@
 -- How a table begins, new or after a recovery, what room for records it gets, and what is left of
--- it at the end. What the disk must hold after a recovery is in Recovered. lathe_top uses these
--- words.
+-- it at the end. What the disk must hold after a recovery is in Recovered.
 use Rattle.std.specs.Prelude.{◌≡◌, ℕ, [], length, Option, Some, None, Result, Ok, Err, OnOk, OnErr}
 use Rattle.nc_moves.specs.declared.alarm.Alarm.{Alarm}
 use Rattle.nc_outside.specs.declared.halt.Halt.{Halt}

@@ -1,5 +1,5 @@
 -- Why the run of a held table has ended, with its records on the disk, and what asking for that
--- does. turret_run uses these words. For a table that is no longer held it is in Running.
+-- does. For a table that is no longer held it is in Running.
 use Rattle.std.specs.Prelude.{◌≡◌, ◌≢◌, ◌<◌, false, length, Option, Some, None, IsTrue}
 use Rattle.nc_outside.specs.declared.halt.Halt.TheVariants as halt
 use Rattle.nc_outside.specs.declared.reason.Reason.{Reason}

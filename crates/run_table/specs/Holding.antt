@@ -1,6 +1,5 @@
 -- A held table: one that keeps the table at which it was opened, so that the moves answered since
 -- are known. What a step is for the worker of its path stands here too.
--- turret_run uses these words.
 use Rattle.std.specs.Prelude.{◌≡◌, ℕ, ◌==◌, ◌&&◌, not, is_none, Bool, true, false, List, [], ◌∷◌, ◌++◌, length, drop, Option, Some, None, if◌then◌else◌}
 use Rattle.disk_model.specs.Device.{DiskState}
 use Rattle.gate_file.specs.Gate.{Gate}

@@ -1,6 +1,5 @@
 -- What callers see of a table, and what is true of it. The history and the journal in it are in
 -- Recording.
--- lathe_top, turret_run and tests use these words.
 use Rattle.std.specs.Prelude.{◌≡◌, ℕ, ◌+◌, ◌≤◌, ◌<◌, false, length, map, Option, Some, None, IsTrue, Bool}
 use Rattle.disk_model.specs.Device.{DiskState}
 use Rattle.nc_outside.specs.declared.halt.Halt.{Halt}

@@ -1,5 +1,4 @@
 -- The moves that the records of a path in a history make.
--- turret_run says by them what a turret gets, and lathe_top what a session hands to it.
 use Rattle.std.specs.Prelude.{ℕ, List, [], ◌∷◌, ◌++◌, take, drop, if◌then◌else◌}
 use Rattle.nc_number.specs.Path.{is_same}
 use Rattle.nc_number.specs.declared.path.Path.{Path}

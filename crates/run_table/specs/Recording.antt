@@ -1,5 +1,5 @@
 -- The history of a run, the journal that holds a prefix of it, and what a call may do to both and
--- to the disk. lathe_top and turret_run use these words.
+-- to the disk.
 use Rattle.std.specs.Prelude.{◌≡◌, ℕ, ◌+◌, ◌-◌, ◌*◌, ◌≤◌, ◌<◌, ◌++◌, false, List, length, take, drop, IsTrue, Result, OnOk, OnErr, is_ok, if◌then◌else◌}
 use Rattle.disk_model.specs.Device.{DiskState, Reads}
 use Rattle.disk_model.specs.Moments.{LeavesOnly, Uses}

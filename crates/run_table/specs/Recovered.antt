@@ -1,6 +1,5 @@
 -- What a recovery finds on a disk: the pair, its machine and records, and the journal. It is what
 -- `Table::from_recovered` asks for; the table that is made of it is in Begun.
--- lathe_top uses these words.
 use Rattle.std.specs.Prelude.{◌≡◌, ℕ, ◌≤◌, List, length}
 use Rattle.disk_model.specs.Device.{DiskState, Reads}
 use Rattle.run_records.specs.Entries.{Entry}

@@ -1,5 +1,4 @@
 -- Why the run of a table has ended that is no longer held. Of a held one it is in Ending.
--- lathe_top and turret_run use these words.
 use Rattle.std.specs.Prelude.{◌≡◌, ◌≢◌, false, length, Option, Some, None, IsTrue}
 use Rattle.disk_model.specs.Device.{DiskState, Rose}
 use Rattle.nc_outside.specs.declared.halt.Halt.{Halt}

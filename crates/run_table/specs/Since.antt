@@ -1,6 +1,5 @@
 -- What may have come of a table since an earlier time. A step is in Stepping, and one record's way
 -- to the disk in Recording.
--- lathe_top and turret_run use these words.
 use Rattle.std.specs.Prelude.{◌≡◌, ◌⊎◌, ◌+◌, List, length, Some}
 use Rattle.disk_model.specs.Device.{DiskState, Rose}
 use Rattle.nc_outside.specs.declared.halt.Halt.TheVariants.{Disk}

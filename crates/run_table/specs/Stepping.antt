@@ -1,7 +1,6 @@
 -- What a step of a table comes to. A row for each case: a kept reason, a full journal, a spent
--- budget, a drain, or the path's turn.
--- No other crate cites this file, but callers meet `IsStep`, `step_of`, `waits_in` and `GoesOn` in
--- the clauses of `Table` (src/table.rt), and turret_run meets `IsStep` in `HasStepped` of Holding.
+-- budget, a drain, or the path's turn. Callers meet `IsStep`, `step_of`, `waits_in` and `GoesOn` in
+-- the clauses of `Table` (src/table.rt).
 use Rattle.std.specs.Prelude.{◌≡◌, ℕ, ◌+◌, ◌==◌, ◌||◌, ◌&&◌, not, nat_lt, is_some, is_none, Bool, true, false, List, [], ◌++◌, length, Option, Some, None, IsTrue, if◌then◌else◌}
 use Rattle.disk_model.specs.Device.{DiskState, Rose}
 use Rattle.nc_number.specs.declared.path.Path.{Path}

@@ -1,5 +1,5 @@
-//! What a step of a table answers, and what is left of a table that is taken apart.
-//! lathe_top takes `Parts`, tests take `TableStep`; `StepAnswer` is the form that table.rt fills.
+//! What a step of a table answers, and what is left of a table that is taken apart. `StepAnswer` is
+//! the form that table.rt fills.
 ghost use Rattle.std.specs.Prelude.{◌≡◌};
 ghost use Rattle.run_table.specs.Apart.{step_with};
 

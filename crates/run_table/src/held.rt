@@ -1,6 +1,5 @@
 //! A table that keeps what it began with. It also knows whether the moves of the last record were
 //! answered. The plain table is in table.rt.
-//! turret_run uses what it exports.
 ghost use Rattle.std.specs.Prelude.{◌≡◌, ◌≢◌, true, false, Some, IfSome, IfNone, MatchOption};
 ghost use Rattle.nc_outside.specs.Calls.{IsOfTurret};
 ghost use Rattle.nc_outside.specs.declared.halt.Halt.{Halt as AnyHalt};

@@ -1,6 +1,4 @@
 //! What holds of every table. A function here does nothing; who calls it may use what it ensures.
-//! lathe_top calls `a_record_makes_seven_moves_at_most`, turret_run the two laws after it, and
-//! table.rt `who_is_waited_for_goes_on`.
 ghost use Rattle.std.specs.Prelude.{◌≡◌, ◌≢◌, ℕ, ◌-◌, ◌*◌, ◌≤◌, List, length, Some};
 ghost use Rattle.nc_number.specs.declared.path.Path.{Path};
 ghost use Rattle.nc_number.specs.Path.{other_of};

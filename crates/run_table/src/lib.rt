@@ -2,10 +2,9 @@
 //! stopped.
 //!
 //! A step is one turn of a path. Its record joins the history, and what the step shows to the
-//! outside, as moves for a turret, is answered only once all records are on the disk. The machine
-//! is the fold of the history at any time, and what a crash may leave stands for a prefix of it
-//! that has all that was flushed. The layer above (turret_run, lathe_top) leans on that, whatever
-//! the disk.
+//! outside, as moves for a turret, is answered only once all records are on the disk. The machine is
+//! the fold of the history at any time, and what a crash may leave stands for a prefix of it that
+//! has all that was flushed. The layer above leans on that, whatever the disk.
 #![tactic(auto)]
 
 mod answer;

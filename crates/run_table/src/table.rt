@@ -1,6 +1,5 @@
 //! The table of a run. The pair, the machine, the history with its journal, and why it stopped. A
-//! step's parts are in stepping.rt.
-//! held.rt holds it; lathe_top and turret_run use what it exports.
+//! step's parts are in stepping.rt. held.rt holds it.
 ghost use Rattle.std.specs.Prelude.{◌≡◌, ◌≢◌, ℕ, ◌+◌, ◌≤◌, false, length, IfOk, IsTrue, Some};
 ghost use Rattle.gate_file.specs.Creation.{without_disk};
 ghost use Rattle.nc_number.specs.declared.limits.TheConstants.{MOST_PENDING};

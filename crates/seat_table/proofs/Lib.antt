@@ -1,4 +1,4 @@
--- The lemmas of this crate, each file by its subject. turret_run takes Telling.
+-- The lemmas of this crate, each file by its subject.
 pub mod Keeping
 pub mod Telling
 pub mod Lifting

@@ -1,5 +1,5 @@
 -- The moves that a stepper's calls answered are those of the records that its seat lists: each call
--- keeps that. The functions of src/stepper.rt rest on it, and turret_run takes lemmas of it.
+-- keeps that. The functions of src/stepper.rt rest on it.
 use Rattle.std.proofs.Common.{◌≡◌, ◌⊎◌, inl, inr, ℕ, List, [], ◌∷◌, ◌++◌, refl, ap, sym, ◌∙◌, ⊎_elim, append_assoc, append-nil, subst, Option}
 use Rattle.std.specs.Prelude.{IsTrue, is_some}
 use Rattle.nc_number.specs.declared.path.Path.{Path}

@@ -1,5 +1,5 @@
 -- What the passes of a table mean: what clauses see of them (src/seats.rt, src/stepper.rt, and of
--- `IsAsAtStop` src/taking.rt). turret_run and lane_vectors cite it.
+-- `IsAsAtStop` src/taking.rt).
 use Rattle.std.specs.Prelude.{◌≡◌, Bool, true, false, List, [], ◌∷◌, Option, Some, None, IfSome}
 use Rattle.atomic_table.specs.Seated.{TableId}
 use Rattle.atomic_table.specs.declared.badge.Badge.{Badge}

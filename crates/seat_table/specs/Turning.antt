@@ -1,6 +1,5 @@
 -- What a step of a path adds to the records of the path, and why a table has halted. Of a record
--- there are the moves that its step answered, each with the line of its block. run_table,
--- turret_run, lathe_top and lane_vectors read this.
+-- there are the moves that its step answered, each with the line of its block.
 use Rattle.std.specs.Prelude.{◌≡◌, ◌≢◌, ◌⊎◌, Bool, true, false, List, [], ◌∷◌, ◌++◌, Option, Some, None}
 use Rattle.nc_outside.specs.declared.lined_move.LinedMove.{LinedMove}
 use Rattle.nc_outside.specs.Lined.{lined_moves}

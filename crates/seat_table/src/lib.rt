@@ -4,9 +4,9 @@
 //! puts it back. A path that waits sleeps until its wait is over. Each seat lists what its steps
 //! came to, and the layer above leans on this: while nobody has the turn, the list of a path's seat
 //! is that of the table's records of the path, each with the moves that its step answered, and
-//! `close` gives the table back with both lists. A step takes no memory. A stepper over a seat
-//! tells its calls too, and the moves that they answered are those of the listed records. The table
-//! of run_table takes its turns here, and turret_run gives the seats to threads.
+//! `close` gives the table back with both lists. A step takes no memory. A stepper over a seat tells
+//! its calls too, and the moves that they answered are those of the listed records. A table takes
+//! its turns here, and the seats are given to threads.
 #![tactic(auto)]
 
 mod knowing;

@@ -1,5 +1,5 @@
-//! The table with its four seats, and the passes by which threads use them. One turn at the table
-//! is in `taking`; what a table does in it, in `turning`. turret_run gives the passes to threads.
+//! The table with its four seats, and the passes by which threads use them. One turn at the table is
+//! in `taking`; what a table does in it, in `turning`.
 ghost use Rattle.std.specs.Prelude.{◌≡◌, ◌++◌, [], ◌∷◌, IfOk, IfErr, IfSome, IsTrue, is_some};
 ghost use Rattle.nc_number.specs.declared.path.Path.TheVariants.{One, Two};
 ghost use Rattle.nc_outside.specs.Calls.{IsOfTurret};

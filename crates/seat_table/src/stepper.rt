@@ -1,6 +1,5 @@
 //! Steppers over the passes of a table: one for the worker of a path, and one for the drive of its
 //! turret. A stepper notes its calls, so that a clause can say which moves they answered.
-//! turret_run hands them to path_worker.
 ghost use Rattle.std.specs.Prelude.{◌≡◌, [], ◌∷◌, ◌++◌, IsTrue, is_some};
 ghost use Rattle.nc_outside.specs.Calls.{moves_answered, IsOfTurret};
 ghost use Rattle.nc_outside.specs.declared.halt.Next.TheVariants.{Silent};

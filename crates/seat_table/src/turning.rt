@@ -1,6 +1,4 @@
-//! What a table does in one turn of a path: the trait `Turns`, which the held table of run_table
-//! has, and the tables of tests. turret_run runs any table that has it. How a turn is taken is in
-//! `taking`.
+//! What a table does in one turn of a path: the trait `Turns`. How a turn is taken is in `taking`.
 ghost use Rattle.std.specs.Prelude.{◌≡◌, ◌≢◌, true, false, List, Some, MatchOption};
 ghost use Rattle.nc_outside.specs.Calls.{IsOfTurret};
 ghost use Rattle.nc_outside.specs.declared.halt.Halt.{Halt as Reason};

@@ -1,5 +1,5 @@
 -- The tape of a text with its roughing cycles written out: the contract of `expand_tape`
--- (src/expand.rt). lathe_looks takes `AreClearParts`, `expansion_of` and `parts_in`.
+-- (src/expand.rt).
 use Rattle.std.specs.Prelude.{ℕ, ⊤, Bool, List, length, All, Result, Ok, Err}
 use Rattle.std.specs.List.{flat_map}
 use Rattle.nc_text.specs.declared.fault.TextFault.{TextFault}

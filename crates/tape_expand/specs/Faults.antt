@@ -1,5 +1,4 @@
--- The refusals of a tape that is to be written out, as src/fault.rt has them. lathe_looks takes
--- `expand_line` and `expand_number`, and lathe_top `expand_number`.
+-- The refusals of a tape that is to be written out, as src/fault.rt has them.
 use Rattle.std.specs.Prelude.{ℕ}
 use Rattle.cycle_form.specs.Faults.{fault_number, fault_line}
 use Rattle.tape_expand.specs.declared.fault.ExpandFault.{ExpandFault}

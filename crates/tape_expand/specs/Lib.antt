@@ -1,6 +1,5 @@
--- The words of the contracts of tape_expand. lathe_looks cites Expansion and Faults, lathe_top
--- Faults. The others are cited in this crate alone; they say how the text is made that Expansion
--- promises.
+-- The words of the contracts of tape_expand. The others are cited in this crate alone; they say how
+-- the text is made that Expansion promises.
 pub mod Faults
 pub mod BlockText
 pub mod Splice

@@ -1,5 +1,5 @@
 //! A tape with its cycles written out, or why it is refused: read (nc_text), cut into parts and
-//! sized (cycle_form), and put together. lathe_looks calls `expand_tape` for the command `expand`.
+//! sized (cycle_form), and put together.
 ghost use Rattle.std.specs.Prelude.{◌≡◌, ◌≤◌, ℕ, List, Result, IfOk, All, length};
 ghost use Rattle.std.specs.List.{flat_map};
 ghost use Rattle.nc_number.specs.Answers.{Fails, Gives};

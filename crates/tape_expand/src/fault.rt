@@ -1,5 +1,4 @@
-//! Why a tape is not written out: it is no tape, or a cycle has a fault. lathe_looks prints it, and
-//! proofs of lathe_top rest on its number.
+//! Why a tape is not written out: it is no tape, or a cycle has a fault.
 use cycle_form::CycleFault;
 use nc_text::TextFault;
 use thiserror::Error;

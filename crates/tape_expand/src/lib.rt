@@ -2,7 +2,7 @@
 //!
 //! `expand_tape` answers the text of the tape in which each part (`cycle_form`) gives way to its
 //! blocks, byte for byte the same in every other line. The blocks that it prints never enter the
-//! contour of their part. lathe_looks calls it.
+//! contour of their part.
 #![tactic(auto)]
 
 mod edits;

@@ -1,6 +1,5 @@
 -- A tape that is accepted has no refused block and no fault of its order, so it is not refused: for
 -- the law `an_accepted_tape_is_not_refused`.
--- wait_verify takes `no_fault`, flow_laws takes `nothing_found`.
 use Rattle.std.proofs.Common.{◌≡◌, ℕ, List, [], ◌∷◌, refl, subst, Option, None, Result, Ok, Err, All}
 use Rattle.std.proofs.lemmas.List.Elements.{All-nil, All-cons, All-contains}
 use Rattle.nc_number.specs.declared.cause.Cause.{Cause}

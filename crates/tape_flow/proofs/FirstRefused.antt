@@ -1,7 +1,6 @@
 -- If the reading of a tape ends at a block, that block is the first one that is refused, and every
 -- other one that is refused stands behind it. `compile` (src/flow.rt) tells the tape's refusal by
 -- these lemmas.
--- open_order and flow_laws take those on readings and on rising lines.
 use Rattle.std.proofs.Common.{◌≡◌, ℕ, ◌≤◌, List, [], ◌∷◌, ◌++◌, map, refl, ap, arith, Option, Some, None, Result, Ok, Err, All, Contains}
 use Rattle.std.proofs.lemmas.List.Elements.{All-nil, All-cons, All-weaker, All-contains, Contains-append_left, Contains-append_right, Contains-push}
 use Rattle.nc_number.specs.Results.{◌>>=◌}

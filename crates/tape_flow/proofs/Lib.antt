@@ -1,5 +1,4 @@
--- The lemmas of tape_flow, each file by its subject. flow_laws, open_order, path_state, race_report
--- and wait_verify take some of them.
+-- The lemmas of tape_flow, each file by its subject.
 pub mod FirstRefused
 pub mod Listed
 pub mod Seen

@@ -1,6 +1,5 @@
 -- The programs of a tape that was read stand in the text as the tape does: as many, on the same
 -- lines, of as many blocks. So the check of their order may be called on them (src/flow.rt).
--- open_order takes `bound` and `text_lines`.
 use Rattle.std.proofs.Common.{◌≡◌, ℕ, ◌+◌, List, [], ◌∷◌, ◌++◌, length, map, refl, ap, sym, ◌∙◌, arith, Result, Ok, Err, IfOk, append_assoc, length-append, subst}
 use Rattle.std.proofs.lemmas.List.{map-append, length-map, append-nil}
 use Rattle.std.proofs.lemmas.Simd.{map-map}

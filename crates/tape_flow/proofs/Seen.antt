@@ -1,6 +1,5 @@
 -- A flow's programs and its order list the same programs and blocks, so what is found in the one by
 -- an O number and a place is found in the other: for `Flow::block` (src/lending.rt).
--- path_state takes `block_seen`, `program_seen` and `stands_in`, and race_report takes `stands_in`.
 use Rattle.std.proofs.Common.{◌≡◌, ℕ, zero, suc, ◌+◌, Bool, true, false, ◌==◌, List, [], ◌∷◌, map, Option, Some, None, slice_get, refl, ap, sym, ◌∙◌, arith, if◌then◌else◌, Bor}
 use Rattle.std.specs.Option.{option_map, option_copied}
 use Rattle.block_forms.specs.declared.block.FlowBlock.{FlowBlock}

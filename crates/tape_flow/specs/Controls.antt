@@ -1,7 +1,6 @@
 -- The programs of a tape as block_order takes them: each block with its line, its sequence number
 -- and its control, without what else it says. Where control may go from there is defined in
--- block_order. flow_laws, nc_restart, nc_verify, path_state, race_report and wait_verify cite
--- `controls`, and path_state and wait_verify the other two definitions as well.
+-- block_order.
 use Rattle.std.specs.Prelude.{List, map}
 use Rattle.block_order.specs.declared.program.ControlBlock.{ControlBlock}
 use Rattle.block_order.specs.declared.program.ControlProgram.{ControlProgram}

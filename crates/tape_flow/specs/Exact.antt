@@ -1,7 +1,5 @@
 -- Which tapes are accepted, and the one refusal of every other tape: what `compile` (src/flow.rt)
 -- promises.
--- nc_verify builds its verdict on a pair from it; flow_laws, open_order, path_state and wait_verify
--- cite it too.
 use Rattle.std.specs.Prelude.{◌≡◌, ℕ, ◌≤◌, List, Ok, Err, Contains}
 use Rattle.nc_number.specs.declared.cause.Cause.{Cause}
 use Rattle.nc_number.specs.Causes.{cause_number}

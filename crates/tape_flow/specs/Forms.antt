@@ -1,7 +1,6 @@
--- The blocks of a tape as they read one by one, or the first of them that is refused.
--- What one block says, and its refusal, is defined in block_forms.
--- `ProgramForm` is how the crates above write what a checked tape says: nc_verify, wait_verify,
--- path_state, nc_restart, run_table and four more crates above cite this file.
+-- The blocks of a tape as they read one by one, or the first of them that is refused. What one
+-- block says, and its refusal, is defined in block_forms. `ProgramForm` is how the crates above
+-- write what a checked tape says.
 use Rattle.std.specs.Prelude.{ℕ, List, [], ◌∷◌, ◌++◌, map, Result, Ok, Err}
 use Rattle.nc_number.specs.Results.{◌>>=◌}
 use Rattle.nc_text.specs.declared.tape.Block.{Block}

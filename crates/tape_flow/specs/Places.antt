@@ -1,8 +1,6 @@
 -- What a flow tells of a place (the open programs of a path): its block, its line, the label that a
 -- path comes to there; and the mark of a block, at which the labels of a program go on, end or turn
--- to another program. path_state, two_path and run_table cite it to say where a path stands;
--- label_list, named_vars, nc_restart, race_order and race_report cite it too. The definitions of
--- marks are those of `Flow::mark`, which tests alone call.
+-- to another program. The definitions of marks are those of `Flow::mark`, which tests alone call.
 use Rattle.std.specs.Prelude.{ℕ, ◌-◌, ◌==◌, ◌||◌, List, [], ◌∷◌, length, find, Option, Some, None, slice_get, if◌then◌else◌}
 use Rattle.block_order.specs.declared.control.Control.{Control}
 use Rattle.block_order.specs.declared.control.Control.TheVariants.{Wait, End, Back}

@@ -1,6 +1,5 @@
-//! A refusal of a tape, of one of its blocks or of their order. docs/ERRORS.md explains each
-//! number. `compile` answers it; open_order, which reads tapes for their waits alone, answers the
-//! same type.
+//! A refusal of a tape, of one of its blocks or of their order. docs/ERRORS.md explains each number.
+//! `compile` answers it.
 use thiserror::Error;
 
 /// A refusal of a tape: its number, and the line that it is about, counted from 1.

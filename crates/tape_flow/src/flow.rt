@@ -1,7 +1,5 @@
 //! The flow of a tape: the blocks of a checked tape and their order; and `compile`, which makes it
 //! or answers the tape's refusal. What a flow lends of its places is in lending.rt.
-//! nc_verify compiles the two tapes of a pair; path_state, two_path, label_list, race_report and
-//! others go by the flow.
 ghost use Rattle.std.specs.Prelude.{◌≡◌, map, IfOk, IfErr};
 ghost use Rattle.block_order.specs.Answers.{IfFault};
 ghost use Rattle.tape_flow.specs.Forms.{program_form};

@@ -1,6 +1,5 @@
 //! The law that no tape is both accepted and refused. Who calls the function has the law; it does
 //! nothing when it runs.
-//! nc_verify calls it for its own laws on pairs.
 ghost use Rattle.std.specs.Prelude.{ℕ, List};
 ghost use Rattle.nc_text.specs.declared.tape.Program.{Program};
 ghost use Rattle.block_words.specs.declared.dialect.Dialect.{Dialect};

@@ -1,8 +1,6 @@
 //! What a flow lends of a place (the open programs of a path, or in one program the index of a
-//! block): its block, its line, the label that a path comes to there, and the mark of a block.
-//! path_state asks for blocks and lines, two_path and run_table for labels; label_list takes
-//! `last_line`; tests alone ask for marks, and no crate calls `seek`. The definitions are in
-//! specs/Places.antt.
+//! block): its block, its line, the label that a path comes to there, and the mark of a block. Tests
+//! alone ask for marks, and no crate calls `seek`. The definitions are in specs/Places.antt.
 ghost use Rattle.std.specs.Prelude.{◌≡◌, ◌==◌, Some, length, slice_get};
 ghost use Rattle.std.specs.Option.{option_copied, option_map};
 ghost use Rattle.block_forms.specs.Blocks.{block_form};

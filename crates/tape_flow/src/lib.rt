@@ -4,9 +4,6 @@
 //! refuses the tape where the control would not take it: of several refusals the first of a fixed
 //! order. The [`Flow`] that it makes finds what stands at a place by one look-up of the program's O
 //! number, however many programs the tape has.
-//!
-//! nc_verify compiles both tapes of a pair; path_state, two_path, label_list and all that runs a
-//! pair go by their flows.
 #![tactic(auto)]
 
 mod fault;

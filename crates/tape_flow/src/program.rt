@@ -1,7 +1,5 @@
-//! The programs of a flow: a checked tape as a list of programs, each a list of blocks. What a
-//! block says is in block_forms.
-//! race_report looks for the variables that the blocks name, move_list counts the blocks, and
-//! turret_run needs the types to cross to its threads.
+//! The programs of a flow: a checked tape as a list of programs, each a list of blocks. What a block
+//! says is in block_forms.
 use block_forms::FlowBlock;
 use nc_number::ListOf;
 

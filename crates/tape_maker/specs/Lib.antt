@@ -1,2 +1,2 @@
--- The text of a made tape. lathe_top cites it.
+-- The text of a made tape.
 pub mod MadeTape

@@ -1,5 +1,4 @@
--- The text of a made tape, line by line: what src/tape.rt writes. lathe_top says by it what `make`
--- runs.
+-- The text of a made tape, line by line: what src/tape.rt writes.
 use Rattle.std.specs.Prelude.{ℕ, Bool, ◌+◌, ◌*◌, ◌%◌, ◌==◌, if◌then◌else◌, List, [], ◌∷◌, ◌++◌, map, codes}
 use Rattle.std.specs.List.{flat_map, range_with_len, slice_index}
 use Rattle.std.specs.Fmt.{decimal}

@@ -1,5 +1,4 @@
 //! Made tapes, written line by line. The laws of their lines, waits and sizes are in laws.rt.
-//! lathe_top runs them (`make N`), and race_vectors tests with them.
 ghost use Rattle.std.specs.Prelude.{◌≡◌, ◌≤◌, ◌++◌, IfOk, OnOk, length};
 ghost use Rattle.std.specs.Fmt.{decimal};
 ghost use Rattle.tape_maker.specs.MadeTape.{cut_depth, cut_diameter, cut_line, line_with_end, made_tape, round_lines, text_of, variable_line, wait_line};

@@ -1,6 +1,4 @@
 -- How numbers, points, codes, paths and the names of causes are printed.
--- lathe_looks, move_list, move_text, nc_verify, race_report, trace_list and wait_verify use these
--- words.
 use Rattle.std.specs.Prelude.{ℕ, if◌then◌else◌, List, [], ◌++◌, Option, Some, None, codes, decimal, nat_lt}
 use Rattle.nc_number.specs.declared.cause.Cause.{Cause}
 use Rattle.nc_number.specs.declared.path.Path.{Path}

@@ -1,10 +1,10 @@
 //! A text in pieces that take no memory.
 //!
-//! A [`Piece`] is an array of a fixed size, and each call that adds to it says how much room it
-//! asks for: so no call fails, and a line that is made of a piece is written by one call of its
-//! sink. Reports, verdicts, traces, races and zones print numbers, values, points, codes, paths and
-//! the names of causes by it. A text without a bound is gathered in memory, by calls that add to it
-//! and can run out of memory. move_text, nc_verify, move_list and 7 more crates above use this one.
+//! A [`Piece`] is an array of a fixed size, and each call that adds to it says how much room it asks
+//! for: so no call fails, and a line that is made of a piece is written by one call of its sink.
+//! Reports, verdicts, traces, races and zones print numbers, values, points, codes, paths and the
+//! names of causes by it. A text without a bound is gathered in memory, by calls that add to it and
+//! can run out of memory.
 #![tactic(auto)]
 
 mod piece;

@@ -1,6 +1,5 @@
 //! A piece of a text: up to 512 bytes in an array, for one call of a sink. A clause `requires` says
-//! how much room a call asks for. move_text, nc_verify, move_list and 7 more crates above make
-//! their lines of pieces.
+//! how much room a call asks for.
 ghost use Rattle.std.specs.Prelude.{◌≡◌, ◌+◌, ◌≤◌, ◌%◌, [], ◌++◌, length, codes, decimal};
 ghost use Rattle.text_pieces.specs.declared.piece.TheConstants.{MOST_BYTES};
 ghost use Rattle.nc_number.specs.Printed.{last_digits, length_text, value_text};

@@ -1,6 +1,5 @@
 //! Parts of a text that is gathered in memory before it is written. The only error of each call is
 //! out of memory.
-//! lathe_looks and wait_verify use it.
 ghost use Rattle.std.specs.Prelude.{◌≡◌, ◌++◌, OnOk, decimal};
 ghost use Rattle.text_pieces.specs.Pieces.{text_with_number};
 

@@ -1,5 +1,4 @@
 -- The trace of a history: its events in their order, and the text of all.
--- lathe_calls cites `line_of` and `trace_text`, and a proof of lathe_top `trace_text`.
 use Rattle.std.specs.Prelude.{ℕ, ◌+◌, ◌&&◌, ◌||◌, Bool, true, false, if◌then◌else◌, List, [], ◌∷◌, ◌++◌, length, map}
 use Rattle.std.specs.List.{list_any}
 use Rattle.std.specs.Ordering.{int_eq}

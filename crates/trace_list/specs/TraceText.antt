@@ -1,6 +1,5 @@
--- The lines of a trace, and how each is printed.
--- Trace says which lines a history has. No other crate cites this file, but `trace_text` of Trace,
--- which lathe_calls leans on, is made of these lines.
+-- The lines of a trace, and how each is printed. Trace says which lines a history has. `trace_text`
+-- of Trace is made of these lines.
 use Rattle.std.specs.Prelude.{ℕ, Bool, if◌then◌else◌, List, ◌++◌, codes, decimal}
 use Rattle.std.specs.List.{flat_map}
 use Rattle.nc_number.specs.declared.path.Path.{Path}

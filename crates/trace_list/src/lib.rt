@@ -2,8 +2,7 @@
 //!
 //! [`write_trace`] does the records of a legal history again, once, and puts a line for each event
 //! in the order of the history: where both turrets begin, each change of a shift, each move, each
-//! wait and meeting, an alarm, and the ends. lathe_calls leans on this: on Ok the sink holds what
-//! it held, followed by exactly that text; on an error it holds a prefix of it.
+//! wait and meeting, an alarm, and the ends. On an error it holds a prefix of it.
 #![tactic(auto)]
 
 mod blocks;

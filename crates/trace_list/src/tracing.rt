@@ -1,6 +1,5 @@
-//! The text of the trace of a history: how both paths begin, then the lines of each record, which
-//! is done again once, and the end. It is defined in specs/Trace.antt.
-//! lathe_calls writes it.
+//! The text of the trace of a history: how both paths begin, then the lines of each record, which is
+//! done again once, and the end. It is defined in specs/Trace.antt.
 ghost use Rattle.std.specs.Prelude.{◌≡◌, ◌≤◌, ◌<◌, [], ◌∷◌, ◌++◌, length, OnOk};
 ghost use Rattle.nc_number.specs.declared.limits.TheConstants.{MOST_RECORDS};
 ghost use Rattle.nc_number.specs.declared.path.Path.TheVariants as Path;

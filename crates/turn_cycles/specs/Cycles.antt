@@ -1,5 +1,5 @@
 -- The four moves of a canned cycle. Where its cut ends is in End, a whole block in Pass. `cycle`
--- (src/rectangle.rt) answers them, and the proofs of two_path and run_table cite them.
+-- (src/rectangle.rt) answers them.
 use Rattle.std.specs.Prelude.{Bool, List, [], ◌∷◌, ℤ, Result}
 use Rattle.nc_number.specs.declared.point.Point.{Point}
 use Rattle.nc_moves.specs.declared.motion.Move.{Move}

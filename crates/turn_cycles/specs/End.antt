@@ -1,5 +1,5 @@
 -- Where a canned cycle ends its cut, in machine coordinates and 0.001 mm. `cycle_end` (src/end.rt)
--- answers it. The moves to there are in Cycles. The proofs of two_path and run_table cite it.
+-- answers it. The moves to there are in Cycles.
 use Rattle.std.specs.Prelude.{ℤ, ◌+ℤ◌, Option, unwrap_or, Result}
 use Rattle.nc_number.specs.declared.point.Point.{Point}
 use Rattle.nc_number.specs.declared.axis.Axis.{Axis}

@@ -1,5 +1,4 @@
--- The words in which contracts speak of canned cycles. The proofs of two_path and run_table cite
--- all of them, and block_values cites Pass.
+-- The words in which contracts speak of canned cycles.
 pub mod Cycles
 pub mod End
 pub mod Pass

@@ -1,5 +1,4 @@
--- What a block with a canned cycle does: `cycle_pass` (src/pass.rt) answers it. block_values cites
--- it, and so do the proofs of two_path and run_table.
+-- What a block with a canned cycle does: `cycle_pass` (src/pass.rt) answers it.
 use Rattle.std.specs.Prelude.{if◌then◌else◌, [], Option, Some, None, Result, Ok}
 use Rattle.code_tables.specs.declared.kind.CodeKind.{CodeKind}
 use Rattle.code_tables.specs.declared.kind.CodeKind.TheVariants.{CycleTurn, CycleThread, CycleFace}

@@ -1,5 +1,5 @@
 //! A whole block with a canned cycle: its moves, and the end that it keeps for the next block.
-//! block_values calls it for G90, G92 and G94. Lengths are in 0.001 mm.
+//! Lengths are in 0.001 mm.
 ghost use Rattle.std.specs.Prelude.{◌≡◌, ◌≤◌, length, IfOk, IfSome};
 ghost use Rattle.nc_number.specs.Position.{IsPosition};
 ghost use Rattle.motion_track.specs.Block.{IsBlockWithin};

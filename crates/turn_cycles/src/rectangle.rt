@@ -1,6 +1,6 @@
 //! The four moves of a canned cycle, round the rectangle between its start and its end. Where the
-//! end lies is in end.rt. block_values tells a cycle by its code (`CycleKind::of`); pass.rt of this
-//! crate and tests call `cycle`. A further cycle has its lines in specs Cycles and Pass too.
+//! end lies is in end.rt. pass.rt of this crate and tests call `cycle`. A further cycle has its
+//! lines in specs Cycles and Pass too.
 ghost use Rattle.std.specs.Prelude.{◌≡◌, IfOk};
 ghost use Rattle.nc_number.specs.Position.{IsPosition};
 ghost use Rattle.motion_track.specs.Within.{AreMovesWithin};

@@ -1,5 +1,5 @@
 -- How a run whose paths take turns ends, and what is told of it: by the machine, or by the number
--- of its records. Which records it has is in InTurn. lathe_calls and lathe_top cite it.
+-- of its records. Which records it has is in InTurn.
 use Rattle.std.specs.Prelude.{ℕ, ◌==◌, List, length, Option, Some, None, unwrap_or, if◌then◌else◌}
 use Rattle.nc_outside.specs.declared.halt.Halt.{Halt}
 use Rattle.nc_outside.specs.declared.halt.Halt.TheVariants as halt

@@ -1,5 +1,4 @@
--- The run of a pair whose paths take turns: its turns, and its records.
--- How it ended is in Ending. lathe_calls and lathe_top cite it.
+-- The run of a pair whose paths take turns: its turns, and its records. How it ended is in Ending.
 use Rattle.std.specs.Prelude.{◌≡◌, ℕ, zero, suc, ◌≤◌, List, [], ◌∷◌, length, None}
 use Rattle.nc_number.specs.declared.path.Path.{Path}
 use Rattle.nc_number.specs.declared.path.Path.TheVariants.{One}

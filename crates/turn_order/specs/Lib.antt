@@ -1,4 +1,3 @@
--- The words in which contracts speak of a run whose paths take turns. lathe_calls and lathe_top
--- cite them.
+-- The words in which contracts speak of a run whose paths take turns.
 pub mod Ending
 pub mod InTurn

@@ -1,6 +1,5 @@
 //! What holds of every run whose paths take turns. Each law is the contract of a function that does
-//! nothing: who calls it has the law. turns.rt takes the first, lathe_top the last; the second is
-//! for readers.
+//! nothing: who calls it has the law. turns.rt takes the first; the second is for readers.
 ghost use Rattle.std.specs.Prelude.{◌≡◌, ℕ, List};
 ghost use Rattle.nc_verify.specs.declared.verified.Verified.{Verified};
 ghost use Rattle.path_state.specs.View.{PathView};

@@ -1,6 +1,5 @@
 //! Turns of both paths, one after the other, until the run ends, and the records that they make.
-//! What a turn does is in two_path. lathe_calls writes the report, the trace and the state of these
-//! records; tests read them.
+//! What a turn does is in two_path. Tests read them.
 ghost use Rattle.std.specs.Prelude.{◌≡◌, ◌<◌, ◌≤◌, ◌++◌, length, min, IfOk, OnOk};
 ghost use Rattle.nc_number.specs.declared.limits.TheConstants.{MOST_RECORDS};
 ghost use Rattle.two_path.specs.Turns.{tapes_of, turn_of, entry_of};

@@ -1,2 +1,2 @@
--- The lines of what a turret got. lathe_top and move_list cite them.
+-- The lines of what a turret got.
 pub mod Stream

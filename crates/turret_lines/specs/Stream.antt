@@ -1,5 +1,5 @@
 -- The lines of what a turret got, and how far a sink has them. The type of src/line_turret.rt keeps
--- them; lathe_top and move_list cite this.
+-- them.
 use Rattle.std.specs.Prelude.{◌≡◌, ℕ, List, [], ◌++◌, take, Option, Some, None}
 use Rattle.std.specs.List.{flat_map}
 use Rattle.std.specs.Option.{ForSome}

@@ -2,8 +2,7 @@
 //! beside a run.
 //!
 //! `LineTurret` writes the line of its place and the lines of its moves, as the report of a run
-//! prints them. twin_lathe gives a run such turrets over files or pipes, and leans on the type:
-//! what the sink tells is the lines of what the turret got.
+//! prints them.
 #![tactic(auto)]
 
 mod line_turret;

@@ -1,5 +1,4 @@
-//! A turret that writes a line for each thing that it gets. twin_lathe puts it over a file or a
-//! named pipe.
+//! A turret that writes a line for each thing that it gets.
 ghost use Rattle.std.specs.Prelude.{◌≡◌, [], ◌∷◌, OnOk, OnErr, IsErr};
 ghost use Rattle.std.specs.Option.{ForSome};
 ghost use Rattle.nc_outside.specs.Faults.{CountsFault};

@@ -1,5 +1,5 @@
--- The words of the contracts of a run with turrets. What a turret gets (Served) and how a run ends
--- (Runs) lathe_top cites too.
+-- The words of the contracts of a run with turrets. What a turret gets is in Served, how a run ends
+-- in Runs.
 pub mod Served
 pub mod Runs
 pub mod Draining

@@ -1,6 +1,5 @@
--- What a run with turrets comes to: its end, its records, and what each turret got and missed.
--- The contracts of src/run.rt and src/placing.rt and Rests cite it, and lathe_top says by it what a
--- session leaves.
+-- What a run with turrets comes to: its end, its records, and what each turret got and missed. The
+-- contracts of src/run.rt and src/placing.rt and Rests cite it.
 use Rattle.std.specs.Prelude.{◌≡◌, ◌≢◌, ◌⊎◌, ℕ, List, [], length, Some, Result, Ok, Err}
 use Rattle.disk_model.specs.Device.{DiskState}
 use Rattle.nc_number.specs.declared.both.Both.{Both}

@@ -1,5 +1,4 @@
--- What a turret gets in a run: its place, and then moves.
--- Runs and Rests say by it how a run ends, and lathe_top what the turrets get from a session.
+-- What a turret gets in a run: its place, and then moves. Runs and Rests say by it how a run ends.
 use Rattle.std.specs.Prelude.{◌≡◌, ◌⊎◌, ℕ, ◌+◌, ◌≤◌, Bool, true, false, IsTrue, List, [], ◌∷◌, length, map, take}
 use Rattle.nc_number.specs.declared.point.Point.{Point}
 use Rattle.nc_outside.specs.declared.got.Got.{Got}

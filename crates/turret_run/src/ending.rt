@@ -1,5 +1,5 @@
 //! What a run with turrets leaves for its caller. Which of it goes together is in specs/Runs.antt.
-//! run.rt makes it, and lathe_top reads it.
+//! run.rt makes it.
 use disk_model::Disk;
 use nc_number::{Both, NoMemory};
 use nc_outside::{Reason, Turret};

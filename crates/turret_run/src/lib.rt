@@ -1,10 +1,10 @@
 //! A run with its turrets: both paths of an opened table at once, in four threads, each turret with
 //! its place first.
 //!
-//! `run_with_turrets` gives each turret its place, at which both stand still before the first record,
-//! and then, in order and a call each, just the moves of its path's records that the run made. If
-//! the turret or the disk failed it gives a prefix of them, and how many the turret missed is told.
-//! The layer above (lathe_top) leans on that, and on the first of the causes that hold together: a
+//! `run_with_turrets` gives each turret its place, at which both stand still before the first
+//! record, and then, in order and a call each, just the moves of its path's records that the run
+//! made. If the turret or the disk failed it gives a prefix of them, and how many the turret missed
+//! is told. The layer above leans on that, and on the first of the causes that hold together: a
 //! fault of the disk, a fault of a turret, and then as a run of two paths ends. Before a turret is
 //! placed the threads of the run are tried.
 //!

@@ -1,6 +1,5 @@
 //! Both paths at once: a worker and a drive for each, in four threads. What they leave undone is in
-//! rest.rt.
-//! For run.rt of this crate; lane_vectors calls `run_pair` in its tests.
+//! rest.rt. For run.rt of this crate.
 ghost use Rattle.std.specs.Prelude.{◌≡◌, [], true, IfOk, IfErr, IsTrue, is_some};
 ghost use Rattle.nc_number.specs.declared.path.Path.{Path as OnePath};
 ghost use Rattle.nc_number.specs.declared.path.Path.TheVariants.{One, Two};

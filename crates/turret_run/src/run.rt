@@ -1,6 +1,5 @@
 //! A run of an opened table with its turrets: they are placed, both paths run in threads, the turns
 //! that are left are given, and the table and the turrets come back.
-//! lathe_top calls `run_with_turrets`.
 ghost use Rattle.std.specs.Prelude.{◌≡◌, length, Some, None, Err};
 ghost use Rattle.run_table.specs.Running.{MayRun, IsNoneOrAlarm};
 ghost use Rattle.two_path.specs.Ending.{end_of};

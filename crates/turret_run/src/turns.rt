@@ -1,5 +1,5 @@
 //! Single turns of a path, without threads: for the turns that are left after a run of both paths.
-//! For rest.rt of this crate; lane_vectors calls `give_turn` in its tests.
+//! For rest.rt of this crate.
 ghost use Rattle.std.specs.Prelude.{◌≡◌, ◌≢◌, ◌++◌, true, false, List};
 ghost use Rattle.drive_line.specs.declared.phase.Phase.TheVariants.{Still};
 ghost use Rattle.drive_line.specs.Driving.{Serves};

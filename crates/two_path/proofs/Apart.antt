@@ -1,6 +1,5 @@
 -- A turn and its moves, put apart and joined again: for `Machine::turn` and `turn_into`
 -- (src/machine.rt), whose answers differ only in that.
--- run_table uses these lemmas.
 use Rattle.std.proofs.Common.{◌≡◌, ℕ, ◌==◌, Bool, true, false, List, Option, Some, None, refl, sym, ap, ◌∙◌}
 use Rattle.nc_number.specs.declared.path.Path.{Path}
 use Rattle.nc_moves.specs.declared.motion.Move.{Move}

@@ -1,6 +1,5 @@
 -- A record that is legal behind the machine is done again, and never refused: for `done_again`
 -- (src/walk.rt).
--- trace_list uses this lemma.
 use Rattle.std.proofs.Common.{Result, Ok, Err, IsOk, OnErr, refl}
 use Rattle.run_records.specs.Entries.{Entry}
 use Rattle.two_path.specs.declared.turn.Turn.{Turn}

@@ -1,6 +1,5 @@
 -- Records that are edits, and records that are steps: which a record is, what is behind it, and
 -- what an edit leaves as it was.
--- nc_restart, run_table and trace_list use these lemmas.
 use Rattle.std.proofs.Common.{◌≡◌, ℕ, List, [], Option, Some, None, refl, ap, inl, inr}
 use Rattle.nc_number.specs.declared.path.Path.{Path}
 use Rattle.nc_number.specs.declared.path.Path.TheVariants.{One, Two}

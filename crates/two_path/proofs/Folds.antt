@@ -1,5 +1,4 @@
 -- A history in parts, and with one record more: what machine is behind it, and that it is legal.
--- nc_restart, run_edits and run_table use these lemmas.
 use Rattle.std.proofs.Common.{◌≡◌, List, [], ◌∷◌, ◌++◌, refl}
 use Rattle.run_records.specs.Entries.{Entry}
 use Rattle.two_path.specs.Machine.{MachineView}

@@ -1,7 +1,7 @@
 -- No step of a block raises the alarm of waits that differ, which the machine alone raises: the
 -- numbers of alarms, and what an expression comes to. `another alarm` here is each one but that.
 -- For the other files NoCrossing.., and so for the law `no_block_says_that_waits_differ`
--- (src/laws.rt). zone_check takes `either`.
+-- (src/laws.rt).
 use Rattle.std.proofs.Common.{◌≡◌, ℕ, ◌==◌, Bool, true, false, List, [], ◌∷◌, Option, Some, None, Result, Ok, Err, ℤ, unsigned_abs, refl, if◌then◌else◌}
 use Rattle.std.specs.Int.{is_negative}
 use Rattle.nc_number.specs.declared.cause.Cause.{Cause}

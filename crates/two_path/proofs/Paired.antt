@@ -1,6 +1,5 @@
 -- Two paths over tapes whose lists of labels agree: an invariant of both, which each turn keeps,
 -- and under which they go on. For the law `no_pair_is_stuck` (src/laws.rt).
--- trace_list takes `AreLed`.
 use Rattle.std.proofs.Common.{◌≡◌, ◌≢◌, ℕ, ◌⊎◌, inl, inr, Bool, true, false, ◌==◌, ◌||◌, List, [], ◌∷◌, Option, Some, None, is_some, ℤ, refl, ap, sym, subst, ◌∙◌, arith}
 use Rattle.std.proofs.lemmas.Bool.Decides.{nat_tests}
 use Rattle.nc_number.specs.declared.cause.Cause.TheVariants.{WaitDiffers}

@@ -1,6 +1,5 @@
 -- A history that is done again record by record: what machine and which moves are there behind each
 -- record. The loops that walk over histories rest on it.
--- lathe_calls, move_list, run_table, trace_list and zone_check use these lemmas.
 use Rattle.std.proofs.Common.{◌≡◌, ℕ, ◌+◌, ◌<◌, ◌≤◌, List, [], ◌∷◌, ◌++◌, length, take, drop, get_or, append_assoc, append-nil, length-take-le, sym, subst, ◌∙◌, ap, Option, Some, None}
 use Rattle.std.proofs.lemmas.List.{at_drop_all, take_more, drop_more}
 use Rattle.block_order.specs.declared.program.ControlProgram.{ControlProgram}

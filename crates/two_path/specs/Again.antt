@@ -1,8 +1,6 @@
 -- What it means that a record of a history is done again, or refused with nothing changed: the
 -- contracts of src/again.rt and of `Machine::apply`. What makes a record legal is in Histories, and
 -- what a turn does in Turns.
--- run_table, nc_restart, trace_list and zone_check, which go over histories, and lathe_top use
--- these words.
 use Rattle.std.specs.Prelude.{◌≡◌, Bool, true, false, ℕ, ◌==◌, ◌&&◌, nat_le, List, [], ◌∷◌, ◌++◌, Option, Some, None, if◌then◌else◌}
 use Rattle.run_records.specs.Entries.{Entry, edit_of}
 use Rattle.run_records.specs.declared.edit.Edit.{Edit}

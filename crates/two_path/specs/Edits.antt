@@ -1,6 +1,5 @@
 -- What an operator's edit of a path does to the machine, and its record: the contract of
 -- `Machine::edit`. What an edit does to one path is in path_state.
--- run_edits uses these words.
 use Rattle.std.specs.Prelude.{◌+◌, [], Option, Some, None}
 use Rattle.nc_number.specs.declared.path.Path.{Path}
 use Rattle.nc_moves.specs.declared.alarm.Alarm.{Alarm}

@@ -1,6 +1,5 @@
 -- Why the run of a machine has ended: by an alarm, or by the ends of both paths. Full journals and
--- spent budgets are causes of a table: run_table.
--- lathe_calls, lathe_top, run_table, turn_order and turret_run use these words.
+-- spent budgets are causes of a table.
 use Rattle.std.specs.Prelude.{◌&&◌, Option}
 use Rattle.nc_outside.specs.declared.reason.Reason.{Reason}
 use Rattle.nc_outside.specs.Reasons.{end_by}

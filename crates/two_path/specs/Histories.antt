@@ -1,8 +1,5 @@
 -- Runs and histories: any list of events, its records, and which lists of records are legal. On the
 -- legal lists, and their fold, rest the journal and each restart from it.
--- run_table, nc_restart, run_edits, turn_order and turret_run say by these words what a run keeps;
--- lathe_calls, lathe_top, move_list, race_order, race_report, trace_list and zone_check use them
--- too.
 use Rattle.std.specs.Prelude.{◌≡◌, ℕ, ◌+◌, ◌≤◌, ◌⊎◌, Bool, true, false, ◌||◌, List, [], ◌∷◌, ◌++◌, length, take, map, Option, Some, None, is_some, if◌then◌else◌}
 use Rattle.nc_number.specs.declared.path.Path.{Path}
 use Rattle.nc_number.specs.declared.path.Path.TheVariants.{One, Two}

@@ -1,8 +1,6 @@
 -- The machine in the parts that the code keeps: each path has a part (src/part.rt), and what both
 -- share is the joint part (src/joint.rt). `Machine` is specified by `RoomyMachine` and
 -- `AreAtTheirWaits`.
--- nc_restart, run_edits and run_table take `RoomyMachine`; lathe_calls, move_list, nc_restart,
--- run_table, trace_list, turn_order and zone_check take `AreAtTheirWaits`.
 use Rattle.std.specs.Prelude.{◌≡◌, ℕ, ◌+◌, ◌≤◌, List, Option, Some}
 use Rattle.nc_moves.specs.declared.alarm.Alarm.{Alarm}
 use Rattle.common_vars.specs.Writes.{Writes}

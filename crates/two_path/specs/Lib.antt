@@ -1,6 +1,5 @@
 -- The words in which contracts speak of the machine of two paths: its state, its turns and edits,
--- the histories of its records, and when it is stuck. run_table, nc_restart, turn_order and 10 more
--- crates above, which run a pair, restart a run or tell of one, cite them.
+-- the histories of its records, and when it is stuck.
 pub mod Machine
 pub mod Start
 pub mod Ending

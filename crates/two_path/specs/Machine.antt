@@ -1,7 +1,5 @@
 -- The state of the machine: two paths, and what they share. What a turn does to it is in Turns, and
 -- an edit in Edits.
--- run_table, nc_restart, turn_order and 10 more crates above, which run a pair or tell of a run,
--- take `MachineView`: a new field is one of each definition of a turn, an edit and a fold.
 use Rattle.std.specs.Prelude.{ℕ, Bool, false, List, [], Option, None}
 use Rattle.nc_number.specs.declared.both.Both.{Both}
 use Rattle.nc_number.specs.declared.path.Path.{Path}

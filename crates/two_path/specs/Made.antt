@@ -1,6 +1,5 @@
 -- Which moves a history made: of each of its records the turn, and of a turn its moves, each with
 -- the line of its block. What the turrets get is said by these words.
--- lathe_top, move_list, nc_restart, run_table, trace_list and zone_check use them.
 use Rattle.std.specs.Prelude.{if◌then◌else◌, List, [], ◌∷◌}
 use Rattle.std.specs.List.{flat_map}
 use Rattle.nc_number.specs.Path.{is_same}

@@ -1,6 +1,5 @@
 -- The machine of a pair before its first turn: what `Machine::new` makes, and from which every
 -- history is counted.
--- lathe_calls, move_list, nc_restart, run_table, trace_list, turn_order and zone_check use it.
 use Rattle.nc_number.specs.declared.path.Path.TheVariants.{One, Two}
 use Rattle.cell_settings.specs.declared.settings.Settings.{Settings}
 use Rattle.tape_flow.specs.declared.flow.Flow.{Flow}

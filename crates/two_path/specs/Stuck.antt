@@ -1,6 +1,5 @@
 -- When two paths can't go on, and the pairs of tapes over which that never happens: the words of
 -- the laws `no_pair_is_stuck` and `no_legal_history_is_stuck` (src/laws.rt).
--- lathe_top, nc_restart, run_table, trace_list and turn_order use them.
 use Rattle.std.specs.Prelude.{◌≡◌, ◌≢◌, ℕ, ◌⊎◌, true, false, List, Some, None, ℤ}
 use Rattle.nc_number.specs.declared.cause.Cause.TheVariants.{WaitDiffers}
 use Rattle.nc_number.specs.declared.path.Path.{Path}

@@ -1,7 +1,5 @@
 -- A turn of a path: what it answers, what it does to the machine, and its record. `turn_of` is the
--- one definition of a turn, over the effects that path_state defines.
--- Histories builds on it. run_table, nc_restart, race_order, turn_order and seven more crates use
--- these words.
+-- one definition of a turn, over the effects that path_state defines. Histories builds on it.
 use Rattle.std.specs.Prelude.{ℕ, ◌+◌, ◌==◌, Bool, true, false, List, [], ◌∷◌, ◌++◌, Option, Some, None, ℤ, pos, if◌then◌else◌}
 use Rattle.nc_number.specs.declared.cause.Cause.TheVariants.{WaitDiffers}
 use Rattle.nc_number.specs.declared.both.Both.{Both}

@@ -1,6 +1,6 @@
 //! A record of a path's step that is done again, over the path's own part, the other's, and what
 //! both have in common: its block reads what the stamps stand for, and is taken if the record fits.
-//! machine.rt calls `do_again`; nc_restart takes the error `Illegal`.
+//! machine.rt calls `do_again`.
 ghost use Rattle.std.specs.Prelude.{◌≡◌, ◌≤◌, ◌<◌, ◌||◌, true, false, List, [], Some, None, is_some, IsTrue, OnOk, OnErr, IfOk};
 ghost use Rattle.nc_number.specs.declared.limits.TheConstants.{MOST_RECORDS};
 ghost use Rattle.motion_track.specs.Within.{AreMovesWithin};

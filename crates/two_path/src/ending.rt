@@ -1,6 +1,5 @@
 //! Why the run of a machine has ended: by an alarm, or by the ends of both paths. Other causes are
-//! run_table's.
-//! run_table, turn_order, lathe_calls and lathe_looks ask for it.
+//! the table's.
 ghost use Rattle.std.specs.Prelude.{◌≡◌};
 ghost use Rattle.two_path.specs.Ending.{end_of};
 

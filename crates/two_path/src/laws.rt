@@ -1,7 +1,6 @@
-//! What holds of every machine: its records are a legal history, a restart goes on with one
-//! history, and over an accepted pair the paths never get stuck. Each law is the contract of a
-//! function that does nothing: who calls it has the law.
-//! lathe_calls, move_list, nc_restart, run_table, trace_list, turn_order and zone_check call them.
+//! What holds of every machine: its records are a legal history, a restart goes on with one history,
+//! and over an accepted pair the paths never get stuck. Each law is the contract of a function that
+//! does nothing: who calls it has the law.
 ghost use Rattle.std.specs.Prelude.{List};
 ghost use Rattle.block_order.specs.declared.program.ControlProgram.{ControlProgram};
 ghost use Rattle.tape_flow.specs.declared.flow.Flow.{Flow};

@@ -2,12 +2,9 @@
 //!
 //! An event is a turn of a path or an operator's edit of one. Most turns make a record, and so does
 //! each edit. The records of any events are a legal history, and each legal history is the records
-//! of some events: its fold, each record done again, is their machine but for what unfinished
-//! blocks have read. A record that can't follow those before it is illegal, and changes nothing.
-//! Over a pair of tapes whose lists of labels agree no order of events ends where neither path can
-//! go on. run_table, run_edits, nc_restart, turn_order and the crates that tell of runs lean on
-//! [`Machine::turn_into`], which puts the moves of a turn into a list that the caller lends, on
-//! [`Machine::edit`] and [`Machine::apply`], and on the laws.
+//! of some events: its fold, each record done again, is their machine but for what unfinished blocks
+//! have read. A record that can't follow those before it is illegal, and changes nothing. Over a
+//! pair of tapes whose lists of labels agree no order of events ends where neither path can go on.
 #![tactic(auto)]
 
 mod again;

@@ -1,8 +1,5 @@
-//! The machine of two paths, by its public calls: a turn, an edit, a record done again, and what
-//! may be seen of it. The turns themselves are in turning.rt, again.rt and editing.rt.
-//! run_table, turn_order and lathe_calls take turns; run_edits makes edits; nc_restart, trace_list
-//! and lathe_calls do records again, and move_list and zone_check by way of walk.rt; lathe_looks,
-//! lathe_top and turret_run look at it.
+//! The machine of two paths, by its public calls: a turn, an edit, a record done again, and what may
+//! be seen of it. The turns themselves are in turning.rt, again.rt and editing.rt.
 ghost use Rattle.std.specs.Prelude.{◌≡◌, ◌≤◌, ◌<◌, ◌+◌, ◌↔◌, IsTrue, List, [], Some, None, IfOk, OnOk, OnErr};
 ghost use Rattle.nc_number.specs.declared.limits.TheConstants.{MOST_RECORDS};
 ghost use Rattle.nc_number.specs.Both.{of_path};

@@ -1,9 +1,6 @@
 //! What a turn of a path answers: with its moves in it, or with these apart, in a list that was
-//! lent.
-//! run_table and turn_order take `Answered`; lathe_calls, move_list, trace_list and zone_check read a
-//! `Turn`, run_table a `TurnAnswer`. A new variant is a row in specs/Turns and Made here, in specs of
-//! lathe_calls, race_order, run_table and trace_list, in a proof of zone_check, and in the tests
-//! machine_vectors and restart_vectors; move_list needs none.
+//! lent. A new variant is a row in specs/Turns and Made here, and in the specs of the crates above
+//! that tell of turns.
 ghost use Rattle.std.specs.Prelude.{◌≡◌};
 ghost use Rattle.two_path.specs.Made.{turn_with};
 

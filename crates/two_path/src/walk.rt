@@ -1,6 +1,5 @@
-//! One step of the walk over a history that is known to be legal: the next record is done again,
-//! and can't be refused.
-//! move_list and zone_check walk over histories with it.
+//! One step of the walk over a history that is known to be legal: the next record is done again, and
+//! can't be refused.
 ghost use Rattle.std.specs.Prelude.{◌≡◌, ◌≤◌, ◌<◌, ◌+◌};
 ghost use Rattle.nc_number.specs.declared.limits.TheConstants.{MOST_RECORDS};
 ghost use Rattle.motion_track.specs.Within.{AreMovesWithin};

@@ -1,6 +1,5 @@
 //! The check of a tape's order, over all stages. What is wrong with programs, loops and jumps is
-//! found in block_order; what is wrong with waits in waiting.rt. open_order and tape_flow call
-//! `check_order`.
+//! found in block_order; what is wrong with waits in waiting.rt.
 ghost use Rattle.std.specs.Prelude.{◌≡◌, IfOk, IfErr};
 ghost use Rattle.block_order.specs.Answers.{IfFault};
 ghost use Rattle.block_order.specs.Faults.{Fitting, Finding, Waiting, IsClear, IsSound, IsFirst};

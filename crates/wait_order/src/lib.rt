@@ -2,10 +2,9 @@
 //! without a number, a call that leads to a wait or an end), and no ninth call leads to a wait or
 //! an end.
 //!
-//! [`check_order`] answers the order of a tape in which nothing is wrong, or the tape's first
-//! fault. Computed GOTOs, and the returns of long programs, may lead to any of several numbers:
-//! where such a search may pass a wait is found in one walk over the numbers, not for each block
-//! anew. open_order and tape_flow lean on this.
+//! [`check_order`] answers the order of a tape in which nothing is wrong, or the tape's first fault.
+//! Computed GOTOs, and the returns of long programs, may lead to any of several numbers: where such
+//! a search may pass a wait is found in one walk over the numbers, not for each block anew.
 #![tactic(auto)]
 
 mod checking;

@@ -1,5 +1,4 @@
--- The lemmas of wait_verify, each file by its subject. lathe_top takes some of NotBoth; the others
--- are for the proofs of this crate.
+-- The lemmas of wait_verify, each file by its subject. The others are for the proofs of this crate.
 pub mod Refused
 pub mod Judging
 pub mod Pieces

@@ -1,5 +1,5 @@
 -- No pair is both accepted and refused for its waits: for the law `accepted_pairs_are_not_refused`
--- (src/laws.rt). lathe_top takes lemmas of this file.
+-- (src/laws.rt).
 use Rattle.std.proofs.Common.{◌≡◌, ℕ, List, Result, Ok, Err, Option, Some, None, sym, subst, ◌∙◌}
 use Rattle.nc_number.specs.declared.path.Path.{Path}
 use Rattle.nc_number.specs.declared.path.Path.TheVariants.{One, Two}

@@ -1,6 +1,5 @@
 -- What `waits` is asked: the three texts of a pair, and which programs its tapes may lack; and how
 -- the text of a tape is read, with a blank for each comma.
--- lathe_calls and lathe_top take `Asked`.
 use Rattle.std.specs.Prelude.{ℕ, ◌==◌, List, map, Option, if◌then◌else◌}
 use Rattle.nc_verify.specs.Verdict.{Texts}
 use Rattle.open_order.specs.declared.outside.Outside.{Outside}

@@ -1,6 +1,5 @@
 -- The words in which contracts speak of the waits of a pair: what is asked, the verdict, the text
--- of an accepted pair, and which pairs of `verify` are accepted. lathe_calls and lathe_top cite the
--- first three.
+-- of an accepted pair, and which pairs of `verify` are accepted.
 pub mod Asked
 pub mod Verdict
 pub mod Printed

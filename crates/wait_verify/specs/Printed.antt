@@ -1,6 +1,5 @@
 -- The text that `waits` prints of an accepted pair: how often the paths meet, a line for each
 -- meeting and for the end, and what was taken on trust. src/printing.rt makes it.
--- lathe_calls and lathe_top take `waits_text`.
 use Rattle.std.specs.Prelude.{ℕ, ◌-◌, nat_le, pos, List, [], ◌∷◌, ◌++◌, length, codes, decimal, if◌then◌else◌}
 use Rattle.nc_number.specs.declared.limits.TheConstants.{LARGEST_MICRO}
 use Rattle.nc_number.specs.Printed.{value_text}

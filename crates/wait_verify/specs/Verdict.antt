@@ -1,6 +1,5 @@
 -- Which pairs wait for each other in one order, whatever the variables hold, and the one refusal of
 -- all others: what `verdict` (src/verifying.rt) promises.
--- lathe_calls and lathe_top say by these words what is due to `waits`.
 use Rattle.std.specs.Prelude.{◌≡◌, ℕ, List, Ok, Err}
 use Rattle.nc_number.specs.declared.path.Path.{Path}
 use Rattle.nc_number.specs.declared.path.Path.TheVariants.{One, Two}

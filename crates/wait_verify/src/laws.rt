@@ -1,7 +1,6 @@
 //! What holds of every pair that is judged for its waits: exactly one answer, no path that waits in
 //! vain, and nothing refused that a run accepts, if both texts are plain (specs/Widening.antt). Who
 //! calls such a function has its law; it does nothing when it runs.
-//! lathe_top calls `accepted_pairs_are_not_refused` and `pairs_have_one_refusal`.
 ghost use Rattle.std.specs.Prelude.{◌≡◌, List};
 ghost use Rattle.cell_settings.specs.Cell.{Cell};
 ghost use Rattle.tape_flow.specs.Forms.{ProgramForm};

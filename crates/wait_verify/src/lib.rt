@@ -2,9 +2,8 @@
 //!
 //! Each block is read for what it does to the order of blocks, and goes on to the next one if it
 //! says nothing of that. So a pair is judged also if the run of it would refuse its codes.
-//! [`verdict`] answers the meetings of both paths and what was taken on trust, or the one refusal
-//! of the pair; [`push_waits`] is the text of an accepted pair. lathe_calls and lathe_top lean on
-//! this.
+//! [`verdict`] answers the meetings of both paths and what was taken on trust, or the one refusal of
+//! the pair; [`push_waits`] is the text of an accepted pair.
 #![tactic(auto)]
 
 mod laws;

@@ -1,5 +1,4 @@
 //! What `waits` tells of an accepted pair: `verdict` answers it, `push_waits` prints it.
-//! lathe_calls hands it from the one to the other.
 use label_list::LabelList;
 use nc_number::Both;
 use open_order::Trust;

@@ -1,6 +1,5 @@
 //! The text that `waits` prints of an accepted pair: how often the paths meet, a line for each
 //! meeting and for the end, and what was taken on trust. Its definition is in specs/Printed.antt.
-//! lathe_calls calls `push_waits`.
 ghost use Rattle.std.specs.Prelude.{◌≡◌, ◌+◌, ◌≤◌, ◌++◌, OnOk, codes, length};
 ghost use Rattle.text_pieces.specs.declared.piece.TheConstants.{MOST_BYTES};
 ghost use Rattle.nc_number.specs.Printed.{value_text};

@@ -1,6 +1,5 @@
 //! From three texts to the meetings of a pair and what was taken on trust, or to the pair's one
 //! refusal: the answer of `waits`.
-//! lathe_calls calls `verdict`.
 ghost use Rattle.std.specs.Prelude.{◌≡◌, ◌<◌, ◌^◌, length, IfOk, IfErr};
 ghost use Rattle.block_order.specs.Answers.{IfFault};
 ghost use Rattle.cell_settings.specs.View.{view};

@@ -1,6 +1,5 @@
 -- What a move may pass (Passing), the area that holds it (Area), and the range of its numbers
--- (Range). zone_cell cites Area and Range, zone_check Area and Passing. Roots is cited in this
--- crate alone.
+-- (Range). Roots is cited in this crate alone.
 pub mod Passing
 pub mod Area
 pub mod Range

@@ -1,6 +1,5 @@
 -- The points that a move may pass. They are counted in parts of a count of 0.001 mm, d parts to a
 -- count: a law for every d leaves out no point between the whole counts.
--- zone_check takes `AreApart`, `IsInside`, `MayPassSome` and `point_in_cell`.
 use Rattle.std.specs.Prelude.{◌≡◌, ℕ, ◌*◌, ◌≤◌, max, List, [], ◌∷◌, ◌⊎◌, Option, Some, None, unwrap_or, ℤ, pos, ◌+ℤ◌, ◌*ℤ◌, ◌≤ℤ◌, ◌<ℤ◌, unsigned_abs}
 use Rattle.nc_number.specs.declared.point.Point.{Point}
 use Rattle.nc_number.specs.Distances.{distance, IsBetween}

@@ -1,7 +1,6 @@
 -- How far from 0 the numbers of areas lie at most, so that each fits 64 bits and each square 128.
--- Lengths count 0.001 mm; `far_apart`, its squares and `far_reach` count 0.0005 mm.
--- zone_cell takes `IsNearArea`. The numbers are worked out from `LONGEST` of motion_track and the
--- range of positions.
+-- Lengths count 0.001 mm; `far_apart`, its squares and `far_reach` count 0.0005 mm. The numbers are
+-- worked out from `LONGEST` of motion_track and the range of positions.
 use Rattle.std.specs.Prelude.{ℕ}
 use Rattle.nc_number.specs.Position.{IsPosition, IsWithin}
 use Rattle.zone_area.specs.declared.area.Area.{Area}

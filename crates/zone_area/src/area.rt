@@ -1,6 +1,5 @@
-//! Rectangles in X and Z, in 0.001 mm, and the least one that holds two. How they lie in the cell
-//! is in frame.rt.
-//! zone_cell brings areas into the cell and prints them.
+//! Rectangles in X and Z, in 0.001 mm, and the least one that holds two. How they lie in the cell is
+//! in frame.rt.
 ghost use Rattle.std.specs.Prelude.{◌≡◌, ◌≤◌, unsigned_abs};
 ghost use Rattle.std.specs.Int.{int_min, int_max};
 ghost use Rattle.nc_number.specs.Position.{IsPosition};

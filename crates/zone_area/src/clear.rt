@@ -1,5 +1,4 @@
 //! Whether two areas are clear: more than the gap apart in X or in Z.
-//! zone_cell calls `is_clear`.
 ghost use Rattle.std.specs.Prelude.{◌≡◌, ◌≤◌, unsigned_abs};
 ghost use Rattle.nc_number.specs.Position.{travel, IsPosition};
 ghost use Rattle.zone_area.specs.Area.{is_beyond, lie_apart, is_clear};

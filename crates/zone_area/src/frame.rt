@@ -1,5 +1,5 @@
-//! How the points of a path lie in the cell, where the areas of both paths are compared: mirrored
-//! in X or not, and shifted. zone_cell has a frame of each path.
+//! How the points of a path lie in the cell, where the areas of both paths are compared: mirrored in
+//! X or not, and shifted.
 ghost use Rattle.std.specs.Prelude.{◌≡◌, ◌≤◌, ◌+ℤ◌, unsigned_abs, if◌then◌else◌};
 ghost use Rattle.nc_number.specs.Position.{travel, IsPosition};
 ghost use Rattle.nc_number.specs.Signs.{signed_number};

@@ -1,5 +1,5 @@
 //! What holds of every area of moves. Each law is the contract of a function that does nothing: a
-//! caller of it has the law. zone_check takes the last two; the first two are for readers.
+//! caller of it has the law. The first two are for readers.
 ghost use Rattle.std.specs.Prelude.{◌≡◌, ◌≤◌, ℕ, List, true};
 ghost use Rattle.nc_number.specs.declared.point.Point.{Point};
 ghost use Rattle.nc_moves.specs.declared.motion.Move.{Move};

@@ -2,11 +2,9 @@
 //!
 //! [`Swept`] takes one move after the other. Its area is the least of whole counts that holds where
 //! the path began, where each move ends, and what each arc may reach. The laws: such an area holds
-//! every point that a move may pass, however finely points are counted, also as it lies in the
-//! cell; it lies within each other area that holds those ends and reaches; and where two areas are
-//! clear, any two points that may be passed in them are more than the gap apart in X or in Z.
-//! zone_cell brings areas into the cell and asks whether they are clear; zone_check makes the areas
-//! and calls two of the laws.
+//! every point that a move may pass, however finely points are counted, also as it lies in the cell;
+//! it lies within each other area that holds those ends and reaches; and where two areas are clear,
+//! any two points that may be passed in them are more than the gap apart in X or in Z.
 #![tactic(auto)]
 
 mod arc;

@@ -1,5 +1,4 @@
 //! What a path may have passed: the least area of its moves so far, and where it stands.
-//! zone_check uses it.
 ghost use Rattle.std.specs.Prelude.{◌≡◌, All, IfSome};
 ghost use Rattle.nc_number.specs.Position.{IsPosition};
 ghost use Rattle.motion_track.specs.Centre.{IsGivenWithin};

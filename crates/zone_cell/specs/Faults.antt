@@ -1,5 +1,4 @@
 -- The refusal of a text of zones: its number, its name and its line (`ZoneFault`, src/reading.rt).
--- lathe_looks takes `fault_line`.
 use Rattle.std.specs.Prelude.{ℕ, List, codes}
 use Rattle.zone_cell.specs.declared.reading.ZoneFault.{ZoneFault}
 

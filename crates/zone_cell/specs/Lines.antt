@@ -1,5 +1,4 @@
 -- The text of a list of zones, line by line (src/lines.rt writes them).
--- lathe_looks, lathe_top and zone_check cite it.
 use Rattle.std.specs.Prelude.{ℕ, ◌+◌, ◌==◌, Bool, not, List, [], ◌∷◌, ◌++◌, length, codes, decimal, if◌then◌else◌}
 use Rattle.std.specs.List.{count_by}
 use Rattle.nc_number.specs.declared.point.Point.{Point}

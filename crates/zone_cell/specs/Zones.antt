@@ -1,5 +1,4 @@
 -- The zones that a text gives: how the paths lie in the cell, and the gap that they are to keep.
--- lathe_looks, lathe_top and zone_check take words from here.
 use Rattle.std.specs.Prelude.{ℕ, true, false, List, [], ◌∷◌, Result}
 use Rattle.std.specs.Str.Lines.{lines}
 use Rattle.nc_number.specs.declared.both.Both.{Both}

@@ -1,5 +1,4 @@
 //! How both paths lie in the cell, the gap that they are to keep, and the zone of two areas.
-//! lathe_looks, lathe_top and zone_check, and tests, use it.
 ghost use Rattle.std.specs.Prelude.{◌≡◌};
 ghost use Rattle.zone_area.specs.Range.{IsNearArea};
 ghost use Rattle.zone_cell.specs.Entry.{IsAllowed};

@@ -1,11 +1,9 @@
 //! How both paths lie in one cell: the frame of each, the gap that they are to keep, and the zone
 //! of two areas.
 //!
-//! [`read_zones`] reads a text of lines: `frame`, `mirror` and `gap`. [`Zones::zone`] brings an
-//! area of each path into the cell and says whether they are clear. lathe_looks reads the text,
-//! zone_check makes zones and their lines, and both, with lathe_top, lean on this: the text gives
-//! exactly the zones of its definition, or its first bad line, and a zone is that of its
-//! definition. The lines of a list of zones are texts of one piece each.
+//! [`read_zones`] reads a text of lines: `frame`, `mirror` and `gap`. [`Zones::zone`] brings an area
+//! of each path into the cell and says whether they are clear. The lines of a list of zones are
+//! texts of one piece each.
 #![tactic(auto)]
 
 mod cell;

@@ -1,4 +1,4 @@
-//! The lines of a list of zones, each as a piece. zone_check puts them together.
+//! The lines of a list of zones, each as a piece.
 ghost use Rattle.std.specs.Prelude.{◌≡◌, ◌+◌, ◌≤◌, ◌++◌, length};
 ghost use Rattle.text_pieces.specs.declared.piece.TheConstants.{MOST_BYTES};
 ghost use Rattle.zone_cell.specs.Lines.{across_text, along_text, area_text, state_text, zone_text, head_text, end_text};

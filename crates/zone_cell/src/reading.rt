@@ -1,5 +1,4 @@
 //! How a text of zones is read: line by line, into the zones of a cell or its first bad line.
-//! lathe_looks and tests call it.
 ghost use Rattle.std.specs.Prelude.{◌≡◌, ◌<◌, ◌^◌, length};
 ghost use Rattle.nc_number.specs.Answers.{GivesBy};
 ghost use Rattle.zone_cell.specs.Zones.{zones_of};

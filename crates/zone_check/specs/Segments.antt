@@ -1,5 +1,5 @@
 -- The segments of a history and their zones. A segment reaches from the beginning or a meeting to
--- the next meeting or the end. lathe_looks and lathe_top cite `zones_of_history`.
+-- the next meeting or the end.
 use Rattle.std.specs.Prelude.{List, [], ◌∷◌, ◌++◌, map, if◌then◌else◌}
 use Rattle.nc_number.specs.declared.path.Path.{Path}
 use Rattle.nc_number.specs.declared.path.Path.TheVariants.{One, Two}

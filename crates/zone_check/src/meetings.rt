@@ -1,5 +1,5 @@
 //! The zones of a run's history, whose records are done again one by one: an area of each path for
-//! each segment, up to a meeting or the end. lathe_looks and tests call `boxes`.
+//! each segment, up to a meeting or the end.
 ghost use Rattle.std.specs.Prelude.{◌≡◌, ◌≤◌, [], length, IfOk};
 ghost use Rattle.nc_number.specs.declared.limits.TheConstants.{MOST_RECORDS};
 ghost use Rattle.two_path.specs.Turns.{tapes_of};

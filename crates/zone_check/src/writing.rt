@@ -1,5 +1,4 @@
 //! The text of a list of zones: how many there are, a line for each, and whether all are clear.
-//! lathe_looks and tests call `write_zones`.
 ghost use Rattle.std.specs.Prelude.{◌≡◌, ◌++◌};
 ghost use Rattle.nc_verify.specs.Printed.{IsPut};
 ghost use Rattle.zone_cell.specs.Lines.{zone_text, zone_texts, head_text, end_text, hits_of, list_text};
