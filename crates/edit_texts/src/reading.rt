@@ -1,14 +1,16 @@
-//! From a text to the edits, or to its first bad line (refusal 91). What a line says is in named.rt.
+//! From a text to the edits, or to its first bad line. What a line says is in named.rt.
 ghost use Rattle.std.specs.Prelude.{◌≡◌, ◌<◌, ◌^◌, length, Some, None, if◌then◌else◌, IfOk};
 ghost use Rattle.nc_number.specs.Answers.{GivesBy};
+ghost use Rattle.nc_number.specs.Causes.{cause_number};
+ghost use Rattle.nc_number.specs.declared.cause.Cause.TheVariants as Cause;
 ghost use Rattle.edit_texts.specs.Edits.{edits_of, with_said};
-ghost use Rattle.edit_texts.specs.Faults.{fault_line, fault_name, fault_number};
+ghost use Rattle.edit_texts.specs.Faults.{fault_line};
 ghost use Rattle.edit_texts.specs.Lines.{line_says};
 
 use crate::edit_list::EditList;
 use crate::named::read_line;
 use field_lines::cut_line;
-use nc_number::{Failing, NoMemory};
+use nc_number::{Cause, Failing, NoMemory};
 use std::alloc::Global;
 use thiserror::Error;
 
@@ -21,18 +23,11 @@ pub struct EditFault {
 }
 
 impl EditFault {
-    /// The number of the refusal: 91.
+    /// The number of the refusal, that of [`BadEdit`](Cause::BadEdit).
     pub fn number(self) -> u8
-        ensures { result ≡ fault_number }
+        ensures { result ≡ cause_number Cause.BadEdit }
     {
-        91
-    }
-
-    /// The name that is printed beside the number.
-    pub fn name(self) -> &'static str
-        ensures { result.now ≡ fault_name }
-    {
-        "BadEdit"
+        Cause::BadEdit.number()
     }
 }
 

@@ -9,6 +9,8 @@
 
 mod piece;
 mod pushing;
+mod refusing;
 
 pub use piece::{MOST_BYTES, Piece};
 pub use pushing::{push_bytes, push_numbered, push_piece};
+pub use refusing::{refused, refused_at};

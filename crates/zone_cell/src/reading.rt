@@ -1,13 +1,15 @@
 //! How a text of zones is read: line by line, into the zones of a cell or its first bad line.
 ghost use Rattle.std.specs.Prelude.{◌≡◌, ◌<◌, ◌^◌, length};
 ghost use Rattle.nc_number.specs.Answers.{GivesBy};
+ghost use Rattle.nc_number.specs.Causes.{cause_number};
+ghost use Rattle.nc_number.specs.declared.cause.Cause.TheVariants as Cause;
 ghost use Rattle.zone_cell.specs.Zones.{zones_of};
-ghost use Rattle.zone_cell.specs.Faults.{fault_line, fault_name, fault_number};
+ghost use Rattle.zone_cell.specs.Faults.{fault_line};
 
 use crate::cell::Zones;
 use crate::named::read_line;
 use field_lines::cut_line;
-use nc_number::Failing;
+use nc_number::{Cause, Failing};
 use std::alloc::Global;
 use thiserror::Error;
 
@@ -20,18 +22,11 @@ pub struct ZoneFault {
 }
 
 impl ZoneFault {
-    /// The number of the refusal.
+    /// The number of the refusal, that of [`BadZone`](Cause::BadZone).
     pub fn number(self) -> u8
-        ensures { result ≡ fault_number }
+        ensures { result ≡ cause_number Cause.BadZone }
     {
-        92
-    }
-
-    /// The name that is printed beside the number.
-    pub fn name(self) -> &'static str
-        ensures { result.now ≡ fault_name }
-    {
-        "BadZone"
+        Cause::BadZone.number()
     }
 }
 
