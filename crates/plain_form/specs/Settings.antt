@@ -1,6 +1,7 @@
 -- The choices of a machine that says none. src/settings.rt has them.
-use Rattle.std.specs.Prelude.{[], None}
+use Rattle.std.specs.Prelude.{[], Some, None}
 use Rattle.plain_form.specs.declared.settings.Corners.TheVariants.{Comma}
+use Rattle.plain_form.specs.declared.settings.Roots.TheVariants.{Down}
 use Rattle.plain_form.specs.declared.settings.FormSettings.{FormSettings}
 
 abbrev pub standard : FormSettings
@@ -16,6 +17,8 @@ standard = record {
   thread_angle = 60;
   thread_least = 0;
   thread_left = 0;
+  thread_roots = Down;
+  tap_turns = Some (record { reverse = 4; forward = 3 });
   groove_retreat = 500;
   peck_retreat = None;
   peck_clearance = 500;

@@ -1,6 +1,4 @@
 //! Why a block can't be written out.
-ghost use Rattle.std.specs.Prelude.{◌≡◌};
-
 use thiserror::Error;
 
 /// Why a block can't be written out. A letter is that of the word at fault.
@@ -79,4 +77,51 @@ pub struct PlainFault {
     pub line: u32,
     /// Why.
     pub cause: PlainCause,
+}
+
+impl PlainCause {
+    ghost use Rattle.std.specs.Prelude.{◌≡◌};
+    ghost use Rattle.plain_form.specs.Causes.{cause_name, cause_letter};
+
+    /// The name under which the cause is printed.
+    pub fn name(self) -> &'static str
+        ensures { result.now ≡ cause_name self }
+    {
+        match self {
+            PlainCause::NoForm => "NoForm",
+            PlainCause::Position => "Position",
+            PlainCause::Feed => "Feed",
+            PlainCause::Unit => "Unit",
+            PlainCause::Incremental => "Incremental",
+            PlainCause::Calculated(_) => "Calculated",
+            PlainCause::Missing(_) => "Missing",
+            PlainCause::Unexpected(_) => "Unexpected",
+            PlainCause::Range(_) => "Range",
+            PlainCause::Setting => "Setting",
+            PlainCause::Contour => "Contour",
+            PlainCause::Direction => "Direction",
+            PlainCause::Start => "Start",
+            PlainCause::Allowance => "Allowance",
+            PlainCause::Arc => "Arc",
+            PlainCause::Passes => "Passes",
+            PlainCause::Corner => "Corner",
+            PlainCause::Nose => "Nose",
+            PlainCause::Target => "Target",
+            PlainCause::Control => "Control",
+            PlainCause::Skip => "Skip",
+        }
+    }
+
+    /// The letter of the word at fault, if the cause is about one.
+    pub fn letter(self) -> Option<u8>
+        ensures { result ≡ cause_letter self }
+    {
+        match self {
+            PlainCause::Calculated(letter) => Some(letter),
+            PlainCause::Missing(letter) => Some(letter),
+            PlainCause::Unexpected(letter) => Some(letter),
+            PlainCause::Range(letter) => Some(letter),
+            _ => None,
+        }
+    }
 }

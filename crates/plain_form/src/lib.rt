@@ -17,6 +17,6 @@ mod settings;
 pub use answer::{FormAnswer, WrittenLine, WrittenLineList};
 pub use cause::{PlainCause, PlainFault};
 pub use making::{LONGEST_REST, plain_line, push_block, push_length, push_number, push_word};
-pub use said::{Said, has_code, last_said, said_of, unexpected};
+pub use said::{Said, has_code, is_code_word, is_one_of, last_said, said_of, unexpected};
 pub use scene::{Scene, Unit};
-pub use settings::{Corners, FormSettings, Nose, NoseList};
+pub use settings::{Corners, FormSettings, Nose, NoseList, Roots, TapTurns};

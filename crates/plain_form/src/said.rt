@@ -53,8 +53,8 @@ pub fn last_said(words: &[Word], letter: u8) -> Said
     last
 }
 
-/// Whether the word is this G code, by its value.
-fn is_code_word(code: i64, word: &Word) -> bool
+/// Whether the word is this G code, in millionths: G71 is 71000000.
+pub fn is_code_word(word: &Word, code: i64) -> bool
     ensures { result ≡ is_code_word code word.now }
 {
     if word.letter != b'G' {
@@ -70,11 +70,11 @@ fn is_code_word(code: i64, word: &Word) -> bool
 pub fn has_code(words: &[Word], code: i64) -> bool
     ensures { result ≡ has_code code words.now }
 {
-    words.iter().any(|word| is_code_word(code, word))
+    words.iter().any(|word| is_code_word(word, code))
 }
 
 /// Whether the letter is one of these.
-fn is_one_of(letters: &[u8], letter: u8) -> bool
+pub fn is_one_of(letters: &[u8], letter: u8) -> bool
     ensures { result ≡ is_one_of letters.now letter }
 {
     letters.contains(&letter)

@@ -11,6 +11,24 @@ pub enum Corners {
     Letters,
 }
 
+/// To which side the control rounds a depth of G76 that is a root.
+#[derive(Clone, Copy, Debug, PartialEq, Eq)]
+pub enum Roots {
+    /// The root's whole part.
+    Down,
+    /// The next whole number, if it is none.
+    Up,
+}
+
+/// The M codes that turn the spindle about at the bottom of a tap (G84, G88), and back at its end.
+#[derive(Clone, Copy, Debug, PartialEq, Eq)]
+pub struct TapTurns {
+    /// The code that turns it about.
+    pub reverse: u32,
+    /// The code that turns it back.
+    pub forward: u32,
+}
+
 /// The nose of a tool, by its offset number.
 #[derive(Clone, Copy, Debug, PartialEq, Eq)]
 pub struct Nose {
@@ -50,6 +68,10 @@ pub struct FormSettings {
     pub thread_least: u64,
     /// What G76 leaves for the passes at the whole depth where no word says it.
     pub thread_left: u64,
+    /// To which side a depth of G76 that is a root is rounded.
+    pub thread_roots: Roots,
+    /// The codes that turn the spindle about for a tap; `None` if the machine does so by itself.
+    pub tap_turns: Option<TapTurns>,
     /// How far G74 and G75 draw back after a peck where no word says it.
     pub groove_retreat: u64,
     /// How far G83 draws back after a peck; `None` if to the level of its start.
@@ -80,6 +102,11 @@ impl FormSettings {
             thread_angle: 60,
             thread_least: 0,
             thread_left: 0,
+            thread_roots: Roots::Down,
+            tap_turns: Some(TapTurns {
+                reverse: 4,
+                forward: 3,
+            }),
             groove_retreat: 500,
             peck_retreat: None,
             peck_clearance: 500,
