@@ -1,5 +1,5 @@
 -- Blocks of this control's language, and tapes that are written out in it. src/law.rt cites it.
-use Rattle.std.specs.Prelude.{◌≡◌, ℕ, ⊥, List, [], ◌∷◌, map, All, Some, Ok, slice_get}
+use Rattle.std.specs.Prelude.{◌≡◌, ℕ, List, [], ◌∷◌, map, All, Some, Ok, slice_get}
 use Rattle.nc_text.specs.declared.tape.Block.{Block}
 use Rattle.nc_text.specs.declared.tape.Program.{Program}
 use Rattle.block_order.specs.declared.control.Control.TheVariants.{Next}
