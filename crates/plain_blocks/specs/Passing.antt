@@ -1,0 +1,57 @@
+-- What is known behind blocks that this control's own language has. src/passing.rt computes it.
+use Rattle.std.specs.Prelude.{ℕ, Bool, true, false, List, [], ◌∷◌, Option, Some, None, Result, Ok, Err, if◌then◌else◌}
+use Rattle.nc_text.specs.declared.tape.Block.{Block}
+use Rattle.block_order.specs.declared.control.Control.{Control}
+use Rattle.block_order.specs.declared.control.Control.TheVariants.{Next, Wait}
+use Rattle.block_words.specs.declared.dialect.Dialect.{Dialect}
+use Rattle.block_words.specs.Codes.{purpose_of}
+use Rattle.block_forms.specs.Forms.{Form, OfWords, OfSentence, BlockForm, block_or_refusal}
+use Rattle.known_blocks.specs.declared.known.Known.{Known}
+use Rattle.known_blocks.specs.Behind.{known_behind_words, known_behind_sentence}
+use Rattle.plain_form.specs.declared.cause.PlainCause.{PlainCause}
+use Rattle.plain_form.specs.declared.cause.PlainCause.TheVariants as cause
+use Rattle.plain_blocks.specs.declared.passing.Passed.{Passed}
+
+-- the control goes on to the next block
+abbrev pub goes_on : Control → Bool
+goes_on Next = true
+goes_on other = false
+
+-- what is known behind what a block says
+abbrev pub known_past_form : Form → Known → Known
+known_past_form (OfWords dialect words) known = known_behind_words (purpose_of dialect words) dialect.system words known
+known_past_form (OfSentence sentence) known = known_behind_sentence sentence known
+
+-- the same of a block of this control: a wait is passed, and nothing else of its block is done
+abbrev pub known_past_control : Form → Control → Known → Known
+known_past_control (OfWords dialect words) (Wait code) known = known
+known_past_control form control known = known_past_form form known
+
+-- what is known behind a block that was read
+abbrev pub known_past : BlockForm → Known → Known
+known_past block known = known_past_control block.form block.control known
+
+-- the block that was read, if it was
+abbrev pub passed_by : Known → Result BlockForm ℕ → Option Passed
+passed_by known (Ok block) = Some (record { control = block.control; known = known_past block known })
+passed_by known (Err number) = None
+
+-- a block of this control's language
+abbrev pub behind_block : Dialect → Known → Block → Option Passed
+behind_block dialect known block = passed_by known (block_or_refusal dialect block)
+
+-- what is known behind a block that may be printed, or why it may not be
+abbrev pub pass_block : Option Passed → Result Known PlainCause
+pass_block None = Err cause.NoForm
+pass_block (Some passing) = if goes_on passing.control then Ok passing.known else Err cause.Control
+
+-- what the next step makes of what is known
+abbrev pub and_then : Result Known PlainCause → (Known → Result Known PlainCause) → Result Known PlainCause
+and_then (Ok known) next = next known
+and_then (Err why) next = Err why
+
+-- what is known behind blocks that are printed one after the other, or why they may not be
+abbrev pub pass_blocks : Dialect → Known → List Block → Result Known PlainCause
+pass_blocks dialect known [] = Ok known
+pass_blocks dialect known (block ∷ blocks) =
+    and_then (pass_block (behind_block dialect known block)) (λ behind. pass_blocks dialect behind blocks)

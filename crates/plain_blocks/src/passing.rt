@@ -1,0 +1,97 @@
+//! What is known behind blocks that this control's own language has, read one after the other.
+ghost use Rattle.std.specs.Prelude.{◌≡◌, IfOk};
+ghost use Rattle.nc_number.specs.Answers.{Gives};
+ghost use Rattle.block_forms.specs.Blocks.{block_form};
+ghost use Rattle.plain_blocks.specs.Passing.{goes_on, known_past, behind_block, pass_block, pass_blocks};
+
+use block_forms::{Dialect, FlowBlock, read_block};
+use block_order::Control;
+use known_blocks::{Known, known_behind};
+use nc_number::{Failing, NoMemory};
+use nc_text::Block;
+use plain_form::PlainCause;
+use std::alloc::Global;
+
+/// A block of this control's language: what it does to the order, and what is known behind it.
+#[derive(Clone, Copy, Debug, PartialEq, Eq)]
+pub struct Passed {
+    /// What it does to the order of blocks.
+    pub control: Control,
+    /// What is known behind it.
+    pub known: Known,
+}
+
+/// Whether the control goes on to the next block.
+pub(crate) fn goes_on(control: Control) -> bool
+    ensures { result ≡ goes_on control }
+{
+    matches!(control, Control::Next)
+}
+
+/// What is known behind a block that was read.
+fn known_past(block: &FlowBlock, known: &Known) -> Known
+    ensures { result ≡ known_past (block_form block.now) known.now }
+{
+    known_behind(&block.body, block.control, known)
+}
+
+/// A block of this control's language; none if it is not one of it.
+pub(crate) fn behind_block(
+    alloc: Global,
+    dialect: &Dialect,
+    known: &Known,
+    block: &Block,
+) -> Result<Option<Passed>, NoMemory>
+    ensures { IfOk result (λ passing. passing ≡ behind_block dialect.now known.now block.now) }
+{
+    match read_block(alloc, block, dialect) {
+        Ok(read) => Ok(Some(Passed {
+            control: read.control,
+            known: known_past(&read, known),
+        })),
+        Err(Failing::Fault(_)) => Ok(None),
+        Err(Failing::NoMemory) => Err(NoMemory),
+    }
+}
+
+/// What is known behind one printed block; why it may not be printed.
+fn pass_block(
+    alloc: Global,
+    dialect: &Dialect,
+    known: &Known,
+    block: &Block,
+) -> Result<Known, Failing<PlainCause>>
+    ensures { Gives (λ known. known) result
+        (pass_block (behind_block dialect.now known.now block.now)) }
+{
+    match behind_block(alloc, dialect, known, block)? {
+        Some(passing) => {
+            if goes_on(passing.control) {
+                Ok(passing.known)
+            } else {
+                Err(Failing::Fault(PlainCause::Control))
+            }
+        }
+        None => Err(Failing::Fault(PlainCause::NoForm)),
+    }
+}
+
+/// What is known behind printed blocks, or why they may not be printed: one is none of this
+/// control's language, or does more than go on.
+pub(crate) fn pass_blocks(
+    alloc: Global,
+    dialect: &Dialect,
+    known: &Known,
+    blocks: &[Block],
+) -> Result<Known, Failing<PlainCause>>
+    ensures { Gives (λ known. known) result (pass_blocks dialect.now known.now blocks.now) }
+{
+    let mut behind = *known;
+    for block in blocks {
+        behind = match pass_block(alloc, dialect, &behind, block) {
+            Ok(known) => known,
+            Err(fault) => return Err(fault),
+        };
+    }
+    Ok(behind)
+}

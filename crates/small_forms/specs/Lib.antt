@@ -1,0 +1,3 @@
+-- What callers read.
+pub mod Codes
+pub mod Idle
