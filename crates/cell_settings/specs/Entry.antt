@@ -51,13 +51,21 @@ codes_of (system ∷ []) =
     else (if bytes_eq system (codes "B") then Some (says.Codes B) else None)
 codes_of _ = None
 
--- what the values of `skip` say: a path, and a switch from 1 to 9 that is on
+-- what the values of `skip` say: a path, and a switch from 1 to 9 that is fixed as on
 unfoldable pub skip_of : List (List ℕ) → Option Entry
 skip_of (path ∷ switch ∷ []) = do
   p ← path_of path
   n ← number_in 1 9 switch
   Some (says.Skip p n)
 skip_of _ = None
+
+-- what the values of `unskip` say: a path, and a switch from 1 to 9 that is fixed as off
+unfoldable pub unskip_of : List (List ℕ) → Option Entry
+unskip_of (path ∷ switch ∷ []) = do
+  p ← path_of path
+  n ← number_in 1 9 switch
+  Some (says.Unskip p n)
+unskip_of _ = None
 
 -- what the values of `place` say: the opening position of a path
 unfoldable pub place_of : List (List ℕ) → Option Entry
@@ -91,8 +99,9 @@ named_of name values =
     else (if bytes_eq name (codes "paths") then paths_of values
     else (if bytes_eq name (codes "codes") then codes_of values
     else (if bytes_eq name (codes "skip") then skip_of values
+    else (if bytes_eq name (codes "unskip") then unskip_of values
     else (if bytes_eq name (codes "records") then records_of values
-    else None))))))
+    else None)))))))
 
 -- an offset, or what else the line says
 abbrev pub offset_or : Option Preset → Option Entry → Option Entry
@@ -120,6 +129,7 @@ IsAllowed (says.Shared500 n) = n ≤ 500
 IsAllowed (says.Paths bits) = Unit {0}
 IsAllowed (says.Codes system) = Unit {0}
 IsAllowed (says.Skip path switch) = (1 ≤ switch) × (switch ≤ 9)
+IsAllowed (says.Unskip path switch) = (1 ≤ switch) × (switch ≤ 9)
 IsAllowed (says.Place path to) = IsPosition to
 IsAllowed (says.Home path to) = IsPosition to
 IsAllowed (says.Offset preset) = IsPreset preset

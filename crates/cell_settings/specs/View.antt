@@ -14,6 +14,7 @@ view s = record {
   bits = s.bits;
   system = s.system;
   skips = s.skips;
+  unskips = s.unskips;
   place = s.place;
   home = s.home;
   records = s.records;

@@ -19,8 +19,10 @@ pub(crate) enum Entry {
     Paths { bits: bool },
     /// The system of the tapes' G codes.
     Codes { system: System },
-    /// A path, and a switch that is set, 1 to 9.
+    /// A path, and a switch that is fixed as on, 1 to 9.
     Skip { path: Path, switch: u8 },
+    /// A path, and a switch that is fixed as off, 1 to 9.
+    Unskip { path: Path, switch: u8 },
     /// Where the turret of a path stands at the start.
     Place { path: Path, to: Point },
     /// The reference position of a path.

@@ -3,7 +3,7 @@
 ghost use Rattle.std.specs.Prelude.{◌≡◌, IfOk, IfSome};
 ghost use Rattle.field_lines.specs.Field.{texts};
 ghost use Rattle.field_lines.specs.Line.{line_says};
-ghost use Rattle.cell_settings.specs.Entry.{wait_of, shared100_of, shared500_of, paths_of, codes_of, skip_of, place_of, home_of, records_of, named_of, named_point_of, fields_say, IsAllowed};
+ghost use Rattle.cell_settings.specs.Entry.{wait_of, shared100_of, shared500_of, paths_of, codes_of, skip_of, unskip_of, place_of, home_of, records_of, named_of, named_point_of, fields_say, IsAllowed};
 
 use crate::entry::Entry;
 use crate::preset_line::read_preset;
@@ -95,7 +95,7 @@ fn codes(values: &[&[u8]]) -> Option<Entry>
     }
 }
 
-/// What `skip` and its values say: a skip switch of a path that is on, 1 to 9.
+/// What `skip` and its values say: a skip switch of a path that is fixed as on, 1 to 9.
 #[tactic(auto, unfolding(crate::specs::Entry::skip_of))]
 fn skip(values: &[&[u8]]) -> Option<Entry>
     ensures value { result ≡ skip_of (texts values.now) }
@@ -106,6 +106,25 @@ fn skip(values: &[&[u8]]) -> Option<Entry>
             let path = read_path(path)?;
             let switch = number_in(1, 9, switch)?;
             Some(Entry::Skip {
+                path,
+                switch: switch as u8,
+            })
+        }
+        _ => None,
+    }
+}
+
+/// What `unskip` and its values say: a skip switch of a path that is fixed as off, 1 to 9.
+#[tactic(auto, unfolding(crate::specs::Entry::unskip_of))]
+fn unskip(values: &[&[u8]]) -> Option<Entry>
+    ensures value { result ≡ unskip_of (texts values.now) }
+    ensures allowed { IfSome result IsAllowed }
+{
+    match values {
+        [path, switch] => {
+            let path = read_path(path)?;
+            let switch = number_in(1, 9, switch)?;
+            Some(Entry::Unskip {
                 path,
                 switch: switch as u8,
             })
@@ -176,6 +195,8 @@ fn named(name: &[u8], values: &[&[u8]]) -> Option<Entry>
         codes(values)
     } else if name == b"skip".as_slice() {
         skip(values)
+    } else if name == b"unskip".as_slice() {
+        unskip(values)
     } else if name == b"records".as_slice() {
         records(values)
     } else {

@@ -1,6 +1,6 @@
 //! The settings of the cell, as a type that keeps their ranges, and what one line more makes of
 //! them.
-ghost use Rattle.std.specs.Prelude.{◌≡◌, ◌^◌, ◌<◌, ◌≤◌, bit_or, All, OnOk};
+ghost use Rattle.std.specs.Prelude.{◌≡◌, ◌^◌, ◌-◌, ◌<◌, ◌≤◌, bit_and, bit_or, All, OnOk};
 ghost use Rattle.cell_settings.specs.Settings.{IsWaitRange, IsSwitches};
 ghost use Rattle.nc_number.specs.declared.limits.TheConstants.{MOST_RECORDS};
 ghost use Rattle.nc_number.specs.Position.{IsPosition};
@@ -27,8 +27,10 @@ pub struct Settings {
     pub bits: bool,
     /// The system of the G codes of both tapes.
     pub system: System,
-    /// For each path its skip switches: bit n is switch n, 1 to 9.
+    /// For each path its skip switches that are fixed as on: bit n is switch n, 1 to 9.
     pub skips: [u16; 2],
+    /// For each path its skip switches that are fixed as off: bit n is switch n, 1 to 9.
+    pub unskips: [u16; 2],
     /// For each path its opening position, in machine coordinates.
     pub place: [Point; 2],
     /// For each path its reference position, in machine coordinates.
@@ -41,6 +43,7 @@ pub struct Settings {
     ghost shared100_range: { shared100 ≤ 100 },
     ghost shared500_range: { shared500 ≤ 500 },
     ghost switches: { All IsSwitches skips },
+    ghost off_switches: { All IsSwitches unskips },
     ghost places: { All IsPosition place },
     ghost homes: { All IsPosition home },
     ghost fewest_records: { 1 ≤ records },
@@ -66,6 +69,7 @@ impl Settings {
             bits: true,
             system: System::A,
             skips: [0, 0],
+            unskips: [0, 0],
             place: [origin, origin],
             home: [origin, origin],
             records: MOST_RECORDS,
@@ -91,6 +95,12 @@ impl Settings {
             Entry::Skip { path, switch } => {
                 let at = path.index();
                 self.skips[at] = with_switch(self.skips[at], switch);
+                self.unskips[at] = without_switch(self.unskips[at], switch);
+            }
+            Entry::Unskip { path, switch } => {
+                let at = path.index();
+                self.skips[at] = without_switch(self.skips[at], switch);
+                self.unskips[at] = with_switch(self.unskips[at], switch);
             }
             Entry::Place { path, to } => self.place[path.index()] = to,
             Entry::Home { path, to } => self.home[path.index()] = to,
@@ -101,7 +111,7 @@ impl Settings {
     }
 }
 
-/// The switches of a path with one more on: bit n is switch n.
+/// The switches of a path with one more: bit n is switch n.
 fn with_switch(mask: u16, switch: u8) -> u16
     requires mask { IsSwitches mask }
     requires least { 1 ≤ switch }
@@ -110,4 +120,14 @@ fn with_switch(mask: u16, switch: u8) -> u16
     ensures kept { IsSwitches result }
 {
     mask | 1 << switch
+}
+
+/// The switches of a path without one: bit n is switch n. A mask has the bits 0 to 9.
+fn without_switch(mask: u16, switch: u8) -> u16
+    requires mask { IsSwitches mask }
+    requires greatest { switch ≤ 9 }
+    ensures value { result ≡ bit_and mask (1023 - 2 ^ switch) }
+    ensures kept { IsSwitches result }
+{
+    mask & (1_023 - (1 << switch))
 }
